@@ -1,0 +1,14 @@
+-- Hosts of an assignment.
+use Rattle.std.specs.Prelude.{ℕ, Bool}
+use Rattle.ev_types.specs.declared.hosts.Host.{Host}
+
+-- what a host row says: the host, its weight and priority, and whether it may be chosen at all
+pub record HostRowParts : Type 0 where
+  pub host : Host
+  pub weight : ℕ
+  pub priority : ℕ
+  pub usable : Bool
+
+-- an assignment has fewer rows than this
+abbrev pub row_limit : ℕ
+row_limit = 4294967295

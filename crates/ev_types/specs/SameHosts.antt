@@ -1,0 +1,35 @@
+-- When hosts and their rows are equal.
+use Rattle.std.specs.Prelude.{Bool, ◌≡◌, ◌&&◌, ◌==◌, List}
+use Rattle.std.specs.Bool.{Decides}
+use Rattle.std.specs.Str.{bytes_eq}
+use Rattle.std.proofs.Common.{ap}
+use lib.Pointwise.{pointwise, pointwise_decides}
+use Rattle.ev_types.specs.declared.hosts.Host.{Host}
+use Rattle.ev_types.specs.Hosts.{HostRowParts}
+use Rattle.ev_types.specs.Same.{bool_same, bool_decides, both_decide, decides_as, bytes_decide, numbers_decide}
+
+-- the same address and port
+abbrev pub host_same : Host → Host → Bool
+host_same a b = bytes_eq a.address b.address && (a.port == b.port)
+
+-- the same host, weight, priority and use
+abbrev pub host_row_same : HostRowParts → HostRowParts → Bool
+host_row_same a b = host_same a.host b.host && (a.weight == b.weight) && (a.priority == b.priority) && bool_same a.usable b.usable
+
+-- the same rows in the same order
+abbrev pub rows_same : List HostRowParts → List HostRowParts → Bool
+rows_same a b = pointwise host_row_same a b
+
+pub host_decides : (a b : Host) → Decides (host_same a b) (a ≡ b)
+host_decides a b = decides_as (both_decide (bytes_decide a.address b.address) (numbers_decide a.port b.port))
+    (λ (p, q). λ i. record { address = p i; port = q i })
+    (λ e. (ap (λ (h : Host). h.address) e, ap (λ (h : Host). h.port) e))
+
+pub host_row_decides : (a b : HostRowParts) → Decides (host_row_same a b) (a ≡ b)
+host_row_decides a b = decides_as
+    (both_decide (both_decide (both_decide (host_decides a.host b.host) (numbers_decide a.weight b.weight)) (numbers_decide a.priority b.priority)) (bool_decides a.usable b.usable))
+    (λ p. λ i. record { host = p.0.0.0 i; weight = p.0.0.1 i; priority = p.0.1 i; usable = p.1 i })
+    (λ e. (((ap (λ (r : HostRowParts). r.host) e, ap (λ (r : HostRowParts). r.weight) e), ap (λ (r : HostRowParts). r.priority) e), ap (λ (r : HostRowParts). r.usable) e))
+
+pub rows_decide : (a b : List HostRowParts) → Decides (rows_same a b) (a ≡ b)
+rows_decide = pointwise_decides host_row_decides

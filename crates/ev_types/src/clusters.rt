@@ -1,0 +1,99 @@
+use crate::{Assignment, Name, TryCopy};
+use std::alloc::{AllocError, Global};
+
+/// How a cluster finds its hosts.
+#[derive(Drop)]
+pub enum Discovery {
+    /// They stand in the cluster itself.
+    Static(Assignment),
+    /// They come by the endpoint discovery service.
+    Eds {
+        /// The name that is asked for.
+        service: Name,
+        /// Whether the wait for them ends at the initial fetch timeout.
+        limited: bool,
+    },
+}
+
+impl TryCopy for Discovery {
+    fn copy(&self, alloc: Global) -> Result<Discovery, AllocError> {
+        match self {
+            Discovery::Static(assignment) => Ok(Discovery::Static(assignment.copy(alloc)?)),
+            Discovery::Eds { service, limited } => Ok(Discovery::Eds {
+                service: service.copy(alloc)?,
+                limited: *limited,
+            }),
+        }
+    }
+}
+
+impl PartialEq for Discovery {
+    ghost use Rattle.std.specs.Cmp.{decided, partial_equiv_from_equiv};
+    ghost use Rattle.ev_types.specs.SameClusters.{discovery_same, discovery_decides};
+
+    ghost eq = { discovery_same };
+
+    ghost laws = { partial_equiv_from_equiv (decided discovery_same discovery_decides) };
+
+    fn eq(&self, other: &Discovery) -> bool {
+        match (self, other) {
+            (Discovery::Static(mine), Discovery::Static(theirs)) => mine == theirs,
+            (
+                Discovery::Eds { service, limited },
+                Discovery::Eds {
+                    service: other_service,
+                    limited: other_limited,
+                },
+            ) => service == other_service && limited == other_limited,
+            _ => false,
+        }
+    }
+}
+
+impl Eq for Discovery {
+    ghost use Rattle.std.specs.Cmp.{decided};
+    ghost use Rattle.ev_types.specs.SameClusters.{discovery_same, discovery_decides};
+
+    ghost laws = { decided discovery_same discovery_decides };
+}
+
+/// The fields of a cluster that the profile reads.
+#[derive(Drop)]
+pub struct Cluster {
+    pub name: Name,
+    pub discovery: Discovery,
+    /// Whether its hosts are health checked.
+    pub checked: bool,
+}
+
+impl TryCopy for Cluster {
+    fn copy(&self, alloc: Global) -> Result<Cluster, AllocError> {
+        Ok(Cluster {
+            name: self.name.copy(alloc)?,
+            discovery: self.discovery.copy(alloc)?,
+            checked: self.checked,
+        })
+    }
+}
+
+impl PartialEq for Cluster {
+    ghost use Rattle.std.specs.Cmp.{decided, partial_equiv_from_equiv};
+    ghost use Rattle.ev_types.specs.SameClusters.{cluster_same, cluster_decides};
+
+    ghost eq = { cluster_same };
+
+    ghost laws = { partial_equiv_from_equiv (decided cluster_same cluster_decides) };
+
+    fn eq(&self, other: &Cluster) -> bool {
+        self.name == other.name
+            && self.discovery == other.discovery
+            && self.checked == other.checked
+    }
+}
+
+impl Eq for Cluster {
+    ghost use Rattle.std.specs.Cmp.{decided};
+    ghost use Rattle.ev_types.specs.SameClusters.{cluster_same, cluster_decides};
+
+    ghost laws = { decided cluster_same cluster_decides };
+}

@@ -1,0 +1,164 @@
+ghost use Rattle.std.specs.Prelude.{◌≡◌, IfOk};
+
+use crate::{Name, Seq, TryCopy};
+use std::alloc::{AllocError, Global};
+use std::marker::Model;
+
+/// Where a host listens: an address, which is a text, and a port.
+#[derive(Drop)]
+pub struct Host {
+    pub address: Name,
+    pub port: u16,
+}
+
+impl TryCopy for Host {
+    fn copy(&self, alloc: Global) -> Result<Host, AllocError> {
+        Ok(Host {
+            address: self.address.copy(alloc)?,
+            port: self.port,
+        })
+    }
+}
+
+impl PartialEq for Host {
+    ghost use Rattle.std.specs.Cmp.{decided, partial_equiv_from_equiv};
+    ghost use Rattle.ev_types.specs.SameHosts.{host_same, host_decides};
+
+    ghost eq = { host_same };
+
+    ghost laws = { partial_equiv_from_equiv (decided host_same host_decides) };
+
+    fn eq(&self, other: &Host) -> bool {
+        self.address == other.address && self.port == other.port
+    }
+}
+
+impl Eq for Host {
+    ghost use Rattle.std.specs.Cmp.{decided};
+    ghost use Rattle.ev_types.specs.SameHosts.{host_same, host_decides};
+
+    ghost laws = { decided host_same host_decides };
+}
+
+/// One host of an assignment. Its weight is at least 1; the lower a priority, the earlier it is chosen.
+#[derive(Drop)]
+pub struct HostRow {
+    pub host: Host,
+    pub weight: u32,
+    pub priority: u8,
+    /// Whether its health status lets it be chosen: unknown, healthy and degraded hosts are usable.
+    pub usable: bool,
+}
+
+impl Model for HostRow {
+    ghost use Rattle.std.specs.Prelude.{◌≤◌};
+    ghost use Rattle.ev_types.specs.Hosts.{HostRowParts};
+
+    ghost Value = { HostRowParts };
+
+    ghost view = { λ r. record { host = r.host; weight = r.weight; priority = r.priority; usable = r.usable } };
+
+    ghost invariant = { λ r. 1 ≤ r.weight };
+}
+
+impl TryCopy for HostRow {
+    fn copy(&self, alloc: Global) -> Result<HostRow, AllocError> {
+        Ok(HostRow {
+            host: self.host.copy(alloc)?,
+            weight: self.weight,
+            priority: self.priority,
+            usable: self.usable,
+        })
+    }
+}
+
+impl PartialEq for HostRow {
+    ghost use Rattle.std.specs.Cmp.{decided, partial_equiv_from_equiv};
+    ghost use Rattle.ev_types.specs.SameHosts.{host_row_same, host_row_decides};
+
+    ghost eq = { host_row_same };
+
+    ghost laws = { partial_equiv_from_equiv (decided host_row_same host_row_decides) };
+
+    fn eq(&self, other: &HostRow) -> bool {
+        self.host == other.host
+            && self.weight == other.weight
+            && self.priority == other.priority
+            && self.usable == other.usable
+    }
+}
+
+impl Eq for HostRow {
+    ghost use Rattle.std.specs.Cmp.{decided};
+    ghost use Rattle.ev_types.specs.SameHosts.{host_row_same, host_row_decides};
+
+    ghost laws = { decided host_row_same host_row_decides };
+}
+
+/// The hosts of a cluster, in order, a repeated one too. There are fewer than 2^32 - 1.
+#[derive(Drop)]
+pub struct Assignment {
+    rows: Seq<HostRow>,
+}
+
+impl Model for Assignment {
+    ghost use Rattle.std.specs.Prelude.{List, length, ◌<◌};
+    ghost use Rattle.ev_types.specs.Hosts.{HostRowParts, row_limit};
+
+    ghost Value = { List HostRowParts };
+
+    ghost view = { λ a. a.rows };
+
+    ghost invariant = { λ a. length a.rows < row_limit };
+}
+
+/// An assignment has fewer rows than this.
+pub const ROW_LIMIT: usize = 4_294_967_295;
+
+impl Assignment {
+    ghost use Rattle.std.specs.Prelude.{◌≡◌, ◌<◌, length};
+
+    /// The assignment of these rows.
+    pub fn new(rows: Seq<HostRow>) -> Assignment
+        requires { length rows < ROW_LIMIT }
+        ensures rows { result ≡ rows }
+    {
+        Assignment { rows }
+    }
+
+    /// Its rows in order.
+    pub fn rows(&self) -> &[HostRow]
+        ensures rows { result.now ≡ self.now }
+        ensures few { length self.now < ROW_LIMIT }
+    {
+        self.rows.as_slice()
+    }
+}
+
+impl TryCopy for Assignment {
+    fn copy(&self, alloc: Global) -> Result<Assignment, AllocError> {
+        Ok(Assignment {
+            rows: self.rows.copy(alloc)?,
+        })
+    }
+}
+
+impl PartialEq for Assignment {
+    ghost use Rattle.std.specs.Cmp.{decided, partial_equiv_from_equiv};
+    ghost use Rattle.ev_types.specs.SameHosts.{rows_same, rows_decide};
+
+    ghost eq = { rows_same };
+
+    ghost laws = { partial_equiv_from_equiv (decided rows_same rows_decide) };
+
+    fn eq(&self, other: &Assignment) -> bool {
+        self.rows == other.rows
+    }
+}
+
+impl Eq for Assignment {
+    ghost use Rattle.std.specs.Cmp.{decided};
+    ghost use Rattle.ev_types.specs.SameHosts.{rows_same, rows_decide};
+
+    ghost laws = { decided rows_same rows_decide };
+}

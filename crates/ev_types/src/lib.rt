@@ -1,0 +1,21 @@
+//! The types that the crates of warmgate share: plain structs and enums, texts and lists.
+//! A type that holds text or lists has `copy`, and a copy equals its source.
+#![tactic(auto)]
+
+mod clusters;
+mod copies;
+mod hosts;
+mod listeners;
+mod lists;
+mod routes;
+mod texts;
+
+pub use clusters::{Cluster, Discovery};
+pub use copies::TryCopy;
+pub use hosts::{Assignment, Host, HostRow, ROW_LIMIT};
+pub use listeners::{Listener, Serve};
+pub use lists::Seq;
+pub use routes::{
+    Action, PathMatch, Route, RouteTable, Target, VirtualHost, WeightedCluster, WeightedClusters,
+};
+pub use texts::{MAX_NAME_LENGTH, Name, NameError, Text};

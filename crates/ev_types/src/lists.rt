@@ -1,0 +1,97 @@
+ghost use Rattle.std.specs.Prelude.{◌≡◌, ◌↔◌, List, [], ◌∷◌, ◌++◌, length, IsTrue, OnOk, OnErr};
+
+use crate::TryCopy;
+use std::alloc::{AllocError, Global};
+use std::marker::Model;
+
+/// A list, seen by contracts as its elements in order. It is a `Vec` whose room isn't looked at.
+#[derive(Drop)]
+pub struct Seq<T> {
+    items: Vec<T>,
+}
+
+impl<T> Model for Seq<T> {
+    ghost Value = { List T };
+
+    ghost view = { λ s. s.items.items };
+}
+
+impl<T> Seq<T> {
+    /// The empty list. It takes no memory.
+    pub fn new(alloc: Global) -> Seq<T>
+        ensures empty { result ≡ [] }
+    {
+        Seq {
+            items: Vec::new(alloc),
+        }
+    }
+
+    /// The list of these elements. It takes no memory.
+    pub fn from_vec(items: Vec<T>) -> Seq<T>
+        ensures elements { result ≡ items.items }
+    {
+        Seq { items }
+    }
+
+    /// The elements as a `Vec`. It takes no memory.
+    pub fn into_vec(self) -> Vec<T>
+        ensures elements { result.items ≡ self }
+    {
+        self.items
+    }
+
+    /// The elements in order.
+    pub fn as_slice(&self) -> &[T]
+        ensures elements { result.now ≡ self.now }
+    {
+        self.items.as_slice()
+    }
+
+    /// How many elements there are.
+    pub fn len(&self) -> usize
+        ensures count { result ≡ length self.now }
+    {
+        self.items.len()
+    }
+
+    /// Whether there is no element.
+    pub fn is_empty(&self) -> bool
+        ensures { IsTrue result ↔ (length self.now ≡ 0) }
+    {
+        self.items.is_empty()
+    }
+
+    /// Puts an element at the end. Without memory the list stays as it was.
+    pub fn push(&mut self, item: T) -> Result<(), AllocError>
+    where
+        T: Drop,
+        ensures ok { OnOk result (self.new ≡ self.old ++ item ∷ []) }
+        ensures err { OnErr result (self.new ≡ self.old) }
+    {
+        self.items.push(item)?;
+        Ok(())
+    }
+}
+
+impl<T: TryCopy + Drop> TryCopy for Seq<T> {
+    fn copy(&self, alloc: Global) -> Result<Seq<T>, AllocError> {
+        let mut items = Vec::with_capacity(alloc, self.items.len())?;
+        for item in self.items.as_slice() {
+            items.push(item.copy(alloc)?)?;
+        }
+        Ok(Seq { items })
+    }
+}
+
+impl<T: PartialEq> PartialEq for Seq<T> {
+    ghost use Rattle.std.specs.Cmp.Lexicographic.{lists_per};
+    ghost use lib.Pointwise.{pointwise};
+
+    ghost eq = { pointwise T.eq };
+
+    ghost laws = { lists_per T.PartialEq.laws };
+
+    fn eq(&self, other: &Seq<T>) -> bool {
+        self.items.as_slice() == other.items.as_slice()
+    }
+}
