@@ -6,3 +6,6 @@ pub mod SameClusters
 pub mod Weights
 pub mod SameRoutes
 pub mod SameListeners
+pub mod Items
+pub mod SameContents
+pub mod Scripts

@@ -1,5 +1,5 @@
 -- When routes are equal.
-use Rattle.std.specs.Prelude.{Bool, true, false, ◌≡◌, ◌&&◌, ◌==◌, List, ℕ, refl}
+use Rattle.std.specs.Prelude.{Bool, true, false, ◌≡◌, ◌&&◌, ◌==◌, List, refl}
 use Rattle.std.specs.Bool.{Decides}
 use Rattle.std.specs.Str.{bytes_eq}
 use Rattle.std.proofs.Common.{ap}

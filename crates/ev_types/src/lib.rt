@@ -3,19 +3,25 @@
 #![tactic(auto)]
 
 mod clusters;
+mod contents;
 mod copies;
+mod events;
 mod hosts;
 mod listeners;
 mod lists;
 mod routes;
+mod rows;
 mod texts;
 
 pub use clusters::{Cluster, Discovery};
+pub use contents::{Body, Content, Item, Kind, Request, Response};
 pub use copies::TryCopy;
+pub use events::{Actor, Answer, Entry, Event, Line, Script, Verdict};
 pub use hosts::{Assignment, Host, HostRow, ROW_LIMIT};
 pub use listeners::{Listener, Serve};
 pub use lists::Seq;
 pub use routes::{
     Action, PathMatch, Route, RouteTable, Target, VirtualHost, WeightedCluster, WeightedClusters,
 };
+pub use rows::{Arrival, Gen, GenRow, Phase, RowStatus};
 pub use texts::{MAX_NAME_LENGTH, Name, NameError, Text};

@@ -88,9 +88,7 @@ impl PartialEq for Listener {
     ghost laws = { partial_equiv_from_equiv (decided listener_same listener_decides) };
 
     fn eq(&self, other: &Listener) -> bool {
-        self.name == other.name
-            && self.address == other.address
-            && self.serve == other.serve
+        self.name == other.name && self.address == other.address && self.serve == other.serve
     }
 }
 

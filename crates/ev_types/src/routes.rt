@@ -303,9 +303,7 @@ impl PartialEq for VirtualHost {
     ghost laws = { partial_equiv_from_equiv (decided virtual_host_same virtual_host_decides) };
 
     fn eq(&self, other: &VirtualHost) -> bool {
-        self.name == other.name
-            && self.domains == other.domains
-            && self.routes == other.routes
+        self.name == other.name && self.domains == other.domains && self.routes == other.routes
     }
 }
 

@@ -1,0 +1,50 @@
+-- Resources and responses, and what their types keep.
+use Rattle.std.specs.Prelude.{◌≡◌, List, [], ℕ, All, Option, Some, None, ⊤}
+use Rattle.ev_types.specs.Texts.{IsName}
+use Rattle.ev_types.specs.declared.contents.Kind.{Kind}
+use Rattle.ev_types.specs.declared.contents.Kind.TheVariants.{Cds, Eds, Lds, Rds}
+use Rattle.ev_types.specs.declared.contents.Content.{Content}
+use Rattle.ev_types.specs.declared.contents.Content.TheVariants.{Cluster, Assignment, Listener, Routes}
+use Rattle.ev_types.specs.declared.contents.Body.{Body}
+use Rattle.ev_types.specs.declared.contents.Body.TheVariants.{Good, Bad}
+
+-- a resource of a response
+pub record ItemParts : Type 0 where
+  pub name : List ℕ
+  pub version : List ℕ
+  pub body : Body
+
+-- the outer name of a good body is a name, and the cluster's or listener's own
+abbrev pub IsOwnName : List ℕ → Body → Type 0
+IsOwnName name (Good (Cluster cluster)) = IsName name × (cluster.name ≡ name)
+IsOwnName name (Good (Assignment rows)) = IsName name
+IsOwnName name (Good (Listener listener)) = IsName name × (listener.name ≡ name)
+IsOwnName name (Good (Routes table)) = IsName name
+IsOwnName name (Bad rule) = ⊤
+
+-- the type of resource that has this content
+abbrev pub kind_of : Content → Kind
+kind_of (Cluster cluster) = Cds
+kind_of (Assignment rows) = Eds
+kind_of (Listener listener) = Lds
+kind_of (Routes table) = Rds
+
+-- a good body has content of this type
+abbrev pub IsBodyOf : Kind → Body → Type 0
+IsBodyOf kind (Good content) = kind_of content ≡ kind
+IsBodyOf kind (Bad rule) = ⊤
+
+-- a response of the incremental protocol
+pub record ResponseParts : Type 0 where
+  pub kind : Option Kind
+  pub nonce : List ℕ
+  pub items : List ItemParts
+  pub removed : List (List ℕ)
+
+-- good bodies have the response's type, and a response of no type that is read has nothing in it
+abbrev pub IsResponseOf : Option Kind → List ItemParts → List (List ℕ) → Type 0
+IsResponseOf None items removed = (items ≡ []) × (removed ≡ [])
+IsResponseOf (Some kind) items removed = All (λ (item : ItemParts). IsBodyOf kind item.body) items
+
+abbrev pub IsResponse : ResponseParts → Type 0
+IsResponse r = IsResponseOf r.kind r.items r.removed

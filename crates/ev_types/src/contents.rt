@@ -1,0 +1,170 @@
+use crate::{Assignment, Cluster, Listener, Name, RouteTable, Seq, Text, TryCopy};
+use std::alloc::{AllocError, Global};
+use std::marker::Model;
+
+/// The four types of resource, named by the services that bring them.
+#[derive(Clone, Copy, Debug, PartialEq, Eq)]
+pub enum Kind {
+    /// Clusters.
+    Cds,
+    /// Endpoints: cluster load assignments.
+    Eds,
+    /// Listeners.
+    Lds,
+    /// Route configurations.
+    Rds,
+}
+
+/// What a resource of one of the four types says.
+#[derive(Drop)]
+pub enum Content {
+    Cluster(Cluster),
+    Assignment(Assignment),
+    Listener(Listener),
+    Routes(RouteTable),
+}
+
+impl TryCopy for Content {
+    fn copy(&self, alloc: Global) -> Result<Content, AllocError> {
+        match self {
+            Content::Cluster(cluster) => Ok(Content::Cluster(cluster.copy(alloc)?)),
+            Content::Assignment(rows) => Ok(Content::Assignment(rows.copy(alloc)?)),
+            Content::Listener(listener) => Ok(Content::Listener(listener.copy(alloc)?)),
+            Content::Routes(table) => Ok(Content::Routes(table.copy(alloc)?)),
+        }
+    }
+}
+
+impl PartialEq for Content {
+    ghost use Rattle.std.specs.Cmp.{decided, partial_equiv_from_equiv};
+    ghost use Rattle.ev_types.specs.SameContents.{content_same, content_decides};
+
+    ghost eq = { content_same };
+
+    ghost laws = { partial_equiv_from_equiv (decided content_same content_decides) };
+
+    fn eq(&self, other: &Content) -> bool {
+        match (self, other) {
+            (Content::Cluster(cluster), Content::Cluster(other)) => cluster == other,
+            (Content::Assignment(rows), Content::Assignment(other)) => rows == other,
+            (Content::Listener(listener), Content::Listener(other)) => listener == other,
+            (Content::Routes(table), Content::Routes(other)) => table == other,
+            _ => false,
+        }
+    }
+}
+
+impl Eq for Content {
+    ghost use Rattle.std.specs.Cmp.{decided};
+    ghost use Rattle.ev_types.specs.SameContents.{content_same, content_decides};
+
+    ghost laws = { decided content_same content_decides };
+}
+
+/// The body of a resource: its content, or the least form rule that it breaks.
+#[derive(Drop)]
+pub enum Body {
+    Good(Content),
+    Bad(u8),
+}
+
+impl TryCopy for Body {
+    fn copy(&self, alloc: Global) -> Result<Body, AllocError> {
+        match self {
+            Body::Good(content) => Ok(Body::Good(content.copy(alloc)?)),
+            Body::Bad(rule) => Ok(Body::Bad(*rule)),
+        }
+    }
+}
+
+/// A resource of a response, with its outer name and its version as they came.
+/// Where the body is good, the name has 1 to 512 bytes and is the cluster's or listener's own.
+#[derive(Drop)]
+pub struct Item {
+    pub name: Text,
+    pub version: Text,
+    pub body: Body,
+}
+
+impl Model for Item {
+    ghost use Rattle.ev_types.specs.Items.{ItemParts, IsOwnName};
+
+    ghost Value = { ItemParts };
+
+    ghost view = { λ i. record { name = i.name; version = i.version; body = i.body } };
+
+    ghost invariant = { λ i. IsOwnName i.name i.body };
+}
+
+impl TryCopy for Item {
+    fn copy(&self, alloc: Global) -> Result<Item, AllocError> {
+        Ok(Item {
+            name: self.name.copy(alloc)?,
+            version: self.version.copy(alloc)?,
+            body: self.body.copy(alloc)?,
+        })
+    }
+}
+
+/// A response of the incremental protocol. Where its type is none of the four, both lists are empty;
+/// a good body has the content of its type.
+#[derive(Drop)]
+pub struct Response {
+    /// The type, or `None` for one that isn't read.
+    pub kind: Option<Kind>,
+    /// The nonce, which the reply carries.
+    pub nonce: Text,
+    pub items: Seq<Item>,
+    /// The names of removed resources.
+    pub removed: Seq<Text>,
+}
+
+impl Model for Response {
+    ghost use Rattle.ev_types.specs.Items.{ResponseParts, IsResponse};
+
+    ghost Value = { ResponseParts };
+
+    ghost view = { λ r. record { kind = r.kind; nonce = r.nonce; items = r.items; removed = r.removed } };
+
+    ghost invariant = { λ r. IsResponse record { kind = r.kind; nonce = r.nonce; items = r.items; removed = r.removed } };
+}
+
+impl TryCopy for Response {
+    fn copy(&self, alloc: Global) -> Result<Response, AllocError> {
+        Ok(Response {
+            kind: self.kind,
+            nonce: self.nonce.copy(alloc)?,
+            items: self.items.copy(alloc)?,
+            removed: self.removed.copy(alloc)?,
+        })
+    }
+}
+
+/// A request of the incremental protocol. A request that answers a response has its nonce, and an error where it refuses.
+#[derive(Drop)]
+pub struct Request {
+    pub kind: Kind,
+    /// The node's id, in the first CDS request of a stream.
+    pub node: Option<Text>,
+    pub subscribe: Seq<Name>,
+    pub unsubscribe: Seq<Name>,
+    /// The versions that are held, by name.
+    pub versions: Seq<(Name, Text)>,
+    pub nonce: Option<Text>,
+    /// The message of a refusal.
+    pub error: Option<Text>,
+}
+
+impl TryCopy for Request {
+    fn copy(&self, alloc: Global) -> Result<Request, AllocError> {
+        Ok(Request {
+            kind: self.kind,
+            node: self.node.copy(alloc)?,
+            subscribe: self.subscribe.copy(alloc)?,
+            unsubscribe: self.unsubscribe.copy(alloc)?,
+            versions: self.versions.copy(alloc)?,
+            nonce: self.nonce.copy(alloc)?,
+            error: self.error.copy(alloc)?,
+        })
+    }
+}

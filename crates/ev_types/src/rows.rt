@@ -1,0 +1,118 @@
+use crate::{Content, Kind, Name, TryCopy};
+use std::alloc::{AllocError, Global};
+use std::marker::Model;
+
+/// The number of a generation, from 1. Numbers are drawn from one counter for clusters and listeners.
+#[derive(Clone, Copy, Debug, PartialEq, Eq, PartialOrd, Ord)]
+pub struct Gen {
+    number: u32,
+}
+
+impl Model for Gen {
+    ghost use Rattle.std.specs.Prelude.{ℕ, ◌≤◌};
+
+    ghost Value = { ℕ };
+
+    ghost view = { λ g. g.number };
+
+    ghost invariant = { λ g. 1 ≤ g.number };
+
+    ghost inverse = { λ n. record { number = n } };
+}
+
+impl Gen {
+    ghost use Rattle.std.specs.Prelude.{◌≡◌, ◌≤◌};
+
+    /// The generation of this number.
+    pub fn new(number: u32) -> Gen
+        requires { 1 ≤ number }
+        ensures number { result ≡ number }
+    {
+        Gen { number }
+    }
+
+    /// Its number.
+    pub fn number(self) -> u32
+        ensures number { result ≡ self }
+        ensures first { 1 ≤ result }
+    {
+        self.number
+    }
+}
+
+impl TryCopy for Gen {
+    fn copy(&self, _alloc: Global) -> Result<Gen, AllocError> {
+        Ok(*self)
+    }
+}
+
+/// Where a generation stands.
+#[derive(Clone, Copy, Debug, PartialEq, Eq)]
+pub enum RowStatus {
+    /// It waits for what it depends on.
+    Warming,
+    /// It serves.
+    Active,
+    /// It was replaced or removed after it had served; connections may still be open on it.
+    Draining,
+    /// It was replaced or removed before it served.
+    Dropped,
+}
+
+/// A generation of a cluster or listener.
+#[derive(Drop)]
+pub struct GenRow {
+    /// `Cds` for a cluster, `Lds` for a listener.
+    pub kind: Kind,
+    pub number: Gen,
+    pub name: Name,
+    pub content: Content,
+    pub status: RowStatus,
+}
+
+impl TryCopy for GenRow {
+    fn copy(&self, alloc: Global) -> Result<GenRow, AllocError> {
+        Ok(GenRow {
+            kind: self.kind,
+            number: self.number,
+            name: self.name.copy(alloc)?,
+            content: self.content.copy(alloc)?,
+            status: self.status,
+        })
+    }
+}
+
+/// How far the proxy has booted. A phase never goes back.
+#[derive(Clone, Copy, Debug, PartialEq, Eq)]
+pub enum Phase {
+    /// The first clusters are awaited.
+    Clusters,
+    /// The first listeners are awaited.
+    Listeners,
+    /// Listeners serve.
+    Serving,
+}
+
+/// What came for a watched name.
+#[derive(Drop)]
+pub enum Arrival {
+    /// A resource.
+    Value(Content),
+    /// A notice that there is no such resource.
+    Absent,
+    /// A resource that was refused.
+    Bad,
+    /// The initial fetch timeout.
+    TimedOut,
+}
+
+impl TryCopy for Arrival {
+    fn copy(&self, alloc: Global) -> Result<Arrival, AllocError> {
+        match self {
+            Arrival::Value(content) => Ok(Arrival::Value(content.copy(alloc)?)),
+            Arrival::Absent => Ok(Arrival::Absent),
+            Arrival::Bad => Ok(Arrival::Bad),
+            Arrival::TimedOut => Ok(Arrival::TimedOut),
+        }
+    }
+}
