@@ -1,0 +1,19 @@
+-- Words for what a source and a sink count and append.
+use Rattle.std.specs.Prelude.{◌≡◌, ℕ, ◌+◌, ◌-◌, ◌^◌, ◌<◌, ◌≤◌, ◌⊎◌, min, List, length, take, Option}
+use Rattle.std.specs.Io.KnownBytes.{append_known}
+
+-- the last value of a counter of 64 bits
+abbrev pub last_count : ℕ
+last_count = 2 ^ 64 - 1
+
+-- one more, or still the last value of a counter
+abbrev pub raised : ℕ → ℕ
+raised count = min (count + 1) last_count
+
+-- the count rose: it is greater than before, or stands at the last value of a counter
+abbrev pub Rose : ℕ → ℕ → Type 0
+Rose before after = (before < after) ⊎ (after ≡ last_count)
+
+-- told bytes gained a front of these bytes, and what isn't told stays untold
+abbrev pub AppendsPrefix : Option (List ℕ) → Option (List ℕ) → List ℕ → Type 0
+AppendsPrefix before after bytes = (n : ℕ) × (n ≤ length bytes) × (after ≡ append_known before (take n bytes))

@@ -1,0 +1,18 @@
+//! What a program reads from and writes to, as two traits whose meanings say which bytes went
+//! through and how many faults there were, and what implements them: memory for tests and proofs,
+//! and the standard streams.
+#![tactic(auto)]
+
+mod calls;
+mod memory_sink;
+mod memory_source;
+mod outside;
+mod standard;
+
+pub use memory_sink::MemSink;
+pub use memory_source::MemSource;
+pub use outside::{Failed, Sink, Source, write_all};
+pub use standard::{StdSink, StdSource};
+
+#[cfg(test)]
+mod tests;

@@ -1,0 +1,70 @@
+ghost use Rattle.std.specs.Prelude.{◌≡◌, ℕ, ◌<◌, ◌≤◌, List, length, take, Option, OnOk, OnErr, IfOk};
+ghost use Rattle.std.specs.Io.KnownBytes.{prepend_known, append_known, IsAtEnd};
+ghost use Rattle.ev_io.specs.Outside.{Rose, AppendsPrefix};
+
+/// A read or a write that failed. It says no more: the count of faults tells that it happened.
+#[derive(Clone, Copy, Debug, PartialEq, Eq)]
+pub struct Failed;
+
+/// What bytes are read from. Each implementation may tell which bytes are left, and then goes on
+/// telling it; what isn't told stays untold.
+pub trait Source {
+    // the bytes not yet given, where they are told
+    ghost left: { Self → Option (List ℕ) };
+
+    // how many faults there were; a counter that stands still at its last value
+    ghost faults: { Self → ℕ };
+
+    /// Puts the next bytes into the front of `buf` and says how many. 0 for a buffer that isn't
+    /// empty is the end of input.
+    ///
+    /// # Errors
+    /// `Failed` where the outside failed. Nothing was taken then, and the call may be made again.
+    fn read(&mut self, buf: &mut [u8]) -> Result<usize, Failed>
+        ensures bound { IfOk result (λ n. n ≤ length buf.new) }
+        ensures bytes { IfOk result (λ n. left self.old ≡ prepend_known (take n buf.new) (left self.new)) }
+        ensures end { IfOk result (λ n. n ≡ 0 → 0 < length buf.new → IsAtEnd (left self.new)) }
+        ensures unchanged { OnErr result (left self.new ≡ left self.old) }
+        ensures failed { OnErr result (Rose (faults self.old) (faults self.new)) }
+        ensures count { faults self.old ≤ faults self.new };
+}
+
+/// What bytes are written to. Each implementation may tell which bytes were written, and then goes
+/// on telling it; what isn't told stays untold.
+pub trait Sink {
+    // the bytes written so far, where they are told
+    ghost written: { Self → Option (List ℕ) };
+
+    // how many faults there were; a counter that stands still at its last value
+    ghost faults: { Self → ℕ };
+
+    /// Appends the first bytes of `bytes` and says how many: at least one where there is one.
+    ///
+    /// # Errors
+    /// `Failed` where the outside failed. Nothing was appended then.
+    fn write(&mut self, bytes: &[u8]) -> Result<usize, Failed>
+        ensures bound { IfOk result (λ n. n ≤ length bytes.now) }
+        ensures some { IfOk result (λ n. 0 < length bytes.now → 0 < n) }
+        ensures bytes { IfOk result (λ n. written self.new ≡ append_known (written self.old) (take n bytes.now)) }
+        ensures unchanged { OnErr result (written self.new ≡ written self.old) }
+        ensures failed { OnErr result (Rose (faults self.old) (faults self.new)) }
+        ensures count { faults self.old ≤ faults self.new };
+}
+
+/// Writes all of `bytes`, in as many calls as it takes.
+///
+/// # Errors
+/// `Failed` where one of the sink's calls failed. What was appended before is a prefix of `bytes`.
+#[tactic(auto, using(crate::proofs::Known::appended_more))]
+pub fn write_all<K: Sink>(sink: &mut K, bytes: &[u8]) -> Result<(), Failed>
+    ensures whole { OnOk result (K.written sink.new ≡ append_known (K.written sink.old) bytes.now) }
+    ensures prefix { OnErr result (AppendsPrefix (K.written sink.old) (K.written sink.new) bytes.now) }
+    ensures failed { OnErr result (Rose (K.faults sink.old) (K.faults sink.new)) }
+    ensures count { K.faults sink.old ≤ K.faults sink.new }
+{
+    let mut done = 0;
+    while done < bytes.len() {
+        done += sink.write(&bytes[done..])?;
+    }
+    Ok(())
+}
