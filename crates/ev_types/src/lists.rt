@@ -1,4 +1,4 @@
-ghost use Rattle.std.specs.Prelude.{◌≡◌, ◌↔◌, List, [], ◌∷◌, ◌++◌, length, IsTrue, OnOk, OnErr};
+ghost use Rattle.std.specs.Prelude.{◌≡◌, ◌↔◌, ◌<◌, List, [], ◌∷◌, ◌++◌, length, slice_set, IsTrue, OnOk, OnErr};
 
 use crate::TryCopy;
 use std::alloc::{AllocError, Global};
@@ -59,6 +59,16 @@ impl<T> Seq<T> {
         ensures { IsTrue result ↔ (length self.now ≡ 0) }
     {
         self.items.is_empty()
+    }
+
+    /// Puts an element in the place of another.
+    pub fn set(&mut self, place: usize, item: T)
+    where
+        T: Drop,
+        requires { place < length self.old }
+        ensures { self.new ≡ slice_set self.old place item }
+    {
+        self.items[place] = item;
     }
 
     /// Puts an element at the end. Without memory the list stays as it was.

@@ -1,0 +1,5 @@
+pub mod World
+pub mod Requests
+pub mod Step
+pub mod Runs
+pub mod Operations

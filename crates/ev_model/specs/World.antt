@@ -1,0 +1,120 @@
+-- What the managers know, as lists and marks. This project's own: the sources are the cluster manager's and the listener
+-- manager's states, of which Envoy's documentation on warming, draining and discovery speaks.
+use Rattle.std.specs.Prelude.{ℕ, Bool, false, List, [], ◌∷◌, Option, None, replicate, length, ◌-◌}
+use Rattle.ev_types.specs.declared.contents.Kind.{Kind}
+use Rattle.ev_types.specs.declared.hosts.Host.{Host}
+use Rattle.ev_types.specs.Hosts.{HostRowParts}
+use Rattle.ev_types.specs.declared.routes.RouteTable.{RouteTable}
+use Rattle.ev_types.specs.declared.routes.Target.{Target}
+use Rattle.ev_types.specs.declared.rows.GenRow.{GenRow}
+use Rattle.ev_types.specs.declared.rows.Arrival.{Arrival}
+use Rattle.ev_types.specs.declared.rows.Phase.{Phase}
+use Rattle.ev_types.specs.declared.rows.Phase.TheVariants.{Clusters}
+
+-- something came for a name of this kind
+pub record Arrived : Type 0 where
+  pub kind : Kind
+  pub name : List ℕ
+  pub arrival : Arrival
+
+-- a health result of a host, for the generation of this number
+pub record HealthResult : Type 0 where
+  pub number : ℕ
+  pub host : Host
+  pub healthy : Bool
+
+-- the version that is kept for a name of this kind
+pub record KeptVersion : Type 0 where
+  pub kind : Kind
+  pub name : List ℕ
+  pub version : List ℕ
+
+-- an open connection of a worker: on a listener's generation, and on a cluster's where it was forwarded
+pub record OpenMember : Type 0 where
+  pub worker : ℕ
+  pub connection : ℕ
+  pub listener : ℕ
+  pub cluster : Option ℕ
+
+-- an active cluster as workers see it, with the hosts that may be chosen
+pub record ServedCluster : Type 0 where
+  pub number : ℕ
+  pub name : List ℕ
+  pub hosts : List HostRowParts
+
+-- where a listener's connections go
+pub data Routing : Type 0 where
+  table : RouteTable → Routing
+  tcp : Target → Routing
+
+-- an active listener as workers see it
+pub record ServedListener : Type 0 where
+  pub number : ℕ
+  pub name : List ℕ
+  pub address : Host
+  pub routing : Routing
+
+-- what workers may serve
+pub record Picture : Type 0 where
+  pub clusters : List ServedCluster
+  pub listeners : List ServedListener
+
+abbrev pub empty_picture : Picture
+empty_picture = record { clusters = []; listeners = [] }
+
+-- what the managers know
+pub record World : Type 0 where
+  -- the generations
+  pub rows : List GenRow
+  -- how many numbers were drawn for them
+  pub made : ℕ
+  -- what came for watched names, in order of coming
+  pub arrivals : List Arrived
+  -- health results; the last of a number and host counts
+  pub results : List HealthResult
+  -- one version for each kind and name that has one, sorted by name
+  pub versions : List KeptVersion
+  -- all published pictures; the place is the version, and the first one is empty
+  pub pictures : List Picture
+  -- the version that each worker holds
+  pub held : List ℕ
+  -- the connections that are open
+  pub opened : List OpenMember
+  -- the numbers of the listener rows whose drain timeout came
+  pub expired : List ℕ
+  -- whether a stream is open
+  pub stream : Bool
+  -- the names that the first answered response of clusters, and of listeners, made rows for
+  pub first_clusters : Option (List (List ℕ))
+  pub first_listeners : Option (List (List ℕ))
+  -- whether the first clusters, and the first listeners, timed out
+  pub late_clusters : Bool
+  pub late_listeners : Bool
+  pub phase : Phase
+  -- the node's id, which never changes
+  pub node : List ℕ
+
+-- nothing is known yet, and each worker holds the empty picture
+abbrev pub opening : ℕ → List ℕ → World
+opening workers node = record {
+  rows = [];
+  made = 0;
+  arrivals = [];
+  results = [];
+  versions = [];
+  pictures = empty_picture ∷ [];
+  held = replicate workers 0;
+  opened = [];
+  expired = [];
+  stream = false;
+  first_clusters = None;
+  first_listeners = None;
+  late_clusters = false;
+  late_listeners = false;
+  phase = Clusters;
+  node = node;
+}
+
+-- the version of the last published picture
+abbrev pub last_version : World → ℕ
+last_version world = length world.pictures - 1

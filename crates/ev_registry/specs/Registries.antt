@@ -1,0 +1,20 @@
+-- What a registry shows: its workers, its node and its journal.
+use Rattle.std.specs.Prelude.{ℕ, ◌≡◌, List, length}
+use Rattle.ev_types.specs.declared.events.Entry.{Entry}
+use Rattle.ev_model.specs.World.{World, opening}
+use Rattle.ev_model.specs.Runs.{world_after, IsRun}
+
+pub record RegistryParts : Type 0 where
+  pub workers : ℕ
+  pub node : List ℕ
+  pub journal : List Entry
+
+-- the world that the journal has led to
+abbrev pub world_now : RegistryParts → World
+world_now registry = world_after (opening registry.workers registry.node) registry.journal
+
+-- the state is that of the journal, and the journal is a run
+pub record Stands (world : World) (registry : RegistryParts) : Type 0 where
+  pub now : world ≡ world_now registry
+  pub run : IsRun registry.workers registry.node registry.journal
+  pub workers : length world.held ≡ registry.workers
