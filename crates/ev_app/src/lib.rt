@@ -3,3 +3,4 @@
 
 mod input;
 mod lines;
+mod render;

@@ -1,0 +1,8 @@
+use Rattle.std.proofs.Common.{◌≡◌, map, take}
+use Rattle.serde_json.specs.Data.{string}
+use Rattle.serde_json.specs.View.{view}
+use Rattle.ev_app.specs.Rendering.{number_tree, request_tree}
+use Rattle.ev_app.proofs.render.request_values.Given as goal
+
+abbrev pub invariant-loop-request : goal.invariant-loop-request
+invariant-loop-request l = map view l.values.items ≡ map request_tree (take l.request-index l.requests)
