@@ -1,0 +1,4 @@
+pub mod Elements
+pub mod Numerals
+pub mod Names
+pub mod Units

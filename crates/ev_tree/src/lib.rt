@@ -1,0 +1,20 @@
+//! Fields of JSON objects in the forms of the proto3 JSON mapping: a field by either spelling of its
+//! name, and its value as a text, a number, a boolean, a duration, an object, a list or an enum.
+//!
+//! A field that is `null` is absent. A field that stands in both spellings has the wrong form.
+#![tactic(auto)]
+
+mod durations;
+mod lists;
+pub mod member;
+mod numbers;
+mod outcome;
+mod readers;
+mod span;
+mod spelling;
+mod tables;
+
+pub use outcome::{Found, ReadError};
+pub use readers::{boolean, duration, enumeration, field, list, number32, object, text};
+pub use span::Span;
+pub use tables::EnumTable;
