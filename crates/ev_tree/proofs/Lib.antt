@@ -2,3 +2,4 @@ pub mod Elements
 pub mod Numerals
 pub mod Names
 pub mod Units
+pub mod Outcomes

@@ -1,6 +1,6 @@
 -- What reading a field of an object gives, by the proto3 JSON mapping in this project's profile: each
 -- form is a function of the tree, for the readers' clauses and for the rules above alike.
-use Rattle.std.specs.Prelude.{◌≡◌, ℕ, List, [], Bool, true, false, if◌then◌else◌, Option, Some, None, is_some, option_and_then, Result, Ok, Err, ⊤}
+use Rattle.std.specs.Prelude.{◌≡◌, ℕ, List, [], Bool, true, false, if◌then◌else◌, Option, Some, None, is_some, option_and_then, unwrap_or, Result, Ok, Err, ⊤}
 use Rattle.std.specs.List.{list_all}
 use Rattle.std.specs.Str.{bytes_eq}
 use denote.Ref.{Bor}
@@ -140,6 +140,17 @@ abbrev pub listed : Found (List Data) → List Data
 listed Absent = []
 listed Wrong = []
 listed (Given ds) = ds
+
+-- the text of an element of a list of texts
+abbrev pub text_in : Data → List ℕ
+text_in d = unwrap_or (as_str d) []
+
+-- A look finds an outcome: the same, of what each value is seen as.
+pub record Shows {A B : Type 0} (seen : A → B) (found : Found A) (outcome : Found B) : Type 0 where
+  pub value : found_map seen found ≡ outcome
+  pub wrong : is_wrong found ≡ is_wrong outcome
+  pub given : is_given found ≡ is_given outcome
+  pub absent : is_absent found ≡ is_absent outcome
 
 -- the tree of an object that may be missing
 abbrev pub tree_of : Option (Bor Value) → Data

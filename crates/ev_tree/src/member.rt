@@ -1,9 +1,9 @@
 //! What a look at a field of an object finds, wrong forms among it: for callers that go on after a wrong
 //! form. An object that is missing has no fields.
-ghost use Rattle.std.specs.Prelude.{◌≡◌, IfOk, map, option_map};
+ghost use Rattle.std.specs.Prelude.{◌≡◌, [], IfOk, map, option_map};
 ghost use Rattle.serde_json.specs.Find.{get};
 ghost use Rattle.serde_json.specs.View.{view};
-ghost use Rattle.ev_tree.specs.Forms.{found_map, tree_of, present, found_of, either, taken, field_of, text_of, number_of, boolean_of, duration_of, object_of, list_of, objects_of, texts_of, enumeration_of};
+ghost use Rattle.ev_tree.specs.Forms.{Shows, text_in, given_or, inside, listed, found_map, tree_of, present, found_of, either, taken, field_of, text_of, number_of, boolean_of, duration_of, object_of, list_of, objects_of, texts_of, enumeration_of};
 
 use crate::durations::span;
 use crate::lists::{list_value, object_value, objects_value, texts_value};
@@ -50,7 +50,7 @@ pub fn field<'a>(
     object: Option<&'a Value>,
     name: &str,
 ) -> Result<Found<&'a Value>, AllocError>
-    ensures { IfOk result (λ found. found_map (λ v. view v.now) found ≡ field_of name.now (tree_of object.entry)) }
+    ensures { IfOk result (λ found. Shows (λ v. view v.now) found (field_of name.now (tree_of object.entry))) }
 {
     let Some(object) = object else {
         return Ok(Found::Absent);
@@ -78,7 +78,7 @@ pub fn text<'a>(
     object: Option<&'a Value>,
     name: &str,
 ) -> Result<Found<&'a str>, AllocError>
-    ensures { IfOk result (λ found. found_map (λ s. s.now) found ≡ text_of name.now (tree_of object.entry)) }
+    ensures { IfOk result (λ found. Shows (λ s. s.now) found (text_of name.now (tree_of object.entry))) }
 {
     match field(alloc, object, name)? {
         Found::Absent => Ok(Found::Absent),
@@ -134,7 +134,7 @@ pub fn object<'a>(
     object: Option<&'a Value>,
     name: &str,
 ) -> Result<Found<&'a Value>, AllocError>
-    ensures { IfOk result (λ found. found_map (λ v. view v.now) found ≡ object_of name.now (tree_of object.entry)) }
+    ensures { IfOk result (λ found. Shows (λ v. view v.now) found (object_of name.now (tree_of object.entry))) }
 {
     match field(alloc, object, name)? {
         Found::Absent => Ok(Found::Absent),
@@ -150,7 +150,7 @@ pub fn list<'a>(
     object: Option<&'a Value>,
     name: &str,
 ) -> Result<Found<&'a [Value]>, AllocError>
-    ensures { IfOk result (λ found. found_map (λ vs. map view vs.now) found ≡ list_of name.now (tree_of object.entry)) }
+    ensures { IfOk result (λ found. Shows (λ vs. map view vs.now) found (list_of name.now (tree_of object.entry))) }
 {
     match field(alloc, object, name)? {
         Found::Absent => Ok(Found::Absent),
@@ -166,7 +166,7 @@ pub fn objects<'a>(
     object: Option<&'a Value>,
     name: &str,
 ) -> Result<Found<&'a [Value]>, AllocError>
-    ensures { IfOk result (λ found. found_map (λ vs. map view vs.now) found ≡ objects_of name.now (tree_of object.entry)) }
+    ensures { IfOk result (λ found. Shows (λ vs. map view vs.now) found (objects_of name.now (tree_of object.entry))) }
 {
     match field(alloc, object, name)? {
         Found::Absent => Ok(Found::Absent),
@@ -182,7 +182,7 @@ pub fn texts<'a>(
     object: Option<&'a Value>,
     name: &str,
 ) -> Result<Found<&'a [Value]>, AllocError>
-    ensures { IfOk result (λ found. found_map (λ vs. map view vs.now) found ≡ texts_of name.now (tree_of object.entry)) }
+    ensures { IfOk result (λ found. Shows (λ vs. map view vs.now) found (texts_of name.now (tree_of object.entry))) }
 {
     match field(alloc, object, name)? {
         Found::Absent => Ok(Found::Absent),
@@ -205,5 +205,45 @@ pub fn enumeration(
         Found::Absent => Ok(Found::Absent),
         Found::Wrong => Ok(Found::Wrong),
         Found::Given(value) => Ok(taken(enum_value(value, table))),
+    }
+}
+
+/// The object to look into: none, which has no fields, where none is given.
+pub fn inner(found: Found<&Value>) -> Option<&Value>
+    ensures { tree_of result ≡ inside (found_map (λ v. view v.now) found.entry) }
+{
+    match found {
+        Found::Given(value) => Some(value),
+        Found::Absent | Found::Wrong => None,
+    }
+}
+
+/// The elements that count: none where no list is given.
+pub fn elements(found: Found<&[Value]>) -> &[Value]
+    ensures { map view result.now ≡ listed (found_map (λ vs. map view vs.now) found.entry) }
+{
+    match found {
+        Found::Given(values) => values,
+        Found::Absent | Found::Wrong => &[],
+    }
+}
+
+/// The text that counts: the empty one where none is given.
+pub fn text_or_empty(found: Found<&str>) -> &str
+    ensures { result.now ≡ given_or [] (found_map (λ s. s.now) found.entry) }
+{
+    match found {
+        Found::Given(text) => text,
+        Found::Absent | Found::Wrong => "",
+    }
+}
+
+/// The text of a value, as of an element of a list of texts: the empty one where it is none.
+pub fn text_value(value: &Value) -> &str
+    ensures { result.now ≡ text_in (view value.now) }
+{
+    match value.as_str() {
+        Some(text) => text,
+        None => "",
     }
 }
