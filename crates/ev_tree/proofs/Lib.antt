@@ -1,0 +1,5 @@
+pub mod Elements
+pub mod Numerals
+pub mod Names
+pub mod Units
+pub mod Outcomes

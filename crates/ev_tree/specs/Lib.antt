@@ -1,0 +1,6 @@
+pub mod Spelling
+pub mod Scalars
+pub mod Forms
+pub mod Rules
+pub mod Addresses
+pub mod Sources

@@ -1,0 +1,26 @@
+//! Fields of JSON objects in the forms of the proto3 JSON mapping: a field by either spelling of its
+//! name, and its value as a text, a number, a boolean, a duration, an object, a list or an enum.
+//!
+//! A field that is `null` is absent. A field that stands in both spellings has the wrong form.
+#![tactic(auto)]
+
+mod addresses;
+mod durations;
+mod lists;
+pub mod member;
+mod numbers;
+mod outcome;
+mod readers;
+mod rules;
+mod sources;
+mod span;
+mod spelling;
+mod tables;
+
+pub use addresses::{SocketAddress, socket_address};
+pub use outcome::{Found, ReadError};
+pub use readers::{boolean, duration, enumeration, field, list, number32, object, text};
+pub use rules::{is_name, least};
+pub use sources::{ConfigSource, config_source};
+pub use span::Span;
+pub use tables::EnumTable;

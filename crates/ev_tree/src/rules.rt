@@ -1,0 +1,22 @@
+ghost use Rattle.std.specs.Prelude.{◌≡◌};
+ghost use Rattle.ev_tree.specs.Rules.{least, is_name};
+
+/// The first rule of a list that is broken: each entry is a rule's number and whether it is broken. In
+/// a list in ascending order it is the least.
+pub fn least(rules: &[(u8, bool)]) -> Option<u8>
+    ensures { result ≡ least rules.now }
+{
+    for (rule, broken) in rules {
+        if *broken {
+            return Some(*rule);
+        }
+    }
+    None
+}
+
+/// Whether a text has 1 to 512 bytes, as a name or an address has.
+pub fn is_name(text: &str) -> bool
+    ensures { result ≡ is_name text.now }
+{
+    1 <= text.len() && text.len() <= 512
+}

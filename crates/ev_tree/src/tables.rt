@@ -1,0 +1,95 @@
+ghost use Rattle.std.specs.Prelude.{◌≡◌, ◌<◌, IfSome, length, map};
+ghost use Rattle.ev_tree.specs.Scalars.{names_of, named_in, enum_in};
+ghost use Rattle.serde_json.specs.View.{view};
+
+use serde_json::Value;
+
+/// The enums that are read, by the field that has them.
+#[derive(Clone, Copy, Debug, PartialEq, Eq)]
+pub enum EnumTable {
+    /// A cluster's `type`: `STATIC` 0, `STRICT_DNS` 1, `LOGICAL_DNS` 2, `EDS` 3, `ORIGINAL_DST` 4.
+    Discovery,
+    /// A host's `health_status`: `UNKNOWN` 0, `HEALTHY` 1, `UNHEALTHY` 2, `DRAINING` 3, `TIMEOUT` 4,
+    /// `DEGRADED` 5.
+    Health,
+    /// A socket address's `protocol`: `TCP` 0, `UDP` 1.
+    Protocol,
+}
+
+/// The number of a name.
+fn named(table: EnumTable, text: &str) -> Option<u32>
+    ensures { result ≡ named_in table text.now }
+{
+    match table {
+        EnumTable::Discovery => discovery_named(text),
+        EnumTable::Health => health_named(text),
+        EnumTable::Protocol => protocol_named(text),
+    }
+}
+
+#[tactic(auto, unfolding(crate::specs::Scalars::named_in))]
+fn discovery_named(text: &str) -> Option<u32>
+    ensures { result ≡ named_in EnumTable.Discovery text.now }
+{
+    match text {
+        "STATIC" => Some(0),
+        "STRICT_DNS" => Some(1),
+        "LOGICAL_DNS" => Some(2),
+        "EDS" => Some(3),
+        "ORIGINAL_DST" => Some(4),
+        _ => None,
+    }
+}
+
+#[tactic(auto, unfolding(crate::specs::Scalars::named_in))]
+fn health_named(text: &str) -> Option<u32>
+    ensures { result ≡ named_in EnumTable.Health text.now }
+{
+    match text {
+        "UNKNOWN" => Some(0),
+        "HEALTHY" => Some(1),
+        "UNHEALTHY" => Some(2),
+        "DRAINING" => Some(3),
+        "TIMEOUT" => Some(4),
+        "DEGRADED" => Some(5),
+        _ => None,
+    }
+}
+
+#[tactic(auto, unfolding(crate::specs::Scalars::named_in))]
+fn protocol_named(text: &str) -> Option<u32>
+    ensures { result ≡ named_in EnumTable.Protocol text.now }
+{
+    match text {
+        "TCP" => Some(0),
+        "UDP" => Some(1),
+        _ => None,
+    }
+}
+
+/// How many values an enum has. They are numbered from 0.
+fn count(table: EnumTable) -> u64
+    ensures { result ≡ length (names_of table) }
+{
+    match table {
+        EnumTable::Discovery => 5,
+        EnumTable::Health => 6,
+        EnumTable::Protocol => 2,
+    }
+}
+
+/// A value as an enum: a listed name, or a listed number.
+#[tactic(auto, unfolding(crate::specs::Scalars::enum_in))]
+pub fn enum_value(value: &Value, table: EnumTable) -> Option<u32>
+    ensures { result ≡ enum_in table (view value.now) }
+{
+    if let Some(text) = value.as_str() {
+        return named(table, text);
+    }
+    let number = value.as_u64()?;
+    if number < count(table) {
+        Some(number as u32)
+    } else {
+        None
+    }
+}
