@@ -8,7 +8,8 @@ use Rattle.ev_types.specs.declared.events.Event.TheVariants.{Connect, Settle}
 use Rattle.ev_types.specs.declared.events.Entry.{Entry}
 use Rattle.ev_model.specs.World.{World}
 use Rattle.ev_model.specs.Step.{step, connect}
-use Rattle.ev_model.specs.Runs.{world_after, MayMake, RunsFrom}
+use Rattle.ev_model.specs.Runs.{world_after, RunsFrom}
+use Rattle.ev_types.specs.Scripts.{MayMake}
 
 -- the world after one entry more
 pub world_after-more : (world : World) (entries : List Entry) (entry : Entry)
