@@ -1,2 +1,4 @@
 pub mod Input
 pub mod Lines
+pub mod Members
+pub mod Script

@@ -3,3 +3,5 @@
 
 mod input;
 mod lines;
+mod members;
+mod script;
