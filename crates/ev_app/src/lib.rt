@@ -5,6 +5,8 @@ mod input;
 mod lines;
 mod members;
 mod program;
+#[cfg(test)]
+mod reading_tests;
 mod render;
 mod replay;
 mod script;
