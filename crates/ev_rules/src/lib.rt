@@ -1,0 +1,8 @@
+//! The verdicts on the resources of a response, by the rules and the generations that are live.
+#![tactic(auto)]
+
+mod lives;
+mod rules;
+mod judging;
+
+pub use judging::verdicts;
