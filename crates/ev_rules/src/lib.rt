@@ -6,3 +6,4 @@ mod rules;
 mod judging;
 
 pub use judging::verdicts;
+pub use rules::is_removed;

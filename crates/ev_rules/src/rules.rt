@@ -76,8 +76,9 @@ fn is_among(name: &str, names: &[Text]) -> bool
     names.iter().any(|other| other.as_str() == name)
 }
 
-/// Whether the response removes the name: it stands among the removed names and at no resource.
-pub(crate) fn is_removed(response: &Response, name: &str) -> bool
+/// Whether the response removes the name: it stands among the removed names and at no resource. A name that stands in
+/// both lists isn't removed.
+pub fn is_removed(response: &Response, name: &str) -> bool
     ensures { result ≡ is_removed response.now name.now }
 {
     is_among(name, response.removed.as_slice())
