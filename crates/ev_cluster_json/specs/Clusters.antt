@@ -49,7 +49,7 @@ abbrev pub service_of : Data → List ℕ
 service_of tree = if length (service_name_of tree) == 0 then name_of tree else service_name_of tree
 
 unfoldable pub is_checked : Data → Bool
-is_checked tree = nat_lt 0 (length (listed (objects_of (codes "health_checks") tree)))
+is_checked tree = not (length (listed (objects_of (codes "health_checks") tree)) == 0)
 
 -- ---- the rules
 
@@ -61,19 +61,30 @@ breaks_v2 tree = nat_lt 512 (length (service_name_of tree))
 unfoldable pub breaks_v3 : Data → Bool
 breaks_v3 tree = not (is_wrong (text_of (codes "name") tree)) && not (is_name (name_of tree))
 
--- V6: a field that is read has the wrong form. The assignment is read where the type is STATIC.
-unfoldable pub breaks_v6 : Data → Bool
-breaks_v6 tree =
+-- V6 in the fields of the cluster itself
+unfoldable pub head_breaks_v6 : Data → Bool
+head_breaks_v6 tree =
     is_wrong (text_of (codes "name") tree)
     || is_wrong (enumeration_of (codes "type") DiscoveryTable tree)
     || is_wrong (object_of (codes "cluster_type") tree)
-    || is_wrong (object_of (codes "eds_cluster_config") tree)
+    || is_wrong (duration_of (codes "connect_timeout") tree)
+    || is_wrong (objects_of (codes "health_checks") tree)
+
+-- V6 in the configuration of EDS
+unfoldable pub eds_breaks_v6 : Data → Bool
+eds_breaks_v6 tree =
+    is_wrong (object_of (codes "eds_cluster_config") tree)
     || is_wrong (object_of (codes "eds_config") (eds_of tree))
     || source_breaks_v6 (source_of tree)
     || is_wrong (text_of (codes "service_name") (eds_of tree))
-    || is_wrong (duration_of (codes "connect_timeout") tree)
-    || is_wrong (objects_of (codes "health_checks") tree)
-    || (is_static tree && (is_wrong (object_of (codes "load_assignment") tree) || assignment_breaks_v6 (assignment_of tree)))
+
+-- V6 in the assignment, which is read where the type is STATIC, and passed over else
+abbrev pub hosts_break_v6 : Bool → Data → Bool
+hosts_break_v6 in_cluster tree = in_cluster && (assignment_breaks_v6 (assignment_of tree) || is_wrong (object_of (codes "load_assignment") tree))
+
+-- V6: a field that is read has the wrong form
+unfoldable pub breaks_v6 : Data → Bool
+breaks_v6 tree = head_breaks_v6 tree || eds_breaks_v6 tree || hosts_break_v6 (is_static tree) tree
 
 -- V7: the type is neither STATIC nor EDS, or a custom type is given
 unfoldable pub breaks_v7 : Data → Bool

@@ -1,8 +1,11 @@
 -- Names and rows that are made on the way, where their parts allow it.
-use Rattle.std.specs.Prelude.{ℕ, ◌==◌, List, Bool, if◌then◌else◌, Option, Some, None, option_map, nat_le, option_to_list}
+use Rattle.std.specs.Prelude.{ℕ, ◌==◌, List, Bool, if◌then◌else◌, Option, Some, None, option_map, option_and_then, nat_le, option_to_list}
 use Rattle.std.specs.List.{flat_map}
 use Rattle.serde_json.specs.Data.{Data}
 use Rattle.ev_types.specs.Hosts.{HostRowParts}
+use Rattle.ev_types.specs.declared.clusters.Cluster.{Cluster}
+use Rattle.ev_types.specs.declared.clusters.Discovery.{Discovery}
+use Rattle.ev_types.specs.declared.clusters.Discovery.TheVariants.{Static, Eds}
 use Rattle.ev_tree.specs.Addresses.{address_of, port_of}
 use Rattle.ev_tree.specs.Rules.{is_name}
 use Rattle.ev_cluster_json.specs.Assignments.{endpoint_of, weight_of, is_usable, priority_of, hosts_of, groups_of}
@@ -35,3 +38,11 @@ made_group group = flat_map (host_rows (rank_of (priority_of group))) (hosts_of 
 
 unfoldable pub made_rows : Data → List HostRowParts
 made_rows tree = flat_map made_group (groups_of tree)
+
+-- the discovery of a cluster of these parts, and the cluster, if its names are names
+abbrev pub discovery_with : Bool → List HostRowParts → List ℕ → Bool → Option Discovery
+discovery_with static rows service limited = if static then Some (Static rows) else option_map (λ name. Eds name limited) (name_in service)
+
+abbrev pub cluster_with : List ℕ → Option Discovery → Bool → Option Cluster
+cluster_with name discovery checked =
+    option_and_then (λ own. option_map (λ found. record { name = own; discovery = found; checked = checked }) discovery) (name_in name)
