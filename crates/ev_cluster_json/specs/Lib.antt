@@ -1,0 +1,4 @@
+pub mod Assignments
+pub mod Clusters
+pub mod Made
+pub mod Tallies
