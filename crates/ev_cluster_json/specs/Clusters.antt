@@ -45,8 +45,11 @@ unfoldable pub assignment_of : Data → Data
 assignment_of tree = inside (object_of (codes "load_assignment") tree)
 
 -- the name that its hosts are asked for by: its own where no other is given
+abbrev pub service_with : List ℕ → List ℕ → List ℕ
+service_with name service_name = if length service_name == 0 then name else service_name
+
 abbrev pub service_of : Data → List ℕ
-service_of tree = if length (service_name_of tree) == 0 then name_of tree else service_name_of tree
+service_of tree = service_with (name_of tree) (service_name_of tree)
 
 unfoldable pub is_checked : Data → Bool
 is_checked tree = not (length (listed (objects_of (codes "health_checks") tree)) == 0)

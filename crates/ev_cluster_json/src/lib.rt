@@ -2,9 +2,11 @@
 #![tactic(auto)]
 
 mod assignments;
+mod clusters;
 mod groups;
 mod hosts;
 mod parts;
 mod tally;
 
 pub use assignments::read_assignment;
+pub use clusters::read_cluster;
