@@ -1,7 +1,7 @@
 ghost use Rattle.std.specs.Prelude.{◌≡◌, IfOk};
 ghost use Rattle.serde_json.specs.View.{view};
-ghost use Rattle.ev_tree.specs.Rules.{Reads};
-ghost use Rattle.ev_cluster_json.specs.Assignments.{assignment_reading};
+ghost use Rattle.ev_tree.specs.Rules.{Reads, IsLeast, least};
+ghost use Rattle.ev_cluster_json.specs.Assignments.{assignment_reading, assignment_rules};
 
 use crate::groups::read_tally;
 use ev_tree::{ReadError, least};
@@ -15,7 +15,9 @@ use std::alloc::{AllocError, Global};
 /// `Rule` has the least form rule that it breaks: V6, V12 or V13. `OutOfMemory` comes without memory, and
 /// for 2^32 - 1 hosts or more.
 pub fn read_assignment(alloc: Global, value: &Value) -> Result<Assignment, ReadError>
-    ensures { Reads result (assignment_reading (view value.now)) }
+    ensures reads { Reads result (assignment_reading (view value.now)) }
+    // The rule of the reading is the least of all that are broken.
+    ensures least { IsLeast (assignment_rules (view value.now)) (least (assignment_rules (view value.now))) }
 {
     let tally = read_tally(alloc, Some(value))?;
     let rules = [

@@ -1,7 +1,7 @@
 ghost use Rattle.std.specs.Prelude.{◌≡◌, IfOk};
 ghost use Rattle.serde_json.specs.View.{view};
-ghost use Rattle.ev_tree.specs.Rules.{Reads, least};
-ghost use Rattle.ev_cluster_json.specs.Clusters.{cluster_reading, service_with};
+ghost use Rattle.ev_tree.specs.Rules.{Reads, IsLeast, least};
+ghost use Rattle.ev_cluster_json.specs.Clusters.{cluster_reading, cluster_rules, least_rule, service_with};
 ghost use Rattle.ev_cluster_json.specs.Made.{discovery_with, cluster_with};
 ghost use Rattle.ev_cluster_json.specs.RulesRead.{rules_read};
 
@@ -21,7 +21,9 @@ use std::alloc::{AllocError, Global};
 /// `Rule` has the least form rule that it breaks: V2 and V3 as far as they show in the cluster alone, and V6
 /// to V13. `OutOfMemory` comes without memory, and for 2^32 - 1 hosts or more.
 pub fn read_cluster(alloc: Global, value: &Value) -> Result<Cluster, ReadError>
-    ensures { Reads result (cluster_reading (view value.now)) }
+    ensures reads { Reads result (cluster_reading (view value.now)) }
+    // The rule of the reading is the least of all that are broken.
+    ensures least { IsLeast (cluster_rules (view value.now)) (least_rule (view value.now)) }
 {
     let head = read_head(alloc, value)?;
     let eds = read_eds(alloc, value)?;
