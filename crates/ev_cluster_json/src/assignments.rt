@@ -1,7 +1,8 @@
 ghost use Rattle.std.specs.Prelude.{◌≡◌, IfOk};
+ghost use Rattle.serde_json.specs.Data.{Data};
 ghost use Rattle.serde_json.specs.View.{view};
-ghost use Rattle.ev_tree.specs.Rules.{Reads};
-ghost use Rattle.ev_cluster_json.specs.Assignments.{assignment_reading};
+ghost use Rattle.ev_tree.specs.Rules.{Reads, IsLeast, least};
+ghost use Rattle.ev_cluster_json.specs.Assignments.{assignment_reading, assignment_rules};
 
 use crate::groups::read_tally;
 use ev_tree::{ReadError, least};
@@ -29,6 +30,12 @@ pub fn read_assignment(alloc: Global, value: &Value) -> Result<Assignment, ReadE
     let assignment = assignment(tally.rows)?;
     Ok(assignment)
 }
+
+/// The rule by which an assignment is refused is the least of all that it breaks, and where there is none,
+/// it breaks none: a law of the definitions.
+pub fn assignment_rule_is_least()
+    ensures { (tree : Data) → IsLeast (assignment_rules tree) (least (assignment_rules tree)) }
+{}
 
 /// The assignment of these rows, if there are few enough.
 pub fn assignment(rows: Vec<HostRow>) -> Result<Assignment, AllocError>

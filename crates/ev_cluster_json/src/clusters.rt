@@ -1,7 +1,8 @@
 ghost use Rattle.std.specs.Prelude.{◌≡◌, IfOk};
+ghost use Rattle.serde_json.specs.Data.{Data};
 ghost use Rattle.serde_json.specs.View.{view};
-ghost use Rattle.ev_tree.specs.Rules.{Reads, least};
-ghost use Rattle.ev_cluster_json.specs.Clusters.{cluster_reading, service_with};
+ghost use Rattle.ev_tree.specs.Rules.{Reads, IsLeast, least};
+ghost use Rattle.ev_cluster_json.specs.Clusters.{cluster_reading, cluster_rules, least_rule, service_with};
 ghost use Rattle.ev_cluster_json.specs.Made.{discovery_with, cluster_with};
 ghost use Rattle.ev_cluster_json.specs.RulesRead.{rules_read};
 
@@ -34,6 +35,12 @@ pub fn read_cluster(alloc: Global, value: &Value) -> Result<Cluster, ReadError>
     let cluster = cluster(alloc, head.name, discovery, head.checked)?;
     Ok(cluster.unwrap())
 }
+
+/// The rule by which a cluster is refused is the least of all that it breaks, and where there is none, it
+/// breaks none: a law of the definitions.
+pub fn cluster_rule_is_least()
+    ensures { (tree : Data) → IsLeast (cluster_rules tree) (least_rule tree) }
+{}
 
 /// The least rule that the parts of a cluster break.
 fn least_broken(head: &Head<'_>, eds: &EdsConfig<'_>, hosts: &Tally) -> Option<u8>

@@ -7,6 +7,8 @@ mod groups;
 mod hosts;
 mod parts;
 mod tally;
+#[cfg(test)]
+mod tests;
 
-pub use assignments::read_assignment;
-pub use clusters::read_cluster;
+pub use assignments::{assignment_rule_is_least, read_assignment};
+pub use clusters::{cluster_rule_is_least, read_cluster};
