@@ -1,3 +1,6 @@
 pub mod InputLemmas
 pub mod LineLemmas
 pub mod FloatLemmas
+pub mod MemberLemmas
+pub mod ScriptLemmas
+pub mod TopLemmas

@@ -1,5 +1,5 @@
 -- The first line, by the place of the first line feed.
-use Rattle.std.proofs.Common.{◌≡◌, ◌≢◌, ℕ, zero, suc, ◌+◌, ◌-◌, ◌<◌, List, [], ◌∷◌, length, take, drop, get_or, eqb, eq-eqb, false, cond, refl, sym, ap, ◌∙◌, arith, add-one}
+use Rattle.std.proofs.Common.{◌≡◌, ◌≢◌, ℕ, zero, suc, ◌+◌, ◌-◌, ◌<◌, ◌≤◌, Bool, true, false, cond, List, [], ◌∷◌, length, take, drop, get_or, eqb, eq-eqb, refl, sym, ap, ◌∙◌, arith, add-one}
 use Rattle.std.proofs.lemmas.List.{take_rest, drop_all}
 use Rattle.std.proofs.lemmas.Bool.Decides.{nat_tests}
 use Rattle.ev_app.specs.Lines.{lines_of, onto_first, HasNoFeed}
@@ -39,3 +39,21 @@ last_line [] some none = absurd (some refl)
 last_line (b ∷ bs) some none =
     whole b bs none
     ∙ ap (λ xs. (b ∷ bs) ∷ lines_of xs) (sym (take_rest (b ∷ bs) (length (b ∷ bs)) ∙ drop_all (length (b ∷ bs)) (b ∷ bs) (omega arith)))
+
+-- a byte more is at most a line more
+length-onto_first : (b : ℕ) (lines : List (List ℕ)) → length (onto_first b lines) ≤ suc (length lines)
+length-onto_first b [] = omega arith
+length-onto_first b (line ∷ lines) = omega arith
+
+-- there are no more lines than bytes
+pub length-lines_of : (bs : List ℕ) → length (lines_of bs) ≤ length bs
+length-lines_of [] = omega arith
+length-lines_of (b ∷ bs) = by_test (eqb b 10) (length-lines_of bs)
+  where
+    by_test : (t : Bool) → length (lines_of bs) ≤ length bs → length (cond t ([] ∷ lines_of bs) (onto_first b (lines_of bs))) ≤ suc (length bs)
+    by_test true h = omega arith
+    by_test false h = omega (arith, length-onto_first b (lines_of bs))
+
+-- how many lines come after the first
+pub length-other_lines : (bs first : List ℕ) (others : List (List ℕ)) → lines_of bs ≡ first ∷ others → length others < suc (length bs)
+length-other_lines bs first others e = omega (arith, length-lines_of bs, ap length e)

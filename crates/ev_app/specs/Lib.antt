@@ -1,3 +1,7 @@
 pub mod Input
 pub mod Lines
+pub mod Members
+pub mod Script
 pub mod Rendering
+pub mod Replay
+pub mod Status

@@ -1,6 +1,14 @@
-//! The private reading part of the program: the input, its lines, and the script that they are.
+//! The program: from the words of its command line and the bytes of its input to the bytes of its output.
 #![tactic(auto)]
 
 mod input;
 mod lines;
+mod members;
+mod program;
+#[cfg(test)]
+mod reading_tests;
 mod render;
+mod replay;
+mod script;
+
+pub use program::{Status, run_program};

@@ -1,6 +1,8 @@
-ghost use Rattle.std.specs.Prelude.{◌≡◌, ◌<◌, [], ◌∷◌, length, slice_index, MatchOption};
+ghost use Rattle.std.specs.Prelude.{◌≡◌, ℕ, List, ◌<◌, [], ◌∷◌, length, slice_index, MatchOption};
 ghost use Rattle.std.specs.Iterator.{YieldsFirstBy, item_count};
 ghost use Rattle.ev_app.specs.Lines.{lines_of, HasNoFeed};
+
+use std::marker::Model;
 
 /// The lines of some bytes, without their line feeds, each a part of those bytes.
 #[derive(Drop)]
@@ -8,10 +10,16 @@ pub(crate) struct Lines<'a> {
     rest: &'a [u8],
 }
 
+impl<'a> Model for Lines<'a> {
+    ghost Value = { List (List ℕ) };
+
+    ghost view = { λ s. lines_of s.rest.now };
+}
+
 impl<'a> Lines<'a> {
     /// The lines of `bytes`.
     pub(crate) fn new(bytes: &'a [u8]) -> Lines<'a>
-        ensures { lines_of result.rest.now ≡ lines_of bytes.now }
+        ensures { result ≡ lines_of bytes.now }
     {
         Lines { rest: bytes }
     }
@@ -20,9 +28,9 @@ impl<'a> Lines<'a> {
 impl<'a> Iterator for Lines<'a> {
     type Item = &'a [u8];
 
-    ghost next_gives = { YieldsFirstBy (λ line. line.now) (λ s. lines_of s.rest.now) };
+    ghost next_gives = { YieldsFirstBy (λ line. line.now) (λ s. s) };
 
-    ghost remaining = { item_count (λ s. lines_of s.rest.now) };
+    ghost remaining = { item_count (λ s. s) };
 
     fn next(&mut self) -> Option<&'a [u8]> {
         let (line, rest) = first_line(self.rest)?;

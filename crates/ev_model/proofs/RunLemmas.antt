@@ -1,14 +1,25 @@
 -- Runs that go on by one entry.
-use Rattle.std.proofs.Common.{◌≡◌, ℕ, List, [], ◌∷◌, ◌++◌, length, refl, Bool, true, false}
+use Rattle.std.proofs.Common.{◌≡◌, ℕ, List, [], ◌∷◌, ◌++◌, length, refl, ap, ◌∙◌, Option, Some, None, Bool, true, false}
 use Rattle.std.proofs.lemmas.List.{length-set}
+use Rattle.ev_types.specs.Items.{ItemParts, ResponseParts}
+use Rattle.ev_types.specs.declared.contents.Kind.{Kind}
+use Rattle.ev_types.specs.declared.contents.Kind.TheVariants.{Cds, Eds, Lds, Rds}
+use Rattle.ev_types.specs.declared.contents.Body.{Body}
+use Rattle.ev_types.specs.declared.contents.Body.TheVariants.{Good, Bad}
+use Rattle.ev_types.specs.declared.events.Verdict.{Verdict}
+use Rattle.ev_types.specs.declared.events.Verdict.TheVariants.{New, Same, Kept, Unasked, Refused}
 use Rattle.ev_types.specs.declared.events.Actor.{Actor}
 use Rattle.ev_types.specs.declared.events.Actor.TheVariants.{Stream, Health, Timer, Main, Worker}
 use Rattle.ev_types.specs.declared.events.Event.{Event}
-use Rattle.ev_types.specs.declared.events.Event.TheVariants.{Connect, Settle}
+use Rattle.ev_types.specs.declared.events.Event.TheVariants.{Connect, Response, Settle}
 use Rattle.ev_types.specs.declared.events.Entry.{Entry}
 use Rattle.ev_model.specs.World.{World}
-use Rattle.ev_model.specs.Step.{step, connect}
-use Rattle.ev_model.specs.Runs.{world_after, MayMake, RunsFrom}
+use Rattle.ev_model.specs.Step.{step, connect, respond, respond_by}
+use Rattle.ev_model.specs.Live.{lives_of}
+use Rattle.ev_model.specs.Verdicts.{verdicts_of}
+use Rattle.ev_model.specs.Rows.{with_removals, add_new, add_item, add_items}
+use Rattle.ev_model.specs.Runs.{world_after, RunsFrom}
+use Rattle.ev_types.specs.Scripts.{MayMake}
 
 -- the world after one entry more
 pub world_after-more : (world : World) (entries : List Entry) (entry : Entry)
@@ -26,16 +37,47 @@ RunsFrom-more workers world [] entry run may answered = (may, answered, tt)
 RunsFrom-more workers world (first ∷ entries) entry run may answered =
     (run.0, run.1, RunsFrom-more workers (step world first.actor first.event).0 entries entry run.2 may answered)
 
-connect-held : (world : World) (b : Bool) → world.stream ≡ b → length (connect world).0.held ≡ length world.held
+connect-held : (world : World) (b : Bool) → world.stream ≡ b → (connect world).0.held ≡ world.held
 connect-held world true h = simp h refl
 connect-held world false h = simp h refl
 
+new-held : (kind : Kind) (item : ItemParts) (body : Body) (world : World) → (add_new kind item body world).held ≡ world.held
+new-held kind item (Good content) world = refl
+new-held kind item (Bad rule) world = refl
+
+item-held : (kind : Kind) (verdict : Verdict) (item : ItemParts) (world : World) → (add_item kind verdict item world).held ≡ world.held
+item-held kind New item world = new-held kind item item.body world
+item-held kind Same item world = refl
+item-held kind Kept item world = refl
+item-held kind Unasked item world = refl
+item-held kind (Refused rule) item world = refl
+
+items-held : (kind : Kind) (verdicts : List Verdict) (items : List ItemParts) (world : World) → (add_items kind verdicts items world).held ≡ world.held
+items-held kind [] items world = refl
+items-held kind (verdict ∷ verdicts) [] world = refl
+items-held kind (verdict ∷ verdicts) (item ∷ items) world =
+    items-held kind verdicts items (add_item kind verdict item world) ∙ item-held kind verdict item world
+
+respond_by-held : (kind : Option Kind) (response : ResponseParts) (world : World) → (respond_by kind response world).0.held ≡ world.held
+respond_by-held None response world = refl
+respond_by-held (Some Cds) response world =
+    items-held Cds (verdicts_of (lives_of world) response) response.items (with_removals Cds response world)
+respond_by-held (Some Eds) response world = refl
+respond_by-held (Some Lds) response world = refl
+respond_by-held (Some Rds) response world = refl
+
+respond-held : (response : ResponseParts) (world : World) (b : Bool) → world.stream ≡ b → (respond response world).0.held ≡ world.held
+respond-held response world true h = simp h (respond_by-held response.kind response world)
+respond-held response world false h = simp h refl
+
 -- no event changes how many workers there are
 pub length-held : (world : World) (actor : Actor) (event : Event) → length (step world actor event).0.held ≡ length world.held
-length-held world Stream Connect = connect-held world world.stream refl
+length-held world Stream Connect = ap length (connect-held world world.stream refl)
+length-held world Stream (Response response) = ap length (respond-held response world world.stream refl)
 length-held world (Worker worker) Settle = length-set world.held worker _
 length-held world Stream Settle = refl
 length-held world Health event = refl
 length-held world Timer event = refl
 length-held world Main event = refl
 length-held world (Worker worker) Connect = refl
+length-held world (Worker worker) (Response response) = refl

@@ -1,5 +1,12 @@
 pub mod World
+pub mod Live
+pub mod Watching
+pub mod Verdicts
+pub mod Versions
 pub mod Requests
+pub mod Rows
+pub mod Phase
+pub mod Tidy
 pub mod Step
 pub mod Runs
 pub mod Operations

@@ -1,9 +1,16 @@
 -- What is asked of the control plane. Source: the xDS transport protocol, incremental variant: a stream's first request of a
--- type names the whole subscription and the versions that are held; an empty first one of clusters asks for all of them.
-use Rattle.std.specs.Prelude.{List, [], ◌∷◌, Some, None}
-use Rattle.ev_types.specs.declared.contents.Kind.TheVariants.{Cds}
+-- type names the whole subscription and the versions that are held, an empty first one of clusters or listeners asks for all
+-- of them, and a reply carries the nonce of its response, and an error where it refuses.
+use Rattle.std.specs.Prelude.{ℕ, Bool, not, ◌&&◌, if◌then◌else◌, List, [], ◌∷◌, ◌++◌, Option, Some, None, codes, decimal, option_to_list}
+use Rattle.ev_types.specs.Items.{ItemParts, ResponseParts}
+use Rattle.ev_types.specs.declared.contents.Kind.{Kind}
+use Rattle.ev_types.specs.declared.contents.Kind.TheVariants.{Cds, Lds}
 use Rattle.ev_types.specs.declared.contents.Request.{Request}
+use Rattle.ev_types.specs.declared.events.Verdict.{Verdict}
+use Rattle.ev_types.specs.declared.events.Verdict.TheVariants.{New, Same, Kept, Unasked, Refused}
 use Rattle.ev_model.specs.World.{World}
+use Rattle.ev_model.specs.Versions.{versions_of}
+use Rattle.ev_model.specs.Phase.{is_clusters}
 
 -- the first request of a stream: all clusters are asked for, and the node is named
 abbrev pub clusters_request : World → Request
@@ -12,11 +19,72 @@ clusters_request world = record {
   node = Some world.node;
   subscribe = [];
   unsubscribe = [];
-  versions = [];
+  versions = versions_of Cds world.versions;
   nonce = None;
   error = None;
 }
 
--- what is asked for when a stream opens
+-- all listeners are asked for
+abbrev pub listeners_request : World → Request
+listeners_request world = record {
+  kind = Lds;
+  node = None;
+  subscribe = [];
+  unsubscribe = [];
+  versions = versions_of Lds world.versions;
+  nonce = None;
+  error = None;
+}
+
+-- what is asked for when a stream opens: clusters, and listeners where they were asked for before
 abbrev pub connect_requests : World → List Request
-connect_requests world = clusters_request world ∷ []
+connect_requests world = clusters_request world ∷ (if is_clusters world.phase then [] else listeners_request world ∷ [])
+
+-- what is said of one refused resource: its outer name, as it came, and the rule
+abbrev pub refusal_text : List ℕ → ℕ → List ℕ
+refusal_text name rule = name ++ (codes ": V" ++ decimal rule)
+
+-- what is said of the refused resources, in order
+abbrev pub refusals : List Verdict → List ItemParts → List (List ℕ)
+refusals [] items = []
+refusals (verdict ∷ verdicts) [] = []
+refusals (Refused rule ∷ verdicts) (item ∷ items) = refusal_text item.name rule ∷ refusals verdicts items
+refusals (New ∷ verdicts) (item ∷ items) = refusals verdicts items
+refusals (Same ∷ verdicts) (item ∷ items) = refusals verdicts items
+refusals (Kept ∷ verdicts) (item ∷ items) = refusals verdicts items
+refusals (Unasked ∷ verdicts) (item ∷ items) = refusals verdicts items
+
+-- the texts with a semicolon and a space between them
+abbrev pub joined : List (List ℕ) → List ℕ
+joined [] = []
+joined (text ∷ []) = text
+joined (text ∷ next ∷ texts) = text ++ (codes "; " ++ joined (next ∷ texts))
+
+-- the message of a reply: there is none where nothing is refused
+abbrev pub message_of : List (List ℕ) → Option (List ℕ)
+message_of [] = None
+message_of (text ∷ texts) = Some (joined (text ∷ texts))
+
+-- the reply: it refuses exactly where some resource is refused
+abbrev pub reply_of : Kind → ResponseParts → List Verdict → Request
+reply_of kind response verdicts = record {
+  kind = kind;
+  node = None;
+  subscribe = [];
+  unsubscribe = [];
+  versions = [];
+  nonce = Some response.nonce;
+  error = message_of (refusals verdicts response.items);
+}
+
+-- the event has left the phase in which clusters are awaited
+abbrev pub has_left_clusters : World → World → Bool
+has_left_clusters before after = is_clusters before.phase && not (is_clusters after.phase)
+
+-- what an event that led from one world to the next asks for, where a stream is open after it
+abbrev pub changes_asked : World → World → List Request
+changes_asked before after = if has_left_clusters before after then listeners_request after ∷ [] else []
+
+-- the requests of an event: the reply first, where there is one
+abbrev pub requests_of : World → World → Option Request → List Request
+requests_of before after reply = option_to_list reply ++ (if after.stream then changes_asked before after else [])

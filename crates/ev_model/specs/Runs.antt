@@ -1,9 +1,6 @@
 -- What a journal is a run of. This project's own.
-use Rattle.std.specs.Prelude.{ℕ, ◌≡◌, ◌<◌, List, [], ◌∷◌, take, ⊤}
-use Rattle.ev_types.specs.declared.events.Actor.{Actor}
-use Rattle.ev_types.specs.declared.events.Actor.TheVariants.{Stream, Health, Timer, Main, Worker}
-use Rattle.ev_types.specs.declared.events.Event.{Event}
-use Rattle.ev_types.specs.declared.events.Event.TheVariants.{Connect, Settle}
+use Rattle.std.specs.Prelude.{ℕ, ◌≡◌, List, [], ◌∷◌, take, ⊤}
+use Rattle.ev_types.specs.Scripts.{MayMake}
 use Rattle.ev_types.specs.declared.events.Entry.{Entry}
 use Rattle.ev_model.specs.World.{World, opening}
 use Rattle.ev_model.specs.Step.{step}
@@ -16,16 +13,6 @@ world_after world (entry ∷ entries) = world_after (step world entry.actor entr
 -- the world after the first k entries of a journal
 abbrev pub world_at : ℕ → List ℕ → List Entry → ℕ → World
 world_at workers node journal k = world_after (opening workers node) (take k journal)
-
--- the actor may make the event, where there are so many workers
-abbrev pub MayMake : ℕ → Actor → Event → Type 0
-MayMake workers Stream Connect = ⊤
-MayMake workers (Worker worker) Settle = worker < workers
-MayMake workers Stream Settle = ⊥
-MayMake workers Health event = ⊥
-MayMake workers Timer event = ⊥
-MayMake workers Main event = ⊥
-MayMake workers (Worker worker) Connect = ⊥
 
 -- each entry is one of its actor's events, and is answered as the machine answers it at the world before it
 abbrev pub RunsFrom : ℕ → World → List Entry → Type 0

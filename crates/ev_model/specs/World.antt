@@ -8,6 +8,7 @@ use Rattle.ev_types.specs.declared.routes.RouteTable.{RouteTable}
 use Rattle.ev_types.specs.declared.routes.Target.{Target}
 use Rattle.ev_types.specs.declared.rows.GenRow.{GenRow}
 use Rattle.ev_types.specs.declared.rows.Arrival.{Arrival}
+use Rattle.ev_types.specs.declared.rows.KeptVersion.{KeptVersion}
 use Rattle.ev_types.specs.declared.rows.Phase.{Phase}
 use Rattle.ev_types.specs.declared.rows.Phase.TheVariants.{Clusters}
 
@@ -22,12 +23,6 @@ pub record HealthResult : Type 0 where
   pub number : ℕ
   pub host : Host
   pub healthy : Bool
-
--- the version that is kept for a name of this kind
-pub record KeptVersion : Type 0 where
-  pub kind : Kind
-  pub name : List ℕ
-  pub version : List ℕ
 
 -- an open connection of a worker: on a listener's generation, and on a cluster's where it was forwarded
 pub record OpenMember : Type 0 where

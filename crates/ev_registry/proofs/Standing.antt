@@ -4,7 +4,7 @@ use Rattle.ev_types.specs.declared.events.Answer.{Answer}
 use Rattle.ev_types.specs.declared.events.Entry.{Entry}
 use Rattle.ev_model.specs.World.{World, opening}
 use Rattle.ev_model.specs.Step.{step}
-use Rattle.ev_model.specs.Runs.{MayMake}
+use Rattle.ev_types.specs.Scripts.{MayMake}
 use Rattle.ev_model.proofs.RunLemmas.{world_after-more, RunsFrom-more, length-held}
 use Rattle.ev_registry.specs.Registries.{RegistryParts, Stands}
 

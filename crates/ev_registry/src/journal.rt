@@ -1,6 +1,7 @@
 ghost use Rattle.std.specs.Prelude.{◌≡◌, ◌≤◌, ◌+◌, [], ◌∷◌, ◌++◌, IfOk, OnErr};
 ghost use Rattle.ev_model.specs.World.{last_version};
-ghost use Rattle.ev_model.specs.Runs.{MayMake, IsRun};
+ghost use Rattle.ev_types.specs.Scripts.{MayMake};
+ghost use Rattle.ev_model.specs.Runs.{IsRun};
 ghost use Rattle.ev_model.specs.Step.{step as machine_step};
 
 use crate::state::{State, first_state};

@@ -1,6 +1,6 @@
 ghost use Rattle.std.specs.Prelude.{◌≡◌, ◌<◌, IfOk, length};
 ghost use Rattle.ev_model.specs.World.{opening};
-ghost use Rattle.ev_model.specs.Runs.{MayMake};
+ghost use Rattle.ev_types.specs.Scripts.{MayMake};
 ghost use Rattle.ev_model.specs.Requests.{clusters_request};
 ghost use Rattle.ev_model.specs.Step.{step, connect, settle};
 ghost use Rattle.ev_registry.specs.Worlds.{world_of};

@@ -22,6 +22,11 @@ IsOwnName name (Good (Listener listener)) = IsName name × (listener.name ≡ na
 IsOwnName name (Good (Routes table)) = IsName name
 IsOwnName name (Bad rule) = ⊤
 
+-- the body breaks no form rule
+abbrev pub IsGood : Body → Type 0
+IsGood (Good content) = ⊤
+IsGood (Bad rule) = ⊥
+
 -- the type of resource that has this content
 abbrev pub kind_of : Content → Kind
 kind_of (Cluster cluster) = Cds

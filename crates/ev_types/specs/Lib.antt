@@ -9,3 +9,5 @@ pub mod SameListeners
 pub mod Items
 pub mod SameContents
 pub mod Scripts
+pub mod Kinds
+pub mod Statuses

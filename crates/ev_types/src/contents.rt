@@ -1,4 +1,4 @@
-use crate::{Assignment, Cluster, Listener, Name, RouteTable, Seq, Text, TryCopy};
+use crate::{Assignment, Cluster, Listener, Name, NameError, RouteTable, Seq, Text, TryCopy};
 use std::alloc::{AllocError, Global};
 use std::marker::Model;
 
@@ -13,6 +13,24 @@ pub enum Kind {
     Lds,
     /// Route configurations.
     Rds,
+}
+
+impl Kind {
+    ghost use Rattle.std.specs.Prelude.{◌≡◌};
+    ghost use Rattle.ev_types.specs.Kinds.{kind_same};
+
+    /// Whether both are the same kind.
+    pub fn is(self, other: Kind) -> bool
+        ensures { result ≡ kind_same self other }
+    {
+        match (self, other) {
+            (Kind::Cds, Kind::Cds) => true,
+            (Kind::Eds, Kind::Eds) => true,
+            (Kind::Lds, Kind::Lds) => true,
+            (Kind::Rds, Kind::Rds) => true,
+            _ => false,
+        }
+    }
 }
 
 /// What a resource of one of the four types says.
@@ -94,6 +112,24 @@ impl Model for Item {
     ghost view = { λ i. record { name = i.name; version = i.version; body = i.body } };
 
     ghost invariant = { λ i. IsOwnName i.name i.body };
+}
+
+impl Item {
+    ghost use Rattle.std.specs.Prelude.{◌≡◌, IfOk};
+    ghost use Rattle.ev_types.specs.Items.{IsGood};
+
+    /// The outer name of a resource with a good body, as the name that it is.
+    pub fn resource_name(&self, alloc: Global) -> Result<Name, AllocError>
+        requires { IsGood self.now.body }
+        ensures { IfOk result (λ name. name ≡ self.now.name) }
+    {
+        let _ = &self.body;
+        match Name::new(alloc, self.name.as_str()) {
+            Ok(name) => Ok(name),
+            Err(NameError::OutOfMemory) => Err(AllocError),
+            Err(NameError::Length) => unreachable!(),
+        }
+    }
 }
 
 impl TryCopy for Item {

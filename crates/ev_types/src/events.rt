@@ -1,4 +1,4 @@
-use crate::{Request, Seq, Text, TryCopy};
+use crate::{Request, Response, Seq, Text, TryCopy};
 use std::alloc::{AllocError, Global};
 use std::marker::Model;
 
@@ -22,14 +22,17 @@ pub enum Actor {
 pub enum Event {
     /// A stream to the control plane opens.
     Connect,
+    /// A response comes on the stream.
+    Response(Response),
     /// A worker takes over the last snapshot.
     Settle,
 }
 
 impl TryCopy for Event {
-    fn copy(&self, _alloc: Global) -> Result<Event, AllocError> {
+    fn copy(&self, alloc: Global) -> Result<Event, AllocError> {
         match self {
             Event::Connect => Ok(Event::Connect),
+            Event::Response(response) => Ok(Event::Response(response.copy(alloc)?)),
             Event::Settle => Ok(Event::Settle),
         }
     }
@@ -63,6 +66,11 @@ pub enum Answer {
     Ignored,
     /// These requests are sent.
     Moved { requests: Seq<Request> },
+    /// These requests are sent, the reply first, and this is said of each resource, in order.
+    Replied {
+        requests: Seq<Request>,
+        verdicts: Seq<Verdict>,
+    },
     /// The worker holds this version, and these connections were closed.
     Settled { closed: Seq<u64>, version: u64 },
 }
@@ -73,6 +81,10 @@ impl TryCopy for Answer {
             Answer::Ignored => Ok(Answer::Ignored),
             Answer::Moved { requests } => Ok(Answer::Moved {
                 requests: requests.copy(alloc)?,
+            }),
+            Answer::Replied { requests, verdicts } => Ok(Answer::Replied {
+                requests: requests.copy(alloc)?,
+                verdicts: verdicts.copy(alloc)?,
             }),
             Answer::Settled { closed, version } => Ok(Answer::Settled {
                 closed: closed.copy(alloc)?,

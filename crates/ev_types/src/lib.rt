@@ -23,5 +23,5 @@ pub use lists::Seq;
 pub use routes::{
     Action, PathMatch, Route, RouteTable, Target, VirtualHost, WeightedCluster, WeightedClusters,
 };
-pub use rows::{Arrival, Gen, GenRow, Phase, RowStatus};
+pub use rows::{Arrival, Gen, GenRow, KeptVersion, Live, Lives, Phase, RowStatus};
 pub use texts::{MAX_NAME_LENGTH, Name, NameError, Text};

@@ -1,4 +1,4 @@
-use crate::{Content, Kind, Name, TryCopy};
+use crate::{Content, Kind, Name, Seq, Text, TryCopy};
 use std::alloc::{AllocError, Global};
 use std::marker::Model;
 
@@ -59,6 +59,32 @@ pub enum RowStatus {
     Dropped,
 }
 
+impl RowStatus {
+    ghost use Rattle.std.specs.Prelude.{◌≡◌};
+    ghost use Rattle.ev_types.specs.Statuses.{is_warming, is_active, is_live};
+
+    /// Whether it waits.
+    pub fn is_warming(self) -> bool
+        ensures { result ≡ is_warming self }
+    {
+        matches!(self, RowStatus::Warming)
+    }
+
+    /// Whether it serves.
+    pub fn is_active(self) -> bool
+        ensures { result ≡ is_active self }
+    {
+        matches!(self, RowStatus::Active)
+    }
+
+    /// Whether it waits or serves.
+    pub fn is_live(self) -> bool
+        ensures { result ≡ is_live self }
+    {
+        matches!(self, RowStatus::Warming | RowStatus::Active)
+    }
+}
+
 /// A generation of a cluster or listener.
 #[derive(Drop)]
 pub struct GenRow {
@@ -78,6 +104,61 @@ impl TryCopy for GenRow {
             name: self.name.copy(alloc)?,
             content: self.content.copy(alloc)?,
             status: self.status,
+        })
+    }
+}
+
+/// A live generation: one that warms or serves.
+#[derive(Drop)]
+pub struct Live {
+    pub kind: Kind,
+    pub number: Gen,
+    pub name: Name,
+    pub content: Content,
+    /// Whether it still waits for what it depends on.
+    pub warming: bool,
+}
+
+impl TryCopy for Live {
+    fn copy(&self, alloc: Global) -> Result<Live, AllocError> {
+        Ok(Live {
+            kind: self.kind,
+            number: self.number,
+            name: self.name.copy(alloc)?,
+            content: self.content.copy(alloc)?,
+            warming: self.warming,
+        })
+    }
+}
+
+/// The live generations, in the order of their numbers.
+#[derive(Drop)]
+pub struct Lives {
+    pub rows: Seq<Live>,
+}
+
+impl TryCopy for Lives {
+    fn copy(&self, alloc: Global) -> Result<Lives, AllocError> {
+        Ok(Lives {
+            rows: self.rows.copy(alloc)?,
+        })
+    }
+}
+
+/// The version that is kept for a name of a kind.
+#[derive(Drop)]
+pub struct KeptVersion {
+    pub kind: Kind,
+    pub name: Name,
+    pub version: Text,
+}
+
+impl TryCopy for KeptVersion {
+    fn copy(&self, alloc: Global) -> Result<KeptVersion, AllocError> {
+        Ok(KeptVersion {
+            kind: self.kind,
+            name: self.name.copy(alloc)?,
+            version: self.version.copy(alloc)?,
         })
     }
 }

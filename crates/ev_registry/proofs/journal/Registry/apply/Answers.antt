@@ -1,5 +1,5 @@
 use Rattle.std.proofs.Common.{sym, subst}
-use Rattle.ev_model.specs.Runs.{MayMake}
+use Rattle.ev_types.specs.Scripts.{MayMake}
 use Rattle.ev_registry.specs.Worlds.{world_of}
 use Rattle.ev_registry.specs.Registries.{RegistryParts}
 use Rattle.ev_registry.proofs.Standing.{Stands-step}

@@ -1,0 +1,1 @@
+-- What the top call means, put together.

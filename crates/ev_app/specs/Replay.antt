@@ -1,0 +1,22 @@
+-- What a registry shows once a script was replayed.
+use Rattle.std.specs.Prelude.{ℕ, ◌≡◌, List, Some}
+use Rattle.ev_types.specs.Scripts.{ScriptParts}
+use Rattle.ev_types.specs.declared.events.Entry.{Entry}
+use Rattle.ev_model.specs.Operations.{IsReplay}
+use Rattle.ev_registry.specs.Registries.{RegistryParts}
+use Rattle.ev_app.specs.Rendering.{rendering_of}
+use Rattle.ev_app.specs.Script.{script_of}
+
+-- the registry has the script's workers and node, and its journal is the script's replay
+pub record HasReplayed (script : ScriptParts) (registry : RegistryParts) : Type 0 where
+  pub workers : registry.workers ≡ script.workers
+  pub node : registry.node ≡ script.node
+  pub journal : IsReplay script registry.journal
+
+-- the bytes are a script, and the text is that of the journal of its replay
+pub record IsReplayText (bytes text : List ℕ) : Type 0 where
+  pub script : ScriptParts
+  pub is_script : script_of bytes ≡ Some script
+  pub journal : List Entry
+  pub replay : IsReplay script journal
+  pub rendered : text ≡ rendering_of script.workers journal

@@ -1,0 +1,21 @@
+ghost use Rattle.std.specs.Prelude.{◌≡◌, IfOk};
+ghost use Rattle.ev_app.specs.Replay.{HasReplayed};
+
+use ev_registry::Registry;
+use ev_types::{Actor, Event, Script};
+use std::alloc::{AllocError, Global};
+
+/// The registry after the whole script, on one thread.
+pub(crate) fn replay(alloc: Global, script: &Script) -> Result<Registry, AllocError>
+    ensures { IfOk result (λ registry. HasReplayed script.now registry) }
+{
+    let mut registry = Registry::new(alloc, script.workers, &script.node)?;
+    for line in script.lines.as_slice() {
+        let _ = registry.apply(line.actor, line.at, 0, &line.event)?;
+    }
+    for worker in 0..script.workers {
+        let _ = registry.apply(Actor::Worker(worker), script.count + 1, 0, &Event::Settle)?;
+    }
+    let _ = registry.journal();
+    Ok(registry)
+}

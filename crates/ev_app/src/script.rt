@@ -1,0 +1,162 @@
+ghost use Rattle.std.specs.Prelude.{◌≡◌, ◌+◌, ◌^◌, ◌<◌, ◌≤◌, length, option_map, option_and_then, codes, IfOk, IfSome};
+ghost use Rattle.serde_json.specs.Find.{get};
+ghost use Rattle.serde_json.specs.View.{view};
+ghost use Rattle.ev_types.specs.Texts.{IsName};
+ghost use Rattle.ev_app.specs.Members.{tree_of, whole_within, name_of, or_default};
+ghost use Rattle.ev_app.specs.Script.{header_of, line_of, line_by, connect_line, lines_from, script_of, IsHeader};
+
+use crate::input::MAX_INPUT_BYTES;
+use crate::lines::Lines;
+use crate::members::{has_only, name_of, read_tree, whole_within};
+use ev_types::{Actor, Event, Line, Script, Seq, Text};
+use serde_json::Value;
+use std::alloc::{AllocError, Global};
+
+/// The id of a node that the header doesn't name.
+const DEFAULT_NODE: &str = "warmgate";
+
+/// What the first line of a script says.
+#[derive(Drop)]
+struct Header {
+    workers: u32,
+    node: Text,
+}
+
+/// The script that `bytes` are, or none where they aren't one.
+pub(crate) fn read_script(alloc: Global, bytes: &[u8]) -> Result<Option<Script>, AllocError>
+    ensures { IfOk result (λ script. script ≡ script_of bytes.now) }
+{
+    if bytes.len() > MAX_INPUT_BYTES {
+        return Ok(None);
+    }
+    let mut texts = Lines::new(bytes);
+    let Some(first) = texts.next() else {
+        return Ok(None);
+    };
+    let Some(header) = read_header(alloc, first)? else {
+        return Ok(None);
+    };
+    let Some(lines) = read_lines(alloc, texts)? else {
+        return Ok(None);
+    };
+    let count = lines.len() as u32 + 1;
+    Ok(Some(Script {
+        workers: header.workers,
+        auto: false,
+        node: header.node,
+        lines,
+        count,
+    }))
+}
+
+// The header that the first line is, or none where it isn't one.
+fn read_header(alloc: Global, text: &[u8]) -> Result<Option<Header>, AllocError>
+    ensures header { IfOk result (λ header. header ≡ option_and_then header_of (tree_of text.now)) }
+    ensures kept { IfOk result (λ header. IfSome header IsHeader) }
+{
+    match read_tree(alloc, text)? {
+        Some(tree) => header_of(alloc, &tree),
+        None => Ok(None),
+    }
+}
+
+// The header that a value is, or none where it isn't one.
+fn header_of(alloc: Global, tree: &Value) -> Result<Option<Header>, AllocError>
+    ensures header { IfOk result (λ header. header ≡ header_of (view tree.now)) }
+    ensures kept { IfOk result (λ header. IfSome header IsHeader) }
+{
+    if !has_only(tree, &["workers", "node"]) {
+        return Ok(None);
+    }
+    let Some(workers) = workers_of(tree) else {
+        return Ok(None);
+    };
+    let Some(node) = node_of(tree) else {
+        return Ok(None);
+    };
+    let node = Text::new(alloc, node)?;
+    Ok(Some(Header { workers, node }))
+}
+
+// How many workers a header has: 1 to 16.
+fn workers_of(tree: &Value) -> Option<u32>
+    ensures member { result ≡ option_and_then (whole_within 1 16) (get (codes "workers") (view tree.now)) }
+    ensures some { IfSome result (λ workers. 1 ≤ workers) }
+    ensures few { IfSome result (λ workers. workers ≤ 16) }
+{
+    match whole_within(1, 16, tree.get("workers")?) {
+        Some(workers) => Some(workers as u32),
+        None => None,
+    }
+}
+
+// The id of a header's node: a text of 1 to 512 bytes, or the default.
+fn node_of(tree: &Value) -> Option<&str>
+    ensures member { option_map (λ node. node.now) result
+        ≡ or_default name_of (codes "warmgate") (get (codes "node") (view tree.now)) }
+    ensures named { IfSome result (λ node. IsName node.now) }
+{
+    match tree.get("node") {
+        Some(node) => name_of(node),
+        None => Some(DEFAULT_NODE),
+    }
+}
+
+// The lines that these texts are, numbered from 2 on, or none where one of them isn't a line.
+fn read_lines(alloc: Global, texts: Lines<'_>) -> Result<Option<Seq<Line>>, AllocError>
+    requires { length texts + 2 < 2 ^ 32 }
+    ensures lines { IfOk result (λ lines. lines ≡ lines_from 2 texts.entry) }
+{
+    let mut lines = Vec::new(alloc);
+    let mut at = 2;
+    'texts: for text in texts {
+        let Some(line) = read_line(alloc, at, text)? else {
+            return Ok(None);
+        };
+        lines.push(line)?;
+        at += 1;
+    }
+    Ok(Some(Seq::from_vec(lines)))
+}
+
+// The line that a text is, at its place, or none where it isn't one.
+fn read_line(alloc: Global, at: u32, text: &[u8]) -> Result<Option<Line>, AllocError>
+    ensures { IfOk result (λ line. line ≡ option_and_then (line_of at) (tree_of text.now)) }
+{
+    match read_tree(alloc, text)? {
+        Some(tree) => Ok(line_of(at, &tree)),
+        None => Ok(None),
+    }
+}
+
+// The line that a value is, by its operation, or none where it isn't one.
+fn line_of(at: u32, tree: &Value) -> Option<Line>
+    ensures { result ≡ line_of at (view tree.now) }
+{
+    line_by(tree.get("op")?.as_str()?, at, tree)
+}
+
+// The same where the operation is known.
+fn line_by(op: &str, at: u32, tree: &Value) -> Option<Line>
+    ensures { result ≡ line_by op.now at (view tree.now) }
+{
+    if op == "connect" {
+        connect_line(at, tree)
+    } else {
+        None
+    }
+}
+
+// A `connect`: the stream opens.
+fn connect_line(at: u32, tree: &Value) -> Option<Line>
+    ensures { result ≡ connect_line at (view tree.now) }
+{
+    if !has_only(tree, &["op"]) {
+        return None;
+    }
+    Some(Line {
+        at,
+        actor: Actor::Stream,
+        event: Event::Connect,
+    })
+}

@@ -1,0 +1,143 @@
+-- What is said of each resource of a response. This project's profile: removals come before additions, a resource is refused
+-- by the lowest rule that it breaks, and an address that is taken is looked at only where no other rule applies.
+use Rattle.std.specs.Prelude.{ℕ, Bool, true, false, not, ◌&&◌, ◌+◌, nat_le, if◌then◌else◌, List, [], ◌∷◌, ◌++◌, filter, length, Option, Some, None}
+use Rattle.std.specs.List.{list_any}
+use Rattle.std.specs.Str.{bytes_eq}
+use Rattle.ev_types.specs.Items.{ItemParts, ResponseParts}
+use Rattle.ev_types.specs.SameHosts.{host_same}
+use Rattle.ev_types.specs.SameContents.{content_same}
+use Rattle.ev_types.specs.declared.hosts.Host.{Host}
+use Rattle.ev_types.specs.declared.contents.Kind.{Kind}
+use Rattle.ev_types.specs.declared.contents.Kind.TheVariants.{Cds, Eds, Lds, Rds}
+use Rattle.ev_types.specs.declared.contents.Body.{Body}
+use Rattle.ev_types.specs.declared.contents.Body.TheVariants.{Good, Bad}
+use Rattle.ev_types.specs.declared.contents.Content.{Content}
+use Rattle.ev_types.specs.declared.contents.Content.TheVariants.{Cluster as a_cluster, Assignment as an_assignment, Listener as a_listener, Routes as routes}
+use Rattle.ev_types.specs.declared.events.Verdict.{Verdict}
+use Rattle.ev_types.specs.declared.events.Verdict.TheVariants.{New, Same, Kept, Unasked, Refused}
+use Rattle.ev_types.specs.declared.rows.Live.{Live}
+use Rattle.ev_types.specs.Kinds.{kind_same}
+use Rattle.ev_model.specs.Live.{is_named, latest, newest_of}
+use Rattle.ev_model.specs.Watching.{is_watched}
+
+-- the items of this name
+abbrev pub items_named : List ℕ → List ItemParts → List ItemParts
+items_named name items = filter (λ (item : ItemParts). bytes_eq item.name name) items
+
+-- the name stands among these
+abbrev pub is_among : List ℕ → List (List ℕ) → Bool
+is_among name names = list_any (λ n. bytes_eq n name) names
+
+-- the name is removed: it stands in the list of removed names and at no item
+abbrev pub is_removed : ResponseParts → List ℕ → Bool
+is_removed response name = is_among name response.removed && (not (nat_le 1 (length (items_named name response.items))))
+
+-- the live rows that the removals of a response of this kind leave
+abbrev pub lives_left : Kind → ResponseParts → List Live → List Live
+lives_left kind response lives = filter (λ (live : Live). not (kind_same live.kind kind && is_removed response live.name)) lives
+
+-- 4: the name stands twice in the response
+abbrev pub twice_rule : ResponseParts → ItemParts → Option ℕ
+twice_rule response item = if nat_le 2 (length (items_named item.name response.items)) then Some 4 else None
+
+-- 5: the name is also removed
+abbrev pub removed_rule : ResponseParts → ItemParts → Option ℕ
+removed_rule response item = if is_among item.name response.removed then Some 5 else None
+
+-- the form rule that the body breaks
+abbrev pub form_rule : Body → Option ℕ
+form_rule (Good content) = None
+form_rule (Bad rule) = Some rule
+
+-- the lesser of two rules, where there are any
+abbrev pub lesser : Option ℕ → Option ℕ → Option ℕ
+lesser None other = other
+lesser (Some rule) None = Some rule
+lesser (Some rule) (Some other) = if nat_le rule other then Some rule else Some other
+
+-- the least rule that the resource breaks, the addresses that are taken left aside
+abbrev pub rule_of : ResponseParts → ItemParts → Option ℕ
+rule_of response item = lesser (twice_rule response item) (lesser (removed_rule response item) (form_rule item.body))
+
+-- a content's listening address
+abbrev pub address_of : Content → Option Host
+address_of (a_cluster cluster) = None
+address_of (an_assignment rows) = None
+address_of (a_listener listener) = Some listener.address
+address_of (routes table) = None
+
+-- both have an address, and it is the same
+abbrev pub shares_address : Option Host → Option Host → Bool
+shares_address None other = false
+shares_address (Some address) None = false
+shares_address (Some address) (Some other) = host_same address other
+
+-- a live row of another name has the address of the content
+abbrev pub is_taken : List Live → List ℕ → Content → Bool
+is_taken lives name content =
+    list_any (λ (live : Live). shares_address (address_of live.content) (address_of content) && not (bytes_eq live.name name)) lives
+
+-- the same content as the newest generation's, where there is one
+abbrev pub against : Option Live → Content → Verdict
+against None content = New
+against (Some live) content = if content_same live.content content then Same else New
+
+-- the verdict on a good resource
+abbrev pub good_verdict : Kind → List Live → List ℕ → Content → Verdict
+good_verdict Cds lives name content = against (newest_of lives Cds name) content
+good_verdict Lds lives name content = if is_taken lives name content then Refused 15 else against (newest_of lives Lds name) content
+good_verdict Eds lives name content = if is_watched lives Eds name then Kept else Unasked
+good_verdict Rds lives name content = if is_watched lives Rds name then Kept else Unasked
+
+-- the verdict on a resource that breaks no rule, or no rule but the one of its body
+abbrev pub body_verdict : Kind → List Live → List ℕ → Body → Verdict
+body_verdict kind lives name (Good content) = good_verdict kind lives name content
+body_verdict kind lives name (Bad rule) = Refused rule
+
+-- the verdict on a resource, by the rule that it breaks
+abbrev pub verdict_by : Option ℕ → Kind → List Live → ItemParts → Verdict
+verdict_by (Some rule) kind lives item = Refused rule
+verdict_by None kind lives item = body_verdict kind lives item.name item.body
+
+-- the verdict on a resource of a response, over these live rows
+abbrev pub verdict_of : Kind → ResponseParts → List Live → ItemParts → Verdict
+verdict_of kind response lives item = verdict_by (rule_of response item) kind lives item
+
+-- a number above those of these rows
+abbrev pub number_after : Option Live → ℕ
+number_after None = 1
+number_after (Some live) = live.number + 1
+
+-- the live rows after a new generation: the one that warmed under its name goes, and the new one warms
+abbrev pub with_new : Kind → List ℕ → Content → List Live → List Live
+with_new kind name content lives =
+    filter (λ (live : Live). not (is_named kind name live && live.warming)) lives
+    ++ record { kind = kind; number = number_after (latest lives); name = name; content = content; warming = true } ∷ []
+
+-- the live rows after a verdict
+abbrev pub lives_after : Kind → Verdict → List ℕ → Body → List Live → List Live
+lives_after kind New name (Good content) lives = with_new kind name content lives
+lives_after kind New name (Bad rule) lives = lives
+lives_after kind Same name body lives = lives
+lives_after kind Kept name body lives = lives
+lives_after kind Unasked name body lives = lives
+lives_after kind (Refused rule) name body lives = lives
+
+-- the verdicts on these items of a response, one after another
+abbrev pub verdicts_from : Kind → ResponseParts → List Live → List ItemParts → List Verdict
+verdicts_from kind response lives [] = []
+verdicts_from kind response lives (item ∷ items) =
+    let verdict = verdict_of kind response lives item in
+    verdict ∷ verdicts_from kind response (lives_after kind verdict item.name item.body lives) items
+
+-- the verdicts on a response whose type is one of the four
+abbrev pub verdicts_for : Kind → List Live → ResponseParts → List Verdict
+verdicts_for kind lives response = verdicts_from kind response (lives_left kind response lives) response.items
+
+-- the verdicts on a response; there are none where its type isn't read
+abbrev pub verdicts_by : Option Kind → List Live → ResponseParts → List Verdict
+verdicts_by None lives response = []
+verdicts_by (Some kind) lives response = verdicts_for kind lives response
+
+abbrev pub verdicts_of : List Live → ResponseParts → List Verdict
+verdicts_of lives response = verdicts_by response.kind lives response

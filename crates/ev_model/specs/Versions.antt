@@ -1,0 +1,28 @@
+-- The versions that are kept, one for each kind and name. Source: the xDS transport protocol, incremental variant: a client
+-- may tell the versions that it holds when a stream begins.
+use Rattle.std.specs.Prelude.{ℕ, Bool, not, ◌&&◌, if◌then◌else◌, List, [], ◌∷◌, filter, map}
+use Rattle.std.specs.Ordering.{nat_cmp, is_lt}
+use Rattle.std.specs.Str.{bytes_eq}
+use Rattle.std.specs.Cmp.Lexicographic.{slice_cmp}
+use Rattle.ev_types.specs.declared.contents.Kind.{Kind}
+use Rattle.ev_types.specs.declared.rows.KeptVersion.{KeptVersion}
+use Rattle.ev_types.specs.Kinds.{kind_same}
+
+-- the version is that of this kind and name
+abbrev pub is_version_of : Kind → List ℕ → KeptVersion → Bool
+is_version_of kind name kept = kind_same kept.kind kind && bytes_eq kept.name name
+
+-- the first text stands before the second in the order of their bytes
+abbrev pub is_before : List ℕ → List ℕ → Bool
+is_before a b = is_lt (slice_cmp nat_cmp a b)
+
+-- the versions with this one: in the place of the one that was kept for its kind and name, or among them by name
+abbrev pub with_version : KeptVersion → List KeptVersion → List KeptVersion
+with_version new [] = new ∷ []
+with_version new (kept ∷ others) =
+    if is_version_of new.kind new.name kept then new ∷ others
+    else (if is_before new.name kept.name then new ∷ kept ∷ others else kept ∷ with_version new others)
+
+-- each name of this kind with its version, sorted by name
+abbrev pub versions_of : Kind → List KeptVersion → List (List ℕ × List ℕ)
+versions_of kind versions = map (λ (kept : KeptVersion). (kept.name, kept.version)) (filter (λ (kept : KeptVersion). kind_same kept.kind kind) versions)

@@ -1,0 +1,62 @@
+//! warmgate: replays a recorded script of xDS responses and other events, and writes the journal of what a proxy's
+//! managers do with them.
+#![tactic(auto)]
+
+use ev_app::{Status, run_program};
+use ev_io::{StdSink, StdSource};
+use ev_types::Text;
+use std::io;
+use std::process::ExitCode;
+use std::rt::Env;
+
+fn main(rt: HostRuntime) -> ExitCode {
+    let status = status_of(&rt);
+    let _ = report(&rt, status);
+    ExitCode::from(exit_status(status))
+}
+
+// Runs the program over the command line's words and the standard streams.
+fn status_of(rt: &HostRuntime) -> Status {
+    let words = match words_of(rt) {
+        Ok(words) => words,
+        Err(error) if error.kind() == io::ErrorKind::OutOfMemory => return Status::OutOfMemory,
+        Err(_) => Vec::new(rt.alloc()),
+    };
+    let mut source = StdSource::new(rt.reader());
+    let mut sink = StdSink::new(io::writer(rt));
+    run_program(rt.alloc(), words.as_slice(), &mut source, &mut sink)
+}
+
+// The words of the command line after the program's name. Words that aren't text are an error of another kind than
+// want of memory.
+fn words_of(rt: &(impl Env + AllocGlobal)) -> io::Result<Vec<Text>> {
+    let mut words = Vec::new(rt.alloc());
+    for word in std::env::args(rt)?.skip(1) {
+        words.push(Text::new(rt.alloc(), word.as_str())?)?;
+    }
+    Ok(words)
+}
+
+// Says on standard error why the program ended, where it did not end well.
+fn report(rt: &impl Eprint, status: Status) -> io::Result<()> {
+    match status {
+        Status::Done => Ok(()),
+        Status::Usage => eprintln!(rt; "usage: warmgate replay"),
+        Status::BadScript { line, kind } => eprintln!(rt; "line {line}: fault {kind}"),
+        Status::ReadFault => eprintln!(rt; "read fault"),
+        Status::WriteFault => eprintln!(rt; "write fault"),
+        Status::OutOfMemory => eprintln!(rt; "out of memory"),
+    }
+}
+
+// The exit status of the process.
+fn exit_status(status: Status) -> u8 {
+    match status {
+        Status::Done => 0,
+        Status::Usage => 2,
+        Status::BadScript { .. } => 3,
+        Status::ReadFault => 4,
+        Status::WriteFault => 5,
+        Status::OutOfMemory => 6,
+    }
+}
