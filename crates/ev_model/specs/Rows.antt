@@ -31,10 +31,13 @@ removed_status Active = Draining
 removed_status Draining = Draining
 removed_status Dropped = Dropped
 
--- the row after the removals of a response of this kind
-abbrev pub row_left : Kind → ResponseParts → GenRow → GenRow
-row_left kind response row =
-    if kind_same row.kind kind && is_removed response row.name then record row { status = removed_status row.status } else row
+-- each row with another status
+abbrev pub with_statuses : (GenRow → RowStatus) → List GenRow → List GenRow
+with_statuses status_of rows = map (λ (row : GenRow). record row { status = status_of row }) rows
+
+-- a row's status after the removals of a response of this kind
+abbrev pub status_left : Kind → ResponseParts → GenRow → RowStatus
+status_left kind response row = if kind_same row.kind kind && is_removed response row.name then removed_status row.status else row.status
 
 -- the version stays after the removals of a response of this kind
 abbrev pub is_version_left : Kind → ResponseParts → KeptVersion → Bool
@@ -43,13 +46,13 @@ is_version_left kind response kept = not (kind_same kept.kind kind && is_removed
 -- the world after the removals of a response of this kind
 abbrev pub with_removals : Kind → ResponseParts → World → World
 with_removals kind response world = record world {
-  rows = map (row_left kind response) world.rows;
+  rows = with_statuses (status_left kind response) world.rows;
   versions = filter (is_version_left kind response) world.versions;
 }
 
 -- a generation that warms under the name of a new one is dropped
-abbrev pub replaced_row : Kind → List ℕ → GenRow → GenRow
-replaced_row kind name row = if is_row_of kind name row && is_warming row.status then record row { status = Dropped } else row
+abbrev pub replaced_status : Kind → List ℕ → GenRow → RowStatus
+replaced_status kind name row = if is_row_of kind name row && is_warming row.status then Dropped else row.status
 
 -- the next generation
 abbrev pub new_row : Kind → ℕ → List ℕ → Content → GenRow
@@ -63,7 +66,7 @@ keep_version kind item world =
 -- a new generation warms, and its version is kept
 abbrev pub add_row : Kind → ItemParts → Content → World → World
 add_row kind item content world = keep_version kind item (record world {
-  rows = map (replaced_row kind item.name) world.rows ++ new_row kind world.made item.name content ∷ [];
+  rows = with_statuses (replaced_status kind item.name) world.rows ++ new_row kind world.made item.name content ∷ [];
   made = world.made + 1;
 })
 

@@ -1,6 +1,6 @@
 -- What follows each event by itself: generations that are ready take the place of those before them, and the phase moves on.
 -- Source: cluster manager warming of Envoy's documentation: an updated cluster serves once it has warmed.
-use Rattle.std.specs.Prelude.{ℕ, Bool, true, false, not, ◌&&◌, if◌then◌else◌, List, map}
+use Rattle.std.specs.Prelude.{ℕ, Bool, true, false, not, ◌&&◌, if◌then◌else◌, List}
 use Rattle.std.specs.List.{list_any}
 use Rattle.ev_types.specs.declared.clusters.Discovery.{Discovery}
 use Rattle.ev_types.specs.declared.clusters.Discovery.TheVariants.{Static, Eds}
@@ -11,7 +11,7 @@ use Rattle.ev_types.specs.declared.rows.RowStatus.TheVariants.{Warming, Active, 
 use Rattle.ev_types.specs.declared.rows.GenRow.{GenRow}
 use Rattle.ev_model.specs.World.{World}
 use Rattle.ev_types.specs.Statuses.{is_warming}
-use Rattle.ev_model.specs.Rows.{is_row_of}
+use Rattle.ev_model.specs.Rows.{is_row_of, with_statuses}
 use Rattle.ev_model.specs.Phase.{phase_after}
 
 -- the hosts stand in the cluster itself
@@ -35,19 +35,20 @@ is_due row = is_warming row.status && is_ready row.content
 abbrev pub has_successor : List GenRow → GenRow → Bool
 has_successor rows row = list_any (λ (other : GenRow). is_row_of row.kind row.name other && is_due other) rows
 
--- a row that is due serves, and the one that served before it drains
-abbrev pub promoted_status : List GenRow → GenRow → RowStatus → RowStatus
-promoted_status rows row Warming = if is_ready row.content then Active else Warming
-promoted_status rows row Active = if has_successor rows row then Draining else Active
-promoted_status rows row Draining = Draining
-promoted_status rows row Dropped = Dropped
+-- a row that warms and is ready serves, and one that served before it drains
+abbrev pub status_by : Bool → Bool → RowStatus → RowStatus
+status_by succeeded ready Warming = if ready then Active else Warming
+status_by succeeded ready Active = if succeeded then Draining else Active
+status_by succeeded ready Draining = Draining
+status_by succeeded ready Dropped = Dropped
 
-abbrev pub promoted_row : List GenRow → GenRow → GenRow
-promoted_row rows row = record row { status = promoted_status rows row row.status }
+-- the status of a row once all rows that are due serve
+abbrev pub promoted_status : List GenRow → GenRow → RowStatus
+promoted_status rows row = status_by (has_successor rows row) (is_ready row.content) row.status
 
 -- the world in which all rows that are due serve
 abbrev pub promoted : World → World
-promoted world = record world { rows = map (promoted_row world.rows) world.rows }
+promoted world = record world { rows = with_statuses (promoted_status world.rows) world.rows }
 
 -- the world with the phase that it moves on to
 abbrev pub with_phase : World → World

@@ -37,31 +37,27 @@ abbrev pub lives_left : Kind → ResponseParts → List Live → List Live
 lives_left kind response lives = filter (λ (live : Live). not (kind_same live.kind kind && is_removed response live.name)) lives
 
 -- 4: the name stands twice in the response
-abbrev pub twice_rule : ResponseParts → ItemParts → List ℕ
-twice_rule response item = if nat_le 2 (length (items_named item.name response.items)) then 4 ∷ [] else []
+abbrev pub twice_rule : ResponseParts → ItemParts → Option ℕ
+twice_rule response item = if nat_le 2 (length (items_named item.name response.items)) then Some 4 else None
 
 -- 5: the name is also removed
-abbrev pub removed_rule : ResponseParts → ItemParts → List ℕ
-removed_rule response item = if is_among item.name response.removed then 5 ∷ [] else []
+abbrev pub removed_rule : ResponseParts → ItemParts → Option ℕ
+removed_rule response item = if is_among item.name response.removed then Some 5 else None
 
 -- the form rule that the body breaks
-abbrev pub form_rule : Body → List ℕ
-form_rule (Good content) = []
-form_rule (Bad rule) = rule ∷ []
+abbrev pub form_rule : Body → Option ℕ
+form_rule (Good content) = None
+form_rule (Bad rule) = Some rule
 
--- the lesser of a number and another, where there is another
-abbrev pub lesser_of : ℕ → Option ℕ → Option ℕ
-lesser_of n None = Some n
-lesser_of n (Some m) = if nat_le n m then Some n else Some m
-
--- the least number of a list
-abbrev pub least : List ℕ → Option ℕ
-least [] = None
-least (n ∷ ns) = lesser_of n (least ns)
+-- the lesser of two rules, where there are any
+abbrev pub lesser : Option ℕ → Option ℕ → Option ℕ
+lesser None other = other
+lesser (Some rule) None = Some rule
+lesser (Some rule) (Some other) = if nat_le rule other then Some rule else Some other
 
 -- the least rule that the resource breaks, the addresses that are taken left aside
 abbrev pub rule_of : ResponseParts → ItemParts → Option ℕ
-rule_of response item = least (twice_rule response item ++ (removed_rule response item ++ form_rule item.body))
+rule_of response item = lesser (twice_rule response item) (lesser (removed_rule response item) (form_rule item.body))
 
 -- a content's listening address
 abbrev pub address_of : Content → Option Host

@@ -2,6 +2,8 @@
 #![tactic(auto)]
 
 mod journal;
+mod rows;
 mod state;
+mod versions;
 
 pub use journal::Registry;

@@ -20,3 +20,6 @@ pub use presence::{Presence, exactly_one, look_for};
 pub use readers::{read_routes, read_target};
 pub use tables::look_table;
 pub use targets::look_target;
+
+#[cfg(test)]
+mod tests;
