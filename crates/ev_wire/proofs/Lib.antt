@@ -1,1 +1,3 @@
 pub mod RequestLemmas
+pub mod BodyLemmas
+mod ResponseLemmas

@@ -70,14 +70,14 @@ with_versions-whole : (versions : List (List ℕ × List ℕ)) (ms : Members)
 with_versions-whole [] ms h = h
 with_versions-whole (v ∷ vs) ms h =
     members_have_float-put (codes "initialResourceVersions") (object (version_members (v ∷ vs) no_members)) ms
-      (version_members-whole (v ∷ vs) no_members refl) h
+    (version_members-whole (v ∷ vs) no_members refl) h
 
 with_error-whole : (error : Option (List ℕ)) (ms : Members)
     → members_have_float ms ≡ false → members_have_float (with_error error ms) ≡ false
 with_error-whole None ms h = h
 with_error-whole (Some message) ms h =
     members_have_float-put (codes "errorDetail")
-      (object (member (codes "code") (number (unsigned 13)) (member (codes "message") (string message) no_members))) ms refl h
+    (object (member (codes "code") (number (unsigned 13)) (member (codes "message") (string message) no_members))) ms refl h
 
 -- the tree of a request has no float
 pub request_tree-whole : (request : Request) → has_float (request_tree request) ≡ false

@@ -1,9 +1,10 @@
 ghost use Rattle.std.specs.Prelude.{◌≡◌, map, IfOk, OnOk};
 ghost use Rattle.serde_json.specs.Data.{string, array, object, no_members};
 ghost use Rattle.serde_json.specs.View.{view, members_view, items_of};
-ghost use Rattle.ev_wire.specs.Requests.{request_tree, request_text, type_url, with_text, with_names, with_node, with_versions, version_members, with_error};
+ghost use Rattle.ev_wire.specs.Requests.{request_tree, request_text, with_text, with_names, with_node, with_versions, version_members, with_error};
 
-use ev_types::{Kind, Name, Request, Seq, Text};
+use crate::kinds::type_url;
+use ev_types::{Name, Request, Seq, Text};
 use serde_json::{Map, Value, json, put};
 use std::alloc::{AllocError, Global};
 
@@ -22,25 +23,29 @@ pub fn request_value(alloc: Global, request: &Request) -> Result<Value, AllocErr
     ensures { IfOk result (λ v. view v ≡ request_tree request.now) }
 {
     let mut members = Map::new(alloc);
-    put(&mut members, alloc, "typeUrl", json!(in alloc; type_url_of(request.kind))?)?;
+    put(
+        &mut members,
+        alloc,
+        "typeUrl",
+        json!(in alloc; type_url(request.kind))?,
+    )?;
     put_text(alloc, &mut members, "responseNonce", &request.nonce)?;
-    put_names(alloc, &mut members, "resourceNamesUnsubscribe", &request.unsubscribe)?;
-    put_names(alloc, &mut members, "resourceNamesSubscribe", &request.subscribe)?;
+    put_names(
+        alloc,
+        &mut members,
+        "resourceNamesUnsubscribe",
+        &request.unsubscribe,
+    )?;
+    put_names(
+        alloc,
+        &mut members,
+        "resourceNamesSubscribe",
+        &request.subscribe,
+    )?;
     put_node(alloc, &mut members, &request.node)?;
     put_versions(alloc, &mut members, &request.versions)?;
     put_error(alloc, &mut members, &request.error)?;
     Ok(Value::Object(members))
-}
-
-fn type_url_of(kind: Kind) -> &'static str
-    ensures { result.now ≡ type_url kind }
-{
-    match kind {
-        Kind::Cds => "type.googleapis.com/envoy.config.cluster.v3.Cluster",
-        Kind::Eds => "type.googleapis.com/envoy.config.endpoint.v3.ClusterLoadAssignment",
-        Kind::Lds => "type.googleapis.com/envoy.config.listener.v3.Listener",
-        Kind::Rds => "type.googleapis.com/envoy.config.route.v3.RouteConfiguration",
-    }
 }
 
 type Members = Map<String, Value>;
@@ -73,15 +78,16 @@ fn put_names(
     Ok(())
 }
 
-fn put_node(
-    alloc: Global,
-    members: &mut Members,
-    node: &Option<Text>,
-) -> Result<(), AllocError>
+fn put_node(alloc: Global, members: &mut Members, node: &Option<Text>) -> Result<(), AllocError>
     ensures { OnOk result (members_view members.new.entries ≡ with_node node.now (members_view members.old.entries)) }
 {
     if let Some(id) = node {
-        put(members, alloc, "node", json!(in alloc; {"id": id.as_str()})?)?;
+        put(
+            members,
+            alloc,
+            "node",
+            json!(in alloc; {"id": id.as_str()})?,
+        )?;
     }
     Ok(())
 }
@@ -107,16 +113,17 @@ fn version_values(alloc: Global, versions: &[(Name, Text)]) -> Result<Value, All
 {
     let mut held = Map::new(alloc);
     for (name, version) in versions {
-        put(&mut held, alloc, name.as_str(), json!(in alloc; version.as_str())?)?;
+        put(
+            &mut held,
+            alloc,
+            name.as_str(),
+            json!(in alloc; version.as_str())?,
+        )?;
     }
     Ok(Value::Object(held))
 }
 
-fn put_error(
-    alloc: Global,
-    members: &mut Members,
-    error: &Option<Text>,
-) -> Result<(), AllocError>
+fn put_error(alloc: Global, members: &mut Members, error: &Option<Text>) -> Result<(), AllocError>
     ensures { OnOk result (members_view members.new.entries ≡ with_error error.now (members_view members.old.entries)) }
 {
     if let Some(message) = error {
