@@ -3,3 +3,4 @@ pub mod Numerals
 pub mod Names
 pub mod Units
 pub mod Outcomes
+pub mod Leasts

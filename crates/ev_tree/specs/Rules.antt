@@ -1,6 +1,6 @@
 -- The least rule that a resource breaks, and what a reader of a resource answers. Each rule is a fact about
 -- the tree by itself; the crates of the resources have them.
-use Rattle.std.specs.Prelude.{◌≡◌, ℕ, ◌&&◌, List, [], ◌∷◌, length, Bool, nat_le, if◌then◌else◌, Option, Some, None, Result, Ok, Err, ⊤}
+use Rattle.std.specs.Prelude.{◌≡◌, ℕ, ◌<◌, ◌≤◌, ◌⊎◌, ◌&&◌, true, List, [], ◌∷◌, length, Bool, nat_le, if◌then◌else◌, Option, Some, None, Result, Ok, Err, ⊤}
 use Rattle.ev_tree.specs.declared.outcome.ReadError.{ReadError}
 use Rattle.ev_tree.specs.declared.outcome.ReadError.TheVariants.{Rule, OutOfMemory}
 
@@ -23,3 +23,24 @@ Reads (Err OutOfMemory) reading = ⊤
 -- 1 to 512 bytes, as a name or an address has
 abbrev pub is_name : List ℕ → Bool
 is_name bytes = nat_le 1 (length bytes) && nat_le (length bytes) 512
+
+-- ---- what the least is, for lists in ascending order
+
+-- the rule n is broken
+abbrev pub IsBroken : ℕ → List (ℕ × Bool) → Type 0
+IsBroken n [] = ⊥
+IsBroken n (rule ∷ rules) = ((rule.0 ≡ n) × (rule.1 ≡ true)) ⊎ IsBroken n rules
+
+-- all rules of the list have greater numbers
+abbrev pub AllAbove : ℕ → List (ℕ × Bool) → Type 0
+AllAbove n [] = ⊤
+AllAbove n (rule ∷ rules) = (n < rule.0) × AllAbove n rules
+
+abbrev pub IsAscending : List (ℕ × Bool) → Type 0
+IsAscending [] = ⊤
+IsAscending (rule ∷ rules) = AllAbove rule.0 rules × IsAscending rules
+
+-- the answer is a rule that is broken, and each broken rule is at least as great
+abbrev pub IsLeast : List (ℕ × Bool) → Option ℕ → Type 0
+IsLeast rules None = (m : ℕ) → ¬ (IsBroken m rules)
+IsLeast rules (Some n) = IsBroken n rules × ((m : ℕ) → IsBroken m rules → n ≤ m)

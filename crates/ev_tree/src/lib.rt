@@ -16,11 +16,13 @@ mod sources;
 mod span;
 mod spelling;
 mod tables;
+#[cfg(test)]
+mod tests;
 
 pub use addresses::{SocketAddress, socket_address};
 pub use outcome::{Found, ReadError};
 pub use readers::{boolean, duration, enumeration, field, list, number32, object, text};
-pub use rules::{is_name, least};
+pub use rules::{first_is_least, is_name, least};
 pub use sources::{ConfigSource, config_source};
 pub use span::Span;
 pub use tables::EnumTable;

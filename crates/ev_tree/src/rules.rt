@@ -1,5 +1,5 @@
-ghost use Rattle.std.specs.Prelude.{◌≡◌};
-ghost use Rattle.ev_tree.specs.Rules.{least, is_name};
+ghost use Rattle.std.specs.Prelude.{◌≡◌, ℕ, List, Bool};
+ghost use Rattle.ev_tree.specs.Rules.{least, is_name, IsAscending, IsLeast};
 
 /// The first rule of a list that is broken: each entry is a rule's number and whether it is broken. In
 /// a list in ascending order it is the least.
@@ -20,3 +20,8 @@ pub fn is_name(text: &str) -> bool
 {
     1 <= text.len() && text.len() <= 512
 }
+
+/// In a list in ascending order the first broken rule is the least: a law of the definition `least`.
+pub fn first_is_least()
+    ensures { (rules : List (ℕ × Bool)) → IsAscending rules → IsLeast rules (least rules) }
+{}

@@ -1,0 +1,4 @@
+pub mod Gained
+pub mod RowsMade
+pub mod Leasts
+pub mod ClusterMade

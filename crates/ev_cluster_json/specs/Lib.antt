@@ -1,0 +1,5 @@
+pub mod Assignments
+pub mod Clusters
+pub mod Made
+pub mod Tallies
+pub mod RulesRead

@@ -1,0 +1,121 @@
+ghost use Rattle.std.specs.Prelude.{◌≡◌, ◌++◌, ◌-◌, ◌^◌, [], ◌==◌, map, min, option_to_list, IfOk, OnOk};
+ghost use Rattle.std.specs.List.{list_any, flat_map, sum_by};
+ghost use Rattle.serde_json.specs.View.{view};
+ghost use Rattle.ev_tree.specs.Forms.{tree_of};
+ghost use Rattle.ev_cluster_json.specs.Assignments.{weight_of, host_breaks_v6, host_breaks_v12, host_breaks_v13, group_breaks_v6, group_breaks_v12, group_breaks_v13, assignment_breaks_v6, assignment_breaks_v12, assignment_breaks_v13};
+ghost use Rattle.ev_cluster_json.specs.Made.{host_rows, rank_of, made_group, made_rows};
+ghost use Rattle.ev_cluster_json.specs.Tallies.{Gains};
+
+use crate::hosts::{HostReading, read_host};
+use crate::tally::Tally;
+use ev_tree::member;
+use ev_types::HostRow;
+use serde_json::Value;
+use std::alloc::{AllocError, Global};
+
+/// The greatest priority.
+const LAST_PRIORITY: u32 = 128;
+
+/// Adds a host to the tally, and gives its weight.
+pub fn add_host(tally: &mut Tally, alloc: Global, host: &Value, rank: u8) -> Result<u32, AllocError>
+    ensures weight { IfOk result (λ weight. weight ≡ weight_of (view host.now)) }
+    ensures gains { OnOk result (Gains tally.old tally.new (host_breaks_v6 (view host.now)) (host_breaks_v12 (view host.now))
+        (host_breaks_v13 (view host.now)) (host_rows rank (view host.now))) }
+{
+    let HostReading {
+        row,
+        weight,
+        breaks_v6,
+        breaks_v12,
+    } = read_host(alloc, host, rank)?;
+    push_row(&mut tally.rows, row)?;
+    tally.breaks_v6 |= breaks_v6;
+    tally.breaks_v12 |= breaks_v12;
+    tally.breaks_v13 |= weight == 0;
+    Ok(weight)
+}
+
+fn push_row(rows: &mut Vec<HostRow>, row: Option<HostRow>) -> Result<(), AllocError>
+    ensures { OnOk result (rows.new.items ≡ rows.old.items ++ option_to_list row) }
+{
+    match row {
+        Some(row) => Ok(rows.push(row)?),
+        None => Ok(()),
+    }
+}
+
+/// Adds hosts to the tally, and gives the sum of their weights, or the greatest number where it is more.
+pub fn add_hosts(
+    tally: &mut Tally,
+    alloc: Global,
+    hosts: &[Value],
+    rank: u8,
+) -> Result<u64, AllocError>
+    ensures weight { IfOk result (λ sum. sum ≡ min (sum_by weight_of (map view hosts.now)) (2 ^ 64 - 1)) }
+    ensures gains { OnOk result (Gains tally.old tally.new (list_any host_breaks_v6 (map view hosts.now))
+        (list_any host_breaks_v12 (map view hosts.now)) (list_any host_breaks_v13 (map view hosts.now))
+        (flat_map (host_rows rank) (map view hosts.now))) }
+{
+    let mut sum = 0u64;
+    for host in hosts {
+        let weight = add_host(tally, alloc, host, rank)?;
+        sum = sum.saturating_add(u64::from(weight));
+    }
+    Ok(sum)
+}
+
+fn rank(priority: u32) -> u8
+    ensures { result ≡ rank_of priority }
+{
+    if priority <= LAST_PRIORITY {
+        priority as u8
+    } else {
+        0
+    }
+}
+
+/// Adds a group of hosts to the tally: an element of `endpoints`.
+pub fn add_group(tally: &mut Tally, alloc: Global, group: &Value) -> Result<(), AllocError>
+    ensures { OnOk result (Gains tally.old tally.new (group_breaks_v6 (view group.now)) (group_breaks_v12 (view group.now))
+        (group_breaks_v13 (view group.now)) (made_group (view group.now))) }
+{
+    let priority = member::number32(alloc, Some(group), "priority")?;
+    let hosts = member::objects(alloc, Some(group), "lb_endpoints")?;
+    let number = priority.given_or(0);
+    tally.breaks_v6 |= priority.is_wrong() | hosts.is_wrong();
+    let sum = add_hosts(tally, alloc, member::elements(hosts), rank(number))?;
+    tally.breaks_v13 |= number > LAST_PRIORITY;
+    tally.breaks_v13 |= sum > u64::from(u32::MAX);
+    Ok(())
+}
+
+/// Adds groups of hosts to the tally.
+pub fn add_groups(tally: &mut Tally, alloc: Global, groups: &[Value]) -> Result<(), AllocError>
+    ensures { OnOk result (Gains tally.old tally.new (list_any group_breaks_v6 (map view groups.now))
+        (list_any group_breaks_v12 (map view groups.now)) (list_any group_breaks_v13 (map view groups.now))
+        (flat_map made_group (map view groups.now))) }
+{
+    for group in groups {
+        add_group(tally, alloc, group)?;
+    }
+    Ok(())
+}
+
+/// What is read of an assignment, which may be missing.
+pub fn read_tally(alloc: Global, assignment: Option<&Value>) -> Result<Tally, AllocError>
+    ensures rows { IfOk result (λ t. t.rows.items ≡ made_rows (tree_of assignment.entry)) }
+    ensures v6 { IfOk result (λ t. t.breaks_v6 ≡ assignment_breaks_v6 (tree_of assignment.entry)) }
+    ensures v12 { IfOk result (λ t. t.breaks_v12 ≡ assignment_breaks_v12 (tree_of assignment.entry)) }
+    ensures v13 { IfOk result (λ t. t.breaks_v13 ≡ assignment_breaks_v13 (tree_of assignment.entry)) }
+{
+    let cluster_name = member::text(alloc, assignment, "cluster_name")?;
+    let groups = member::objects(alloc, assignment, "endpoints")?;
+    let mut tally = Tally {
+        rows: Vec::new(alloc),
+        breaks_v6: cluster_name.is_wrong() | groups.is_wrong(),
+        breaks_v12: false,
+        breaks_v13: false,
+    };
+    add_groups(&mut tally, alloc, member::elements(groups))?;
+    Ok(tally)
+}

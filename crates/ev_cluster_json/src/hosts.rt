@@ -1,0 +1,94 @@
+ghost use Rattle.std.specs.Prelude.{◌≡◌, IfOk};
+ghost use Rattle.serde_json.specs.View.{view};
+ghost use Rattle.ev_tree.specs.Rules.{is_name};
+ghost use Rattle.ev_cluster_json.specs.Assignments.{weight_of, is_usable_status, host_breaks_v6, host_breaks_v12};
+ghost use Rattle.ev_cluster_json.specs.Made.{name_in, row_with, made_row};
+
+use ev_tree::{EnumTable, member, socket_address};
+use ev_types::{Host, HostRow, Name, NameError};
+use serde_json::Value;
+use std::alloc::{AllocError, Global};
+
+/// What a look at a host finds.
+#[derive(Drop)]
+pub struct HostReading {
+    /// Its row, where it has an address and a weight.
+    pub row: Option<HostRow>,
+    /// Its weight, which may be 0.
+    pub weight: u32,
+    pub breaks_v6: bool,
+    pub breaks_v12: bool,
+}
+
+/// A host of an assignment.
+pub fn read_host(alloc: Global, host: &Value, priority: u8) -> Result<HostReading, AllocError>
+    ensures row { IfOk result (λ h. h.row ≡ made_row priority (view host.now)) }
+    ensures weight { IfOk result (λ h. h.weight ≡ weight_of (view host.now)) }
+    ensures v6 { IfOk result (λ h. h.breaks_v6 ≡ host_breaks_v6 (view host.now)) }
+    ensures v12 { IfOk result (λ h. h.breaks_v12 ≡ host_breaks_v12 (view host.now)) }
+{
+    let endpoint = member::object(alloc, Some(host), "endpoint")?;
+    let address = socket_address(alloc, member::inner(endpoint))?;
+    let status = member::enumeration(alloc, Some(host), "health_status", EnumTable::Health)?;
+    let given_weight = member::number32(alloc, Some(host), "load_balancing_weight")?;
+    let weight = given_weight.given_or(1);
+    let usable = is_usable(status.given_or(0));
+    Ok(HostReading {
+        row: host_row(
+            alloc,
+            address.address,
+            address.port,
+            weight,
+            priority,
+            usable,
+        )?,
+        weight,
+        breaks_v6: endpoint.is_wrong()
+            | address.breaks_v6
+            | status.is_wrong()
+            | given_weight.is_wrong(),
+        breaks_v12: address.breaks_v12,
+    })
+}
+
+fn is_usable(status: u32) -> bool
+    ensures { result ≡ is_usable_status status }
+{
+    status == 0 || status == 1 || status == 5
+}
+
+/// A row, where the address has 1 to 512 bytes and the weight isn't 0.
+fn host_row(
+    alloc: Global,
+    address: &str,
+    port: u16,
+    weight: u32,
+    priority: u8,
+    usable: bool,
+) -> Result<Option<HostRow>, AllocError>
+    ensures { IfOk result (λ row. row ≡ row_with address.now port weight priority usable) }
+{
+    if weight == 0 {
+        return Ok(None);
+    }
+    match name(alloc, address)? {
+        Some(address) => Ok(Some(HostRow {
+            host: Host { address, port },
+            weight,
+            priority,
+            usable,
+        })),
+        None => Ok(None),
+    }
+}
+
+/// The name that a text is, if it has 1 to 512 bytes.
+pub fn name(alloc: Global, text: &str) -> Result<Option<Name>, AllocError>
+    ensures { IfOk result (λ name. name ≡ name_in text.now) }
+{
+    match Name::new(alloc, text) {
+        Ok(name) => Ok(Some(name)),
+        Err(NameError::Length) => Ok(None),
+        Err(NameError::OutOfMemory) => Err(AllocError),
+    }
+}

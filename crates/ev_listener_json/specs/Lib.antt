@@ -1,0 +1,5 @@
+pub mod Parts
+pub mod Members
+pub mod Managers
+pub mod Filters
+pub mod Listeners

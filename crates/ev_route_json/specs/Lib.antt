@@ -1,0 +1,7 @@
+pub mod Parts
+pub mod Presence
+pub mod Targets
+pub mod Matches
+pub mod Routes
+pub mod Domains
+pub mod Tables

@@ -1,0 +1,118 @@
+ghost use Rattle.std.specs.Prelude.{◌≡◌, IfOk};
+ghost use Rattle.ev_tree.specs.Forms.{tree_of, found_map};
+ghost use Rattle.ev_route_json.specs.Matches.{match_breaks_v6, match_breaks_v21, path_of, path_with, is_false, is_bad_separated, separated_is_bad, ends_a_path};
+ghost use Rattle.std.specs.List.{list_any};
+
+use crate::presence::{exactly_one, look_for};
+use ev_tree::{Found, member};
+use ev_types::{PathMatch, Text};
+use serde_json::Value;
+use std::alloc::{AllocError, Global};
+
+/// What a look at a match finds.
+#[derive(Drop)]
+pub struct MatchLook {
+    /// The paths, which count where no rule is broken.
+    pub path: PathMatch,
+    pub breaks_v6: bool,
+    pub breaks_v21: bool,
+}
+
+/// Looks at the match of a route, which may be missing.
+pub fn look_match(alloc: Global, tree: Option<&Value>) -> Result<MatchLook, AllocError>
+    ensures path { IfOk result (λ look. look.path ≡ path_of (tree_of tree.entry)) }
+    ensures v6 { IfOk result (λ look. look.breaks_v6 ≡ match_breaks_v6 (tree_of tree.entry)) }
+    ensures v21 { IfOk result (λ look. look.breaks_v21 ≡ match_breaks_v21 (tree_of tree.entry)) }
+{
+    let prefix = member::text(alloc, tree, "prefix")?;
+    let path = member::text(alloc, tree, "path")?;
+    let separated = member::text(alloc, tree, "path_separated_prefix")?;
+    let sensitive = member::boolean(alloc, tree, "case_sensitive")?;
+    let barred = look_for(
+        alloc,
+        tree,
+        &[
+            "safe_regex",
+            "connect_matcher",
+            "path_match_policy",
+            "runtime_fraction",
+            "grpc",
+            "tls_context",
+        ],
+    )?;
+    let listed = look_for(
+        alloc,
+        tree,
+        &[
+            "headers",
+            "query_parameters",
+            "dynamic_metadata",
+            "filter_state",
+        ],
+    )?;
+    let kinds = [prefix.is_given(), path.is_given(), separated.is_given()];
+    Ok(MatchLook {
+        path: path_with(alloc, prefix, path, separated)?,
+        breaks_v6: prefix.is_wrong()
+            | path.is_wrong()
+            | separated.is_wrong()
+            | sensitive.is_wrong()
+            | barred.doubled
+            | listed.doubled,
+        breaks_v21: !exactly_one(&kinds)
+            | barred.given
+            | listed.filled
+            | is_false(sensitive)
+            | separated_is_bad(separated),
+    })
+}
+
+fn is_false(found: Found<bool>) -> bool
+    ensures { result ≡ is_false found }
+{
+    matches!(found, Found::Given(false))
+}
+
+fn separated_is_bad(separated: Found<&str>) -> bool
+    ensures { result ≡ separated_is_bad (found_map (λ s. s.now) separated.entry) }
+{
+    match separated {
+        Found::Given(text) => is_bad_separated(text.as_bytes()),
+        Found::Absent | Found::Wrong => false,
+    }
+}
+
+/// Whether a prefix of whole segments is empty, ends with `/`, or has a `?` or `#`.
+fn is_bad_separated(text: &[u8]) -> bool
+    ensures { result ≡ is_bad_separated text.now }
+{
+    if text.is_empty() {
+        return true;
+    }
+    text[text.len() - 1] == b'/' || has_path_end(text)
+}
+
+fn has_path_end(text: &[u8]) -> bool
+    ensures { result ≡ list_any ends_a_path text.now }
+{
+    text.iter().any(|byte| *byte == b'?' || *byte == b'#')
+}
+
+/// The match of what is given.
+fn path_with(
+    alloc: Global,
+    prefix: Found<&str>,
+    path: Found<&str>,
+    separated: Found<&str>,
+) -> Result<PathMatch, AllocError>
+    ensures { IfOk result (λ made. made ≡ path_with (found_map (λ s. s.now) prefix.entry) (found_map (λ s. s.now) path.entry) (found_map (λ s. s.now) separated.entry)) }
+{
+    if let Found::Given(text) = prefix {
+        return Ok(PathMatch::Prefix(Text::new(alloc, text)?));
+    }
+    if let Found::Given(text) = path {
+        return Ok(PathMatch::Path(Text::new(alloc, text)?));
+    }
+    let text = member::text_or_empty(separated);
+    Ok(PathMatch::Separated(Text::new(alloc, text)?))
+}
