@@ -107,3 +107,187 @@ module _ {V O C : Type 0} (opening : V → O) (commits : V → List (ℕ × C)) 
           serving_queued = f.serving_queued;
           seen_all = λ q. (o.1 q).1;
         }
+
+  -- ---- the start
+  pub starts : (v : V) → terms.value.value ≡ v → 0 < terms.seats → terms.seats ≤ 20 → Kept (opened (0 ∷ 0 ∷ []) (Some v ∷ []) (first_view opening commits terms))
+  starts v is some_seat few = record {
+    drawn = 0;
+    served = 0;
+    since = [];
+    words_are = refl;
+    counted = refl;
+    few = some_seat;
+    at_most_twenty = few;
+    fits = fits_first;
+    fits_spent = λ j u e spent. absurd (off refl (ap (λ (y : View O C). y.spent) (first_is j u e) ∙ spent));
+    apart = λ j k u x e f p q r. absurd (off refl (ap (λ (y : View O C). y.queued) (first_is j u e) ∙ p));
+    unborn = λ n le. refl;
+    leads = λ u e spent. subst (Leads (first_view opening commits terms ∷ []) []) (some-injective _ _ e) record { made_is = refl; told_spent = λ k lt. absurd (omega arith); told_is = λ k lt. absurd (omega arith) };
+    slot = inl record { value = v; there = refl; opening_is = ap opening (sym is); commits_are = ap commits (sym is) ∙ sym (append-nil (commits terms.value.value)) };
+  }
+    where
+      first_is : (j : ℕ) (u : View O C) → get_elem? (first_view opening commits terms ∷ []) j ≡ some u → first_view opening commits terms ≡ u
+      first_is zero u e = some-injective _ _ e
+      first_is (suc j) u e = absurd (some-ne-none u (sym e))
+
+      fits_first : (j : ℕ) (u : View O C) → get_elem? (first_view opening commits terms ∷ []) j ≡ some u → u.spent ≡ false → Fits (opening terms.value.value) (commits terms.value.value) [] 0 0 j u
+      fits_first zero u e spent = subst (Fits (opening terms.value.value) (commits terms.value.value) [] 0 0 0) (some-injective _ _ e) record {
+        number_is = refl;
+        opening_is = refl;
+        start_is = refl;
+        seen = ([], refl, refl);
+        ticket_from = λ q. absurd (off refl q);
+        ticket_below = λ q. absurd (off refl q);
+        served_is = λ q. absurd (off refl q);
+        serving_queued = λ q. q;
+        seen_all = λ q. absurd (off refl q);
+      }
+      fits_first (suc j) u e spent = absurd (some-ne-none u (sym e))
+
+  -- ---- words
+  word_0 : (words : List ℕ) (a b n : ℕ) → words ≡ a ∷ b ∷ [] → set words 0 n ≡ n ∷ b ∷ []
+  word_0 words a b n e = ap (λ ws. set ws 0 n) e
+
+  word_1 : (words : List ℕ) (a b n : ℕ) → words ≡ a ∷ b ∷ [] → set words 1 n ≡ a ∷ n ∷ []
+  word_1 words a b n e = ap (λ ws. set ws 1 n) e
+
+  -- ---- a ticket is drawn
+  pub draws : (slots i : ℕ) (v : View O C) → v.spent ≡ false → v.queued ≡ false → v.serving ≡ false
+      → Allows Kept slots i (v, []) 0 (λ n. (n + 1) % 2 ^ 64) (λ n. Draws opening commits (v, []) n)
+  draws slots i v live idle out s h wide at bound =
+      let w : View O C = record v { queued = true; ticket = h.drawn } in
+      let mine : Fits (opening terms.value.value) (commits terms.value.value) h.since h.drawn h.served i v = h.fits i v at live in
+      let count = queued_set s.views i v w at in
+      let none : one_if v ≡ 0 = ap (λ b. cond b 1 0) idle in
+      let all : h.since ++ [] ≡ h.since = append-nil h.since in
+      let next : (slice_index s.words 0 + 1) % 2 ^ 64 ≡ (h.drawn + 1) % 2 ^ 64 = ap (λ ws. (slice_index ws 0 + 1) % 2 ^ 64) h.words_are ∙ mod-add-mod h.drawn (2 ^ 64) 1 in (
+        w,
+        keeps,
+        tt,
+        changed s h i v w at live (record { spent_is = live; made_is = refl; told_is = refl }) [] (λ n apart. refl)
+            (h.drawn + 1) h.served (set s.words 0 ((slice_index s.words 0 + 1) % 2 ^ 64)) s.homes
+            (word_0 s.words (h.drawn % 2 ^ 64) (h.served % 2 ^ 64) _ h.words_are ∙ ap (λ n. n ∷ h.served % 2 ^ 64 ∷ []) next)
+            (let c = h.counted in omega arith)
+            record {
+              number_is = mine.number_is;
+              opening_is = mine.opening_is;
+              start_is = mine.start_is;
+              seen = grows_more i v.since h.since [] mine.seen refl;
+              ticket_from = λ q. (let c = h.counted in omega arith);
+              ticket_below = λ q. omega arith;
+              served_is = λ q. absurd (off out q);
+              serving_queued = λ q. refl;
+              seen_all = λ q. absurd (off out q);
+            }
+            (λ j u apart there. ⊎_elim
+                (λ (spent : u.spent ≡ true). let g = h.fits_spent j u there spent in ((λ q. absurd (off g.not_queued q)), (λ q. absurd (off g.not_serving q)), (λ q _. absurd (off g.not_queued q))))
+                (λ (spent : u.spent ≡ false). let f = h.fits j u there spent in (
+                  (λ q. (f.ticket_from q, let b = f.ticket_below q in omega arith)),
+                  (λ q. (f.served_is q, f.seen_all q ∙ sym all)),
+                  (λ q _ e. let b = f.ticket_below q in absurd (omega arith)),
+                ))
+                (cases_Bool u.spent))
+            (⊎_elim
+                (λ (a : AtHome opening commits terms.value.value h.since s.homes). inl record { value = a.value; there = a.there; opening_is = a.opening_is; commits_are = a.commits_are ∙ ap (λ l. commits terms.value.value ++ l) (sym all) })
+                (λ (o : IsOut s.homes s.views). inr record { gone = o.gone; seat = o.seat; view = o.view; there = set_else s.views i o.seat w (not_here o) ∙ o.there; serving = o.serving })
+                h.slot),
+        record { view_is = refl; ticket_is = sym (ap (λ ws. slice_index ws 0) h.words_are); held = refl },
+      )
+    where
+      not_here : (o : IsOut s.homes s.views) → o.seat ≢ i
+      not_here o e = off out (ap (λ (y : View O C). y.serving) (same_there s.views i v o.view at (subst (λ n. get_elem? s.views n ≡ some o.view) e o.there)) ∙ o.serving)
+
+  -- ---- a look at the ticket that is served
+  -- with at most twenty seats, the words of two tickets are equal only where the tickets are
+  one_ticket : (s : State (Option V) (View O C)) (h : Kept s) (i : ℕ) (v : View O C) → get_elem? s.views i ≡ some v → v.spent ≡ false → v.queued ≡ true → h.served % 2 ^ 64 ≡ v.ticket % 2 ^ 64 → v.ticket ≡ h.served
+  one_ticket s h i v at live waits e =
+      let mine = h.fits i v at live in
+      let from : h.served ≤ v.ticket = mine.ticket_from waits in
+      let below : v.ticket < h.drawn = mine.ticket_below waits in
+      let few = queued_few s.views in
+      let near : v.ticket < h.served + 2 ^ 64 = (let a = h.counted in let b = h.few in let c = h.at_most_twenty in omega arith) in
+      sym (one_turn h.served v.ticket (2 ^ 64) from near e)
+
+  -- nobody else is served
+  alone : (s : State (Option V) (View O C)) (h : Kept s) (i : ℕ) (v : View O C) → get_elem? s.views i ≡ some v → v.queued ≡ true → v.ticket ≡ h.served → (j : ℕ) (u : View O C) → get_elem? s.views j ≡ some u → u.serving ≡ true → j ≡ i
+  alone s h i v at waits is j u there served = ⊎_elim
+      (λ (spent : u.spent ≡ true). absurd (off ((h.fits_spent j u there spent).not_serving) served))
+      (λ (spent : u.spent ≡ false). let f = h.fits j u there spent in h.apart j i u v there at (f.serving_queued served) waits (f.served_is served ∙ sym is))
+      (cases_Bool u.spent)
+
+  same_words : (words : List ℕ) (a b : ℕ) → words ≡ a ∷ b ∷ [] → set words 1 (slice_index words 1) ≡ words
+  same_words words a b e = subst (λ ws. set ws 1 (slice_index ws 1) ≡ ws) (sym e) refl
+
+  -- the ticket is served: the slot is at home, and the seat takes it
+  is_served : (s : State (Option V) (View O C)) (h : Kept s) (i : ℕ) (v : View O C) → get_elem? s.views i ≡ some v → v.spent ≡ false → v.queued ≡ true → v.serving ≡ false → v.ticket ≡ h.served → (found : ℕ)
+      → AtHome opening commits terms.value.value h.since s.homes
+      → found ≡ slice_index s.words 1
+      → (w : View O C) × (y : Option V) × (get_elem? s.homes 0 ≡ some (some y)) × Kept record { words = set s.words 1 found; homes = set s.homes 0 none; views = set s.views i w } × Takes opening commits (v, []) (w, (0, y) ∷ [])
+  is_served s h i v at live waits out is found a same =
+      let w : View O C = record v { serving = true; since = h.since } in
+      let mine : Fits (opening terms.value.value) (commits terms.value.value) h.since h.drawn h.served i v = h.fits i v at live in
+      let count = queued_set s.views i v w at in
+      let all : h.since ++ [] ≡ h.since = append-nil h.since in
+      let words : set s.words 1 found ≡ s.words = ap (set s.words 1) same ∙ same_words s.words (h.drawn % 2 ^ 64) (h.served % 2 ^ 64) h.words_are in (
+        w,
+        Some a.value,
+        ap (λ hs. get_elem? hs 0) a.there,
+        changed s h i v w at live (record { spent_is = live; made_is = refl; told_is = refl }) [] (λ n apart. refl)
+            h.drawn h.served (set s.words 1 found) (set s.homes 0 none)
+            (words ∙ h.words_are)
+            (let c = h.counted in omega arith)
+            record {
+              number_is = mine.number_is;
+              opening_is = mine.opening_is;
+              start_is = mine.start_is;
+              seen = ([], refl, refl);
+              ticket_from = mine.ticket_from;
+              ticket_below = mine.ticket_below;
+              served_is = λ q. is;
+              serving_queued = λ q. waits;
+              seen_all = λ q. sym all;
+            }
+            (λ j u apart there. ⊎_elim
+                (λ (spent : u.spent ≡ true). let g = h.fits_spent j u there spent in ((λ q. absurd (off g.not_queued q)), (λ q. absurd (off g.not_serving q)), (λ q _. absurd (off g.not_queued q))))
+                (λ (spent : u.spent ≡ false). let f = h.fits j u there spent in (
+                  (λ q. (f.ticket_from q, f.ticket_below q)),
+                  (λ q. absurd (apart (alone s h i v at waits is j u there q))),
+                  (λ q _ e. absurd (apart (h.apart j i u v there at q waits (sym e)))),
+                ))
+                (cases_Bool u.spent))
+            (inr record { gone = ap (λ hs. set hs 0 none) a.there; seat = i; view = w; there = set_here s.views i w (at_below s.views i v at); serving = refl }),
+        record {
+          value = a.value;
+          view_is = refl;
+          held = refl;
+          seen = subst (λ n. GrowsWithout n v.since h.since) (sym mine.number_is) mine.seen;
+          opening_is = ap Some a.opening_is ∙ sym mine.opening_is;
+          commits_are = a.commits_are ∙ ap (λ l. l ++ h.since) (sym mine.start_is);
+        },
+      )
+
+  home_then : (s : State (Option V) (View O C)) (h : Kept s) (i : ℕ) (v : View O C) → get_elem? s.views i ≡ some v → v.queued ≡ true → v.serving ≡ false → v.ticket ≡ h.served → AtHome opening commits terms.value.value h.since s.homes ⊎ IsOut s.homes s.views → AtHome opening commits terms.value.value h.since s.homes
+  home_then s h i v at waits out is (inl a) = a
+  home_then s h i v at waits out is (inr o) =
+      let here : o.seat ≡ i = alone s h i v at waits is o.seat o.view o.there o.serving in
+      absurd (off out (ap (λ (y : View O C). y.serving) (same_there s.views i v o.view at (subst (λ n. get_elem? s.views n ≡ some o.view) here o.there)) ∙ o.serving))
+
+  not_yet : (s : State (Option V) (View O C)) (h : Kept s) (i : ℕ) (v : View O C) → get_elem? s.views i ≡ some v → Kept record { words = set s.words 1 (slice_index s.words 1); homes = s.homes; views = set s.views i v }
+  not_yet s h i v at =
+      let words = same_words s.words (h.drawn % 2 ^ 64) (h.served % 2 ^ 64) h.words_are in
+      let views = set_again s.views i v at in
+      let whole : ◌≡◌ {A = State (Option V) (View O C)} s record { words = set s.words 1 (slice_index s.words 1); homes = s.homes; views = set s.views i v } = λ k. record { words = sym words k; homes = s.homes; views = sym views k } in
+      subst Kept whole h
+
+  pub looks : (slots i : ℕ) (v : View O C) → v.spent ≡ false → v.queued ≡ true → v.serving ≡ false
+      → Allows Kept slots i (v, []) 1 (λ n. n) (λ found. Looks opening commits (v, []) found)
+  looks slots i v live waits out s h wide at bound =
+      let found : slice_index s.words 1 ≡ h.served % 2 ^ 64 = ap (λ ws. slice_index ws 1) h.words_are in
+      ⊎_elim
+      (λ (t : (eqb (slice_index s.words 1) (v.ticket % 2 ^ 64) ≡ true) × (slice_index s.words 1 ≡ v.ticket % 2 ^ 64)).
+          let is : v.ticket ≡ h.served = one_ticket s h i v at live waits (sym found ∙ t.1) in
+          let r = is_served s h i v at live waits out is (slice_index s.words 1) (home_then s h i v at waits out is h.slot) refl in
+          (r.0, takes 0 r.1, r.2, r.3, subst (λ b. Rattle.std.specs.Prelude.MatchBool b (Takes opening commits (v, []) (r.0, (0, r.1) ∷ [])) (◌≡◌ {A = Me (Option V) (View O C)} (r.0, (0, r.1) ∷ []) (v, []))) (sym t.0) r.4))
+      (λ (t : (eqb (slice_index s.words 1) (v.ticket % 2 ^ 64) ≡ false) × (slice_index s.words 1 ≢ v.ticket % 2 ^ 64)).
+          (v, keeps, tt, not_yet s h i v at, subst (λ b. Rattle.std.specs.Prelude.MatchBool b (Takes opening commits (v, []) (v, [])) (◌≡◌ {A = Me (Option V) (View O C)} (v, []) (v, []))) (sym t.0) refl))
+      (eqb_tells (slice_index s.words 1) (v.ticket % 2 ^ 64))
