@@ -291,3 +291,152 @@ module _ {V O C : Type 0} (opening : V → O) (commits : V → List (ℕ × C)) 
       (λ (t : (eqb (slice_index s.words 1) (v.ticket % 2 ^ 64) ≡ false) × (slice_index s.words 1 ≢ v.ticket % 2 ^ 64)).
           (v, keeps, tt, not_yet s h i v at, subst (λ b. Rattle.std.specs.Prelude.MatchBool b (Takes opening commits (v, []) (v, [])) (◌≡◌ {A = Me (Option V) (View O C)} (v, []) (v, []))) (sym t.0) refl))
       (eqb_tells (slice_index s.words 1) (v.ticket % 2 ^ 64))
+
+  -- ---- a turn ends, with the seat's own commits or with none
+  pub ends : (slots i : ℕ) (v : View O C) (x : V) (others : List (ℕ × Option V)) (new : List (ℕ × C))
+      → v.spent ≡ false → v.queued ≡ true → v.serving ≡ true
+      → Some (opening x) ≡ v.opening → commits x ≡ (v.start ++ v.since) ++ new → ((n : ℕ) → n ≢ v.number → commits_by n new ≡ [])
+      → Allows Kept slots i (v, (0, Some x) ∷ others) 1 (λ n. (n + 1) % 2 ^ 64) (λ _. Ends opening commits (v, (0, Some x) ∷ others))
+  ends slots i v x others new live waits out opening_is commits_are own s h wide at bound =
+      let mine : Fits (opening terms.value.value) (commits terms.value.value) h.since h.drawn h.served i v = h.fits i v at live in
+      let all : v.since ≡ h.since = mine.seen_all out in
+      let is : v.ticket ≡ h.served = mine.served_is out in
+      let now : drop (length v.start) (commits x) ≡ h.since ++ new = ap (drop (length v.start)) (commits_are ∙ append_assoc v.start v.since new) ∙ drop-append_seam v.start (v.since ++ new) ∙ ap (λ l. l ++ new) all in
+      let w : View O C = record v { queued = false; serving = false; since = drop (length v.start) (commits x) } in
+      let count = queued_set s.views i v w at in
+      let one : one_if v ≡ 1 = ap (λ b. cond b 1 0) waits in
+      let next : (slice_index s.words 1 + 1) % 2 ^ 64 ≡ (h.served + 1) % 2 ^ 64 = ap (λ ws. (slice_index ws 1 + 1) % 2 ^ 64) h.words_are ∙ mod-add-mod h.served (2 ^ 64) 1 in
+      let by_me : (n : ℕ) → n ≢ i → commits_by n new ≡ [] = λ n apart. own n (λ e. apart (e ∙ mine.number_is)) in (
+        w,
+        gives,
+        tt,
+        changed s h i v w at live (record { spent_is = live; made_is = refl; told_is = refl }) new by_me
+            h.drawn (h.served + 1) (set s.words 1 ((slice_index s.words 1 + 1) % 2 ^ 64)) (set s.homes 0 (some (Some x)))
+            (word_1 s.words (h.drawn % 2 ^ 64) (h.served % 2 ^ 64) _ h.words_are ∙ ap (λ n. h.drawn % 2 ^ 64 ∷ n ∷ []) next)
+            (let c = h.counted in omega arith)
+            record {
+              number_is = mine.number_is;
+              opening_is = mine.opening_is;
+              start_is = mine.start_is;
+              seen = ([], sym now ∙ sym (append-nil w.since), refl);
+              ticket_from = λ q. absurd (off refl q);
+              ticket_below = λ q. absurd (off refl q);
+              served_is = λ q. absurd (off refl q);
+              serving_queued = λ q. q;
+              seen_all = λ q. absurd (off refl q);
+            }
+            (λ j u apart there. ⊎_elim
+                (λ (spent : u.spent ≡ true). let g = h.fits_spent j u there spent in ((λ q. absurd (off g.not_queued q)), (λ q. absurd (off g.not_serving q)), (λ q r _. absurd (off refl r))))
+                (λ (spent : u.spent ≡ false). let f = h.fits j u there spent in (
+                  (λ q. (let from = f.ticket_from q in let ne : u.ticket ≢ h.served = λ e. apart (h.apart j i u v there at q waits (e ∙ sym is)) in omega arith, f.ticket_below q)),
+                  (λ q. absurd (apart (alone s h i v at waits is j u there q))),
+                  (λ q r _. absurd (off refl r)),
+                ))
+                (cases_Bool u.spent))
+            (inl record { value = x; there = home_again s.homes h.slot; opening_is = ap (elim_some (opening x)) (opening_is ∙ mine.opening_is); commits_are = commits_are ∙ append_assoc v.start v.since new ∙ (λ k. mine.start_is k ++ (all k ++ new)) }),
+        record { value = x; was = refl; view_is = refl; held = refl },
+      )
+    where
+      elim_some : O → Option O → O
+      elim_some d (Some y) = y
+      elim_some d None = d
+
+      home_again : (homes : List (maybe.Option (Option V))) → AtHome opening commits terms.value.value h.since homes ⊎ IsOut homes s.views → set homes 0 (some (Some x)) ≡ some (Some x) ∷ []
+      home_again homes (inl a) = ap (λ hs. set hs 0 (some (Some x))) a.there
+      home_again homes (inr o) = ap (λ hs. set hs 0 (some (Some x))) o.gone
+
+  -- ---- the leader makes a seat
+  pub splits : (i : ℕ) (v : View O C) → v.number ≡ 0 → v.spent ≡ false → v.queued ≡ false → v.serving ≡ false → v.made < terms.seats → Splits Kept i v (left_view v) (right_view v)
+  splits i v first live idle out room s h at =
+      let mine : Fits (opening terms.value.value) (commits terms.value.value) h.since h.drawn h.served i v = h.fits i v at live in
+      let zeroth : i ≡ 0 = sym mine.number_is ∙ first in
+      let l : Leads s.views h.since v = h.leads v (subst (λ n. get_elem? s.views n ≡ some v) zeroth at) live in
+      let w : View O C = left_view v in
+      let u' : View O C = right_view v in
+      let views : List (View O C) = set s.views i w in
+      let long : length views ≡ length s.views = length-set s.views i w in
+      let count = queued_set s.views i v w at in
+      let count' = queued_end views u' in
+      let size = length-append views (u' ∷ []) in record {
+        drawn = h.drawn;
+        served = h.served;
+        since = h.since;
+        words_are = h.words_are;
+        counted = (let c = h.counted in omega arith);
+        few = (let m = l.made_is in omega arith);
+        at_most_twenty = h.at_most_twenty;
+        fits = λ j u e spent. ⊎_elim
+            (λ (t : get_elem? views j ≡ some u). fits_old s h at j u spent mine t)
+            (λ (t : (j ≡ length views) × (u' ≡ u)). subst (λ (y : ℕ × View O C). Fits (opening terms.value.value) (commits terms.value.value) h.since h.drawn h.served y.0 y.1) (λ k. ((l.made_is ∙ sym long ∙ sym t.0) k, t.1 k)) (fits_new s h mine l))
+            (at_end views u' u j e);
+        fits_spent = λ j u e spent. ⊎_elim
+            (λ (t : get_elem? views j ≡ some u). ⊎_elim
+                (λ (t' : (j ≡ i) × (w ≡ u)). absurd (off live (ap (λ (x : View O C). x.spent) t'.1 ∙ spent)))
+                (λ (t' : (j ≢ i) × (get_elem? s.views j ≡ some u)). h.fits_spent j u t'.1 spent)
+                (at_set s.views i j w u t))
+            (λ (t : (j ≡ length views) × (u' ≡ u)). absurd (off refl (ap (λ (x : View O C). x.spent) t.1 ∙ spent)))
+            (at_end views u' u j e);
+        apart = λ j k u x e f p q r. apart_new s h at j k u x (waiting_old s j u e p) (waiting_old s k x f q) p q r;
+        unborn = λ n le. h.unborn n (omega arith);
+        leads = λ u e spent. ⊎_elim
+            (λ (t : get_elem? views 0 ≡ some u). ⊎_elim
+                (λ (t' : (0 ≡ i) × (w ≡ u)). subst (Leads (views ++ u' ∷ []) h.since) t'.1 record {
+                  made_is = (let m = l.made_is in omega arith);
+                  told_spent = λ k lt. at_longer views (u' ∷ []) (suc k) spent_view (set_else s.views i (suc k) w (λ e'. let z : suc k ≡ 0 = e' ∙ zeroth in absurd (omega arith)) ∙ l.told_spent k lt);
+                  told_is = l.told_is;
+                })
+                (λ (t' : (0 ≢ i) × (get_elem? s.views 0 ≡ some u)). absurd (t'.0 (sym zeroth)))
+                (at_set s.views i 0 w u t))
+            (λ (t : (0 ≡ length views) × (u' ≡ u)). let b = at_below s.views i v at in absurd (omega arith))
+            (at_end views u' u 0 e);
+        slot = ⊎_elim inl
+            (λ (o : IsOut s.homes s.views). inr record { gone = o.gone; seat = o.seat; view = o.view; there = at_longer views (u' ∷ []) o.seat o.view (set_else s.views i o.seat w (not_here s at o) ∙ o.there); serving = o.serving })
+            h.slot;
+      }
+    where
+      not_here : (s : State (Option V) (View O C)) → get_elem? s.views i ≡ some v → (o : IsOut s.homes s.views) → o.seat ≢ i
+      not_here s at o e = off out (ap (λ (y : View O C). y.serving) (same_there s.views i v o.view at (subst (λ n. get_elem? s.views n ≡ some o.view) e o.there)) ∙ o.serving)
+
+      fits_old : (s : State (Option V) (View O C)) (h : Kept s) → get_elem? s.views i ≡ some v → (j : ℕ) (u : View O C) → u.spent ≡ false → Fits (opening terms.value.value) (commits terms.value.value) h.since h.drawn h.served i v
+          → get_elem? (set s.views i (left_view v)) j ≡ some u → Fits (opening terms.value.value) (commits terms.value.value) h.since h.drawn h.served j u
+      fits_old s h at j u spent mine t = ⊎_elim
+          (λ (t' : (j ≡ i) × (left_view v ≡ u)). subst (λ (y : ℕ × View O C). Fits (opening terms.value.value) (commits terms.value.value) h.since h.drawn h.served y.0 y.1) (λ k. (sym t'.0 k, t'.1 k)) record {
+            number_is = mine.number_is;
+            opening_is = mine.opening_is;
+            start_is = mine.start_is;
+            seen = mine.seen;
+            ticket_from = mine.ticket_from;
+            ticket_below = mine.ticket_below;
+            served_is = mine.served_is;
+            serving_queued = mine.serving_queued;
+            seen_all = mine.seen_all;
+          })
+          (λ (t' : (j ≢ i) × (get_elem? s.views j ≡ some u)). h.fits j u t'.1 spent)
+          (at_set s.views i j (left_view v) u t)
+
+      fits_new : (s : State (Option V) (View O C)) (h : Kept s) → Fits (opening terms.value.value) (commits terms.value.value) h.since h.drawn h.served i v → Leads s.views h.since v
+          → Fits (opening terms.value.value) (commits terms.value.value) h.since h.drawn h.served v.made (right_view v)
+      fits_new s h mine l = record {
+        number_is = refl;
+        opening_is = mine.opening_is;
+        start_is = mine.start_is;
+        seen = grows_from_none i v.made v.since h.since mine.seen (h.unborn v.made (let m = l.made_is in omega arith));
+        ticket_from = λ q. absurd (off refl q);
+        ticket_below = λ q. absurd (off refl q);
+        served_is = λ q. absurd (off refl q);
+        serving_queued = λ q. q;
+        seen_all = λ q. absurd (off refl q);
+      }
+
+      -- who has a ticket is an older seat, and not the leader
+      waiting_old : (s : State (Option V) (View O C)) (j : ℕ) (u : View O C) → get_elem? (set s.views i (left_view v) ++ right_view v ∷ []) j ≡ some u → u.queued ≡ true → get_elem? s.views j ≡ some u
+      waiting_old s j u e p = ⊎_elim
+          (λ (t : get_elem? (set s.views i (left_view v)) j ≡ some u). ⊎_elim
+              (λ (t' : (j ≡ i) × (left_view v ≡ u)). absurd (off idle (ap (λ (x : View O C). x.queued) t'.1 ∙ p)))
+              (λ (t' : (j ≢ i) × (get_elem? s.views j ≡ some u)). t'.1)
+              (at_set s.views i j (left_view v) u t))
+          (λ (t : (j ≡ length (set s.views i (left_view v))) × (right_view v ≡ u)). absurd (off refl (ap (λ (x : View O C). x.queued) t.1 ∙ p)))
+          (at_end (set s.views i (left_view v)) (right_view v) u j e)
+
+      apart_new : (s : State (Option V) (View O C)) (h : Kept s) → get_elem? s.views i ≡ some v → (j k : ℕ) (u x : View O C) → get_elem? s.views j ≡ some u → get_elem? s.views k ≡ some x → u.queued ≡ true → x.queued ≡ true → u.ticket ≡ x.ticket → j ≡ k
+      apart_new s h at j k u x e f p q r = h.apart j k u x e f p q r
