@@ -1,6 +1,6 @@
 -- Lists that are read by places, lists of commits, and how many seats have a ticket.
-use Rattle.std.proofs.Common.{◌≡◌, ◌≢◌, ◌⊎◌, ℕ, zero, suc, ◌+◌, ◌<◌, ◌≤◌, Bool, true, false, List, [], ◌∷◌, ◌++◌, length, set, get_or, drop, eqb, cond, refl, sym, ap, ◌∙◌, subst, inl, inr, ⊎_elim, arith, length-append, append_assoc}
-use Rattle.std.proofs.lemmas.Bool.{ne_eqb}
+use Rattle.std.proofs.Common.{◌≡◌, ◌≢◌, ◌⊎◌, ℕ, zero, suc, ◌+◌, ◌<◌, ◌≤◌, Bool, true, false, List, [], ◌∷◌, ◌++◌, length, set, get_or, drop, eqb, cond, All, refl, sym, ap, ◌∙◌, subst, inl, inr, ⊎_elim, arith, length-append, append_assoc}
+use Rattle.std.proofs.lemmas.Bool.{ne_eqb, eq-eqb, cases_lt}
 use Rattle.std.proofs.lemmas.List.Elements.{filter-append}
 use mathlib.Core.Option.{some, some-injective, some-ne-none}
 use lib.ListN.{get_elem?}
@@ -49,6 +49,21 @@ module _ {C : Type 0} where
 one_at_most : (b : Bool) → cond b 1 0 ≤ 1
 one_at_most true = omega arith
 one_at_most false = omega arith
+
+-- where a seat from m on has made no commit, each commit's seat is below m
+pub all_below : {C : Type 0} (m : ℕ) (xs : List (ℕ × C)) → ((n : ℕ) → m ≤ n → commits_by n xs ≡ []) → All (λ c. c.0 < m) xs
+all_below m [] none = λ k d lt. absurd (omega arith)
+all_below {C} m (x ∷ xs) none = each (all_below m xs (λ n le. no_rest (commits_by n (x ∷ [])) (commits_by n xs) (sym (commits_by-append n (x ∷ []) xs) ∙ none n le)))
+  where
+    own : commits_by x.0 (x ∷ []) ≡ x ∷ []
+    own = ap (λ (b : Bool). cond b (x ∷ []) []) (eq-eqb x.0 x.0 refl)
+
+    below : x.0 < m
+    below = ⊎_elim (λ lt. lt) (λ le. absurd (let e : x ∷ commits_by x.0 xs ≡ [] = ap (λ l. l ++ commits_by x.0 xs) (sym own) ∙ sym (commits_by-append x.0 (x ∷ []) xs) ∙ none x.0 le in cc)) (cases_lt x.0 m)
+
+    each : All (λ c. c.0 < m) xs → All (λ c. c.0 < m) (x ∷ xs)
+    each later zero d lt = below
+    each later (suc k) d lt = later k d (omega arith)
 
 module _ {O C : Type 0} where
   abbrev pub one_if : View O C → ℕ

@@ -1,11 +1,11 @@
 -- Each step at a gate's table keeps the rule, and tells what its play says.
-use Rattle.std.proofs.Common.{◌≡◌, ◌≢◌, ◌⊎◌, ℕ, zero, suc, ◌+◌, ◌-◌, ◌%◌, ◌^◌, ◌<◌, ◌≤◌, Bool, true, false, true≢false, List, [], ◌∷◌, ◌++◌, length, set, get_or, drop, take, eqb, cond, refl, sym, ap, ◌∙◌, subst, inl, inr, ⊎_elim, arith, length-append, append_assoc, Option, Some, None}
+use Rattle.std.proofs.Common.{◌≡◌, ◌≢◌, ◌⊎◌, ℕ, zero, suc, ◌+◌, ◌-◌, ◌%◌, ◌^◌, ◌<◌, ◌≤◌, Bool, true, false, true≢false, List, [], ◌∷◌, ◌++◌, length, set, get_or, drop, take, eqb, cond, All, refl, sym, ap, ◌∙◌, subst, inl, inr, ⊎_elim, arith, length-append, append_assoc, Option, Some, None}
 use Rattle.std.specs.Prelude.{slice_index}
 use Rattle.std.proofs.Math.Nat.{mod-add-mod}
-use Rattle.std.proofs.Math.Seq.{drop-append_seam}
+use Rattle.std.proofs.Math.Seq.{drop-append_seam, get_or-append_seam}
 use Rattle.std.proofs.lemmas.Bool.{cases_Bool}
 use Rattle.std.proofs.lemmas.Bool.Decides.{eqb_tells}
-use Rattle.std.proofs.lemmas.List.{length-set, append-nil}
+use Rattle.std.proofs.lemmas.List.{length-set, append-nil, get_or_append_left}
 use mathlib.Core.Option.{some, none, some-injective, some-ne-none}
 use mathlib.Core.Option as maybe
 use lib.ListN.{get_elem?}
@@ -15,7 +15,7 @@ use Rattle.ev_gate.specs.declared.view.View.{View}
 use Rattle.ev_gate.specs.declared.view.Terms.{Terms}
 use Rattle.ev_gate.specs.History.{commits_by, GrowsWithout}
 use Rattle.ev_gate.specs.Rule.{queued_count, spent_view, new_view, Fits, FitsSpent, IsOut, Leads, AtHome, IsKept, first_view, Draws, Takes, Looks, Ends, left_view, right_view, joined_view}
-use Rattle.ev_gate.proofs.Lists.{at_below, at_end, same_there, no_rest, commits_by-append, grows_more, none_more, grows_from_none, one_if, queued_set, queued_end, queued_few}
+use Rattle.ev_gate.proofs.Lists.{at_below, at_end, same_there, all_below, commits_by-append, grows_more, none_more, grows_from_none, one_if, queued_set, queued_end, queued_few}
 
 off : {b : Bool} → b ≡ false → b ≡ true → ⊥
 off p q = true≢false (sym q ∙ p)
@@ -376,7 +376,7 @@ module _ {V O C : Type 0} (opening : V → O) (commits : V → List (ℕ × C)) 
                 (at_set s.views i j w u t))
             (λ (t : (j ≡ length views) × (u' ≡ u)). absurd (off refl (ap (λ (x : View O C). x.spent) t.1 ∙ spent)))
             (at_end views u' u j e);
-        apart = λ j k u x e f p q r. apart_new s h at j k u x (waiting_old s j u e p) (waiting_old s k x f q) p q r;
+        apart = λ j k u x e f p q r. h.apart j k u x (waiting_old s j u e p) (waiting_old s k x f q) p q r;
         unborn = λ n le. h.unborn n (omega arith);
         leads = λ u e spent. ⊎_elim
             (λ (t : get_elem? views 0 ≡ some u). ⊎_elim
@@ -438,5 +438,153 @@ module _ {V O C : Type 0} (opening : V → O) (commits : V → List (ℕ × C)) 
           (λ (t : (j ≡ length (set s.views i (left_view v))) × (right_view v ≡ u)). absurd (off refl (ap (λ (x : View O C). x.queued) t.1 ∙ p)))
           (at_end (set s.views i (left_view v)) (right_view v) u j e)
 
-      apart_new : (s : State (Option V) (View O C)) (h : Kept s) → get_elem? s.views i ≡ some v → (j k : ℕ) (u x : View O C) → get_elem? s.views j ≡ some u → get_elem? s.views k ≡ some x → u.queued ≡ true → x.queued ≡ true → u.ticket ≡ x.ticket → j ≡ k
-      apart_new s h at j k u x e f p q r = h.apart j k u x e f p q r
+  -- ---- the leader takes in a seat
+  pub joins : (i : ℕ) (v : View O C) (other : ℕ) (w : View O C) → v.number ≡ 0 → v.spent ≡ false → v.queued ≡ false → v.serving ≡ false → w.spent ≡ false → w.queued ≡ false → w.serving ≡ false → w.number ≡ suc (length v.told)
+      → Joins Kept i v other w (joined_view v w) spent_view
+  joins i v other w first live idle out live' idle' out' next s h at apart there =
+      let mine : Fits (opening terms.value.value) (commits terms.value.value) h.since h.drawn h.served i v = h.fits i v at live in
+      let zeroth : i ≡ 0 = sym mine.number_is ∙ first in
+      let l : Leads s.views h.since v = h.leads v (subst (λ n. get_elem? s.views n ≡ some v) zeroth at) live in
+      let both : View O C = joined_view v w in
+      let there' : get_elem? s.views other ≡ some w = sym (set_else s.views i other both apart) ∙ there in
+      let theirs : Fits (opening terms.value.value) (commits terms.value.value) h.since h.drawn h.served other w = h.fits other w there' live' in
+      let place : other ≡ suc (length v.told) = sym theirs.number_is ∙ next in
+      let mid : List (View O C) = set s.views i both in
+      let views : List (View O C) = set mid other spent_view in
+      let long : length views ≡ length s.views = length-set mid other spent_view ∙ length-set s.views i both in
+      let count = queued_set s.views i v both at in
+      let count' = queued_set mid other w spent_view there in
+      let none : one_if w ≡ 0 = ap (λ b. cond b 1 0) idle' in
+      let known : commits_by other h.since ≡ commits_by w.number w.since = ap (commits_by other) theirs.seen.1 ∙ commits_by-append other w.since theirs.seen.0 ∙ ap (λ z. commits_by other w.since ++ z) theirs.seen.2 ∙ append-nil (commits_by other w.since) ∙ ap (λ n. commits_by n w.since) (sym theirs.number_is) in record {
+        drawn = h.drawn;
+        served = h.served;
+        since = h.since;
+        words_are = h.words_are;
+        counted = (let c = h.counted in omega arith);
+        few = (let f = h.few in omega arith);
+        at_most_twenty = h.at_most_twenty;
+        fits = λ j u e spent. ⊎_elim
+            (λ (t : (j ≡ other) × (spent_view ≡ u)). absurd (off (ap (λ (x : View O C). x.spent) t.1 ∙ spent) refl))
+            (λ (t : (j ≢ other) × (get_elem? mid j ≡ some u)). ⊎_elim
+                (λ (t' : (j ≡ i) × (both ≡ u)). subst (λ (y : ℕ × View O C). Fits (opening terms.value.value) (commits terms.value.value) h.since h.drawn h.served y.0 y.1) (λ k. (sym t'.0 k, t'.1 k)) record {
+                  number_is = mine.number_is;
+                  opening_is = mine.opening_is;
+                  start_is = mine.start_is;
+                  seen = mine.seen;
+                  ticket_from = mine.ticket_from;
+                  ticket_below = mine.ticket_below;
+                  served_is = mine.served_is;
+                  serving_queued = mine.serving_queued;
+                  seen_all = mine.seen_all;
+                })
+                (λ (t' : (j ≢ i) × (get_elem? s.views j ≡ some u)). h.fits j u t'.1 spent)
+                (at_set s.views i j both u t.1))
+            (at_set mid other j spent_view u e);
+        fits_spent = λ j u e spent. ⊎_elim
+            (λ (t : (j ≡ other) × (spent_view ≡ u)). subst FitsSpent t.1 record { not_queued = refl; not_serving = refl })
+            (λ (t : (j ≢ other) × (get_elem? mid j ≡ some u)). ⊎_elim
+                (λ (t' : (j ≡ i) × (both ≡ u)). absurd (off live (ap (λ (x : View O C). x.spent) t'.1 ∙ spent)))
+                (λ (t' : (j ≢ i) × (get_elem? s.views j ≡ some u)). h.fits_spent j u t'.1 spent)
+                (at_set s.views i j both u t.1))
+            (at_set mid other j spent_view u e);
+        apart = λ j k u x e f p q r. h.apart j k u x (waiting_old s other j u e p) (waiting_old s other k x f q) p q r;
+        unborn = λ n le. h.unborn n (omega arith);
+        leads = λ u e spent. ⊎_elim
+            (λ (t : (0 ≡ other) × (spent_view ≡ u)). absurd (omega arith))
+            (λ (t : (0 ≢ other) × (get_elem? mid 0 ≡ some u)). ⊎_elim
+                (λ (t' : (0 ≡ i) × (both ≡ u)). subst (Leads views h.since) t'.1 record {
+                  made_is = l.made_is ∙ sym long;
+                  told_spent = λ k lt. ⊎_elim
+                      (λ (d : (eqb k (length v.told) ≡ true) × (k ≡ length v.told)). subst (λ n. get_elem? views n ≡ some spent_view) (place ∙ ap suc (sym d.1)) (set_here mid other spent_view (at_below mid other w there)))
+                      (λ (d : (eqb k (length v.told) ≡ false) × (k ≢ length v.told)).
+                          let short : k < length v.told = (let n = length-append v.told (commits_by w.number w.since ∷ []) in let ne = d.1 in omega arith) in
+                          set_else mid other (suc k) spent_view (λ e'. d.1 (let z : suc k ≡ suc (length v.told) = e' ∙ place in omega arith)) ∙ set_else s.views i (suc k) both (λ e'. let z : suc k ≡ 0 = e' ∙ zeroth in absurd (omega arith)) ∙ l.told_spent k short)
+                      (eqb_tells k (length v.told));
+                  told_is = λ k lt. ⊎_elim
+                      (λ (d : (eqb k (length v.told) ≡ true) × (k ≡ length v.told)). ap (λ n. commits_by (suc n) h.since) d.1 ∙ ap (λ n. commits_by n h.since) (sym place) ∙ known ∙ sym (get_or-append_seam v.told (commits_by w.number w.since) [] []) ∙ ap (λ n. get_or (v.told ++ commits_by w.number w.since ∷ []) n []) (sym d.1))
+                      (λ (d : (eqb k (length v.told) ≡ false) × (k ≢ length v.told)).
+                          let short : k < length v.told = (let n = length-append v.told (commits_by w.number w.since ∷ []) in let ne = d.1 in omega arith) in
+                          l.told_is k short ∙ sym (get_or_append_left v.told (commits_by w.number w.since ∷ []) [] k short))
+                      (eqb_tells k (length v.told));
+                })
+                (λ (t' : (0 ≢ i) × (get_elem? s.views 0 ≡ some u)). absurd (t'.0 (sym zeroth)))
+                (at_set s.views i 0 both u t.1))
+            (at_set mid other 0 spent_view u e);
+        slot = ⊎_elim inl
+            (λ (o : IsOut s.homes s.views). inr record {
+              gone = o.gone;
+              seat = o.seat;
+              view = o.view;
+              there = set_else mid other o.seat spent_view (served_else s o other w there' out') ∙ set_else s.views i o.seat both (served_else s o i v at out) ∙ o.there;
+              serving = o.serving;
+            })
+            h.slot;
+      }
+    where
+      served_else : (s : State (Option V) (View O C)) (o : IsOut s.homes s.views) (j : ℕ) (u : View O C) → get_elem? s.views j ≡ some u → u.serving ≡ false → o.seat ≢ j
+      served_else s o j u there' idly e = off idly (ap (λ (y : View O C). y.serving) (same_there s.views j u o.view there' (subst (λ n. get_elem? s.views n ≡ some o.view) e o.there)) ∙ o.serving)
+
+      -- who has a ticket is neither of the two
+      waiting_old : (s : State (Option V) (View O C)) (other j : ℕ) (u : View O C) → get_elem? (set (set s.views i (joined_view v w)) other spent_view) j ≡ some u → u.queued ≡ true → get_elem? s.views j ≡ some u
+      waiting_old s other j u e p = ⊎_elim
+          (λ (t : (j ≡ other) × (spent_view ≡ u)). absurd (off (ap (λ (x : View O C). x.queued) (sym t.1)) p))
+          (λ (t : (j ≢ other) × (get_elem? (set s.views i (joined_view v w)) j ≡ some u)). ⊎_elim
+              (λ (t' : (j ≡ i) × (joined_view v w ≡ u)). absurd (off idle (ap (λ (x : View O C). x.queued) t'.1 ∙ p)))
+              (λ (t' : (j ≢ i) × (get_elem? s.views j ≡ some u)). t'.1)
+              (at_set s.views i j (joined_view v w) u t.1))
+          (at_set (set s.views i (joined_view v w)) other j spent_view u e)
+
+  -- ---- the end: where the leader has taken in all others, the slot has a value that stands for the whole history
+  pub record Whole (v : View O C) (xs : List (Option V)) : Type 0 where
+    pub value : V
+    pub since : List (ℕ × C)
+    pub there : get_elem? xs 0 ≡ some (Some value)
+    pub opening_is : opening value ≡ opening terms.value.value
+    pub commits_are : commits value ≡ commits terms.value.value ++ since
+    pub leaders : commits_by 0 since ≡ commits_by 0 v.since
+    pub others : (k : ℕ) → k < length v.told → commits_by (suc k) since ≡ get_or v.told k []
+    pub numbered : All (λ c. c.0 < terms.seats) since
+
+  pub closes : (i : ℕ) (v : View O C) (ws : List ℕ) (xs : List (Option V)) → v.number ≡ 0 → v.spent ≡ false → v.serving ≡ false → length v.told + 1 ≡ terms.seats → Final (Seen Kept i v) ws xs → Whole v xs
+  closes i v ws xs first live out all f = at_home f.1.0.slot
+    where
+      h : Kept f.0
+      h = f.1.0
+
+      mine : Fits (opening terms.value.value) (commits terms.value.value) h.since h.drawn h.served i v
+      mine = h.fits i v f.1.1 live
+
+      zeroth : i ≡ 0
+      zeroth = sym mine.number_is ∙ first
+
+      at : get_elem? f.0.views 0 ≡ some v
+      at = subst (λ n. get_elem? f.0.views n ≡ some v) zeroth f.1.1
+
+      l : Leads f.0.views h.since v
+      l = h.leads v at live
+
+      all_joined : (n : ℕ) → n ≡ length v.told → n < length f.0.views
+      all_joined zero e = at_below f.0.views 0 v at
+      all_joined (suc k) e = at_below f.0.views (suc k) spent_view (l.told_spent k (omega arith))
+
+      long : length f.0.views ≡ terms.seats
+      long = let a = all_joined (length v.told) refl in let b = h.few in omega arith
+
+      nobody : (j : ℕ) (u : View O C) → get_elem? f.0.views j ≡ some u → u.serving ≡ true → ⊥
+      nobody zero u e q = off out (ap (λ (y : View O C). y.serving) (same_there f.0.views 0 v u at e) ∙ q)
+      nobody (suc k) u e q =
+          let b = at_below f.0.views (suc k) u e in let n = long in
+          off refl (ap (λ (y : View O C). y.serving) (same_there f.0.views (suc k) spent_view u (l.told_spent k (omega arith)) e) ∙ q)
+
+      at_home : AtHome opening commits terms.value.value h.since f.0.homes ⊎ IsOut f.0.homes f.0.views → Whole v xs
+      at_home (inl a) = record {
+        value = a.value;
+        since = h.since;
+        there = f.4 0 (Some a.value) (ap (λ hs. get_elem? hs 0) a.there);
+        opening_is = a.opening_is;
+        commits_are = a.commits_are;
+        leaders = ap (commits_by 0) mine.seen.1 ∙ commits_by-append 0 v.since mine.seen.0 ∙ ap (λ z. commits_by 0 v.since ++ z) (subst (λ n. commits_by n mine.seen.0 ≡ []) zeroth mine.seen.2) ∙ append-nil (commits_by 0 v.since);
+        others = l.told_is;
+        numbered = all_below terms.seats h.since (λ n le. h.unborn n (let z = long in omega arith));
+      }
+      at_home (inr o) = absurd (nobody o.seat o.view o.there o.serving)
