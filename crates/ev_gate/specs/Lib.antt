@@ -1,3 +1,5 @@
 pub mod History
 pub mod Rule
 pub mod Held
+pub mod Words
+pub mod Inner

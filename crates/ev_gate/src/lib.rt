@@ -6,6 +6,7 @@
 //! Seats are served in the order in which they draw a ticket. Nothing is said of when.
 #![tactic(auto)]
 
+mod calls;
 mod gate;
 mod plays;
 mod stands;

@@ -37,6 +37,12 @@ pub struct Terms<V> {
     pub seats: u32,
 }
 
+impl<V> Drop for Terms<V> {
+    fn drop(self) {
+        let Self { value: _, seats: _ } = self;
+    }
+}
+
 /// The rule of a gate's table.
 pub struct OneHistory<V> {
     marker: PhantomData<V>,

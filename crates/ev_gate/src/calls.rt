@@ -1,0 +1,86 @@
+//! A gate is made with its passes, and closed with them.
+ghost use Rattle.std.specs.Prelude.{◌≡◌, ℕ, suc, ◌+◌, ◌-◌, ◌<◌, ◌≤◌, List, [], ◌∷◌, length, slice_get, slice_index_or, IfOk, IfErr, Some, None, vec_len, vec_capacity};
+ghost use Rattle.ev_gate.specs.History.{commits_by, mine_of};
+ghost use Rattle.ev_gate.specs.Rule.{new_view};
+ghost use Rattle.ev_gate.specs.Words.{gate_id, first_of, seats_of, pass_gate, pass_knows, AreNew, AreAll, IsWhole};
+ghost use Rattle.ev_gate.specs.Inner.{IsLeader};
+
+use crate::gate::{Gate, Pass};
+use crate::plays::{Gathering, Seating};
+use crate::stands::Stands;
+use crate::view::{GateSeat, GateTable, Terms};
+use atomic_table::{Refused, Table};
+use std::alloc::{AllocError, Global};
+use std::snapshot::Snapshot;
+
+impl<V: Stands> Gate<V> {
+    /// A gate round `value` with this many seats, and a pass for each. Without memory the value comes back.
+    pub fn new(
+        alloc: Global,
+        value: V,
+        seats: u32,
+    ) -> Result<(Gate<V>, Vec<Pass<V>>), (V, AllocError)>
+        requires some_seat { 0 < seats }
+        requires few { seats ≤ 20 }
+        ensures gate { IfOk result (λ r. (first_of r.0 ≡ value) × (seats_of r.0 ≡ seats)) }
+        ensures passes { IfOk result (λ r. AreNew (gate_id r.0) seats (V.opening value) (V.commits value) r.1.items) }
+        ensures value_returned { IfErr result (λ r. r.0 ≡ value) }
+    {
+        let passes = match Vec::with_capacity(alloc, seats as usize) {
+            Ok(passes) => passes,
+            Err(error) => return Err((value, error)),
+        };
+        match Gate::founded(alloc, value, seats) {
+            Ok((gate, leader)) => {
+                let passes = gate.seated(passes, leader, seats);
+                Ok((gate, passes))
+            }
+            Err(value) => {
+                passes.destroy_empty();
+                Err((value, AllocError))
+            }
+        }
+    }
+
+    // The gate and its first seat, which leads the others.
+    fn founded(alloc: Global, value: V, seats: u32) -> Result<(Gate<V>, GateSeat<V>), V>
+        requires some_seat { 0 < seats }
+        requires few { seats ≤ 20 }
+        ensures gate { IfOk result (λ r. (first_of r.0 ≡ value) × (seats_of r.0 ≡ seats)) }
+        ensures leader { IfOk result (λ r. IsLeader (gate_id r.0) 1 (V.opening (first_of r.0)) (V.commits (first_of r.0)) r.1) }
+        ensures value_returned { IfErr result (λ v. v ≡ value) }
+    {
+        let terms = Terms {
+            value: Snapshot::of(&value),
+            seats,
+        };
+        let mut slots = match Vec::with_capacity(alloc, 1) {
+            Ok(slots) => slots,
+            Err(_) => return Err(value),
+        };
+        slots.push_reserved(Some(value));
+        match Table::new(alloc, &[0, 0], slots, &terms) {
+            Ok((table, leader)) => Ok((Gate { table }, leader)),
+            Err(Refused { mut slots }) => {
+                let slot = slots.take_last();
+                slots.destroy_empty();
+                Err(slot.unwrap())
+            }
+        }
+    }
+
+    // A pass for each seat: the leader makes the others.
+    fn seated(&self, mut passes: Vec<Pass<V>>, mut leader: GateSeat<V>, seats: u32) -> Vec<Pass<V>>
+        requires some_seat { (0 < seats) × (seats ≡ seats_of self.now) }
+        requires room { (passes.items ≡ []) × (seats ≤ vec_capacity passes) }
+        requires leader { IsLeader (gate_id self.now) 1 (V.opening (first_of self.now)) (V.commits (first_of self.now)) leader }
+        ensures { AreNew (gate_id self.now) seats (V.opening (first_of self.now)) (V.commits (first_of self.now)) result.items }
+    {
+        for _made in 1..seats {
+            let seat = self.table.shared.split_seat::<Seating>(&mut leader);
+            passes.push_reserved(Pass { seat });
+        }
+        passes.insert(0, Pass { seat: leader }).unwrap();
+        passes
+    }
+}
