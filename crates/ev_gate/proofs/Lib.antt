@@ -1,2 +1,4 @@
 pub mod Lists
 pub mod Steps
+pub mod Seating
+pub mod Turning

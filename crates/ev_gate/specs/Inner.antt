@@ -1,12 +1,12 @@
 -- What the steps of making and closing a gate keep.
-use Rattle.std.specs.Prelude.{◌≡◌, ℕ, suc, ◌+◌, ◌<◌, List, [], ◌++◌, length, slice_get, slice_index_or, Option, Some, false}
+use Rattle.std.specs.Prelude.{◌≡◌, ℕ, suc, ◌+◌, ◌%◌, ◌^◌, ◌<◌, List, [], ◌∷◌, ◌++◌, length, slice_get, slice_index_or, Option, Some, None, true}
 use Rattle.atomic_table.specs.Seated.{TableId}
 use Rattle.atomic_table.specs.declared.shared.Seat.{Seat}
 use Rattle.ev_gate.specs.declared.stands.Stands.{Ghosts}
 use Rattle.ev_gate.specs.declared.view.View.{View}
 use Rattle.ev_gate.specs.declared.gate.Pass.{Pass}
 use Rattle.ev_gate.specs.Rule.{new_view}
-use Rattle.ev_gate.specs.History.{commits_by, mine_of}
+use Rattle.ev_gate.specs.History.{commits_by, mine_of, GrowsWithout}
 use Rattle.ev_gate.specs.Words.{pass_knows}
 
 module _ {V O C : Type 0} where
@@ -25,3 +25,30 @@ module _ {V O C : Type 0} where
     pub leads : IsLeader gate made opening start leader
     pub others : AreSeated gate opening start passes
     pub count_is : length passes + 1 ≡ made
+
+module _ {V O C : Type 0} where
+  -- The seat has drawn this ticket, as the word had it. What it knows is as before.
+  pub record IsWaiting (ticket : ℕ) (before it : Seat (Option V) (View O C)) : Type 0 where
+    pub gate_is : it.table_id ≡ before.table_id
+    pub view_is : it.me.0 ≡ record before.me.0 { queued = true; ticket = it.me.0.ticket }
+    pub ticket_is : it.me.0.ticket % 2 ^ 64 ≡ ticket
+    pub holds_nothing : it.me.1 ≡ []
+
+  -- the seat is served: it holds the slot with a value that stands for all that it has now seen, of which nothing new is its own
+  pub record IsServed (opening : V → O) (commits : V → List (ℕ × C)) (before it : Seat (Option V) (View O C)) : Type 0 where
+    pub value : V
+    pub gate_is : it.table_id ≡ before.table_id
+    pub view_is : it.me.0 ≡ record before.me.0 { queued = true; ticket = it.me.0.ticket; serving = true; since = it.me.0.since }
+    pub held : it.me.1 ≡ (0, Some value) ∷ []
+    pub seen : GrowsWithout before.me.0.number before.me.0.since it.me.0.since
+    pub opening_is : Some (opening value) ≡ before.me.0.opening
+    pub commits_are : commits value ≡ before.me.0.start ++ it.me.0.since
+
+  -- the same where the seat has taken the value out of the slot
+  pub record HasTurn (opening : V → O) (commits : V → List (ℕ × C)) (before it : Seat (Option V) (View O C)) (value : V) : Type 0 where
+    pub gate_is : it.table_id ≡ before.table_id
+    pub view_is : it.me.0 ≡ record before.me.0 { queued = true; ticket = it.me.0.ticket; serving = true; since = it.me.0.since }
+    pub held : it.me.1 ≡ (0, None) ∷ []
+    pub seen : GrowsWithout before.me.0.number before.me.0.since it.me.0.since
+    pub opening_is : Some (opening value) ≡ before.me.0.opening
+    pub commits_are : commits value ≡ before.me.0.start ++ it.me.0.since

@@ -3,3 +3,4 @@ pub mod Rule
 pub mod Held
 pub mod Words
 pub mod Inner
+pub mod Lent

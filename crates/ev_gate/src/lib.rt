@@ -10,6 +10,7 @@ mod calls;
 mod gate;
 mod plays;
 mod stands;
+mod turns;
 mod view;
 
 pub use gate::{Gate, Pass, Turn};

@@ -1,14 +1,28 @@
-use Rattle.std.proofs.Common.{rules, ◌≡◌, ℕ, suc, ◌+◌, ◌-◌, ◌<◌, ◌≤◌, List, [], ◌∷◌, length, slice_get, slice_index_or, IfOk, IfErr, Some, None, vec_len, vec_capacity, ◌*◌, ◌/◌, ◌%◌, Bool, true, false, nat_eq, nat_lt, ◌++◌, slice_set, bit_and, bit_or, Fits, w8, w32, w64, Bor, MutBor}
-use Rattle.ev_gate.specs.History.{commits_by, mine_of}
-use Rattle.ev_gate.specs.Rule.{new_view}
-use Rattle.ev_gate.specs.Words.{gate_id, first_of, seats_of, pass_gate, pass_knows, AreNew, AreAll, IsWhole}
-use Rattle.ev_gate.specs.Inner.{IsLeader}
+-- The leader makes one seat more.
+use Rattle.std.proofs.Common.{◌≡◌, ℕ, suc, ◌+◌, ◌<◌, ◌≤◌, List, [], ◌∷◌, ◌++◌, length, Option, Some, refl, sym, ap, ◌∙◌, subst, arith, length-append, vec_capacity}
+use Rattle.atomic_table.specs.Table.{Me}
+use Rattle.ev_gate.specs.declared.view.View.{View}
+use Rattle.ev_gate.specs.Rule.{new_view, left_view, right_view}
+use Rattle.ev_gate.specs.Inner.{IsSeating, AreSeated}
+use Rattle.ev_gate.proofs.Steps.{splits}
+use Rattle.ev_gate.proofs.Seating.{seating_more}
 use Rattle.ev_gate.proofs.gate.Gate.seated.Goals as goal
 
--- src/calls.rt:80:17
 pub split_seat-seat-requires : goal.split_seat-seat-requires
-split_seat-seat-requires g c = ?
+split_seat-seat-requires g c =
+    let i = c.loop-made.invariant.0 in
+    let me = i.leads.me_is in (
+      i.leads.gate_is,
+      (let w = c.args.self.now.sized.0 in omega arith),
+      splits g.V.Stands.opening g.V.Stands.commits c.args.self.now.table.shared.key c.loop-made.leader.id c.loop-made.leader.me.0
+          (ap (λ m. m.0.number) me) (ap (λ m. m.0.spent) me) (ap (λ m. m.0.queued) me) (ap (λ m. m.0.serving) me)
+          (let n = ap (λ m. m.0.made) me in let s = c.requires.some_seat.1 in omega arith),
+    )
 
--- src/calls.rt:79:9
 pub loop-made-preserved : goal.loop-made-preserved
-loop-made-preserved g c = ?
+loop-made-preserved g c =
+    let s = c.split_seat-seat.ensures in
+    let room = c.loop-made.invariant.1 in (
+      seating_more _ _ _ c.loop-made._made c.loop-made.leader c.split_seat-seat.new.seat c.loop-made.passes.items c.push_reserved.new.self.items _ c.loop-made.invariant.0 s.0 s.2 s.3 s.4 c.push_reserved.ensures.items,
+      (let l = c.push_reserved.ensures.capacity in omega arith),
+    )

@@ -1,0 +1,76 @@
+//! A turn at a gate: its value, and its two ends.
+ghost use Rattle.std.specs.Prelude.{◌≡◌, ◌≢◌, ℕ, ◌+◌, ◌%◌, ◌^◌, List, [], ◌∷◌, ◌++◌, length, drop, true, false, Some, None};
+ghost use Rattle.std.specs.Borrow.{sem, Lends};
+ghost use Rattle.atomic_table.specs.Table.{rest};
+ghost use Rattle.ev_gate.specs.contracts.gate.Turn.{the_row};
+ghost use Rattle.ev_gate.specs.History.{commits_by, GrowsWithout, AddsOne, seen_of, mine_of};
+ghost use Rattle.ev_gate.specs.Words.{gate_id, pass_gate, pass_knows, turn_gate, turn_knows, turn_value};
+
+use crate::gate::{Gate, Pass, Turn};
+use crate::plays::{Draw, End, Look};
+use crate::stands::Stands;
+use std::sync::Wait;
+use std::thread::Threads;
+
+// The words of the table.
+pub(crate) const TICKET: usize = 0;
+
+pub(crate) const SERVING: usize = 1;
+
+// Of a word as many bits as a thread parks on.
+const PARKED_BITS: u64 = 0xffff_ffff;
+
+impl<V: Stands> Gate<V> {
+    /// Waits until it is this seat's turn. No promise says when that is.
+    pub fn turn<R: Threads + Wait + Sync>(&self, rt: &R, pass: Pass<V>) -> Turn<'_, V>
+        requires { pass_gate pass ≡ gate_id self.now }
+        ensures gate { turn_gate result ≡ gate_id self.now }
+
+        // The seat is the same, and it has seen the commits that it had not seen. None of these is its own.
+        ensures knows { turn_knows result ≡ record (pass_knows pass) { since = (turn_knows result).since } }
+        ensures seen { GrowsWithout (pass_knows pass).number (pass_knows pass).since (turn_knows result).since }
+        ensures mine { mine_of (turn_knows result) ≡ mine_of (pass_knows pass) }
+
+        // The value has the gate's opening, and stands for all that the seat has now seen.
+        ensures opening { Some (V.opening (turn_value result)) ≡ (turn_knows result).opening }
+        ensures history { V.commits (turn_value result) ≡ seen_of (turn_knows result) }
+    {
+        let Pass { mut seat } = pass;
+        let shared = &self.table.shared;
+        let ticket = shared.fetch_add::<Draw>(&mut seat, TICKET, 1);
+        for _ in rt.forever() {
+            let served = shared.load::<Look>(&mut seat, SERVING);
+            if served == ticket {
+                let slot = shared.exchange(&mut seat, 0, None);
+                return Turn {
+                    gate: self,
+                    seat,
+                    value: slot.unwrap(),
+                };
+            }
+            shared.park(rt, SERVING, (served & PARKED_BITS) as u32);
+        }
+        unreachable!()
+    }
+}
+
+impl<'a, V: Stands> Turn<'a, V> {
+    // Puts the value back, and serves the next ticket.
+    fn put_back(self) -> Pass<V>
+        requires opening { Some (V.opening (turn_value self)) ≡ (turn_knows self).opening }
+        requires own { (new : List (ℕ × V.Commit)) × (V.commits (turn_value self) ≡ seen_of (turn_knows self) ++ new) × ((n : ℕ) → n ≢ (turn_knows self).number → commits_by n new ≡ []) }
+        ensures gate { pass_gate result ≡ turn_gate self.entry }
+        ensures knows { pass_knows result ≡ record (turn_knows self.entry) { since = drop (length (turn_knows self.entry).start) (V.commits (turn_value self.entry)) } }
+    {
+        let Turn {
+            gate,
+            mut seat,
+            value,
+        } = self;
+        let slot = gate.table.shared.exchange(&mut seat, 0, Some(value));
+        let None = slot else { unreachable!() };
+        gate.table.shared.fetch_add::<End>(&mut seat, SERVING, 1);
+        gate.table.shared.wake_all(SERVING);
+        Pass { seat }
+    }
+}
