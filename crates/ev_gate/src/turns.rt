@@ -1,9 +1,8 @@
 //! A turn at a gate: its value, and its two ends.
 ghost use Rattle.std.specs.Prelude.{◌≡◌, ◌≢◌, ℕ, ◌+◌, ◌%◌, ◌^◌, List, [], ◌∷◌, ◌++◌, length, drop, true, false, Some, None};
-ghost use Rattle.std.specs.Borrow.{sem, Lends};
-ghost use Rattle.atomic_table.specs.Table.{rest};
-ghost use Rattle.ev_gate.specs.contracts.gate.Turn.{the_row};
+ghost use Rattle.std.specs.Borrow.{sem};
 ghost use Rattle.ev_gate.specs.History.{commits_by, GrowsWithout, AddsOne, seen_of, mine_of};
+ghost use Rattle.ev_gate.specs.Lent.{LendsValue};
 ghost use Rattle.ev_gate.specs.Words.{gate_id, pass_gate, pass_knows, turn_gate, turn_knows, turn_value};
 
 use crate::gate::{Gate, Pass, Turn};
@@ -55,6 +54,37 @@ impl<V: Stands> Gate<V> {
 }
 
 impl<'a, V: Stands> Turn<'a, V> {
+    /// The value, to read and to change. The turn then has what was written through it, and is otherwise the same.
+    pub fn value(&mut self) -> &mut V
+        ensures* writes_back { sem 𝓛 (LendsValue V.row V.Opening.row V.Commit.row V.Stands self.entry result) }
+        ensures value { result.now ≡ turn_value self.old }
+    {
+        &mut self.value
+    }
+
+    /// Ends the turn after one commit of this seat. The value has the same opening, and one commit more than at the
+    /// turn, which bears this seat's number. The pass has seen it and counts it as its own.
+    pub fn done(self) -> Pass<V>
+        requires opening { Some (V.opening (turn_value self)) ≡ (turn_knows self).opening }
+        requires commit { AddsOne (turn_knows self) (V.commits (turn_value self)) }
+        ensures gate { pass_gate result ≡ turn_gate self.entry }
+        ensures knows { pass_knows result ≡ record (turn_knows self.entry) { since = (pass_knows result).since } }
+        ensures seen { seen_of (pass_knows result) ≡ V.commits (turn_value self.entry) }
+        ensures mine { (c : V.Commit) → V.commits (turn_value self.entry) ≡ seen_of (turn_knows self.entry) ++ ((turn_knows self.entry).number, c) ∷ [] → mine_of (pass_knows result) ≡ mine_of (turn_knows self.entry) ++ ((turn_knows self.entry).number, c) ∷ [] }
+    {
+        self.put_back()
+    }
+
+    /// Ends the turn without a commit: the value stands for what it stood for at the turn. The pass has seen that.
+    pub fn quit(self) -> Pass<V>
+        requires opening { Some (V.opening (turn_value self)) ≡ (turn_knows self).opening }
+        requires same { V.commits (turn_value self) ≡ seen_of (turn_knows self) }
+        ensures gate { pass_gate result ≡ turn_gate self.entry }
+        ensures knows { pass_knows result ≡ turn_knows self.entry }
+    {
+        self.put_back()
+    }
+
     // Puts the value back, and serves the next ticket.
     fn put_back(self) -> Pass<V>
         requires opening { Some (V.opening (turn_value self)) ≡ (turn_knows self).opening }
