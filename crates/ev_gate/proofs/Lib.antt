@@ -2,3 +2,4 @@ pub mod Lists
 pub mod Steps
 pub mod Seating
 pub mod Turning
+pub mod Lending
