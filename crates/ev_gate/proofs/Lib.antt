@@ -3,3 +3,4 @@ pub mod Steps
 pub mod Seating
 pub mod Turning
 pub mod Lending
+pub mod Gathering

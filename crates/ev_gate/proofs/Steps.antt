@@ -15,6 +15,7 @@ use Rattle.ev_gate.specs.declared.view.View.{View}
 use Rattle.ev_gate.specs.declared.view.Terms.{Terms}
 use Rattle.ev_gate.specs.History.{commits_by, GrowsWithout}
 use Rattle.ev_gate.specs.Rule.{queued_count, spent_view, new_view, Fits, FitsSpent, IsOut, Leads, AtHome, IsKept, first_view, Draws, Takes, Looks, Ends, left_view, right_view, joined_view}
+use Rattle.ev_gate.specs.Inner.{IsLast}
 use Rattle.ev_gate.proofs.Lists.{at_below, at_end, same_there, all_below, commits_by-append, grows_more, none_more, grows_from_none, one_if, queued_set, queued_end, queued_few}
 
 off : {b : Bool} → b ≡ false → b ≡ true → ⊥
@@ -535,17 +536,7 @@ module _ {V O C : Type 0} (opening : V → O) (commits : V → List (ℕ × C)) 
           (at_set (set s.views i (joined_view v w)) other j spent_view u e)
 
   -- ---- the end: where the leader has taken in all others, the slot has a value that stands for the whole history
-  pub record Whole (v : View O C) (xs : List (Option V)) : Type 0 where
-    pub value : V
-    pub since : List (ℕ × C)
-    pub there : get_elem? xs 0 ≡ some (Some value)
-    pub opening_is : opening value ≡ opening terms.value.value
-    pub commits_are : commits value ≡ commits terms.value.value ++ since
-    pub leaders : commits_by 0 since ≡ commits_by 0 v.since
-    pub others : (k : ℕ) → k < length v.told → commits_by (suc k) since ≡ get_or v.told k []
-    pub numbered : All (λ c. c.0 < terms.seats) since
-
-  pub closes : (i : ℕ) (v : View O C) (ws : List ℕ) (xs : List (Option V)) → v.number ≡ 0 → v.spent ≡ false → v.serving ≡ false → length v.told + 1 ≡ terms.seats → Final (Seen Kept i v) ws xs → Whole v xs
+  pub closes : (i : ℕ) (v : View O C) (ws : List ℕ) (xs : List (Option V)) → v.number ≡ 0 → v.spent ≡ false → v.serving ≡ false → length v.told + 1 ≡ terms.seats → Final (Seen Kept i v) ws xs → (value : V) × (get_elem? xs 0 ≡ some (Some value)) × IsLast opening commits terms v value
   closes i v ws xs first live out all f = at_home f.1.0.slot
     where
       h : Kept f.0
@@ -576,15 +567,13 @@ module _ {V O C : Type 0} (opening : V → O) (commits : V → List (ℕ × C)) 
           let b = at_below f.0.views (suc k) u e in let n = long in
           off refl (ap (λ (y : View O C). y.serving) (same_there f.0.views (suc k) spent_view u (l.told_spent k (omega arith)) e) ∙ q)
 
-      at_home : AtHome opening commits terms.value.value h.since f.0.homes ⊎ IsOut f.0.homes f.0.views → Whole v xs
-      at_home (inl a) = record {
-        value = a.value;
+      at_home : AtHome opening commits terms.value.value h.since f.0.homes ⊎ IsOut f.0.homes f.0.views → (value : V) × (get_elem? xs 0 ≡ some (Some value)) × IsLast opening commits terms v value
+      at_home (inl a) = (a.value, f.4 0 (Some a.value) (ap (λ hs. get_elem? hs 0) a.there), record {
         since = h.since;
-        there = f.4 0 (Some a.value) (ap (λ hs. get_elem? hs 0) a.there);
         opening_is = a.opening_is;
         commits_are = a.commits_are;
         leaders = ap (commits_by 0) mine.seen.1 ∙ commits_by-append 0 v.since mine.seen.0 ∙ ap (λ z. commits_by 0 v.since ++ z) (subst (λ n. commits_by n mine.seen.0 ≡ []) zeroth mine.seen.2) ∙ append-nil (commits_by 0 v.since);
         others = l.told_is;
         numbered = all_below terms.seats h.since (λ n le. h.unborn n (let z = long in omega arith));
-      }
+      })
       at_home (inr o) = absurd (nobody o.seat o.view o.there o.serving)

@@ -1,13 +1,14 @@
 -- What the steps of making and closing a gate keep.
-use Rattle.std.specs.Prelude.{◌≡◌, ℕ, suc, ◌+◌, ◌%◌, ◌^◌, ◌<◌, List, [], ◌∷◌, ◌++◌, length, slice_get, slice_index_or, Option, Some, None, true}
+use Rattle.std.specs.Prelude.{◌≡◌, ℕ, suc, ◌+◌, ◌%◌, ◌^◌, ◌<◌, List, [], ◌∷◌, ◌++◌, length, slice_get, slice_index_or, Option, Some, None, true, false, All}
 use Rattle.atomic_table.specs.Seated.{TableId}
 use Rattle.atomic_table.specs.declared.shared.Seat.{Seat}
 use Rattle.ev_gate.specs.declared.stands.Stands.{Ghosts}
 use Rattle.ev_gate.specs.declared.view.View.{View}
+use Rattle.ev_gate.specs.declared.view.Terms.{Terms}
 use Rattle.ev_gate.specs.declared.gate.Pass.{Pass}
 use Rattle.ev_gate.specs.Rule.{new_view}
 use Rattle.ev_gate.specs.History.{commits_by, mine_of, GrowsWithout}
-use Rattle.ev_gate.specs.Words.{pass_knows}
+use Rattle.ev_gate.specs.Words.{known, pass_knows}
 
 module _ {V O C : Type 0} where
   -- the first seat, when so many seats are made
@@ -52,3 +53,24 @@ module _ {V O C : Type 0} where
     pub seen : GrowsWithout before.me.0.number before.me.0.since it.me.0.since
     pub opening_is : Some (opening value) ≡ before.me.0.opening
     pub commits_are : commits value ≡ before.me.0.start ++ it.me.0.since
+
+module _ {V O C : Type 0} where
+  -- The leader has taken in all but these of the passes: it remembers what each joined seat committed.
+  pub record IsGathering {g : Ghosts V O C} (gate : TableId) (all others : List (Pass V O C g)) (leader : Seat (Option V) (View O C)) : Type 0 where
+    pub gate_is : leader.table_id ≡ gate
+    pub first : leader.me.0.number ≡ 0
+    pub idle : (leader.me.0.spent ≡ false) × (leader.me.0.queued ≡ false) × (leader.me.0.serving ≡ false)
+    pub holds_nothing : leader.me.1 ≡ []
+    pub count_is : length all ≡ suc (length leader.me.0.told + length others)
+    pub others_are : (k : ℕ) (p : Pass V O C g) → slice_get others k ≡ Some p → slice_get all (suc (length leader.me.0.told + k)) ≡ Some p
+    pub leads : (p : Pass V O C g) → slice_get all 0 ≡ Some p → known leader.me.0 ≡ pass_knows p
+    pub told_is : (k : ℕ) (p : Pass V O C g) → k < length leader.me.0.told → slice_get all (suc k) ≡ Some p → slice_index_or leader.me.0.told k [] ≡ mine_of (pass_knows p)
+
+  -- the last value of a gate, and what its leader knows of the history that it stands for
+  pub record IsLast (opening : V → O) (commits : V → List (ℕ × C)) (terms : Terms V) (v : View O C) (value : V) : Type 0 where
+    pub since : List (ℕ × C)
+    pub opening_is : opening value ≡ opening terms.value.value
+    pub commits_are : commits value ≡ commits terms.value.value ++ since
+    pub leaders : commits_by 0 since ≡ commits_by 0 v.since
+    pub others : (k : ℕ) → k < length v.told → commits_by (suc k) since ≡ slice_index_or v.told k []
+    pub numbered : All (λ c. c.0 < terms.seats) since

@@ -1,9 +1,9 @@
 //! A gate is made with its passes, and closed with them.
-ghost use Rattle.std.specs.Prelude.{◌≡◌, ℕ, suc, ◌+◌, ◌-◌, ◌<◌, ◌≤◌, List, [], ◌∷◌, length, slice_get, slice_index_or, IfOk, IfErr, Some, None, vec_len, vec_capacity};
+ghost use Rattle.std.specs.Prelude.{◌≡◌, ℕ, suc, ◌+◌, ◌-◌, ◌<◌, ◌≤◌, List, [], ◌∷◌, false, length, slice_get, slice_index_or, IfOk, IfErr, Some, None, vec_len, vec_capacity};
 ghost use Rattle.ev_gate.specs.History.{commits_by, mine_of};
 ghost use Rattle.ev_gate.specs.Rule.{new_view};
 ghost use Rattle.ev_gate.specs.Words.{gate_id, first_of, seats_of, pass_gate, pass_knows, AreNew, AreAll, IsWhole};
-ghost use Rattle.ev_gate.specs.Inner.{IsLeader};
+ghost use Rattle.ev_gate.specs.Inner.{IsLeader, IsGathering, IsLast};
 
 use crate::gate::{Gate, Pass};
 use crate::plays::{Gathering, Seating};
@@ -40,6 +40,18 @@ impl<V: Stands> Gate<V> {
                 Err((value, AllocError))
             }
         }
+    }
+
+    /// Closes the gate, once all its passes are back, and gives the value. Its history is whole: each seat's commits in
+    /// it are those that its pass counts as its own, each once and in their order.
+    pub fn close(self, passes: Vec<Pass<V>>) -> V
+        requires { AreAll (gate_id self) (seats_of self) passes.items }
+        ensures opening { V.opening result ≡ V.opening (first_of self) }
+        ensures history { IsWhole (V.commits (first_of self)) (V.commits result) passes.items }
+    {
+        let leader = self.gathered(passes);
+        let Gate { table } = self;
+        taken_out(table, leader)
     }
 
     // The gate and its first seat, which leads the others.
@@ -83,4 +95,34 @@ impl<V: Stands> Gate<V> {
         passes.insert(0, Pass { seat: leader }).unwrap();
         passes
     }
+
+    // The leader takes in the other seats, in the order of their numbers.
+    fn gathered(&self, mut passes: Vec<Pass<V>>) -> GateSeat<V>
+        requires { AreAll (gate_id self.now) (seats_of self.now) passes.items }
+        ensures { IsGathering (gate_id self.now) passes.items [] result }
+    {
+        let Pass { seat: mut leader } = passes.remove(0);
+        while passes.len() > 0 {
+            let Pass { seat } = passes.remove(0);
+            self.table
+                .shared
+                .join_seat::<Gathering>(&mut leader, seat);
+        }
+        passes.destroy_empty();
+        leader
+    }
+}
+
+// The last value, out of the table.
+fn taken_out<V: Stands>(table: GateTable<V>, leader: GateSeat<V>) -> V
+    requires table { (table.shared.table_id.slots ≡ 1) × (leader.table_id ≡ table.shared.table_id) }
+    requires first { leader.me.0.number ≡ 0 }
+    requires idle { (leader.me.0.spent ≡ false) × (leader.me.0.serving ≡ false) }
+    requires all { length leader.me.0.told + 1 ≡ table.shared.key.seats }
+    ensures { IsLast V.opening V.commits table.shared.key leader.me.0 result }
+{
+    let mut closed = table.close_with(leader);
+    let slot = closed.take(0);
+    closed.free();
+    slot.unwrap()
 }

@@ -1,5 +1,5 @@
 //! A gate, its passes and its turns.
-ghost use Rattle.std.specs.Prelude.{◌≡◌, ℕ, true, false, length};
+ghost use Rattle.std.specs.Prelude.{◌≡◌, ◌<◌, ℕ, true, false, length};
 ghost use Rattle.ev_gate.specs.Held.{TableId-set, holds_empty};
 
 use crate::stands::Stands;
@@ -9,6 +9,7 @@ use crate::view::{GateSeat, GateTable};
 pub struct Gate<V: Stands> {
     pub(crate) table: GateTable<V>,
     ghost sized: { (table.shared.table_id.words ≡ 2) × (table.shared.table_id.slots ≡ 1) },
+    ghost some_seat: { 0 < table.shared.key.seats },
 }
 
 /// A seat's right to take its turn at the gate that made it. It must be spent: give it to a turn, and at last to `close`.
@@ -16,6 +17,7 @@ pub struct Pass<V: Stands> {
     pub(crate) seat: GateSeat<V>,
     ghost idle: { (seat.me.0.spent ≡ false) × (seat.me.0.queued ≡ false) × (seat.me.0.serving ≡ false) },
     ghost holds_nothing: { length seat.me.1 ≡ 0 },
+    ghost took_in_nothing: { length seat.me.0.told ≡ 0 },
 }
 
 /// A seat's turn: it has the value, and no other seat has. It must be spent, by `done` or `quit`.
@@ -26,4 +28,5 @@ pub struct Turn<'a, V: Stands> {
     ghost here: { seat.table_id ≡ gate.now.table.shared.table_id } by { TableId-set _ _ },
     ghost served: { (seat.me.0.spent ≡ false) × (seat.me.0.queued ≡ true) × (seat.me.0.serving ≡ true) },
     ghost slot_is_out: { holds_empty seat.me.1 ≡ true },
+    ghost took_in_nothing: { length seat.me.0.told ≡ 0 },
 }
