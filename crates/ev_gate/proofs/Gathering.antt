@@ -4,6 +4,7 @@ use Rattle.std.specs.Prelude.{slice_get, remove}
 use Rattle.std.proofs.Math.Seq.{get_or-append_seam}
 use Rattle.std.proofs.lemmas.Bool.Decides.{eqb_tells}
 use Rattle.std.proofs.lemmas.List.{get_or_append_left}
+use Rattle.std.proofs.lemmas.Option.{slice_get_within}
 use Rattle.atomic_table.specs.Seated.{TableId}
 use Rattle.atomic_table.specs.declared.shared.Seat.{Seat}
 use Rattle.ev_gate.specs.declared.stands.Stands.{Ghosts}
@@ -29,11 +30,6 @@ module _ {A : Type 0} where
   one_less : (xs : List A) → 0 < length xs → length (remove xs 0) + 1 ≡ length xs
   one_less [] lt = absurd (omega arith)
   one_less (x ∷ xs) lt = omega arith
-
-  get_within : (xs : List A) (k : ℕ) (x : A) → slice_get xs k ≡ Some x → k < length xs
-  get_within [] k x e = absurd (cc)
-  get_within (y ∷ ys) zero x e = omega arith
-  get_within (y ∷ ys) (suc k) x e = let h : k < length ys = get_within ys k x e in omega arith
 
 module _ {V O C : Type 0} {g : Ghosts V O C} (gate : TableId) (seats : ℕ) (all : List (Pass V O C g)) (h : AreAll gate seats all) where
   -- the first pass leads
@@ -93,4 +89,4 @@ module _ {V O C : Type 0} {g : Ghosts V O C} (gate : TableId) (seats : ℕ) (all
     where
       each : (k : ℕ) (p : Pass V O C g) → slice_get all k ≡ Some p → commits_by k l.since ≡ mine_of (pass_knows p)
       each zero p e = l.leaders ∙ ap (λ n. commits_by n leader.me.0.since) (sym i.first) ∙ ap mine_of (i.leads p e)
-      each (suc k) p e = let lt = get_within all (suc k) p e in let short : k < length leader.me.0.told = (let c = i.count_is in omega arith) in l.others k short ∙ i.told_is k p short e
+      each (suc k) p e = let lt = slice_get_within all (suc k) p e in let short : k < length leader.me.0.told = (let c = i.count_is in omega arith) in l.others k short ∙ i.told_is k p short e
