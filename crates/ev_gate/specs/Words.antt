@@ -41,6 +41,10 @@ module _ {V O C : Type 0} {g : Ghosts V O C} where
   abbrev pub pass_knows : Pass V O C g → Knowledge O C
   pass_knows it = known it.seat.me.0
 
+  -- the pass of the seat with this number at this gate
+  abbrev pub IsPassOf : TableId → ℕ → Pass V O C g → Type 0
+  IsPassOf gate number it = (pass_gate it ≡ gate) × ((pass_knows it).number ≡ number)
+
   -- the passes of a new gate: as many as it has seats, and each with its place for its number, the start seen and no commit of its own
   pub record AreNew (gate : TableId) (seats : ℕ) (opening : O) (start : List (ℕ × C)) (passes : List (Pass V O C g)) : Type 0 where
     pub count_is : length passes ≡ seats

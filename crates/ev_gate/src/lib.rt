@@ -10,6 +10,8 @@ mod calls;
 mod gate;
 mod plays;
 mod stands;
+#[cfg(test)]
+mod tests;
 mod turns;
 mod view;
 
