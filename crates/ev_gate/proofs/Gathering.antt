@@ -1,5 +1,5 @@
 -- The passes as the leader takes them in, and the whole history at the end.
-use Rattle.std.proofs.Common.{◌≡◌, ◌⊎◌, ℕ, zero, suc, ◌+◌, ◌<◌, ◌≤◌, true, false, eqb, List, [], ◌∷◌, ◌++◌, length, get_or, refl, sym, ap, ◌∙◌, subst, inl, inr, ⊎_elim, arith, length-append, Option, Some, None, All}
+use Rattle.std.proofs.Common.{◌≡◌, ◌⊎◌, ℕ, zero, suc, ◌+◌, ◌<◌, ◌≤◌, Bool, true, false, true≢false, eqb, List, [], ◌∷◌, ◌++◌, length, get_or, refl, sym, ap, ◌∙◌, subst, inl, inr, ⊎_elim, arith, length-append, Option, Some, None, All}
 use Rattle.std.specs.Prelude.{slice_get, remove}
 use Rattle.std.proofs.Math.Seq.{get_or-append_seam}
 use Rattle.std.proofs.lemmas.Bool.Decides.{eqb_tells}
@@ -30,6 +30,11 @@ module _ {A : Type 0} where
   one_less : (xs : List A) → 0 < length xs → length (remove xs 0) + 1 ≡ length xs
   one_less [] lt = absurd (omega arith)
   one_less (x ∷ xs) lt = omega arith
+
+-- a list that is not empty has an element
+pub some_left : (n : ℕ) (empty : Bool) → empty ≡ eqb n 0 → empty ≡ false → 0 < n
+some_left zero empty e is = absurd (true≢false (sym e ∙ is))
+some_left (suc n) empty e is = omega arith
 
 module _ {V O C : Type 0} {g : Ghosts V O C} (gate : TableId) (seats : ℕ) (all : List (Pass V O C g)) (h : AreAll gate seats all) where
   -- the first pass leads
@@ -72,11 +77,11 @@ module _ {V O C : Type 0} {g : Ghosts V O C} (gate : TableId) (seats : ℕ) (all
           leads = λ q e. ap (λ m. known m.0) me ∙ i.leads q e;
           told_is = λ k q lt' e. ap (λ ts. get_or ts k []) told ∙ ⊎_elim
               (λ (d : (eqb k (length leader.me.0.told) ≡ true) × (k ≡ length leader.me.0.told)).
-                  ap (λ n. get_or (leader.me.0.told ++ mine ∷ []) n []) d.1 ∙ get_or-append_seam leader.me.0.told mine [] []
-                  ∙ ap (λ (x : Pass V O C g). mine_of (pass_knows x)) (Some-injective p q (sym place ∙ ap (λ n. slice_get all (suc n)) (sym d.1) ∙ e)))
+              ap (λ n. get_or (leader.me.0.told ++ mine ∷ []) n []) d.1 ∙ get_or-append_seam leader.me.0.told mine [] []
+              ∙ ap (λ (x : Pass V O C g). mine_of (pass_knows x)) (Some-injective p q (sym place ∙ ap (λ n. slice_get all (suc n)) (sym d.1) ∙ e)))
               (λ (d : (eqb k (length leader.me.0.told) ≡ false) × (k ≡ length leader.me.0.told → ⊥)).
-                  let short : k < length leader.me.0.told = (let ne = d.1 in omega arith) in
-                  get_or_append_left leader.me.0.told (mine ∷ []) [] k short ∙ i.told_is k q short e)
+              let short : k < length leader.me.0.told = (let ne = d.1 in omega arith) in
+              get_or_append_left leader.me.0.told (mine ∷ []) [] k short ∙ i.told_is k q short e)
               (eqb_tells k (length leader.me.0.told));
         }
 

@@ -77,13 +77,13 @@ module _ {V O C : Type 0} (opening : V → O) (commits : V → List (ℕ × C)) 
           (at_set s.views i j w u e);
       apart = λ j k u x e f p q r. ⊎_elim
           (λ (t : (j ≡ i) × (w ≡ u)). ⊎_elim
-              (λ (t' : (k ≡ i) × (w ≡ x)). t.0 ∙ sym t'.0)
-              (λ (t' : (k ≢ i) × (get_elem? s.views k ≡ some x)). absurd ((others k x t'.0 t'.1).2 q (ap (λ (y : View O C). y.queued) t.1 ∙ p) (ap (λ (y : View O C). y.ticket) t.1 ∙ r)))
-              (at_set s.views i k w x f))
+          (λ (t' : (k ≡ i) × (w ≡ x)). t.0 ∙ sym t'.0)
+          (λ (t' : (k ≢ i) × (get_elem? s.views k ≡ some x)). absurd ((others k x t'.0 t'.1).2 q (ap (λ (y : View O C). y.queued) t.1 ∙ p) (ap (λ (y : View O C). y.ticket) t.1 ∙ r)))
+          (at_set s.views i k w x f))
           (λ (t : (j ≢ i) × (get_elem? s.views j ≡ some u)). ⊎_elim
-              (λ (t' : (k ≡ i) × (w ≡ x)). absurd ((others j u t.0 t.1).2 p (ap (λ (y : View O C). y.queued) t'.1 ∙ q) (ap (λ (y : View O C). y.ticket) t'.1 ∙ sym r)))
-              (λ (t' : (k ≢ i) × (get_elem? s.views k ≡ some x)). h.apart j k u x t.1 t'.1 p q r)
-              (at_set s.views i k w x f))
+          (λ (t' : (k ≡ i) × (w ≡ x)). absurd ((others j u t.0 t.1).2 p (ap (λ (y : View O C). y.queued) t'.1 ∙ q) (ap (λ (y : View O C). y.ticket) t'.1 ∙ sym r)))
+          (λ (t' : (k ≢ i) × (get_elem? s.views k ≡ some x)). h.apart j k u x t.1 t'.1 p q r)
+          (at_set s.views i k w x f))
           (at_set s.views i j w u e);
       unborn = λ n le. none_more n h.since new (h.unborn n (subst (λ m. m ≤ n) (length-set s.views i w) le)) (own n (past n (subst (λ m. m ≤ n) (length-set s.views i w) le)));
       leads = λ u e spent. ⊎_elim
@@ -181,17 +181,17 @@ module _ {V O C : Type 0} (opening : V → O) (commits : V → List (ℕ × C)) 
               seen_all = λ q. absurd (off out q);
             }
             (λ j u apart there. ⊎_elim
-                (λ (spent : u.spent ≡ true). let g = h.fits_spent j u there spent in ((λ q. absurd (off g.not_queued q)), (λ q. absurd (off g.not_serving q)), (λ q _. absurd (off g.not_queued q))))
-                (λ (spent : u.spent ≡ false). let f = h.fits j u there spent in (
-                  (λ q. (f.ticket_from q, let b = f.ticket_below q in omega arith)),
-                  (λ q. (f.served_is q, f.seen_all q ∙ sym all)),
-                  (λ q _ e. let b = f.ticket_below q in absurd (omega arith)),
-                ))
-                (cases_Bool u.spent))
+            (λ (spent : u.spent ≡ true). let g = h.fits_spent j u there spent in ((λ q. absurd (off g.not_queued q)), (λ q. absurd (off g.not_serving q)), (λ q _. absurd (off g.not_queued q))))
+            (λ (spent : u.spent ≡ false). let f = h.fits j u there spent in (
+              (λ q. (f.ticket_from q, let b = f.ticket_below q in omega arith)),
+              (λ q. (f.served_is q, f.seen_all q ∙ sym all)),
+              (λ q _ e. let b = f.ticket_below q in absurd (omega arith)),
+            ))
+            (cases_Bool u.spent))
             (⊎_elim
-                (λ (a : AtHome opening commits terms.value.value h.since s.homes). inl record { value = a.value; there = a.there; opening_is = a.opening_is; commits_are = a.commits_are ∙ ap (λ l. commits terms.value.value ++ l) (sym all) })
-                (λ (o : IsOut s.homes s.views). inr record { gone = o.gone; seat = o.seat; view = o.view; there = set_else s.views i o.seat w (not_here o) ∙ o.there; serving = o.serving })
-                h.slot),
+            (λ (a : AtHome opening commits terms.value.value h.since s.homes). inl record { value = a.value; there = a.there; opening_is = a.opening_is; commits_are = a.commits_are ∙ ap (λ l. commits terms.value.value ++ l) (sym all) })
+            (λ (o : IsOut s.homes s.views). inr record { gone = o.gone; seat = o.seat; view = o.view; there = set_else s.views i o.seat w (not_here o) ∙ o.there; serving = o.serving })
+            h.slot),
         record { view_is = refl; ticket_is = sym (ap (λ ws. slice_index ws 0) h.words_are); held = refl },
       )
     where
@@ -249,13 +249,13 @@ module _ {V O C : Type 0} (opening : V → O) (commits : V → List (ℕ × C)) 
               seen_all = λ q. sym all;
             }
             (λ j u apart there. ⊎_elim
-                (λ (spent : u.spent ≡ true). let g = h.fits_spent j u there spent in ((λ q. absurd (off g.not_queued q)), (λ q. absurd (off g.not_serving q)), (λ q _. absurd (off g.not_queued q))))
-                (λ (spent : u.spent ≡ false). let f = h.fits j u there spent in (
-                  (λ q. (f.ticket_from q, f.ticket_below q)),
-                  (λ q. absurd (apart (alone s h i v at waits is j u there q))),
-                  (λ q _ e. absurd (apart (h.apart j i u v there at q waits (sym e)))),
-                ))
-                (cases_Bool u.spent))
+            (λ (spent : u.spent ≡ true). let g = h.fits_spent j u there spent in ((λ q. absurd (off g.not_queued q)), (λ q. absurd (off g.not_serving q)), (λ q _. absurd (off g.not_queued q))))
+            (λ (spent : u.spent ≡ false). let f = h.fits j u there spent in (
+              (λ q. (f.ticket_from q, f.ticket_below q)),
+              (λ q. absurd (apart (alone s h i v at waits is j u there q))),
+              (λ q _ e. absurd (apart (h.apart j i u v there at q waits (sym e)))),
+            ))
+            (cases_Bool u.spent))
             (inr record { gone = ap (λ hs. set hs 0 none) a.there; seat = i; view = w; there = set_here s.views i w (at_below s.views i v at); serving = refl }),
         record {
           value = a.value;
@@ -286,11 +286,11 @@ module _ {V O C : Type 0} (opening : V → O) (commits : V → List (ℕ × C)) 
       let found : slice_index s.words 1 ≡ h.served % 2 ^ 64 = ap (λ ws. slice_index ws 1) h.words_are in
       ⊎_elim
       (λ (t : (eqb (slice_index s.words 1) (v.ticket % 2 ^ 64) ≡ true) × (slice_index s.words 1 ≡ v.ticket % 2 ^ 64)).
-          let is : v.ticket ≡ h.served = one_ticket s h i v at live waits (sym found ∙ t.1) in
-          let r = is_served s h i v at live waits out is (slice_index s.words 1) (home_then s h i v at waits out is h.slot) refl in
-          (r.0, takes 0 r.1, r.2, r.3, subst (λ b. Rattle.std.specs.Prelude.MatchBool b (Takes opening commits (v, []) (r.0, (0, r.1) ∷ [])) (◌≡◌ {A = Me (Option V) (View O C)} (r.0, (0, r.1) ∷ []) (v, []))) (sym t.0) r.4))
+      let is : v.ticket ≡ h.served = one_ticket s h i v at live waits (sym found ∙ t.1) in
+      let r = is_served s h i v at live waits out is (slice_index s.words 1) (home_then s h i v at waits out is h.slot) refl in
+      (r.0, takes 0 r.1, r.2, r.3, subst (λ b. Rattle.std.specs.Prelude.MatchBool b (Takes opening commits (v, []) (r.0, (0, r.1) ∷ [])) (◌≡◌ {A = Me (Option V) (View O C)} (r.0, (0, r.1) ∷ []) (v, []))) (sym t.0) r.4))
       (λ (t : (eqb (slice_index s.words 1) (v.ticket % 2 ^ 64) ≡ false) × (slice_index s.words 1 ≢ v.ticket % 2 ^ 64)).
-          (v, keeps, tt, not_yet s h i v at, subst (λ b. Rattle.std.specs.Prelude.MatchBool b (Takes opening commits (v, []) (v, [])) (◌≡◌ {A = Me (Option V) (View O C)} (v, []) (v, []))) (sym t.0) refl))
+      (v, keeps, tt, not_yet s h i v at, subst (λ b. Rattle.std.specs.Prelude.MatchBool b (Takes opening commits (v, []) (v, [])) (◌≡◌ {A = Me (Option V) (View O C)} (v, []) (v, []))) (sym t.0) refl))
       (eqb_tells (slice_index s.words 1) (v.ticket % 2 ^ 64))
 
   -- ---- a turn ends, with the seat's own commits or with none
@@ -327,13 +327,13 @@ module _ {V O C : Type 0} (opening : V → O) (commits : V → List (ℕ × C)) 
               seen_all = λ q. absurd (off refl q);
             }
             (λ j u apart there. ⊎_elim
-                (λ (spent : u.spent ≡ true). let g = h.fits_spent j u there spent in ((λ q. absurd (off g.not_queued q)), (λ q. absurd (off g.not_serving q)), (λ q r _. absurd (off refl r))))
-                (λ (spent : u.spent ≡ false). let f = h.fits j u there spent in (
-                  (λ q. (let from = f.ticket_from q in let ne : u.ticket ≢ h.served = λ e. apart (h.apart j i u v there at q waits (e ∙ sym is)) in omega arith, f.ticket_below q)),
-                  (λ q. absurd (apart (alone s h i v at waits is j u there q))),
-                  (λ q r _. absurd (off refl r)),
-                ))
-                (cases_Bool u.spent))
+            (λ (spent : u.spent ≡ true). let g = h.fits_spent j u there spent in ((λ q. absurd (off g.not_queued q)), (λ q. absurd (off g.not_serving q)), (λ q r _. absurd (off refl r))))
+            (λ (spent : u.spent ≡ false). let f = h.fits j u there spent in (
+              (λ q. (let from = f.ticket_from q in let ne : u.ticket ≢ h.served = λ e. apart (h.apart j i u v there at q waits (e ∙ sym is)) in omega arith, f.ticket_below q)),
+              (λ q. absurd (apart (alone s h i v at waits is j u there q))),
+              (λ q r _. absurd (off refl r)),
+            ))
+            (cases_Bool u.spent))
             (inl record { value = x; there = home_again s.homes h.slot; opening_is = ap (elim_some (opening x)) (opening_is ∙ mine.opening_is); commits_are = commits_are ∙ append_assoc v.start v.since new ∙ (λ k. mine.start_is k ++ (all k ++ new)) }),
         record { value = x; was = refl; view_is = refl; held = refl },
       )
@@ -372,22 +372,22 @@ module _ {V O C : Type 0} (opening : V → O) (commits : V → List (ℕ × C)) 
             (at_end views u' u j e);
         fits_spent = λ j u e spent. ⊎_elim
             (λ (t : get_elem? views j ≡ some u). ⊎_elim
-                (λ (t' : (j ≡ i) × (w ≡ u)). absurd (off live (ap (λ (x : View O C). x.spent) t'.1 ∙ spent)))
-                (λ (t' : (j ≢ i) × (get_elem? s.views j ≡ some u)). h.fits_spent j u t'.1 spent)
-                (at_set s.views i j w u t))
+            (λ (t' : (j ≡ i) × (w ≡ u)). absurd (off live (ap (λ (x : View O C). x.spent) t'.1 ∙ spent)))
+            (λ (t' : (j ≢ i) × (get_elem? s.views j ≡ some u)). h.fits_spent j u t'.1 spent)
+            (at_set s.views i j w u t))
             (λ (t : (j ≡ length views) × (u' ≡ u)). absurd (off refl (ap (λ (x : View O C). x.spent) t.1 ∙ spent)))
             (at_end views u' u j e);
         apart = λ j k u x e f p q r. h.apart j k u x (waiting_old s j u e p) (waiting_old s k x f q) p q r;
         unborn = λ n le. h.unborn n (omega arith);
         leads = λ u e spent. ⊎_elim
             (λ (t : get_elem? views 0 ≡ some u). ⊎_elim
-                (λ (t' : (0 ≡ i) × (w ≡ u)). subst (Leads (views ++ u' ∷ []) h.since) t'.1 record {
-                  made_is = (let m = l.made_is in omega arith);
-                  told_spent = λ k lt. at_longer views (u' ∷ []) (suc k) spent_view (set_else s.views i (suc k) w (λ e'. let z : suc k ≡ 0 = e' ∙ zeroth in absurd (omega arith)) ∙ l.told_spent k lt);
-                  told_is = l.told_is;
-                })
-                (λ (t' : (0 ≢ i) × (get_elem? s.views 0 ≡ some u)). absurd (t'.0 (sym zeroth)))
-                (at_set s.views i 0 w u t))
+            (λ (t' : (0 ≡ i) × (w ≡ u)). subst (Leads (views ++ u' ∷ []) h.since) t'.1 record {
+              made_is = (let m = l.made_is in omega arith);
+              told_spent = λ k lt. at_longer views (u' ∷ []) (suc k) spent_view (set_else s.views i (suc k) w (λ e'. let z : suc k ≡ 0 = e' ∙ zeroth in absurd (omega arith)) ∙ l.told_spent k lt);
+              told_is = l.told_is;
+            })
+            (λ (t' : (0 ≢ i) × (get_elem? s.views 0 ≡ some u)). absurd (t'.0 (sym zeroth)))
+            (at_set s.views i 0 w u t))
             (λ (t : (0 ≡ length views) × (u' ≡ u)). let b = at_below s.views i v at in absurd (omega arith))
             (at_end views u' u 0 e);
         slot = ⊎_elim inl
@@ -433,9 +433,9 @@ module _ {V O C : Type 0} (opening : V → O) (commits : V → List (ℕ × C)) 
       waiting_old : (s : State (Option V) (View O C)) (j : ℕ) (u : View O C) → get_elem? (set s.views i (left_view v) ++ right_view v ∷ []) j ≡ some u → u.queued ≡ true → get_elem? s.views j ≡ some u
       waiting_old s j u e p = ⊎_elim
           (λ (t : get_elem? (set s.views i (left_view v)) j ≡ some u). ⊎_elim
-              (λ (t' : (j ≡ i) × (left_view v ≡ u)). absurd (off idle (ap (λ (x : View O C). x.queued) t'.1 ∙ p)))
-              (λ (t' : (j ≢ i) × (get_elem? s.views j ≡ some u)). t'.1)
-              (at_set s.views i j (left_view v) u t))
+          (λ (t' : (j ≡ i) × (left_view v ≡ u)). absurd (off idle (ap (λ (x : View O C). x.queued) t'.1 ∙ p)))
+          (λ (t' : (j ≢ i) × (get_elem? s.views j ≡ some u)). t'.1)
+          (at_set s.views i j (left_view v) u t))
           (λ (t : (j ≡ length (set s.views i (left_view v))) × (right_view v ≡ u)). absurd (off refl (ap (λ (x : View O C). x.queued) t.1 ∙ p)))
           (at_end (set s.views i (left_view v)) (right_view v) u j e)
 
@@ -467,49 +467,49 @@ module _ {V O C : Type 0} (opening : V → O) (commits : V → List (ℕ × C)) 
         fits = λ j u e spent. ⊎_elim
             (λ (t : (j ≡ other) × (spent_view ≡ u)). absurd (off (ap (λ (x : View O C). x.spent) t.1 ∙ spent) refl))
             (λ (t : (j ≢ other) × (get_elem? mid j ≡ some u)). ⊎_elim
-                (λ (t' : (j ≡ i) × (both ≡ u)). subst (λ (y : ℕ × View O C). Fits (opening terms.value.value) (commits terms.value.value) h.since h.drawn h.served y.0 y.1) (λ k. (sym t'.0 k, t'.1 k)) record {
-                  number_is = mine.number_is;
-                  opening_is = mine.opening_is;
-                  start_is = mine.start_is;
-                  seen = mine.seen;
-                  ticket_from = mine.ticket_from;
-                  ticket_below = mine.ticket_below;
-                  served_is = mine.served_is;
-                  serving_queued = mine.serving_queued;
-                  seen_all = mine.seen_all;
-                })
-                (λ (t' : (j ≢ i) × (get_elem? s.views j ≡ some u)). h.fits j u t'.1 spent)
-                (at_set s.views i j both u t.1))
+            (λ (t' : (j ≡ i) × (both ≡ u)). subst (λ (y : ℕ × View O C). Fits (opening terms.value.value) (commits terms.value.value) h.since h.drawn h.served y.0 y.1) (λ k. (sym t'.0 k, t'.1 k)) record {
+              number_is = mine.number_is;
+              opening_is = mine.opening_is;
+              start_is = mine.start_is;
+              seen = mine.seen;
+              ticket_from = mine.ticket_from;
+              ticket_below = mine.ticket_below;
+              served_is = mine.served_is;
+              serving_queued = mine.serving_queued;
+              seen_all = mine.seen_all;
+            })
+            (λ (t' : (j ≢ i) × (get_elem? s.views j ≡ some u)). h.fits j u t'.1 spent)
+            (at_set s.views i j both u t.1))
             (at_set mid other j spent_view u e);
         fits_spent = λ j u e spent. ⊎_elim
             (λ (t : (j ≡ other) × (spent_view ≡ u)). subst FitsSpent t.1 record { not_queued = refl; not_serving = refl })
             (λ (t : (j ≢ other) × (get_elem? mid j ≡ some u)). ⊎_elim
-                (λ (t' : (j ≡ i) × (both ≡ u)). absurd (off live (ap (λ (x : View O C). x.spent) t'.1 ∙ spent)))
-                (λ (t' : (j ≢ i) × (get_elem? s.views j ≡ some u)). h.fits_spent j u t'.1 spent)
-                (at_set s.views i j both u t.1))
+            (λ (t' : (j ≡ i) × (both ≡ u)). absurd (off live (ap (λ (x : View O C). x.spent) t'.1 ∙ spent)))
+            (λ (t' : (j ≢ i) × (get_elem? s.views j ≡ some u)). h.fits_spent j u t'.1 spent)
+            (at_set s.views i j both u t.1))
             (at_set mid other j spent_view u e);
         apart = λ j k u x e f p q r. h.apart j k u x (waiting_old s other j u e p) (waiting_old s other k x f q) p q r;
         unborn = λ n le. h.unborn n (omega arith);
         leads = λ u e spent. ⊎_elim
             (λ (t : (0 ≡ other) × (spent_view ≡ u)). absurd (omega arith))
             (λ (t : (0 ≢ other) × (get_elem? mid 0 ≡ some u)). ⊎_elim
-                (λ (t' : (0 ≡ i) × (both ≡ u)). subst (Leads views h.since) t'.1 record {
-                  made_is = l.made_is ∙ sym long;
-                  told_spent = λ k lt. ⊎_elim
-                      (λ (d : (eqb k (length v.told) ≡ true) × (k ≡ length v.told)). subst (λ n. get_elem? views n ≡ some spent_view) (place ∙ ap suc (sym d.1)) (set_here mid other spent_view (at_below mid other w there)))
-                      (λ (d : (eqb k (length v.told) ≡ false) × (k ≢ length v.told)).
-                          let short : k < length v.told = (let n = length-append v.told (commits_by w.number w.since ∷ []) in let ne = d.1 in omega arith) in
-                          set_else mid other (suc k) spent_view (λ e'. d.1 (let z : suc k ≡ suc (length v.told) = e' ∙ place in omega arith)) ∙ set_else s.views i (suc k) both (λ e'. let z : suc k ≡ 0 = e' ∙ zeroth in absurd (omega arith)) ∙ l.told_spent k short)
-                      (eqb_tells k (length v.told));
-                  told_is = λ k lt. ⊎_elim
-                      (λ (d : (eqb k (length v.told) ≡ true) × (k ≡ length v.told)). ap (λ n. commits_by (suc n) h.since) d.1 ∙ ap (λ n. commits_by n h.since) (sym place) ∙ known ∙ sym (get_or-append_seam v.told (commits_by w.number w.since) [] []) ∙ ap (λ n. get_or (v.told ++ commits_by w.number w.since ∷ []) n []) (sym d.1))
-                      (λ (d : (eqb k (length v.told) ≡ false) × (k ≢ length v.told)).
-                          let short : k < length v.told = (let n = length-append v.told (commits_by w.number w.since ∷ []) in let ne = d.1 in omega arith) in
-                          l.told_is k short ∙ sym (get_or_append_left v.told (commits_by w.number w.since ∷ []) [] k short))
-                      (eqb_tells k (length v.told));
-                })
-                (λ (t' : (0 ≢ i) × (get_elem? s.views 0 ≡ some u)). absurd (t'.0 (sym zeroth)))
-                (at_set s.views i 0 both u t.1))
+            (λ (t' : (0 ≡ i) × (both ≡ u)). subst (Leads views h.since) t'.1 record {
+              made_is = l.made_is ∙ sym long;
+              told_spent = λ k lt. ⊎_elim
+                  (λ (d : (eqb k (length v.told) ≡ true) × (k ≡ length v.told)). subst (λ n. get_elem? views n ≡ some spent_view) (place ∙ ap suc (sym d.1)) (set_here mid other spent_view (at_below mid other w there)))
+                  (λ (d : (eqb k (length v.told) ≡ false) × (k ≢ length v.told)).
+                  let short : k < length v.told = (let n = length-append v.told (commits_by w.number w.since ∷ []) in let ne = d.1 in omega arith) in
+                  set_else mid other (suc k) spent_view (λ e'. d.1 (let z : suc k ≡ suc (length v.told) = e' ∙ place in omega arith)) ∙ set_else s.views i (suc k) both (λ e'. let z : suc k ≡ 0 = e' ∙ zeroth in absurd (omega arith)) ∙ l.told_spent k short)
+                  (eqb_tells k (length v.told));
+              told_is = λ k lt. ⊎_elim
+                  (λ (d : (eqb k (length v.told) ≡ true) × (k ≡ length v.told)). ap (λ n. commits_by (suc n) h.since) d.1 ∙ ap (λ n. commits_by n h.since) (sym place) ∙ known ∙ sym (get_or-append_seam v.told (commits_by w.number w.since) [] []) ∙ ap (λ n. get_or (v.told ++ commits_by w.number w.since ∷ []) n []) (sym d.1))
+                  (λ (d : (eqb k (length v.told) ≡ false) × (k ≢ length v.told)).
+                  let short : k < length v.told = (let n = length-append v.told (commits_by w.number w.since ∷ []) in let ne = d.1 in omega arith) in
+                  l.told_is k short ∙ sym (get_or_append_left v.told (commits_by w.number w.since ∷ []) [] k short))
+                  (eqb_tells k (length v.told));
+            })
+            (λ (t' : (0 ≢ i) × (get_elem? s.views 0 ≡ some u)). absurd (t'.0 (sym zeroth)))
+            (at_set s.views i 0 both u t.1))
             (at_set mid other 0 spent_view u e);
         slot = ⊎_elim inl
             (λ (o : IsOut s.homes s.views). inr record {
@@ -530,9 +530,9 @@ module _ {V O C : Type 0} (opening : V → O) (commits : V → List (ℕ × C)) 
       waiting_old s other j u e p = ⊎_elim
           (λ (t : (j ≡ other) × (spent_view ≡ u)). absurd (off (ap (λ (x : View O C). x.queued) (sym t.1)) p))
           (λ (t : (j ≢ other) × (get_elem? (set s.views i (joined_view v w)) j ≡ some u)). ⊎_elim
-              (λ (t' : (j ≡ i) × (joined_view v w ≡ u)). absurd (off idle (ap (λ (x : View O C). x.queued) t'.1 ∙ p)))
-              (λ (t' : (j ≢ i) × (get_elem? s.views j ≡ some u)). t'.1)
-              (at_set s.views i j (joined_view v w) u t.1))
+          (λ (t' : (j ≡ i) × (joined_view v w ≡ u)). absurd (off idle (ap (λ (x : View O C). x.queued) t'.1 ∙ p)))
+          (λ (t' : (j ≢ i) × (get_elem? s.views j ≡ some u)). t'.1)
+          (at_set s.views i j (joined_view v w) u t.1))
           (at_set (set s.views i (joined_view v w)) other j spent_view u e)
 
   -- ---- the end: where the leader has taken in all others, the slot has a value that stands for the whole history
@@ -568,12 +568,16 @@ module _ {V O C : Type 0} (opening : V → O) (commits : V → List (ℕ × C)) 
           off refl (ap (λ (y : View O C). y.serving) (same_there f.0.views (suc k) spent_view u (l.told_spent k (omega arith)) e) ∙ q)
 
       at_home : AtHome opening commits terms.value.value h.since f.0.homes ⊎ IsOut f.0.homes f.0.views → (value : V) × (get_elem? xs 0 ≡ some (Some value)) × IsLast opening commits terms v value
-      at_home (inl a) = (a.value, f.4 0 (Some a.value) (ap (λ hs. get_elem? hs 0) a.there), record {
-        since = h.since;
-        opening_is = a.opening_is;
-        commits_are = a.commits_are;
-        leaders = ap (commits_by 0) mine.seen.1 ∙ commits_by-append 0 v.since mine.seen.0 ∙ ap (λ z. commits_by 0 v.since ++ z) (subst (λ n. commits_by n mine.seen.0 ≡ []) zeroth mine.seen.2) ∙ append-nil (commits_by 0 v.since);
-        others = l.told_is;
-        numbered = all_below terms.seats h.since (λ n le. h.unborn n (let z = long in omega arith));
-      })
+      at_home (inl a) = (
+        a.value,
+        f.4 0 (Some a.value) (ap (λ hs. get_elem? hs 0) a.there),
+        record {
+          since = h.since;
+          opening_is = a.opening_is;
+          commits_are = a.commits_are;
+          leaders = ap (commits_by 0) mine.seen.1 ∙ commits_by-append 0 v.since mine.seen.0 ∙ ap (λ z. commits_by 0 v.since ++ z) (subst (λ n. commits_by n mine.seen.0 ≡ []) zeroth mine.seen.2) ∙ append-nil (commits_by 0 v.since);
+          others = l.told_is;
+          numbered = all_below terms.seats h.since (λ n le. h.unborn n (let z = long in omega arith));
+        },
+      )
       at_home (inr o) = absurd (nobody o.seat o.view o.there o.serving)

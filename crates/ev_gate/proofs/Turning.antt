@@ -57,18 +57,18 @@ module _ {V O C : Type 0} (opening : V → O) (commits : V → List (ℕ × C)) 
     still found h here l ne = ⊎_elim
         (λ (t : (eqb found (it.me.0.ticket % 2 ^ 64) ≡ true) × (found ≡ it.me.0.ticket % 2 ^ 64)). absurd (ne (t.1 ∙ h.ticket_is)))
         (λ (t : (eqb found (it.me.0.ticket % 2 ^ 64) ≡ false) × (found ≢ it.me.0.ticket % 2 ^ 64)).
-            let same : ◌≡◌ {A = Me (Option V) (View O C)} after.me it.me = subst (λ b. MatchBool b (Takes opening commits it.me after.me) (◌≡◌ {A = Me (Option V) (View O C)} after.me it.me)) t.0 l in record {
-              gate_is = here ∙ h.gate_is;
-              view_is = ap (λ (m : Me (Option V) (View O C)). m.0) same ∙ h.view_is ∙ ap (λ (m : Me (Option V) (View O C)). record before.me.0 { queued = true; ticket = m.0.ticket }) (sym same);
-              ticket_is = ap (λ (m : Me (Option V) (View O C)). m.0.ticket % 2 ^ 64) same ∙ h.ticket_is;
-              holds_nothing = ap (λ (m : Me (Option V) (View O C)). m.1) same ∙ h.holds_nothing;
-            })
+        let same : ◌≡◌ {A = Me (Option V) (View O C)} after.me it.me = subst (λ b. MatchBool b (Takes opening commits it.me after.me) (◌≡◌ {A = Me (Option V) (View O C)} after.me it.me)) t.0 l in record {
+          gate_is = here ∙ h.gate_is;
+          view_is = ap (λ (m : Me (Option V) (View O C)). m.0) same ∙ h.view_is ∙ ap (λ (m : Me (Option V) (View O C)). record before.me.0 { queued = true; ticket = m.0.ticket }) (sym same);
+          ticket_is = ap (λ (m : Me (Option V) (View O C)). m.0.ticket % 2 ^ 64) same ∙ h.ticket_is;
+          holds_nothing = ap (λ (m : Me (Option V) (View O C)). m.1) same ∙ h.holds_nothing;
+        })
         (eqb_tells found (it.me.0.ticket % 2 ^ 64))
 
     pub served : (found : ℕ) → IsWaiting ticket before it → after.table_id ≡ it.table_id → Looks opening commits it.me found after.me → found ≡ ticket → IsServed opening commits before after
     served found h here l e = ⊎_elim
         (λ (t : (eqb found (it.me.0.ticket % 2 ^ 64) ≡ true) × (found ≡ it.me.0.ticket % 2 ^ 64)).
-            taken (subst (λ b. MatchBool b (Takes opening commits it.me after.me) (◌≡◌ {A = Me (Option V) (View O C)} after.me it.me)) t.0 l))
+        taken (subst (λ b. MatchBool b (Takes opening commits it.me after.me) (◌≡◌ {A = Me (Option V) (View O C)} after.me it.me)) t.0 l))
         (λ (t : (eqb found (it.me.0.ticket % 2 ^ 64) ≡ false) × (found ≢ it.me.0.ticket % 2 ^ 64)). absurd (t.1 (e ∙ sym h.ticket_is)))
         (eqb_tells found (it.me.0.ticket % 2 ^ 64))
       where

@@ -102,11 +102,9 @@ impl<V: Stands> Gate<V> {
         ensures { IsGathering (gate_id self.now) passes.items [] result }
     {
         let Pass { seat: mut leader } = passes.remove(0);
-        while passes.len() > 0 {
+        while !passes.is_empty() {
             let Pass { seat } = passes.remove(0);
-            self.table
-                .shared
-                .join_seat::<Gathering>(&mut leader, seat);
+            self.table.shared.join_seat::<Gathering>(&mut leader, seat);
         }
         passes.destroy_empty();
         leader

@@ -39,7 +39,8 @@ impl<V: Stands> Gate<V> {
         let ticket = shared.fetch_add::<Draw>(&mut seat, TICKET, 1);
         for _ in rt.forever() {
             let served = shared.load::<Look>(&mut seat, SERVING);
-            if served == ticket {
+            let is_served = served == ticket;
+            if is_served {
                 let slot = shared.exchange(&mut seat, 0, None);
                 return Turn {
                     gate: self,
@@ -82,7 +83,7 @@ impl<'a, V: Stands> Turn<'a, V> {
         ensures gate { pass_gate result ≡ turn_gate self.entry }
         ensures knows { pass_knows result ≡ turn_knows self.entry }
     {
-        self.put_back()
+        Turn::put_back(self)
     }
 
     // Puts the value back, and serves the next ticket.

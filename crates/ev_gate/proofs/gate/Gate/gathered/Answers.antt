@@ -1,8 +1,8 @@
 -- The leader takes in the passes, one after another.
-use Rattle.std.proofs.Common.{◌≡◌, ◌+◌, ◌<◌, List, [], ◌∷◌, length, refl, sym, ◌∙◌, arith}
+use Rattle.std.proofs.Common.{◌≡◌, ◌+◌, ◌<◌, List, [], ◌∷◌, length, refl, sym, ◌∙◌, arith, vec_len}
 use Rattle.ev_gate.proofs.Steps.{joins}
 use Rattle.ev_gate.proofs.Turning.{nil_of}
-use Rattle.ev_gate.proofs.Gathering.{gathering_starts, gate_next, number_next, gathering_more}
+use Rattle.ev_gate.proofs.Gathering.{some_left, gathering_starts, gate_next, number_next, gathering_more}
 use Rattle.ev_gate.proofs.gate.Gate.gathered.Goals as goal
 
 pub loop-passes-init : goal.loop-passes-init
@@ -14,7 +14,7 @@ pub join_seat-requires : goal.join_seat-requires
 join_seat-requires g c =
     let i = c.loop-passes.invariant in
     let p = c.remove-seat.result in
-    let some_pass : 0 < length c.loop-passes.passes.items = (let t = c.loop-passes-test.true in let e = c.len.ensures in let n = c.loop-passes.passes.ok.0 in omega arith) in
+    let some_pass : 0 < length c.loop-passes.passes.items = (let n = c.loop-passes.passes.ok.0 in let h = some_left (vec_len c.loop-passes.passes) c.is_empty.result c.is_empty.ensures c.loop-passes-test.true in omega arith) in
     let is = c.remove-seat.ensures.value in (
       i.gate_is,
       gate_next _ _ c.args.passes.items c.requires c.loop-passes.passes.items c.loop-passes.leader i p some_pass is,
@@ -27,5 +27,5 @@ join_seat-requires g c =
 pub loop-passes-preserved : goal.loop-passes-preserved
 loop-passes-preserved g c =
     let j = c.join_seat.ensures in
-    let some_pass : 0 < length c.loop-passes.passes.items = (let t = c.loop-passes-test.true in let e = c.len.ensures in let n = c.loop-passes.passes.ok.0 in omega arith) in
+    let some_pass : 0 < length c.loop-passes.passes.items = (let n = c.loop-passes.passes.ok.0 in let h = some_left (vec_len c.loop-passes.passes) c.is_empty.result c.is_empty.ensures c.loop-passes-test.true in omega arith) in
     gathering_more _ _ c.args.passes.items c.requires c.loop-passes.passes.items c.loop-passes.leader c.loop-passes.invariant c.remove-seat.result some_pass c.remove-seat.ensures.value c.remove-seat.new.self.items c.join_seat.new.seat c.remove-seat.ensures.items j.0 j.2

@@ -34,7 +34,7 @@ is_served g c e = let l = c.load-served.ensures in served g.V.Stands.opening g.V
 
 pub exchange-slot-requires : goal.exchange-slot-requires
 exchange-slot-requires g c =
-    let s = is_served g (goal.at.exchange-slot-requires g c).After-load-served c.if-served-ticket.true in
+    let s = is_served g (goal.at.exchange-slot-requires g c).After-load-served c.if-is_served.true in
     (s.gate_is ∙ c.requires, (Some s.value, s.held ∙ ap (λ l. (0, Some s.value) ∷ rest l) (sym s.held)))
 
 -- the seat with the value in its hand
@@ -45,14 +45,14 @@ has_turn g c s =
 
 pub unwrap-requires : goal.unwrap-requires
 unwrap-requires g c =
-    let s = is_served g (goal.at.unwrap-requires g c).After-load-served c.if-served-ticket.true in
+    let s = is_served g (goal.at.unwrap-requires g c).After-load-served c.if-is_served.true in
     subst IsSome (sym (in_slot g.V.Stands.opening g.V.Stands.commits c.args.pass.seat c.load-served.new.seat s c.exchange-slot.result c.exchange-slot.ensures.2)) refl
 
 pub invariant_of-result : goal.invariant_of-result
 invariant_of-result g c =
-    let t = has_turn g (goal.at.invariant_of-result g c).After-unwrap (is_served g (goal.at.invariant_of-result g c).After-load-served c.if-served-ticket.true) in
+    let t = has_turn g (goal.at.invariant_of-result g c).After-unwrap (is_served g (goal.at.invariant_of-result g c).After-load-served c.if-is_served.true) in
     let p = c.args.pass in
     record { here = t.gate_is ∙ c.requires; served = (ap (λ v. v.spent) t.view_is ∙ p.idle.0, ap (λ v. v.queued) t.view_is, ap (λ v. v.serving) t.view_is); slot_is_out = ap holds_empty t.held; took_in_nothing = ap (λ v. length v.told) t.view_is ∙ p.took_in_nothing }
 
 pub loop-preserved : goal.loop-preserved
-loop-preserved g c = let l = c.load-served.ensures in still g.V.Stands.opening g.V.Stands.commits c.args.pass.seat c.fetch_add-ticket.result c.loop.seat c.load-served.new.seat c.load-served.result c.loop.invariant l.0 l.2 c.if-served-ticket.false
+loop-preserved g c = let l = c.load-served.ensures in still g.V.Stands.opening g.V.Stands.commits c.args.pass.seat c.fetch_add-ticket.result c.loop.seat c.load-served.new.seat c.load-served.result c.loop.invariant l.0 l.2 c.if-is_served.false
