@@ -1,5 +1,5 @@
 -- A turn is its gate, its seat and its value: what its ghost fields say, they say in one way.
-use Rattle.std.proofs.Common.{◌≡◌, ℕ, Bool, true, false, List, length, Option}
+use Rattle.std.proofs.Common.{◌≡◌, ℕ, Bool, true, false, length, Option}
 use Rattle.std.proofs.Props.{props}
 use Rattle.std.specs.Borrow.{Bor}
 use Rattle.atomic_table.specs.declared.shared.Seat.{Seat}

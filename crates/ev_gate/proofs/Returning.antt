@@ -4,7 +4,7 @@ use Rattle.std.specs.Prelude.{slice_get, IsSomeAnd}
 use Rattle.atomic_table.specs.Seated.{TableId}
 use Rattle.ev_gate.specs.declared.stands.Stands.{Ghosts}
 use Rattle.ev_gate.specs.declared.gate.Pass.{Pass}
-use Rattle.ev_gate.specs.Words.{AreNew, IsPassOf, known}
+use Rattle.ev_gate.specs.Words.{AreNew, IsPassOf}
 
 get_some : {A : Type 0} (xs : List A) (i : ℕ) (d : Option A) → i < length (map Some xs) → (x : A) × (slice_get xs i ≡ Some x) × (get_or (map Some xs) i d ≡ Some x)
 get_some [] i d lt = absurd (omega arith)

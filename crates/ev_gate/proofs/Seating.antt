@@ -1,5 +1,5 @@
 -- Passes as they are made.
-use Rattle.std.proofs.Common.{◌≡◌, ◌⊎◌, ℕ, zero, suc, ◌+◌, ◌<◌, List, [], ◌∷◌, ◌++◌, length, refl, sym, ap, ◌∙◌, subst, inl, inr, ⊎_elim, arith, length-append, Option, Some, None}
+use Rattle.std.proofs.Common.{◌≡◌, ◌⊎◌, ℕ, zero, suc, ◌+◌, List, [], ◌∷◌, ◌++◌, length, refl, sym, ap, ◌∙◌, subst, inl, inr, ⊎_elim, arith, length-append, Option, Some}
 use Rattle.std.specs.Prelude.{slice_get}
 use Rattle.atomic_table.specs.Seated.{TableId}
 use Rattle.ev_gate.specs.declared.stands.Stands.{Ghosts}
@@ -7,8 +7,7 @@ use Rattle.ev_gate.specs.declared.view.View.{View}
 use Rattle.ev_gate.specs.declared.gate.Pass.{Pass}
 use Rattle.atomic_table.specs.declared.shared.Seat.{Seat}
 use Rattle.ev_gate.specs.Rule.{new_view, left_view, right_view}
-use Rattle.ev_gate.specs.Inner.{IsLeader, AreSeated, IsSeating}
-use Rattle.ev_gate.specs.Words.{AreNew, known}
+use Rattle.ev_gate.specs.Inner.{AreSeated, IsSeating}
 
 module _ {A : Type 0} where
   pub Some-injective : (a b : A) → Some a ≡ Some b → a ≡ b

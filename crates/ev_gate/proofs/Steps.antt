@@ -1,5 +1,5 @@
 -- Each step at a gate's table keeps the rule, and tells what its play says.
-use Rattle.std.proofs.Common.{◌≡◌, ◌≢◌, ◌⊎◌, ℕ, zero, suc, ◌+◌, ◌-◌, ◌%◌, ◌^◌, ◌<◌, ◌≤◌, Bool, true, false, true≢false, List, [], ◌∷◌, ◌++◌, length, set, get_or, drop, take, eqb, cond, All, refl, sym, ap, ◌∙◌, subst, inl, inr, ⊎_elim, arith, length-append, append_assoc, Option, Some, None}
+use Rattle.std.proofs.Common.{◌≡◌, ◌≢◌, ◌⊎◌, ℕ, zero, suc, ◌+◌, ◌%◌, ◌^◌, ◌<◌, ◌≤◌, Bool, true, false, true≢false, List, [], ◌∷◌, ◌++◌, length, set, get_or, drop, eqb, cond, refl, sym, ap, ◌∙◌, subst, inl, inr, ⊎_elim, arith, length-append, append_assoc, Option, Some, None}
 use Rattle.std.specs.Prelude.{slice_index}
 use Rattle.std.proofs.Math.Nat.{mod-add-mod}
 use Rattle.std.proofs.Math.Seq.{drop-append_seam, get_or-append_seam}
@@ -9,12 +9,12 @@ use Rattle.std.proofs.lemmas.List.{length-set, append-nil, get_or_append_left}
 use mathlib.Core.Option.{some, none, some-injective, some-ne-none}
 use mathlib.Core.Option as maybe
 use lib.ListN.{get_elem?}
-use Rattle.atomic_table.specs.Table.{State, Me, keeps, takes, gives, opening as opened, Allows, Splits, Joins, Final, Seen, rest}
+use Rattle.atomic_table.specs.Table.{State, Me, keeps, takes, gives, opening as opened, Allows, Splits, Joins, Final, Seen}
 use Rattle.atomic_table.proofs.Lists.{at_set, set_here, set_else, set_again, at_longer, one_turn}
 use Rattle.ev_gate.specs.declared.view.View.{View}
 use Rattle.ev_gate.specs.declared.view.Terms.{Terms}
 use Rattle.ev_gate.specs.History.{commits_by, GrowsWithout}
-use Rattle.ev_gate.specs.Rule.{queued_count, spent_view, new_view, Fits, FitsSpent, IsOut, Leads, AtHome, IsKept, first_view, Draws, Takes, Looks, Ends, left_view, right_view, joined_view}
+use Rattle.ev_gate.specs.Rule.{queued_count, spent_view, Fits, FitsSpent, IsOut, Leads, AtHome, IsKept, first_view, Draws, Takes, Looks, Ends, left_view, right_view, joined_view}
 use Rattle.ev_gate.specs.Inner.{IsLast}
 use Rattle.ev_gate.proofs.Lists.{at_below, at_end, same_there, all_below, commits_by-append, grows_more, none_more, grows_from_none, one_if, queued_set, queued_end, queued_few}
 

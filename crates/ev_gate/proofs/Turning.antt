@@ -1,10 +1,10 @@
 -- A turn, step by step: what the seat and its slot are.
-use Rattle.std.proofs.Common.{◌≡◌, ◌≢◌, ◌⊎◌, ℕ, zero, suc, ◌+◌, ◌%◌, ◌^◌, ◌<◌, Bool, true, false, true≢false, List, [], ◌∷◌, ◌++◌, length, drop, eqb, refl, sym, ap, ◌∙◌, subst, inl, inr, ⊎_elim, arith, Option, Some, None}
+use Rattle.std.proofs.Common.{◌≡◌, ◌≢◌, ℕ, ◌+◌, ◌%◌, ◌^◌, true, false, true≢false, List, [], ◌∷◌, ◌++◌, length, eqb, refl, sym, ap, ◌∙◌, subst, ⊎_elim, arith, Option, Some, None}
 use Rattle.std.specs.Prelude.{MatchBool}
 use Rattle.std.proofs.lemmas.Bool.{eqb-true}
 use Rattle.std.proofs.lemmas.Bool.Decides.{eqb_tells}
 use Rattle.std.proofs.lemmas.List.{append-nil}
-use Rattle.atomic_table.specs.Table.{State, Me, Allows, rest}
+use Rattle.atomic_table.specs.Table.{Me, Allows, rest}
 use Rattle.atomic_table.specs.declared.shared.Seat.{Seat}
 use Rattle.ev_gate.specs.declared.view.View.{View}
 use Rattle.ev_gate.specs.declared.view.Terms.{Terms}

@@ -1,5 +1,5 @@
 -- Commits, each beside the number of the seat that made it, and what a seat knows of them.
-use Rattle.std.specs.Prelude.{◌≡◌, ℕ, ◌<◌, ◌==◌, List, [], ◌∷◌, ◌++◌, filter, Option}
+use Rattle.std.specs.Prelude.{◌≡◌, ◌≢◌, ℕ, ◌==◌, List, [], ◌∷◌, ◌++◌, filter, Option}
 
 -- of these commits those of the seat n, in order
 abbrev pub commits_by : {C : Type 0} → ℕ → List (ℕ × C) → List (ℕ × C)
@@ -25,6 +25,18 @@ module _ {O C : Type 0} where
   abbrev pub mine_of : Knowledge O C → List (ℕ × C)
   mine_of k = commits_by k.number k.since
 
+  -- the commits are what the seat has seen, and then this one, which is its own
+  abbrev pub Adds : Knowledge O C → C → List (ℕ × C) → Type 0
+  Adds k c commits = commits ≡ seen_of k ++ (k.number, c) ∷ []
+
   -- the commits are what the seat has seen, and then one of its own
   abbrev pub AddsOne : Knowledge O C → List (ℕ × C) → Type 0
-  AddsOne k commits = (c : C) × (commits ≡ seen_of k ++ (k.number, c) ∷ [])
+  AddsOne k commits = (c : C) × Adds k c commits
+
+  -- what the seat counts as its own is one commit more, this one
+  abbrev pub CountsAlso : Knowledge O C → C → Knowledge O C → Type 0
+  CountsAlso before c after = mine_of after ≡ mine_of before ++ (before.number, c) ∷ []
+
+  -- the commits are what the seat has seen, and then perhaps more, all of which is its own
+  abbrev pub AddsOwn : Knowledge O C → List (ℕ × C) → Type 0
+  AddsOwn k commits = (new : List (ℕ × C)) × (commits ≡ seen_of k ++ new) × ((n : ℕ) → n ≢ k.number → commits_by n new ≡ [])

@@ -1,8 +1,6 @@
 //! A gate is made with its passes, and closed with them.
-ghost use Rattle.std.specs.Prelude.{◌≡◌, ℕ, suc, ◌+◌, ◌-◌, ◌<◌, ◌≤◌, List, [], ◌∷◌, false, length, slice_get, slice_index_or, IfOk, IfErr, Some, None, vec_len, vec_capacity};
-ghost use Rattle.ev_gate.specs.History.{commits_by, mine_of};
-ghost use Rattle.ev_gate.specs.Rule.{new_view};
-ghost use Rattle.ev_gate.specs.Words.{gate_id, first_of, seats_of, pass_gate, pass_knows, AreNew, AreAll, IsWhole};
+ghost use Rattle.std.specs.Prelude.{◌≡◌, ◌+◌, ◌<◌, ◌≤◌, [], false, length, IfOk, IfErr, vec_capacity};
+ghost use Rattle.ev_gate.specs.Words.{gate_id, first_of, seats_of, AreNew, AreAll, IsWhole};
 ghost use Rattle.ev_gate.specs.Inner.{IsLeader, IsGathering, IsLast};
 
 use crate::gate::{Gate, Pass};
@@ -23,7 +21,8 @@ impl<V: Stands> Gate<V> {
         requires some_seat { 0 < seats }
         requires few { seats ≤ 20 }
         ensures gate { IfOk result (λ r. (first_of r.0 ≡ value) × (seats_of r.0 ≡ seats)) }
-        ensures passes { IfOk result (λ r. AreNew (gate_id r.0) seats (V.opening value) (V.commits value) r.1.items) }
+        ensures passes { IfOk result (λ r.
+            AreNew (gate_id r.0) seats (V.opening value) (V.commits value) r.1.items) }
         ensures value_returned { IfErr result (λ r. r.0 ≡ value) }
     {
         let passes = match Vec::with_capacity(alloc, seats as usize) {
@@ -59,7 +58,8 @@ impl<V: Stands> Gate<V> {
         requires some_seat { 0 < seats }
         requires few { seats ≤ 20 }
         ensures gate { IfOk result (λ r. (first_of r.0 ≡ value) × (seats_of r.0 ≡ seats)) }
-        ensures leader { IfOk result (λ r. IsLeader (gate_id r.0) 1 (V.opening (first_of r.0)) (V.commits (first_of r.0)) r.1) }
+        ensures leader { IfOk result (λ r. let v = first_of r.0 in
+            IsLeader (gate_id r.0) 1 (V.opening v) (V.commits v) r.1) }
         ensures value_returned { IfErr result (λ v. v ≡ value) }
     {
         let terms = Terms {
@@ -85,8 +85,10 @@ impl<V: Stands> Gate<V> {
     fn seated(&self, mut passes: Vec<Pass<V>>, mut leader: GateSeat<V>, seats: u32) -> Vec<Pass<V>>
         requires some_seat { (0 < seats) × (seats ≡ seats_of self.now) }
         requires room { (passes.items ≡ []) × (seats ≤ vec_capacity passes) }
-        requires leader { IsLeader (gate_id self.now) 1 (V.opening (first_of self.now)) (V.commits (first_of self.now)) leader }
-        ensures { AreNew (gate_id self.now) seats (V.opening (first_of self.now)) (V.commits (first_of self.now)) result.items }
+        requires leader { let v = first_of self.now in
+            IsLeader (gate_id self.now) 1 (V.opening v) (V.commits v) leader }
+        ensures { let v = first_of self.now in
+            AreNew (gate_id self.now) seats (V.opening v) (V.commits v) result.items }
     {
         for _made in 1..seats {
             let seat = self.table.shared.split_seat::<Seating>(&mut leader);
@@ -113,7 +115,8 @@ impl<V: Stands> Gate<V> {
 
 // The last value, out of the table.
 fn taken_out<V: Stands>(table: GateTable<V>, leader: GateSeat<V>) -> V
-    requires table { (table.shared.table_id.slots ≡ 1) × (leader.table_id ≡ table.shared.table_id) }
+    requires slots { table.shared.table_id.slots ≡ 1 }
+    requires seat { leader.table_id ≡ table.shared.table_id }
     requires first { leader.me.0.number ≡ 0 }
     requires idle { (leader.me.0.spent ≡ false) × (leader.me.0.serving ≡ false) }
     requires all { length leader.me.0.told + 1 ≡ table.shared.key.seats }

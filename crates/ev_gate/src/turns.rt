@@ -1,7 +1,7 @@
 //! A turn at a gate: its value, and its two ends.
-ghost use Rattle.std.specs.Prelude.{◌≡◌, ◌≢◌, ℕ, ◌+◌, ◌%◌, ◌^◌, List, [], ◌∷◌, ◌++◌, length, drop, true, false, Some, None};
+ghost use Rattle.std.specs.Prelude.{◌≡◌, length, drop};
 ghost use Rattle.std.specs.Borrow.{sem};
-ghost use Rattle.ev_gate.specs.History.{commits_by, GrowsWithout, AddsOne, seen_of, mine_of};
+ghost use Rattle.ev_gate.specs.History.{GrowsWithout, Adds, AddsOne, AddsOwn, CountsAlso, seen_of, mine_of};
 ghost use Rattle.ev_gate.specs.Lent.{LendsValue};
 ghost use Rattle.ev_gate.specs.Words.{gate_id, pass_gate, pass_knows, turn_gate, turn_knows, turn_value};
 
@@ -12,9 +12,9 @@ use std::sync::Wait;
 use std::thread::Threads;
 
 // The words of the table.
-pub(crate) const TICKET: usize = 0;
+const TICKET: usize = 0;
 
-pub(crate) const SERVING: usize = 1;
+const SERVING: usize = 1;
 
 // Of a word as many bits as a thread parks on.
 const PARKED_BITS: u64 = 0xffff_ffff;
@@ -27,7 +27,7 @@ impl<V: Stands> Gate<V> {
 
         // The seat is the same, and it has seen the commits that it had not seen. None of these is its own.
         ensures knows { turn_knows result ≡ record (pass_knows pass) { since = (turn_knows result).since } }
-        ensures seen { GrowsWithout (pass_knows pass).number (pass_knows pass).since (turn_knows result).since }
+        ensures seen { let k = pass_knows pass in GrowsWithout k.number k.since (turn_knows result).since }
         ensures mine { mine_of (turn_knows result) ≡ mine_of (pass_knows pass) }
 
         // The value has the gate's opening, and stands for all that the seat has now seen.
@@ -57,7 +57,8 @@ impl<V: Stands> Gate<V> {
 impl<'a, V: Stands> Turn<'a, V> {
     /// The value, to read and to change. The turn then has what was written through it, and is otherwise the same.
     pub fn value(&mut self) -> &mut V
-        ensures* writes_back { sem 𝓛 (LendsValue V.row V.Opening.row V.Commit.row V.Stands self.entry result) }
+        ensures* writes_back { sem 𝓛 (LendsValue V.row V.Opening.row V.Commit.row V.Stands self.entry
+            result) }
         ensures value { result.now ≡ turn_value self.old }
     {
         &mut self.value
@@ -71,7 +72,8 @@ impl<'a, V: Stands> Turn<'a, V> {
         ensures gate { pass_gate result ≡ turn_gate self.entry }
         ensures knows { pass_knows result ≡ record (turn_knows self.entry) { since = (pass_knows result).since } }
         ensures seen { seen_of (pass_knows result) ≡ V.commits (turn_value self.entry) }
-        ensures mine { (c : V.Commit) → V.commits (turn_value self.entry) ≡ seen_of (turn_knows self.entry) ++ ((turn_knows self.entry).number, c) ∷ [] → mine_of (pass_knows result) ≡ mine_of (turn_knows self.entry) ++ ((turn_knows self.entry).number, c) ∷ [] }
+        ensures mine { (c : V.Commit) → Adds (turn_knows self.entry) c (V.commits (turn_value self.entry))
+            → CountsAlso (turn_knows self.entry) c (pass_knows result) }
     {
         self.put_back()
     }
@@ -89,9 +91,10 @@ impl<'a, V: Stands> Turn<'a, V> {
     // Puts the value back, and serves the next ticket.
     fn put_back(self) -> Pass<V>
         requires opening { Some (V.opening (turn_value self)) ≡ (turn_knows self).opening }
-        requires own { (new : List (ℕ × V.Commit)) × (V.commits (turn_value self) ≡ seen_of (turn_knows self) ++ new) × ((n : ℕ) → n ≢ (turn_knows self).number → commits_by n new ≡ []) }
+        requires own { AddsOwn (turn_knows self) (V.commits (turn_value self)) }
         ensures gate { pass_gate result ≡ turn_gate self.entry }
-        ensures knows { pass_knows result ≡ record (turn_knows self.entry) { since = drop (length (turn_knows self.entry).start) (V.commits (turn_value self.entry)) } }
+        ensures knows { let k = turn_knows self.entry in
+            pass_knows result ≡ record k { since = drop (length k.start) (V.commits (turn_value self.entry)) } }
     {
         let Turn {
             gate,

@@ -1,8 +1,6 @@
 -- What the slot has at the end.
-use Rattle.std.proofs.Common.{◌≡◌, Option, Some, refl, sym, ◌∙◌, subst}
+use Rattle.std.proofs.Common.{◌≡◌, Some, refl, sym, ◌∙◌, subst}
 use Rattle.std.specs.Prelude.{IsSome}
-use mathlib.Core.Option.{some}
-use lib.ListN.{get_elem?}
 use Rattle.ev_gate.specs.Inner.{IsLast}
 use Rattle.ev_gate.proofs.Lists.{same_there}
 use Rattle.ev_gate.proofs.Steps.{closes}

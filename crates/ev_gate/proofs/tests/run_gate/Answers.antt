@@ -1,5 +1,5 @@
 -- Each seat's pass goes out.
-use Rattle.std.proofs.Common.{◌≡◌, ℕ, ◌<◌, List, length, get_or, sym, ◌∙◌, subst, Option}
+use Rattle.std.proofs.Common.{ℕ, ◌<◌, length, get_or, sym, ◌∙◌, subst, Option}
 use Rattle.std.specs.Prelude.{IsSomeAnd}
 use Rattle.ev_gate.specs.Words.{gate_id, IsPassOf}
 use Rattle.ev_gate.proofs.Returning.{new_ready}

@@ -1,5 +1,5 @@
 -- The table begins under its rule.
-use Rattle.std.proofs.Common.{◌≡◌, List, [], ◌∷◌, ◌++◌, Option, Some, sym, ap, ◌∙◌, subst}
+use Rattle.std.proofs.Common.{◌≡◌, [], ◌∷◌, ◌++◌, Some, sym, ap, ◌∙◌, subst}
 use Rattle.atomic_table.specs.Table.{opening}
 use Rattle.ev_gate.specs.declared.view.Terms.{Terms}
 use Rattle.ev_gate.specs.Rule.{IsKept, first_view}

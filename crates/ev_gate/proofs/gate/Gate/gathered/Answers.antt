@@ -1,5 +1,5 @@
 -- The leader takes in the passes, one after another.
-use Rattle.std.proofs.Common.{◌≡◌, ◌+◌, ◌<◌, List, [], ◌∷◌, length, refl, sym, ◌∙◌, arith, vec_len}
+use Rattle.std.proofs.Common.{◌<◌, length, arith, vec_len}
 use Rattle.ev_gate.proofs.Steps.{joins}
 use Rattle.ev_gate.proofs.Turning.{nil_of}
 use Rattle.ev_gate.proofs.Gathering.{some_left, gathering_starts, gate_next, number_next, gathering_more}

@@ -1,9 +1,5 @@
 -- The leader makes one seat more.
-use Rattle.std.proofs.Common.{◌≡◌, ℕ, suc, ◌+◌, ◌<◌, ◌≤◌, List, [], ◌∷◌, ◌++◌, length, Option, Some, refl, sym, ap, ◌∙◌, subst, arith, length-append, vec_capacity}
-use Rattle.atomic_table.specs.Table.{Me}
-use Rattle.ev_gate.specs.declared.view.View.{View}
-use Rattle.ev_gate.specs.Rule.{new_view, left_view, right_view}
-use Rattle.ev_gate.specs.Inner.{IsSeating, AreSeated}
+use Rattle.std.proofs.Common.{ap, arith}
 use Rattle.ev_gate.proofs.Steps.{splits}
 use Rattle.ev_gate.proofs.Seating.{seating_more}
 use Rattle.ev_gate.proofs.gate.Gate.seated.Goals as goal

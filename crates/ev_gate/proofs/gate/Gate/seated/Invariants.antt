@@ -1,4 +1,4 @@
-use Rattle.std.proofs.Common.{◌≡◌, ◌+◌, ◌≤◌, vec_len, vec_capacity}
+use Rattle.std.proofs.Common.{◌≤◌, vec_capacity}
 use Rattle.ev_gate.specs.Words.{gate_id, first_of}
 use Rattle.ev_gate.specs.Inner.{IsSeating}
 use Rattle.ev_gate.proofs.gate.Gate.seated.Given as goal

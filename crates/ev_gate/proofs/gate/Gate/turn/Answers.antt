@@ -1,10 +1,10 @@
 -- A seat draws, waits, and takes the value.
-use Rattle.std.proofs.Common.{◌≡◌, ◌≢◌, ℕ, ◌+◌, ◌<◌, List, [], ◌∷◌, ◌++◌, length, Option, Some, None, refl, sym, ap, ◌∙◌, subst, arith, true, false}
+use Rattle.std.proofs.Common.{◌≡◌, ◌∷◌, length, Some, refl, sym, ap, ◌∙◌, subst, arith}
 use Rattle.atomic_table.specs.Table.{rest}
 use Rattle.std.specs.Prelude.{IsSome}
 use Rattle.ev_gate.specs.Held.{holds_empty}
 use Rattle.ev_gate.specs.Inner.{IsServed, HasTurn}
-use Rattle.ev_gate.proofs.Turning.{nil_of, head_is, draws_as, looks_as, drawn, still, served, in_slot, taken_out, same_mine}
+use Rattle.ev_gate.proofs.Turning.{nil_of, draws_as, looks_as, drawn, still, served, in_slot, taken_out}
 use Rattle.ev_gate.proofs.gate.Gate.turn.Goals as goal
 use Rattle.ev_gate.proofs.gate.Gate.turn.Goals.{After-load-served, After-unwrap}
 

@@ -1,5 +1,5 @@
 -- The value goes back, and the next ticket is served.
-use Rattle.std.proofs.Common.{◌≡◌, ℕ, ◌+◌, ◌<◌, List, [], ◌∷◌, ◌++◌, Option, Some, None, refl, sym, ap, ◌∙◌, subst, arith}
+use Rattle.std.proofs.Common.{◌∷◌, ◌++◌, Some, sym, ap, ◌∙◌, arith}
 use Rattle.atomic_table.specs.Table.{rest}
 use Rattle.ev_gate.proofs.Turning.{holds_empty_is, ends_as}
 use Rattle.ev_gate.proofs.gate.Turn.put_back.Goals as goal
