@@ -5,7 +5,8 @@ ghost use Rattle.ev_gate.specs.Held.{TableId-set, holds_empty};
 use crate::stands::Stands;
 use crate::view::{GateSeat, GateTable};
 
-/// A lock around one value. Its seats have passes, which take turns at it.
+/// A lock round one value. Each of its seats has a pass, with which it takes turns. This type and the two below are
+/// the project's own. It must be spent, by `close`.
 pub struct Gate<V: Stands> {
     pub(crate) table: GateTable<V>,
     ghost sized: { (table.shared.table_id.words ≡ 2) × (table.shared.table_id.slots ≡ 1) },

@@ -1,6 +1,6 @@
 //! Gates of one, three and twenty seats, each taken by a thread of its own.
-ghost use Rattle.std.specs.Prelude.{◌≡◌, ℕ, ◌<◌, ◌≤◌, List, [], ◌∷◌, ◌++◌, length, map, true, if◌then◌else◌, IfOk, IsSomeAnd, Some, slice_index_or, vec_capacity};
-ghost use Rattle.ev_gate.specs.Words.{gate_id, seats_of, pass_gate, pass_knows, IsPassOf, AreNew, AreAll};
+ghost use Rattle.std.specs.Prelude.{◌≡◌, ℕ, ◌<◌, ◌≤◌, [], ◌∷◌, ◌++◌, length, map, if◌then◌else◌, IfOk, IsSomeAnd, Some, slice_index_or, vec_capacity};
+ghost use Rattle.ev_gate.specs.Words.{gate_id, IsPassOf, AreAll};
 
 use crate::{Gate, Pass, Stands};
 use std::alloc::{AllocError, Global};
