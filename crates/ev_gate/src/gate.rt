@@ -16,7 +16,8 @@ pub struct Gate<V: Stands> {
 /// A seat's right to take its turn at the gate that made it. It must be spent: give it to a turn, and at last to `close`.
 pub struct Pass<V: Stands> {
     pub(crate) seat: GateSeat<V>,
-    ghost idle: { (seat.me.0.spent ≡ false) × (seat.me.0.queued ≡ false) × (seat.me.0.serving ≡ false) },
+    ghost idle: { (seat.me.0.spent ≡ false) × (seat.me.0.queued ≡ false)
+        × (seat.me.0.serving ≡ false) },
     ghost holds_nothing: { length seat.me.1 ≡ 0 },
     ghost took_in_nothing: { length seat.me.0.told ≡ 0 },
 }
@@ -27,7 +28,8 @@ pub struct Turn<'a, V: Stands> {
     pub(crate) seat: GateSeat<V>,
     pub(crate) value: V,
     ghost here: { seat.table_id ≡ gate.now.table.shared.table_id } by { TableId-set _ _ },
-    ghost served: { (seat.me.0.spent ≡ false) × (seat.me.0.queued ≡ true) × (seat.me.0.serving ≡ true) },
+    ghost served: { (seat.me.0.spent ≡ false) × (seat.me.0.queued ≡ true)
+        × (seat.me.0.serving ≡ true) },
     ghost slot_is_out: { holds_empty seat.me.1 ≡ true },
     ghost took_in_nothing: { length seat.me.0.told ≡ 0 },
 }

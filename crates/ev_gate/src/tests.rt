@@ -1,6 +1,7 @@
 //! Gates of one, three and twenty seats, each taken by a thread of its own.
 ghost use Rattle.std.specs.Prelude.{◌≡◌, ℕ, ◌<◌, ◌≤◌, [], ◌∷◌, ◌++◌, length, map, if◌then◌else◌, IfOk, IsSomeAnd, Some, slice_index_or, vec_capacity};
-ghost use Rattle.ev_gate.specs.Words.{gate_id, IsPassOf, AreAll};
+ghost use Rattle.ev_gate.specs.History.{mine_of};
+ghost use Rattle.ev_gate.specs.Words.{gate_id, pass_knows, IsPassOf, AreAll};
 
 use crate::{Gate, Pass, Stands};
 use std::alloc::{AllocError, Global};
@@ -41,22 +42,24 @@ impl Numbers {
     }
 }
 
-// One turn. Without memory for the number it is quit.
+// One turn, and whether it made a commit. Without memory for the number it is quit.
 fn take_turn<R: Threads + Wait + Sync>(
     rt: &R,
     gate: &Gate<Numbers>,
     pass: Pass<Numbers>,
     seat: u64,
     number: u64,
-) -> Pass<Numbers>
+) -> (Pass<Numbers>, bool)
     requires { IsPassOf (gate_id gate.now) seat pass }
-    ensures { IsPassOf (gate_id gate.now) seat result }
+    ensures pass { IsPassOf (gate_id gate.now) seat result.0 }
+    ensures mine { let mine = mine_of (pass_knows pass) in
+        mine_of (pass_knows result.0) ≡ (if result.1 then mine ++ (seat, number) ∷ [] else mine) }
 {
     let mut turn = gate.turn(rt, pass);
     if number % 2 == 0 && turn.value().add(seat, number) {
-        return turn.done();
+        return (turn.done(), true);
     }
-    turn.quit()
+    (turn.quit(), false)
 }
 
 // As many turns as that, with the numbers from 0 on.
@@ -71,7 +74,7 @@ fn take_turns<R: Threads + Wait + Sync>(
     ensures { IsPassOf (gate_id gate.now) seat result }
 {
     for number in 0..turns {
-        pass = take_turn(rt, gate, pass, seat, number);
+        (pass, _) = take_turn(rt, gate, pass, seat, number);
     }
     pass
 }
