@@ -7,13 +7,14 @@ use Rattle.std.specs.List.Sorted.{IsStrictlyIncreasing}
 use Rattle.std.specs.Str.{bytes_eq}
 use Rattle.serde_json.specs.Data.{Data}
 use Rattle.serde_json.specs.Find.{get, as_str}
+use Rattle.ev_types.specs.Items.{ResponseParts}
 use Rattle.ev_types.specs.Scripts.{MayMake, IsScript}
 use Rattle.ev_types.specs.declared.events.Line.{Line}
 use Rattle.ev_types.specs.declared.events.Actor.TheVariants.{Stream}
 use Rattle.ev_types.specs.declared.events.Event.TheVariants.{Connect}
 use Rattle.ev_app.specs.declared.script.Header.{Header}
 use Rattle.ev_app.specs.Members.{tree_of, has_only}
-use Rattle.ev_app.specs.Script.{line_of, line_by, connect_line, lines_from, IsHeader, AreNumbered}
+use Rattle.ev_app.specs.Script.{line_of, line_by, connect_line, response_line, response_at, lines_from, IsHeader, AreNumbered}
 
 -- lines before lines before others
 twice : (lines : List Line) (line : Line) (others : Option (List Line)) → option_map (λ more. lines ++ more) (option_map (λ more. line ∷ more) others) ≡ option_map (λ more. (lines ++ line ∷ []) ++ more) others
@@ -65,8 +66,21 @@ pub record IsLineAt (at : ℕ) (line : Line) : Type 0 where
 connect_kept : (at : ℕ) (tree : Data) → IfSome (connect_line at tree) (IsLineAt at)
 connect_kept at tree = some_test (IsLineAt at) (has_only (codes "op" ∷ []) tree) _ record { place = refl; allowed = λ _. tt }
 
+at_kept : (at : ℕ) (response : Option ResponseParts) → IfSome (response_at at response) (IsLineAt at)
+at_kept at None = tt
+at_kept at (Some response) = record { place = refl; allowed = λ _. tt }
+
+response_kept : (at : ℕ) (tree : Data) → IfSome (response_line at tree) (IsLineAt at)
+response_kept at tree = some_test (IsLineAt at) (has_only (codes "op" ∷ codes "message" ∷ []) tree) _ (at_kept at _)
+
+either_test : {A : Type 0} (P : A → Type 0) (b : Bool) (o q : Option A) → IfSome o P → IfSome q P → IfSome (cond b o q) P
+either_test P true o q h k = h
+either_test P false o q h k = k
+
 by_kept : (op : List ℕ) (at : ℕ) (tree : Data) → IfSome (line_by op at tree) (IsLineAt at)
-by_kept op at tree = some_test (IsLineAt at) (bytes_eq op (codes "connect")) _ (connect_kept at tree)
+by_kept op at tree =
+    either_test (IsLineAt at) (bytes_eq op (codes "connect")) _ _ (connect_kept at tree)
+      (some_test (IsLineAt at) (bytes_eq op (codes "response")) _ (response_kept at tree))
 
 line_kept : (at : ℕ) (tree : Data) → IfSome (line_of at tree) (IsLineAt at)
 line_kept at tree = some_and_then (IsLineAt at) (λ _. ⊤) (option_and_then as_str (get (codes "op") tree)) (λ op. line_by op at tree) (some_any _) (λ op _. by_kept op at tree)

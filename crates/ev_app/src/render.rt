@@ -1,11 +1,13 @@
-ghost use Rattle.std.specs.Prelude.{◌≡◌, ◌++◌, false, string_bytes, map, IfOk, OnOk};
-ghost use Rattle.serde_json.specs.Data.{string, array, object, no_members};
-ghost use Rattle.serde_json.specs.View.{view, members_view, items_of};
+ghost use Rattle.std.specs.Prelude.{◌≡◌, false, string_bytes, map, IfOk};
+ghost use Rattle.serde_json.specs.Data.{array};
+ghost use Rattle.serde_json.specs.View.{view, items_of};
 ghost use Rattle.serde_json.specs.Written.{has_float};
-ghost use Rattle.ev_app.specs.Rendering.{number_tree, rendering_of, line_text, entry_tree, header_tree, end_tree, answer_tree, request_tree, actor_text, op_text, type_url, with_text, with_names, with_node, with_versions, version_members, with_error};
+ghost use Rattle.ev_wire.specs.Requests.{request_tree};
+ghost use Rattle.ev_app.specs.Rendering.{number_tree, rendering_of, line_text, entry_tree, header_tree, end_tree, answer_tree, actor_text, op_text, verdict_text, verdict_tree};
 
-use ev_types::{Actor, Answer, Entry, Event, Kind, Name, Request, Seq, Text};
-use serde_json::{Map, Value, json, put};
+use ev_types::{Actor, Answer, Entry, Event, Request, Verdict};
+use ev_wire::request_value;
+use serde_json::{Value, json};
 use std::alloc::{AllocError, Global};
 
 /// The text of a journal.
@@ -99,6 +101,7 @@ fn op_word(event: &Event) -> &'static str
 {
     match event {
         Event::Connect => "connect",
+        Event::Response(_) => "response",
         Event::Settle => "settle",
     }
 }
@@ -111,6 +114,11 @@ fn answer_value(alloc: Global, answer: &Answer) -> Result<Value, AllocError>
         Answer::Moved { requests } => {
             let requests = request_values(alloc, requests.as_slice())?;
             json!(in alloc; {"requests": requests})
+        }
+        Answer::Replied { requests, verdicts } => {
+            let requests = request_values(alloc, requests.as_slice())?;
+            let verdicts = verdict_values(alloc, verdicts.as_slice())?;
+            json!(in alloc; {"requests": requests, "verdicts": verdicts})
         }
         Answer::Settled { closed, version } => {
             let closed = number_values(alloc, closed.as_slice())?;
@@ -139,121 +147,25 @@ fn number_values(alloc: Global, numbers: &[u64]) -> Result<Value, AllocError>
     Ok(Value::Array(values))
 }
 
-fn name_values(alloc: Global, names: &[Name]) -> Result<Value, AllocError>
-    ensures { IfOk result (λ v. view v ≡ array (items_of (map string names.now))) }
+fn verdict_values(alloc: Global, verdicts: &[Verdict]) -> Result<Value, AllocError>
+    ensures { IfOk result (λ v. view v ≡ array (items_of (map verdict_tree verdicts.now))) }
 {
-    let mut values = Vec::with_capacity(alloc, names.len())?;
-    for name in names {
-        values.push(json!(in alloc; name.as_str())?)?;
+    let mut values = Vec::with_capacity(alloc, verdicts.len())?;
+    for verdict in verdicts {
+        values.push(Value::String(verdict_word(alloc, *verdict)?))?;
     }
     Ok(Value::Array(values))
 }
 
-// A request as an object, whose empty members are left out.
-fn request_value(alloc: Global, request: &Request) -> Result<Value, AllocError>
-    ensures { IfOk result (λ v. view v ≡ request_tree request.now) }
+// A verdict in words.
+fn verdict_word(alloc: Global, verdict: Verdict) -> Result<String, AllocError>
+    ensures { IfOk result (λ word. string_bytes word ≡ verdict_text verdict) }
 {
-    let mut members = Map::new(alloc);
-    put(&mut members, alloc, "typeUrl", json!(in alloc; type_url_of(request.kind))?)?;
-    put_text(alloc, &mut members, "responseNonce", &request.nonce)?;
-    put_names(alloc, &mut members, "resourceNamesUnsubscribe", &request.unsubscribe)?;
-    put_names(alloc, &mut members, "resourceNamesSubscribe", &request.subscribe)?;
-    put_node(alloc, &mut members, &request.node)?;
-    put_versions(alloc, &mut members, &request.versions)?;
-    put_error(alloc, &mut members, &request.error)?;
-    Ok(Value::Object(members))
-}
-
-fn type_url_of(kind: Kind) -> &'static str
-    ensures { result.now ≡ type_url kind }
-{
-    match kind {
-        Kind::Cds => "type.googleapis.com/envoy.config.cluster.v3.Cluster",
-        Kind::Eds => "type.googleapis.com/envoy.config.endpoint.v3.ClusterLoadAssignment",
-        Kind::Lds => "type.googleapis.com/envoy.config.listener.v3.Listener",
-        Kind::Rds => "type.googleapis.com/envoy.config.route.v3.RouteConfiguration",
+    match verdict {
+        Verdict::New => String::from_str(alloc, "new"),
+        Verdict::Same => String::from_str(alloc, "same"),
+        Verdict::Kept => String::from_str(alloc, "kept"),
+        Verdict::Unasked => String::from_str(alloc, "unasked"),
+        Verdict::Refused(rule) => format!(in alloc; "V{rule}"),
     }
-}
-
-type Members = Map<String, Value>;
-
-fn put_text(
-    alloc: Global,
-    members: &mut Members,
-    key: &str,
-    text: &Option<Text>,
-) -> Result<(), AllocError>
-    ensures { OnOk result (members_view members.new.entries ≡ with_text key.now text.now (members_view members.old.entries)) }
-{
-    if let Some(text) = text {
-        put(members, alloc, key, json!(in alloc; text.as_str())?)?;
-    }
-    Ok(())
-}
-
-fn put_names(
-    alloc: Global,
-    members: &mut Members,
-    key: &str,
-    names: &Seq<Name>,
-) -> Result<(), AllocError>
-    ensures { OnOk result (members_view members.new.entries ≡ with_names key.now names.now (members_view members.old.entries)) }
-{
-    if names.len() != 0 {
-        put(members, alloc, key, name_values(alloc, names.as_slice())?)?;
-    }
-    Ok(())
-}
-
-fn put_node(
-    alloc: Global,
-    members: &mut Members,
-    node: &Option<Text>,
-) -> Result<(), AllocError>
-    ensures { OnOk result (members_view members.new.entries ≡ with_node node.now (members_view members.old.entries)) }
-{
-    if let Some(id) = node {
-        put(members, alloc, "node", json!(in alloc; {"id": id.as_str()})?)?;
-    }
-    Ok(())
-}
-
-#[tactic(auto, using(crate::proofs::FloatLemmas::versions_given))]
-fn put_versions(
-    alloc: Global,
-    members: &mut Members,
-    versions: &Seq<(Name, Text)>,
-) -> Result<(), AllocError>
-    ensures { OnOk result (members_view members.new.entries ≡ with_versions versions.now (members_view members.old.entries)) }
-{
-    if versions.len() != 0 {
-        let held = version_values(alloc, versions.as_slice())?;
-        put(members, alloc, "initialResourceVersions", held)?;
-    }
-    Ok(())
-}
-
-// An object from name to version.
-fn version_values(alloc: Global, versions: &[(Name, Text)]) -> Result<Value, AllocError>
-    ensures { IfOk result (λ v. view v ≡ object (version_members versions.now no_members)) }
-{
-    let mut held = Map::new(alloc);
-    for (name, version) in versions {
-        put(&mut held, alloc, name.as_str(), json!(in alloc; version.as_str())?)?;
-    }
-    Ok(Value::Object(held))
-}
-
-fn put_error(
-    alloc: Global,
-    members: &mut Members,
-    error: &Option<Text>,
-) -> Result<(), AllocError>
-    ensures { OnOk result (members_view members.new.entries ≡ with_error error.now (members_view members.old.entries)) }
-{
-    if let Some(message) = error {
-        let detail = json!(in alloc; {"code": 13, "message": message.as_str()})?;
-        put(members, alloc, "errorDetail", detail)?;
-    }
-    Ok(())
 }

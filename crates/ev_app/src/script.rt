@@ -1,14 +1,19 @@
 ghost use Rattle.std.specs.Prelude.{◌≡◌, ◌+◌, ◌^◌, ◌<◌, ◌≤◌, length, option_map, option_and_then, codes, IfOk, IfSome};
-ghost use Rattle.serde_json.specs.Find.{get};
+ghost use Rattle.std.specs.List.{list_all};
+ghost use Rattle.serde_json.specs.Find.{get, as_str};
 ghost use Rattle.serde_json.specs.View.{view};
 ghost use Rattle.ev_types.specs.Texts.{IsName};
 ghost use Rattle.ev_app.specs.Members.{tree_of, whole_within, name_of, or_default};
-ghost use Rattle.ev_app.specs.Script.{header_of, line_of, line_by, connect_line, lines_from, script_of, IsHeader};
+ghost use Rattle.ev_app.specs.Script.{header_of, line_of, line_by, connect_line, response_line, response_at, built, is_built, is_built_body, is_of_clusters, lines_from, script_of, IsHeader};
+ghost use Rattle.ev_wire.specs.Responses.{response_of};
 
 use crate::input::MAX_INPUT_BYTES;
 use crate::lines::Lines;
 use crate::members::{has_only, name_of, read_tree, whole_within};
-use ev_types::{Actor, Event, Line, Script, Seq, Text};
+use ev_types::{
+    Actor, Body, Content, Discovery, Event, Item, Kind, Line, Response, Script, Seq, Text,
+};
+use ev_wire::{WireError, read_response};
 use serde_json::Value;
 use std::alloc::{AllocError, Global};
 
@@ -124,26 +129,36 @@ fn read_line(alloc: Global, at: u32, text: &[u8]) -> Result<Option<Line>, AllocE
     ensures { IfOk result (λ line. line ≡ option_and_then (line_of at) (tree_of text.now)) }
 {
     match read_tree(alloc, text)? {
-        Some(tree) => Ok(line_of(at, &tree)),
+        Some(tree) => line_of(alloc, at, &tree),
         None => Ok(None),
     }
 }
 
 // The line that a value is, by its operation, or none where it isn't one.
-fn line_of(at: u32, tree: &Value) -> Option<Line>
-    ensures { result ≡ line_of at (view tree.now) }
+fn line_of(alloc: Global, at: u32, tree: &Value) -> Result<Option<Line>, AllocError>
+    ensures { IfOk result (λ line. line ≡ line_of at (view tree.now)) }
 {
-    line_by(tree.get("op")?.as_str()?, at, tree)
+    match op_of(tree) {
+        Some(op) => line_by(alloc, op, at, tree),
+        None => Ok(None),
+    }
+}
+
+// The name of an operation.
+fn op_of(tree: &Value) -> Option<&str>
+    ensures { option_map (λ op. op.now) result ≡ option_and_then as_str (get (codes "op") (view tree.now)) }
+{
+    tree.get("op")?.as_str()
 }
 
 // The same where the operation is known.
-fn line_by(op: &str, at: u32, tree: &Value) -> Option<Line>
-    ensures { result ≡ line_by op.now at (view tree.now) }
+fn line_by(alloc: Global, op: &str, at: u32, tree: &Value) -> Result<Option<Line>, AllocError>
+    ensures { IfOk result (λ line. line ≡ line_by op.now at (view tree.now)) }
 {
-    if op == "connect" {
-        connect_line(at, tree)
-    } else {
-        None
+    match op {
+        "connect" => Ok(connect_line(at, tree)),
+        "response" => response_line(alloc, at, tree),
+        _ => Ok(None),
     }
 }
 
@@ -159,4 +174,97 @@ fn connect_line(at: u32, tree: &Value) -> Option<Line>
         actor: Actor::Stream,
         event: Event::Connect,
     })
+}
+
+// A `response`: a message comes on the stream.
+fn response_line(alloc: Global, at: u32, tree: &Value) -> Result<Option<Line>, AllocError>
+    ensures { IfOk result (λ line. line ≡ response_line at (view tree.now)) }
+{
+    if !has_only(tree, &["op", "message"]) {
+        return Ok(None);
+    }
+    Ok(response_at(at, built_response(alloc, tree)?))
+}
+
+// The line of a response, where there is one.
+fn response_at(at: u32, response: Option<Response>) -> Option<Line>
+    ensures { result ≡ response_at at response }
+{
+    match response {
+        Some(response) => Some(Line {
+            at,
+            actor: Actor::Stream,
+            event: Event::Response(response),
+        }),
+        None => None,
+    }
+}
+
+// The response that a line's message is, where this stage answers it.
+fn built_response(alloc: Global, tree: &Value) -> Result<Option<Response>, AllocError>
+    ensures { IfOk result (λ response. response
+        ≡ option_and_then built (option_and_then response_of (get (codes "message") (view tree.now)))) }
+{
+    match read_message(alloc, tree.get("message"))? {
+        Some(response) => Ok(built(response)),
+        None => Ok(None),
+    }
+}
+
+// The response that a message is.
+fn read_message(alloc: Global, message: Option<&Value>) -> Result<Option<Response>, AllocError>
+    ensures { IfOk result (λ response. response
+        ≡ option_and_then response_of (option_map (λ message. view message.now) message.entry)) }
+{
+    let Some(message) = message else {
+        return Ok(None);
+    };
+    match read_response(alloc, message) {
+        Ok(response) => Ok(Some(response)),
+        Err(WireError::NotResponse) => Ok(None),
+        Err(WireError::OutOfMemory) => Err(AllocError),
+    }
+}
+
+// The response, where this stage answers it.
+fn built(response: Response) -> Option<Response>
+    ensures { result ≡ built response }
+{
+    if is_built(&response) { Some(response) } else { None }
+}
+
+fn is_built(response: &Response) -> bool
+    ensures { result ≡ is_built response.now }
+{
+    let resources = are_built(response.items.as_slice());
+    is_of_clusters(response.kind) && resources
+}
+
+fn are_built(items: &[Item]) -> bool
+    ensures { result ≡ list_all (λ item. is_built_body item.body) items.now }
+{
+    items.iter().all(|item| is_built_body(&item.body))
+}
+
+fn is_of_clusters(kind: Option<Kind>) -> bool
+    ensures { result ≡ is_of_clusters kind }
+{
+    match kind {
+        Some(kind) => kind.is(Kind::Cds),
+        None => false,
+    }
+}
+
+// Whether a body is that of a cluster which waits for nothing, or is refused by its form.
+fn is_built_body(body: &Body) -> bool
+    ensures { result ≡ is_built_body body.now }
+{
+    match body {
+        Body::Good(Content::Cluster(cluster)) => match cluster.discovery {
+            Discovery::Static(_) => !cluster.checked,
+            Discovery::Eds { .. } => false,
+        },
+        Body::Good(_) => false,
+        Body::Bad(_) => true,
+    }
 }
