@@ -80,7 +80,7 @@ either_test P false o q h k = k
 by_kept : (op : List ℕ) (at : ℕ) (tree : Data) → IfSome (line_by op at tree) (IsLineAt at)
 by_kept op at tree =
     either_test (IsLineAt at) (bytes_eq op (codes "connect")) _ _ (connect_kept at tree)
-      (some_test (IsLineAt at) (bytes_eq op (codes "response")) _ (response_kept at tree))
+    (some_test (IsLineAt at) (bytes_eq op (codes "response")) _ (response_kept at tree))
 
 line_kept : (at : ℕ) (tree : Data) → IfSome (line_of at tree) (IsLineAt at)
 line_kept at tree = some_and_then (IsLineAt at) (λ _. ⊤) (option_and_then as_str (get (codes "op") tree)) (λ op. line_by op at tree) (some_any _) (λ op _. by_kept op at tree)

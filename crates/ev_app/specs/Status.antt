@@ -1,5 +1,5 @@
 -- How a call of the program ends.
-use Rattle.std.specs.Prelude.{ℕ, ◌≡◌, ◌≢◌, ◌≤◌, ◌+◌, IsSome, List, [], ◌∷◌, Option, Some, None, codes, ⊤, length}
+use Rattle.std.specs.Prelude.{ℕ, ◌≡◌, ◌≤◌, ◌+◌, IsSome, List, [], ◌∷◌, Option, Some, None, codes, ⊤}
 use Rattle.std.specs.Io.KnownBytes.{append_known, IsAtEnd}
 use Rattle.ev_io.specs.Outside.{Rose, AppendsPrefix}
 use Rattle.ev_app.specs.declared.program.Status.{Status}

@@ -230,7 +230,11 @@ fn read_message(alloc: Global, message: Option<&Value>) -> Result<Option<Respons
 fn built(response: Response) -> Option<Response>
     ensures { result ≡ built response }
 {
-    if is_built(&response) { Some(response) } else { None }
+    if is_built(&response) {
+        Some(response)
+    } else {
+        None
+    }
 }
 
 fn is_built(response: &Response) -> bool

@@ -65,14 +65,19 @@ pub enum Answer {
     /// Nothing is done.
     Ignored,
     /// These requests are sent.
-    Moved { requests: Seq<Request> },
+    Moved {
+        requests: Seq<Request>,
+    },
     /// These requests are sent, the reply first, and this is said of each resource, in order.
     Replied {
         requests: Seq<Request>,
         verdicts: Seq<Verdict>,
     },
     /// The worker holds this version, and these connections were closed.
-    Settled { closed: Seq<u64>, version: u64 },
+    Settled {
+        closed: Seq<u64>,
+        version: u64,
+    },
 }
 
 impl TryCopy for Answer {

@@ -1,8 +1,6 @@
 use Rattle.std.proofs.Common.{◌≡◌, map, take}
-use Rattle.serde_json.specs.Data.{string}
 use Rattle.serde_json.specs.View.{view}
 use Rattle.ev_wire.specs.Requests.{request_tree}
-use Rattle.ev_app.specs.Rendering.{number_tree}
 use Rattle.ev_app.proofs.render.request_values.Given as goal
 
 abbrev pub invariant-loop-request : goal.invariant-loop-request

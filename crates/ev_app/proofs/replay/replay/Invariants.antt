@@ -1,6 +1,5 @@
 use Rattle.std.proofs.Common.{◌≡◌, ◌++◌, map, take}
 use Rattle.std.specs.List.{range_with_len}
-use Rattle.ev_types.specs.Scripts.{ScriptParts}
 use Rattle.ev_model.specs.Operations.{operation_of, line_operation, last_settle}
 use Rattle.ev_app.proofs.replay.replay.Given as goal
 
