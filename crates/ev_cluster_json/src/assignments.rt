@@ -1,4 +1,5 @@
 ghost use Rattle.std.specs.Prelude.{◌≡◌, IfOk};
+ghost use Rattle.serde_json.specs.Data.{Data};
 ghost use Rattle.serde_json.specs.View.{view};
 ghost use Rattle.ev_tree.specs.Rules.{Reads, IsLeast, least};
 ghost use Rattle.ev_cluster_json.specs.Assignments.{assignment_reading, assignment_rules};
@@ -15,9 +16,7 @@ use std::alloc::{AllocError, Global};
 /// `Rule` has the least form rule that it breaks: V6, V12 or V13. `OutOfMemory` comes without memory, and
 /// for 2^32 - 1 hosts or more.
 pub fn read_assignment(alloc: Global, value: &Value) -> Result<Assignment, ReadError>
-    ensures reads { Reads result (assignment_reading (view value.now)) }
-    // The rule of the reading is the least of all that are broken.
-    ensures least { IsLeast (assignment_rules (view value.now)) (least (assignment_rules (view value.now))) }
+    ensures { Reads result (assignment_reading (view value.now)) }
 {
     let tally = read_tally(alloc, Some(value))?;
     let rules = [
@@ -31,6 +30,12 @@ pub fn read_assignment(alloc: Global, value: &Value) -> Result<Assignment, ReadE
     let assignment = assignment(tally.rows)?;
     Ok(assignment)
 }
+
+/// The rule by which an assignment is refused is the least of all that it breaks, and where there is none,
+/// it breaks none: a law of the definitions.
+pub fn assignment_rule_is_least()
+    ensures { (tree : Data) → IsLeast (assignment_rules tree) (least (assignment_rules tree)) }
+{}
 
 /// The assignment of these rows, if there are few enough.
 pub fn assignment(rows: Vec<HostRow>) -> Result<Assignment, AllocError>

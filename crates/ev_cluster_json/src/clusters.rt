@@ -1,4 +1,5 @@
 ghost use Rattle.std.specs.Prelude.{◌≡◌, IfOk};
+ghost use Rattle.serde_json.specs.Data.{Data};
 ghost use Rattle.serde_json.specs.View.{view};
 ghost use Rattle.ev_tree.specs.Rules.{Reads, IsLeast, least};
 ghost use Rattle.ev_cluster_json.specs.Clusters.{cluster_reading, cluster_rules, least_rule, service_with};
@@ -21,9 +22,7 @@ use std::alloc::{AllocError, Global};
 /// `Rule` has the least form rule that it breaks: V2 and V3 as far as they show in the cluster alone, and V6
 /// to V13. `OutOfMemory` comes without memory, and for 2^32 - 1 hosts or more.
 pub fn read_cluster(alloc: Global, value: &Value) -> Result<Cluster, ReadError>
-    ensures reads { Reads result (cluster_reading (view value.now)) }
-    // The rule of the reading is the least of all that are broken.
-    ensures least { IsLeast (cluster_rules (view value.now)) (least_rule (view value.now)) }
+    ensures { Reads result (cluster_reading (view value.now)) }
 {
     let head = read_head(alloc, value)?;
     let eds = read_eds(alloc, value)?;
@@ -36,6 +35,12 @@ pub fn read_cluster(alloc: Global, value: &Value) -> Result<Cluster, ReadError>
     let cluster = cluster(alloc, head.name, discovery, head.checked)?;
     Ok(cluster.unwrap())
 }
+
+/// The rule by which a cluster is refused is the least of all that it breaks, and where there is none, it
+/// breaks none: a law of the definitions.
+pub fn cluster_rule_is_least()
+    ensures { (tree : Data) → IsLeast (cluster_rules tree) (least_rule tree) }
+{}
 
 /// The least rule that the parts of a cluster break.
 fn least_broken(head: &Head<'_>, eds: &EdsConfig<'_>, hosts: &Tally) -> Option<u8>

@@ -10,5 +10,5 @@ mod tally;
 #[cfg(test)]
 mod tests;
 
-pub use assignments::read_assignment;
-pub use clusters::read_cluster;
+pub use assignments::{assignment_rule_is_least, read_assignment};
+pub use clusters::{cluster_rule_is_least, read_cluster};

@@ -6,8 +6,8 @@ use Rattle.ev_cluster_json.proofs.RowsMade.{rows_made}
 use Rattle.ev_cluster_json.proofs.Leasts.{none_broken}
 use Rattle.ev_cluster_json.proofs.assignments.read_assignment.Goals as goal
 
-pub returns-clause-reads : goal.returns-clause-reads
-returns-clause-reads c =
+pub returns : goal.returns
+returns c =
     let tree = view c.args.value.now in
     let read = c.in_ok-tally.ensures in
     let none : least (assignment_rules tree) ≡ None =

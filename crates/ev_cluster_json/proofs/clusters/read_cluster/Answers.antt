@@ -7,8 +7,8 @@ use Rattle.ev_cluster_json.specs.Clusters.{least_rule, cluster_of}
 use Rattle.ev_cluster_json.proofs.ClusterMade.{rules_agree, made_from}
 use Rattle.ev_cluster_json.proofs.clusters.read_cluster.Goals as goal
 
-pub returns-in-Some-clause-reads : goal.returns-in-Some-clause-reads
-returns-in-Some-clause-reads c =
+pub returns-in-Some : goal.returns-in-Some
+returns-in-Some c =
     let tree = view c.args.value.now in
     let head = c.in_ok-head.ensures in
     let eds = c.in_ok-eds.ensures in
@@ -26,8 +26,8 @@ unwrap-requires c =
     let none : least_rule tree ≡ None = ap least (sym agree) ∙ sym c.least_broken.ensures ∙ c.in_default.is in
     ap is_some (made_from tree _ _ _ _ _ _ _ _ _ none head.name eds.service_name head.kind eds.limited head.checked hosts.rows c.service-service.ensures c.in_ok-discovery.ensures c.in_ok-cluster.ensures)
 
-pub returns-clause-reads : goal.returns-clause-reads
-returns-clause-reads c =
+pub returns : goal.returns
+returns c =
     let tree = view c.args.value.now in
     let head = c.in_ok-head.ensures in
     let eds = c.in_ok-eds.ensures in

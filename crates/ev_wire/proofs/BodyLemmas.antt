@@ -1,0 +1,195 @@
+-- A good body has the content of its kind, and an outer name that is a name and its own.
+use Rattle.std.proofs.Common.{◌≡◌, ℕ, List, [], ◌∷◌, Bool, true, false, true≢false, not, if◌then◌else◌, refl, ◌&&◌, ◌∙◌, sym, ap, subst, Option, Some, None, Result, Ok, Err, codes, length, nat_le}
+use Rattle.std.specs.Str.{bytes_eq}
+use Rattle.std.proofs.lemmas.Slice.Eq.{bytes_eq-Decides}
+use Rattle.std.proofs.lemmas.Bool.{leb-true}
+use denote.Ref.{Bor}
+use Rattle.serde_json.specs.Data.{Data, null}
+use Rattle.serde_json.specs.declared.value.Value.{Value}
+use Rattle.ev_types.specs.Texts.{IsName}
+use Rattle.ev_types.specs.Items.{IsOwnName, IsBodyOf, kind_of}
+use Rattle.ev_types.specs.declared.contents.Kind.{Kind}
+use Rattle.ev_types.specs.declared.contents.Kind.TheVariants.{Cds, Eds, Lds, Rds}
+use Rattle.ev_types.specs.declared.clusters.Cluster.{Cluster as ClusterParts}
+use Rattle.ev_types.specs.declared.listeners.Listener.{Listener as ListenerParts}
+use Rattle.ev_types.specs.declared.contents.Content.{Content}
+use Rattle.ev_types.specs.declared.contents.Content.TheVariants.{Cluster, Assignment, Listener, Routes}
+use Rattle.ev_types.specs.declared.contents.Body.{Body}
+use Rattle.ev_types.specs.declared.contents.Body.TheVariants.{Good, Bad}
+use Rattle.ev_tree.specs.declared.outcome.Found.{Found}
+use Rattle.ev_tree.specs.declared.outcome.Found.TheVariants.{Absent, Wrong, Given}
+use Rattle.ev_tree.specs.Forms.{given_or, is_wrong, text_of, tree_of}
+use Rattle.ev_tree.specs.Rules.{least, judged, is_name}
+use Rattle.ev_cluster_json.specs.Clusters.{cluster_reading, cluster_of, least_rule, cluster_rules, name_of, breaks_v6, head_breaks_v6}
+use Rattle.ev_cluster_json.specs.Assignments.{assignment_reading}
+use Rattle.ev_route_json.specs.Tables.{table_reading}
+use Rattle.ev_listener_json.specs.Listeners.{listener_reading, listener_of, listener_rules, name_of as listener_name, breaks_v6 as listener_v6}
+use Rattle.ev_wire.specs.Bodies.{is_of_type, breaks_v2, breaks_v3, differs, name_field, body_of, body_with, content_of, content_with}
+
+-- no body is of no type
+pub no_body : (kind : Kind) (name : List ℕ) (body : Option (Bor Value)) → body ≡ None → Bad 1 ≡ body_of kind name (tree_of body)
+unfolding body_of is_of_type
+no_body kind name body e = let P : Option (Bor Value) → Type 0 = λ b. Bad 1 ≡ body_of kind name (tree_of b) in subst P (sym e) refl
+
+-- ---- tests
+
+and_first : (a b : Bool) → (a && b) ≡ true → a ≡ true
+and_first true b h = refl
+and_first false b h = h
+
+and_second : (a b : Bool) → (a && b) ≡ true → b ≡ true
+and_second true b h = h
+and_second false b h = cc
+
+not_false : (a : Bool) → not a ≡ false → a ≡ true
+not_false true h = refl
+not_false false h = cc
+
+same_bytes : (a b : List ℕ) → not (bytes_eq a b) ≡ false → a ≡ b
+same_bytes a b h = (bytes_eq-Decides a b).0 (not_false (bytes_eq a b) h)
+
+named : (name : List ℕ) → not (is_name name) ≡ false → IsName name
+named name h =
+    let is : is_name name ≡ true = not_false (is_name name) h in
+    record {
+      given = leb-true 1 (length name) (and_first (nat_le 1 (length name)) (nat_le (length name) 512) is);
+      short = leb-true (length name) 512 (and_second (nat_le 1 (length name)) (nat_le (length name) 512) is);
+    }
+
+-- ---- readings
+
+abbrev AllUnbroken : List (ℕ × Bool) → Type 0
+AllUnbroken [] = Unit {0}
+AllUnbroken (rule ∷ rules) = (rule.1 ≡ false) × AllUnbroken rules
+
+first_unbroken : (b : Bool) (n : ℕ) (rules : List (ℕ × Bool)) → (if b then Some n else least rules) ≡ None → (b ≡ false) × (least rules ≡ None)
+first_unbroken true n rules h = cc
+first_unbroken false n rules h = (refl, h)
+
+-- where no rule is the least that is broken, none is
+unbroken : (rules : List (ℕ × Bool)) → least rules ≡ None → AllUnbroken rules
+unbroken [] h = tt
+unbroken (rule ∷ rules) h = ((first_unbroken rule.1 rule.0 rules h).0, unbroken rules (first_unbroken rule.1 rule.0 rules h).1)
+
+judged_ok : {A : Type 0} (rule : Option ℕ) (value a : A) → judged rule value ≡ Ok a → (rule ≡ None) × (value ≡ a)
+judged_ok None value a h = (refl, ok_injective value a h)
+  where
+    ok_injective : {A : Type 0} (x y : A) → judged None x ≡ Ok y → x ≡ y
+    ok_injective x y e = cc
+judged_ok (Some rule) value a h = cc
+
+content_with_ok : {A : Type 0} (content : A → Content) (reading : Result A ℕ) (c : Content) → content_with content reading ≡ Ok c
+    → (a : A) × (reading ≡ Ok a) × (content a ≡ c)
+content_with_ok content (Ok a) c h = (a, refl, cc)
+content_with_ok content (Err n) c h = cc
+
+-- ---- good content is of its kind
+
+content_with-kind : {A : Type 0} (kind : Kind) (content : A → Content) → ((a : A) → kind_of (content a) ≡ kind) → (reading : Result A ℕ)
+    → (rule : Option ℕ) → IsBodyOf kind (body_with rule (content_with content reading))
+content_with-kind kind content each (Ok a) None = each a
+content_with-kind kind content each (Ok a) (Some rule) = tt
+content_with-kind kind content each (Err n) None = tt
+content_with-kind kind content each (Err n) (Some rule) = tt
+
+content_of-kind : (kind : Kind) (body : Data) (rule : Option ℕ) → IsBodyOf kind (body_with rule (content_of kind body))
+unfolding content_of
+content_of-kind Cds body rule = content_with-kind Cds Cluster (λ _. refl) (cluster_reading body) rule
+content_of-kind Eds body rule = content_with-kind Eds Assignment (λ _. refl) (assignment_reading body) rule
+content_of-kind Lds body rule = content_with-kind Lds Listener (λ _. refl) (listener_reading body) rule
+content_of-kind Rds body rule = content_with-kind Rds Routes (λ _. refl) (table_reading body) rule
+
+-- what holds of both branches holds of the choice
+of_choice : (P : Body → Type 0) (b : Bool) (x y : Body) → P x → P y → P (if b then x else y)
+of_choice P true x y h k = h
+of_choice P false x y h k = k
+
+-- a good body has the content of its kind
+pub body_of-kind : (kind : Kind) (name : List ℕ) (body : Data) → IsBodyOf kind (body_of kind name body)
+unfolding body_of
+body_of-kind kind name body = of_choice (IsBodyOf kind) (not (is_of_type kind body)) (Bad 1) _ tt (content_of-kind kind body _)
+
+-- ---- the outer name of a good body is a name, and its own
+
+-- no other name, in a right form: the name
+own_text : (name : List ℕ) (found : Found (List ℕ)) → differs name found ≡ false → is_wrong found ≡ false → given_or [] found ≡ name
+own_text name Absent same right = same_bytes [] name same
+own_text name Wrong same right = cc
+own_text name (Given inner) same right = same_bytes inner name same
+
+-- a cluster that breaks no rule has a name of the right form
+cluster_named : (body : Data) → least_rule body ≡ None → is_wrong (text_of (codes "name") body) ≡ false
+unfolding breaks_v6 head_breaks_v6
+cluster_named body h = by_test (is_wrong (text_of (codes "name") body)) refl
+  where
+    by_test : (b : Bool) → is_wrong (text_of (codes "name") body) ≡ b → is_wrong (text_of (codes "name") body) ≡ false
+    by_test true e =
+        let broken : breaks_v6 body ≡ true = rw e refl in
+        absurd (true≢false (sym broken ∙ (unbroken (cluster_rules body) h).1.1.0))
+    by_test false e = e
+
+cluster_own : (name : List ℕ) (body : Data) → differs name (text_of (codes "name") body) ≡ false → (cluster : ClusterParts) → cluster_reading body ≡ Ok cluster
+    → cluster.name ≡ name
+unfolding name_of
+cluster_own name body same cluster h =
+    let fair = judged_ok (least_rule body) (cluster_of body) cluster h in
+    ap (λ (c : ClusterParts). c.name) (sym fair.1) ∙ own_text name (text_of (codes "name") body) same (cluster_named body fair.0)
+
+-- the same of a listener
+listener_named : (body : Data) → least (listener_rules body) ≡ None → is_wrong (text_of (codes "name") body) ≡ false
+unfolding listener_v6
+listener_named body h = by_test (is_wrong (text_of (codes "name") body)) refl
+  where
+    by_test : (b : Bool) → is_wrong (text_of (codes "name") body) ≡ b → is_wrong (text_of (codes "name") body) ≡ false
+    by_test true e =
+        let broken : listener_v6 body ≡ true = rw e refl in
+        absurd (true≢false (sym broken ∙ (unbroken (listener_rules body) h).1.1.0))
+    by_test false e = e
+
+listener_own : (name : List ℕ) (body : Data) → differs name (text_of (codes "name") body) ≡ false → (listener : ListenerParts) → listener_reading body ≡ Ok listener
+    → listener.name ≡ name
+unfolding listener_name
+listener_own name body same listener h =
+    let fair = judged_ok (least (listener_rules body)) (listener_of body) listener h in
+    ap (λ (l : ListenerParts). l.name) (sym fair.1) ∙ own_text name (text_of (codes "name") body) same (listener_named body fair.0)
+
+content_of-own_name : (kind : Kind) (name : List ℕ) (body : Data) → IsName name → differs name (text_of (name_field kind) body) ≡ false
+    → (c : Content) → content_of kind body ≡ Ok c → IsOwnName name (Good c)
+unfolding content_of
+content_of-own_name Cds name body is same c h =
+    let read = content_with_ok Cluster (cluster_reading body) c h in
+    let P : Content → Type 0 = λ c. IsOwnName name (Good c) in
+    subst P read.2 (is, cluster_own name body same read.0 read.1)
+content_of-own_name Eds name body is same c h =
+    let read = content_with_ok Assignment (assignment_reading body) c h in
+    let P : Content → Type 0 = λ c. IsOwnName name (Good c) in
+    subst P read.2 is
+content_of-own_name Lds name body is same c h =
+    let read = content_with_ok Listener (listener_reading body) c h in
+    let P : Content → Type 0 = λ c. IsOwnName name (Good c) in
+    subst P read.2 (is, listener_own name body same read.0 read.1)
+content_of-own_name Rds name body is same c h =
+    let read = content_with_ok Routes (table_reading body) c h in
+    let P : Content → Type 0 = λ c. IsOwnName name (Good c) in
+    subst P read.2 is
+
+body_with-own_name : (name : List ℕ) (rule : Option ℕ) (content : Result Content ℕ)
+    → (rule ≡ None → (c : Content) → content ≡ Ok c → IsOwnName name (Good c)) → IsOwnName name (body_with rule content)
+body_with-own_name name None (Ok c) own = own refl c refl
+body_with-own_name name None (Err n) own = tt
+body_with-own_name name (Some rule) (Ok c) own = tt
+body_with-own_name name (Some rule) (Err n) own = tt
+
+names_kept : (kind : Kind) (name : List ℕ) (body : Data) → least ((2, breaks_v2 name) ∷ (3, breaks_v3 kind name body) ∷ []) ≡ None
+    → (c : Content) → content_of kind body ≡ Ok c → IsOwnName name (Good c)
+unfolding breaks_v3
+names_kept kind name body h c e =
+    let fair = unbroken ((2, breaks_v2 name) ∷ (3, breaks_v3 kind name body) ∷ []) h in
+    content_of-own_name kind name body (named name fair.0) fair.1.0 c e
+
+-- the outer name of a good body is a name, and the cluster's or listener's own
+pub body_of-own_name : (kind : Kind) (name : List ℕ) (body : Data) → IsOwnName name (body_of kind name body)
+unfolding body_of
+body_of-own_name kind name body =
+    of_choice (IsOwnName name) (not (is_of_type kind body)) (Bad 1) _ tt
+    (body_with-own_name name (least ((2, breaks_v2 name) ∷ (3, breaks_v3 kind name body) ∷ [])) (content_of kind body) (names_kept kind name body))

@@ -1,0 +1,63 @@
+-- Requests as trees and as text: the members of a DeltaDiscoveryRequest by the proto3 JSON mapping, of the xDS
+-- transport protocol. That members stand in the order of bytes and empty ones are left out is this project's own.
+use Rattle.std.specs.Prelude.{ℕ, List, [], ◌∷◌, map, Option, Some, None, codes}
+use Rattle.serde_json.specs.Data.{Data, number, unsigned, string, array, object, Members, member, no_members, put}
+use Rattle.serde_json.specs.View.{items_of}
+use Rattle.serde_json.specs.Written.{compact_text}
+use Rattle.ev_types.specs.declared.contents.Kind.{Kind}
+use Rattle.ev_types.specs.declared.contents.Kind.TheVariants.{Cds, Eds, Lds, Rds}
+use Rattle.ev_types.specs.declared.contents.Request.{Request}
+
+-- the type URL of a kind of resource
+abbrev pub type_url : Kind → List ℕ
+type_url Cds = codes "type.googleapis.com/envoy.config.cluster.v3.Cluster"
+type_url Eds = codes "type.googleapis.com/envoy.config.endpoint.v3.ClusterLoadAssignment"
+type_url Lds = codes "type.googleapis.com/envoy.config.listener.v3.Listener"
+type_url Rds = codes "type.googleapis.com/envoy.config.route.v3.RouteConfiguration"
+
+-- a text as a member, where there is one
+abbrev pub with_text : List ℕ → Option (List ℕ) → Members → Members
+with_text key None members = members
+with_text key (Some text) members = put key (string text) members
+
+-- names as a member, where there are any
+abbrev pub with_names : List ℕ → List (List ℕ) → Members → Members
+with_names key [] members = members
+with_names key (name ∷ names) members = put key (array (items_of (map string (name ∷ names)))) members
+
+-- the node as a member, by its id
+abbrev pub with_node : Option (List ℕ) → Members → Members
+with_node None members = members
+with_node (Some id) members = put (codes "node") (object (member (codes "id") (string id) no_members)) members
+
+-- each name with its version
+abbrev pub version_members : List (List ℕ × List ℕ) → Members → Members
+version_members [] members = members
+version_members (version ∷ versions) members = version_members versions (put version.0 (string version.1) members)
+
+-- the versions that are held as a member, where there are any
+abbrev pub with_versions : List (List ℕ × List ℕ) → Members → Members
+with_versions [] members = members
+with_versions (version ∷ versions) members =
+    put (codes "initialResourceVersions") (object (version_members (version ∷ versions) no_members)) members
+
+-- the reason of a refusal as a member: code 13 is gRPC's INTERNAL
+abbrev pub with_error : Option (List ℕ) → Members → Members
+with_error None members = members
+with_error (Some message) members =
+    put (codes "errorDetail") (object (member (codes "code") (number (unsigned 13)) (member (codes "message") (string message) no_members))) members
+
+-- a request as an object, whose empty members are left out
+abbrev pub request_tree : Request → Data
+request_tree request = object
+    (with_error request.error
+    (with_versions request.versions
+    (with_node request.node
+    (with_names (codes "resourceNamesSubscribe") request.subscribe
+    (with_names (codes "resourceNamesUnsubscribe") request.unsubscribe
+    (with_text (codes "responseNonce") request.nonce
+    (put (codes "typeUrl") (string (type_url request.kind)) no_members)))))))
+
+-- a request as text, without spaces
+abbrev pub request_text : Request → List ℕ
+request_text request = compact_text (request_tree request)

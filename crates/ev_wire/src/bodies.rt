@@ -1,0 +1,95 @@
+ghost use Rattle.std.specs.Prelude.{◌≡◌, ◌∷◌, [], IfOk};
+ghost use Rattle.serde_json.specs.View.{view};
+ghost use Rattle.ev_tree.specs.Forms.{found_map, tree_of};
+ghost use Rattle.ev_tree.specs.Rules.{Reads, least};
+ghost use Rattle.ev_wire.specs.Bodies.{is_of_type, breaks_v3, differs, content_of, body_with, body_of};
+
+use crate::kinds::{name_field, type_url};
+use ev_cluster_json::{read_assignment, read_cluster};
+use ev_listener_json::read_listener;
+use ev_route_json::read_routes;
+use ev_tree::{Found, ReadError, is_name, member};
+use ev_types::{Body, Content, Kind};
+use serde_json::Value;
+use std::alloc::{AllocError, Global};
+
+/// The body of a resource of this kind and outer name: its content, or the least form rule that it breaks.
+#[tactic(auto, using(crate::proofs::BodyLemmas::no_body), unfolding(crate::specs::Bodies::body_of))]
+pub(crate) fn read_body(
+    alloc: Global,
+    kind: Kind,
+    name: &str,
+    body: Option<&Value>,
+) -> Result<Body, AllocError>
+    ensures { IfOk result (λ read. read ≡ body_of kind name.now (tree_of body.entry)) }
+{
+    let Some(body) = body else {
+        return Ok(Body::Bad(1));
+    };
+    if !is_of_type(alloc, kind, body)? {
+        return Ok(Body::Bad(1));
+    }
+    let broken = ev_tree::least(&[
+        (2, !is_name(name)),
+        (3, has_another_name(alloc, kind, name, body)?),
+    ]);
+    match read_content(alloc, kind, body) {
+        Ok(content) => Ok(body_with(broken, Ok(content))),
+        Err(ReadError::Rule(rule)) => Ok(body_with(broken, Err(rule))),
+        Err(ReadError::OutOfMemory) => Err(AllocError),
+    }
+}
+
+/// Whether a body is an object whose `@type` is that of the kind.
+#[tactic(auto, unfolding(crate::specs::Bodies::is_of_type))]
+fn is_of_type(alloc: Global, kind: Kind, body: &Value) -> Result<bool, AllocError>
+    ensures { IfOk result (λ is. is ≡ is_of_type kind (view body.now)) }
+{
+    let named = member::text(alloc, Some(body), "@type")?;
+    let is_same = member::text_or_empty(named) == type_url(kind);
+    Ok(body.is_object() & is_same)
+}
+
+/// Whether a body's own name is another one than this.
+#[tactic(auto, unfolding(crate::specs::Bodies::breaks_v3))]
+fn has_another_name(alloc: Global, kind: Kind, name: &str, body: &Value) -> Result<bool, AllocError>
+    ensures { IfOk result (λ has. has ≡ breaks_v3 kind name.now (view body.now)) }
+{
+    let own = member::text(alloc, Some(body), name_field(kind))?;
+    Ok(differs(name, own))
+}
+
+fn differs(name: &str, own: Found<&str>) -> bool
+    ensures { result ≡ differs name.now (found_map (λ s. s.now) own.entry) }
+{
+    match own {
+        Found::Absent => "" != name,
+        Found::Wrong => false,
+        Found::Given(own) => own != name,
+    }
+}
+
+/// The content of a body, by the reader of its kind.
+#[tactic(auto, unfolding(crate::specs::Bodies::content_of))]
+fn read_content(alloc: Global, kind: Kind, body: &Value) -> Result<Content, ReadError>
+    ensures { Reads result (content_of kind (view body.now)) }
+{
+    match kind {
+        Kind::Cds => Ok(Content::Cluster(read_cluster(alloc, body)?)),
+        Kind::Eds => Ok(Content::Assignment(read_assignment(alloc, body)?)),
+        Kind::Lds => Ok(Content::Listener(read_listener(alloc, body)?)),
+        Kind::Rds => Ok(Content::Routes(read_routes(alloc, body)?)),
+    }
+}
+
+/// A body of this content, unless a rule is broken: by its names, or by its content.
+fn body_with(broken: Option<u8>, content: Result<Content, u8>) -> Body
+    ensures { result ≡ body_with broken content }
+{
+    match (broken, content) {
+        (None, Ok(content)) => Body::Good(content),
+        (None, Err(rule)) => Body::Bad(rule),
+        (Some(rule), Ok(_)) => Body::Bad(rule),
+        (Some(rule), Err(other)) => Body::Bad(rule.min(other)),
+    }
+}

@@ -1,0 +1,222 @@
+use crate::{WireError, read_response, request_value, write_request};
+use ev_types::{Body, Content, Kind, Name, Request, Response, Seq, Text};
+use serde_json::Value;
+use std::alloc::{AllocError, Global};
+use std::process::Abort;
+use std::test::Fail;
+
+/// A table of messages, each after what it reads as: `~` stands for `type.googleapis.com/envoy.config.`, and
+/// `^` for a text of 512 bytes.
+const MESSAGES: &str = r#"[
+  ["cds 7: ", {"typeUrl":"~cluster.v3.Cluster","nonce":"7"}],
+  ["cds 7: ", {"type_url":"~cluster.v3.Cluster","nonce":"7","resources":[],"removed_resources":[]}],
+  ["cds 7: ", {"typeUrl":null,"type_url":"~cluster.v3.Cluster","nonce":"7","resources":null,"removedResources":null}],
+  ["cds 8: -a - -a ", {"type\u005furl":"~cluster.v3.Cluster","\u006eonce":"7","nonce":"8","removedResources":["a","","a"]}],
+  ["cds 7: -^ -^x ", {"typeUrl":"~cluster.v3.Cluster","nonce":"7","removed\u0052esources":["^","^x"]}],
+  ["lds 7: ", {"typeUrl":"~listener.v3.Listener","nonce":"7","systemVersionInfo":{},"ttl":4,"resources":[]}],
+  ["other 7: ", {"nonce":"7"}],
+  ["other 7: ", {"typeUrl":"","nonce":"7","resources":8,"removedResources":{}}],
+  ["other 7: ", {"typeUrl":"~cluster.v3.cluster","nonce":"7","resources":[{"name":3}]}],
+  ["other 7: ", {"typeUrl":"envoy.config.cluster.v3.Cluster","nonce":"7","removedResources":["a"],"removed_resources":["a"]}],
+
+  ["not a response", null],
+  ["not a response", []],
+  ["not a response", "nonce"],
+  ["not a response", {}],
+  ["not a response", {"typeUrl":"~cluster.v3.Cluster"}],
+  ["not a response", {"typeUrl":"~cluster.v3.Cluster","nonce":""}],
+  ["not a response", {"typeUrl":"~cluster.v3.Cluster","nonce":null}],
+  ["not a response", {"typeUrl":"~cluster.v3.Cluster","nonce":7}],
+  ["not a response", {"typeUrl":"~cluster.v3.Cluster","Nonce":"7"}],
+  ["not a response", {"typeUrl":7,"nonce":"7"}],
+  ["not a response", {"typeUrl":"~cluster.v3.Cluster","type_url":"~cluster.v3.Cluster","nonce":"7"}],
+  ["not a response", {"typeUrl":"~cluster.v3.Cluster","nonce":"7","resources":{}}],
+  ["not a response", {"typeUrl":"~cluster.v3.Cluster","nonce":"7","resources":[null]}],
+  ["not a response", {"typeUrl":"~cluster.v3.Cluster","nonce":"7","resources":[{},7]}],
+  ["not a response", {"typeUrl":"~cluster.v3.Cluster","nonce":"7","resources":[{"name":7}]}],
+  ["not a response", {"typeUrl":"~cluster.v3.Cluster","nonce":"7","resources":[{},{"name":"a","version":7}]}],
+  ["not a response", {"typeUrl":"~cluster.v3.Cluster","nonce":"7","removedResources":"a"}],
+  ["not a response", {"typeUrl":"~cluster.v3.Cluster","nonce":"7","removedResources":["a",null]}],
+  ["not a response", {"typeUrl":"~cluster.v3.Cluster","nonce":"7","removedResources":["a"],"removed_resources":["a"]}],
+
+  ["cds 7: a@1=V1 ", {"typeUrl":"~cluster.v3.Cluster","nonce":"7","resources":[{"name":"a","version":"1"}]}],
+  ["cds 7: a@=V1 b@=V1 c@=V1 d@=V1 ", {"typeUrl":"~cluster.v3.Cluster","nonce":"7","resources":[{"name":"a","resource":null},{"name":"b","resource":7},{"name":"c","resource":[]},{"name":"d","resource":"d"}]}],
+  ["cds 7: a@=V1 b@=V1 c@=V1 ", {"typeUrl":"~cluster.v3.Cluster","nonce":"7","resources":[{"name":"a","resource":{"name":"a"}},{"name":"b","resource":{"@type":7,"name":"b"}},{"name":"c","resource":{"@type":null,"name":"c"}}]}],
+  ["cds 7: a@=V1 @=V1 ", {"typeUrl":"~cluster.v3.Cluster","nonce":"7","resources":[{"name":"a","resource":{"@type":"~listener.v3.Listener","name":"a"}},{"resource":{"@type":"~cluster.v3.Cluster ","name":7}}]}],
+  ["cds 7: @=V2 @2=V2 ^x@=V2 ^@=cluster ", {"typeUrl":"~cluster.v3.Cluster","nonce":"7","resources":[{"resource":{"@type":"~cluster.v3.Cluster"}},{"name":"","version":"2","resource":{"@type":"~cluster.v3.Cluster","name":"a"}},{"name":"^x","resource":{"@type":"~cluster.v3.Cluster","name":"^x"}},{"name":"^","resource":{"@type":"~cluster.v3.Cluster","name":"^"}}]}],
+  ["cds 7: a@=V2 a@=V2 ", {"typeUrl":"~cluster.v3.Cluster","nonce":"7","resources":[{"name":"a","resource":{"@type":"~cluster.v3.Cluster","name":"b","type":"EDS","edsClusterConfig":{"serviceName":"^x"}}},{"name":"a","resource":{"@type":"~cluster.v3.Cluster","type":"EDS","edsClusterConfig":{"serviceName":"^x"}}}]}],
+  ["cds 7: a@=V3 a@=V3 a@=V3 a@=V3 ", {"typeUrl":"~cluster.v3.Cluster","nonce":"7","resources":[{"name":"a","resource":{"@type":"~cluster.v3.Cluster","name":"A"}},{"name":"a","resource":{"@type":"~cluster.v3.Cluster"}},{"name":"a","resource":{"@type":"~cluster.v3.Cluster","name":null,"type":"EDS"}},{"name":"a","resource":{"@type":"~cluster.v3.Cluster","name":"b","type":7}}]}],
+  ["cds 7: a@=V6 a@=V6 a@=V7 a@=V6 a@=V8 ", {"typeUrl":"~cluster.v3.Cluster","nonce":"7","resources":[{"name":"a","resource":{"@type":"~cluster.v3.Cluster","name":7,"type":"EDS"}},{"name":"a","resource":{"@type":"~cluster.v3.Cluster","name":"a","type":[]}},{"name":"a","resource":{"@type":"~cluster.v3.Cluster","name":"a","type":2}},{"name":"a","resource":{"@type":"~cluster.v3.Cluster","name":"a","type":"3"}},{"name":"a","resource":{"@type":"~cluster.v3.Cluster","name":"a","type":"EDS"}}]}],
+  ["cds 7: a@=cluster \"@\n=cluster ", {"typeUrl":"~cluster.v3.Cluster","nonce":"7","resources":[{"name":"b","name":"a","resource":{"@type":"~cluster.v3.Cluster","\u006eame":"a","load_assignment":{"endpoints":[{"lb_endpoints":[{"endpoint":{"address":{"socket_address":{"address":"10.0.0.1","port_value":"80"}}},"load_balancing_weight":"3"}]}]},"connect_timeout":"1.5s"}},{"name":"\"","version":"\n","resource":{"\u0040type":"~cluster.v3.Cluster","name":"\u0022","type":"STATIC"}}]}],
+
+  ["eds 7: a@1=assignment a@=assignment -b ", {"type_url":"~endpoint.v3.ClusterLoadAssignment","nonce":"7","resources":[{"name":"a","version":"1","resource":{"@type":"~endpoint.v3.ClusterLoadAssignment","cluster_name":"a"}},{"name":"a","resource":{"@type":"~endpoint.v3.ClusterLoadAssignment","clusterName":"a","endpoints":[]}}],"removed_resources":["b"]}],
+  ["eds 7: a@=V1 @=V2 a@=V3 a@=V3 a@=V6 a@=V6 a@=V12 ", {"typeUrl":"~endpoint.v3.ClusterLoadAssignment","nonce":"7","resources":[{"name":"a","resource":{"@type":"~cluster.v3.Cluster","clusterName":"a"}},{"resource":{"@type":"~endpoint.v3.ClusterLoadAssignment"}},{"name":"a","resource":{"@type":"~endpoint.v3.ClusterLoadAssignment","name":"a"}},{"name":"a","resource":{"@type":"~endpoint.v3.ClusterLoadAssignment","clusterName":"b","endpoints":7}},{"name":"a","resource":{"@type":"~endpoint.v3.ClusterLoadAssignment","clusterName":7}},{"name":"a","resource":{"@type":"~endpoint.v3.ClusterLoadAssignment","clusterName":"a","cluster_name":"a"}},{"name":"a","resource":{"@type":"~endpoint.v3.ClusterLoadAssignment","clusterName":"a","endpoints":[{"lbEndpoints":[{}]}]}}]}],
+  ["lds 7: l@=listener l@=V3 @=V2 l@=V6 l@=V14 l@=V2 l@=V1 ", {"typeUrl":"~listener.v3.Listener","nonce":"7","resources":[{"name":"l","resource":{"@type":"~listener.v3.Listener","name":"l","address":{"socket_address":{"address":"0.0.0.0","port_value":"80"}},"filter_chains":[{"filters":[{"typed_config":{"@type":"type.googleapis.com/envoy.extensions.filters.network.tcp_proxy.v3.TcpProxy","cluster":"a"}}]}]}},{"name":"l","resource":{"@type":"~listener.v3.Listener","name":"m"}},{"resource":{"@type":"~listener.v3.Listener","name":"l"}},{"name":"l","resource":{"@type":"~listener.v3.Listener","name":false}},{"name":"l","resource":{"@type":"~listener.v3.Listener","name":"l"}},{"name":"l","resource":{"@type":"~listener.v3.Listener","name":"m","filterChains":[{"filters":[{"typedConfig":{"@type":"type.googleapis.com/envoy.extensions.filters.network.http_connection_manager.v3.HttpConnectionManager","rds":{}}}]}]}},{"name":"l","resource":{"@type":"~cluster.v3.Cluster","name":"l"}}]}],
+  ["rds 7: r@=routes r@=V3 ^x@=V2 r@=V6 r@=V19 ", {"typeUrl":"~route.v3.RouteConfiguration","nonce":"7","resources":[{"name":"r","resource":{"@type":"~route.v3.RouteConfiguration","name":"r","virtual_hosts":[{"name":"h","domains":["*"]}]}},{"name":"r","resource":{"@type":"~route.v3.RouteConfiguration","virtualHosts":[{}]}},{"name":"^x","resource":{"@type":"~route.v3.RouteConfiguration","name":"^x"}},{"name":"r","resource":{"@type":"~route.v3.RouteConfiguration","name":7,"virtualHosts":[{}]}},{"name":"r","resource":{"@type":"~route.v3.RouteConfiguration","name":"r","virtualHosts":[{}]}}]}]
+]"#;
+
+/// The text of a table, with its abbreviations written out.
+fn written_out(alloc: Global, table: &str) -> Result<String, AllocError> {
+    let mut text = String::new(alloc);
+    for c in table.chars() {
+        if c == '~' {
+            text.push_str("type.googleapis.com/envoy.config.")?;
+        } else if c == '^' {
+            for _ in 0..512 {
+                text.push('n')?;
+            }
+        } else {
+            text.push(c)?;
+        }
+    }
+    Ok(text)
+}
+
+fn kind_word(kind: Option<Kind>) -> &'static str {
+    match kind {
+        Some(Kind::Cds) => "cds ",
+        Some(Kind::Eds) => "eds ",
+        Some(Kind::Lds) => "lds ",
+        Some(Kind::Rds) => "rds ",
+        None => "other ",
+    }
+}
+
+fn body_word(alloc: Global, body: &Body) -> Result<String, AllocError> {
+    match body {
+        Body::Good(Content::Cluster(_)) => String::from_str(alloc, "cluster"),
+        Body::Good(Content::Assignment(_)) => String::from_str(alloc, "assignment"),
+        Body::Good(Content::Listener(_)) => String::from_str(alloc, "listener"),
+        Body::Good(Content::Routes(_)) => String::from_str(alloc, "routes"),
+        Body::Bad(rule) => format!(in alloc; "V{rule}"),
+    }
+}
+
+/// A response in a line: its kind, its nonce, `name@version=body` of each resource and `-name` of each removal.
+fn described(alloc: Global, response: &Response) -> Result<String, AllocError> {
+    let mut text = String::from_str(alloc, kind_word(response.kind))?;
+    text.push_str(response.nonce.as_str())?;
+    text.push_str(": ")?;
+    for item in response.items.as_slice() {
+        text.push_str(item.name.as_str())?;
+        text.push_str("@")?;
+        text.push_str(item.version.as_str())?;
+        text.push_str("=")?;
+        text.push_str(body_word(alloc, &item.body)?.as_str())?;
+        text.push_str(" ")?;
+    }
+    for name in response.removed.as_slice() {
+        text.push_str("-")?;
+        text.push_str(name.as_str())?;
+        text.push_str(" ")?;
+    }
+    Ok(text)
+}
+
+/// What a message reads as, in a line.
+fn told(alloc: Global, message: &Value) -> Result<String, AllocError> {
+    match read_response(alloc, message) {
+        Ok(response) => described(alloc, &response),
+        Err(error) => format!(in alloc; "{error}"),
+    }
+}
+
+#[test]
+fn messages_read_as_told(rt: HostRuntime) -> Result<(), Fail> {
+    let alloc = rt.alloc();
+    let text = written_out(alloc, MESSAGES)?;
+    let table = Value::from_str(alloc, text.as_str())?;
+    let rows = table.as_array().ok_or("a table")?;
+    assert!(rt; rows.len() > 40);
+    for row in rows {
+        let row = row.as_array().ok_or("a row")?;
+        let want = row.first().ok_or("a text")?.as_str().ok_or("a text")?;
+        let message = row.get(1).ok_or("a message")?;
+        let got = told(alloc, message)?;
+        assert_eq!(rt; got.as_str(), want, "{message}");
+    }
+    Ok(())
+}
+
+/// The row `one_refused_of_two`: the second of two clusters is refused, and stays in the message.
+#[test]
+fn one_refused_of_two(rt: HostRuntime) -> Result<(), Fail> {
+    let alloc = rt.alloc();
+    let json =
+        r#"{"typeUrl":"type.googleapis.com/envoy.config.cluster.v3.Cluster","nonce":"7","resources":[{"name":"a","version":"v1","resource":{"@type":"type.googleapis.com/envoy.config.cluster.v3.Cluster","name":"a","type":"STATIC","loadAssignment":{"clusterName":"a","endpoints":[{"lbEndpoints":[{"endpoint":{"address":{"socketAddress":{"address":"10.0.0.1","portValue":80}}}}]}]}}},{"name":"b","version":"v1","resource":{"@type":"type.googleapis.com/envoy.config.cluster.v3.Cluster","name":"b","type":"EDS"}}]}"#;
+    let message = Value::from_str(alloc, json)?;
+    let got = told(alloc, &message)?;
+    assert_eq!(rt; got.as_str(), "cds 7: a@v1=cluster b@v1=V8 ");
+    assert_eq!(rt;
+        read_response(alloc, &Value::Null).err(),
+        Some(WireError::NotResponse)
+    );
+    Ok(())
+}
+
+fn names(alloc: Global, texts: &[&str]) -> Result<Seq<Name>, Fail> {
+    let mut names = Vec::new(alloc);
+    for text in texts {
+        names.push(Name::new(alloc, text)?)?;
+    }
+    Ok(Seq::from_vec(names))
+}
+
+/// Asserts the text of a request, and that its tree is that of the text.
+fn assert_written(
+    rt: &impl Abort,
+    alloc: Global,
+    request: &Request,
+    want: &str,
+) -> Result<(), Fail> {
+    let text = write_request(alloc, request)?;
+    assert_eq!(rt; text.as_slice(), want.as_bytes(), "{want}");
+    let tree = request_value(alloc, request)?;
+    assert!(rt; tree == Value::from_str(alloc, want)?, "{want}");
+    Ok(())
+}
+
+#[test]
+fn requests_byte_for_byte(rt: HostRuntime) -> Result<(), Fail> {
+    let alloc = rt.alloc();
+    let mut request = Request {
+        kind: Kind::Eds,
+        node: None,
+        subscribe: Seq::new(alloc),
+        unsubscribe: Seq::new(alloc),
+        versions: Seq::new(alloc),
+        nonce: None,
+        error: None,
+    };
+    assert_written(
+        &rt,
+        alloc,
+        &request,
+        r#"{"typeUrl":"type.googleapis.com/envoy.config.endpoint.v3.ClusterLoadAssignment"}"#,
+    )?;
+    request.kind = Kind::Cds;
+    request.nonce = Some(Text::new(alloc, "7")?);
+    request.error = Some(Text::new(alloc, "b: V8")?);
+    assert_written(
+        &rt,
+        alloc,
+        &request,
+        r#"{"errorDetail":{"code":13,"message":"b: V8"},"responseNonce":"7","typeUrl":"type.googleapis.com/envoy.config.cluster.v3.Cluster"}"#,
+    )?;
+    request.kind = Kind::Lds;
+    request.node = Some(Text::new(alloc, "a\"\\\n\u{1}é/")?);
+    request.subscribe = names(alloc, &["b", "a", "b"])?;
+    request.unsubscribe = names(alloc, &["c"])?;
+    let mut versions = Vec::new(alloc);
+    versions.push((Name::new(alloc, "z")?, Text::new(alloc, "")?))?;
+    versions.push((Name::new(alloc, "B")?, Text::new(alloc, "2")?))?;
+    request.versions = Seq::from_vec(versions);
+    request.nonce = Some(Text::new(alloc, "")?);
+    assert_written(
+        &rt,
+        alloc,
+        &request,
+        r#"{"errorDetail":{"code":13,"message":"b: V8"},"initialResourceVersions":{"B":"2","z":""},"node":{"id":"a\"\\\n\u0001é/"},"resourceNamesSubscribe":["b","a","b"],"resourceNamesUnsubscribe":["c"],"responseNonce":"","typeUrl":"type.googleapis.com/envoy.config.listener.v3.Listener"}"#,
+    )?;
+    Ok(())
+}
