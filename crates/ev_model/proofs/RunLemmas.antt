@@ -4,6 +4,7 @@ use Rattle.std.proofs.lemmas.List.{length-set}
 use Rattle.ev_types.specs.Items.{ItemParts, ResponseParts}
 use Rattle.ev_types.specs.declared.contents.Kind.{Kind}
 use Rattle.ev_types.specs.declared.contents.Kind.TheVariants.{Cds, Eds, Lds, Rds}
+use Rattle.ev_types.specs.declared.contents.Content.{Content}
 use Rattle.ev_types.specs.declared.contents.Body.{Body}
 use Rattle.ev_types.specs.declared.contents.Body.TheVariants.{Good, Bad}
 use Rattle.ev_types.specs.declared.events.Verdict.{Verdict}
@@ -17,7 +18,7 @@ use Rattle.ev_model.specs.World.{World}
 use Rattle.ev_model.specs.Step.{step, connect, respond, respond_by}
 use Rattle.ev_model.specs.Live.{lives_of}
 use Rattle.ev_model.specs.Verdicts.{verdicts_of}
-use Rattle.ev_model.specs.Rows.{with_removals, add_new, add_item, add_items}
+use Rattle.ev_model.specs.Rows.{with_removals, add_good, add_by, add_item, add_items}
 use Rattle.ev_model.specs.Runs.{world_after, RunsFrom}
 use Rattle.ev_types.specs.Scripts.{MayMake}
 
@@ -41,16 +42,19 @@ connect-held : (world : World) (b : Bool) → world.stream ≡ b → (connect wo
 connect-held world true h = simp h refl
 connect-held world false h = simp h refl
 
-new-held : (kind : Kind) (item : ItemParts) (body : Body) (world : World) → (add_new kind item body world).held ≡ world.held
-new-held kind item (Good content) world = refl
-new-held kind item (Bad rule) world = refl
+good-held : (kind : Kind) (verdict : Verdict) (item : ItemParts) (content : Content) (world : World) → (add_good kind verdict item content world).held ≡ world.held
+good-held kind New item content world = refl
+good-held kind Same item content world = refl
+good-held kind Kept item content world = refl
+good-held kind Unasked item content world = refl
+good-held kind (Refused rule) item content world = refl
+
+by-held : (kind : Kind) (verdict : Verdict) (item : ItemParts) (body : Body) (world : World) → (add_by kind verdict item body world).held ≡ world.held
+by-held kind verdict item (Good content) world = good-held kind verdict item content world
+by-held kind verdict item (Bad rule) world = refl
 
 item-held : (kind : Kind) (verdict : Verdict) (item : ItemParts) (world : World) → (add_item kind verdict item world).held ≡ world.held
-item-held kind New item world = new-held kind item item.body world
-item-held kind Same item world = refl
-item-held kind Kept item world = refl
-item-held kind Unasked item world = refl
-item-held kind (Refused rule) item world = refl
+item-held kind verdict item world = by-held kind verdict item item.body world
 
 items-held : (kind : Kind) (verdicts : List Verdict) (items : List ItemParts) (world : World) → (add_items kind verdicts items world).held ≡ world.held
 items-held kind [] items world = refl

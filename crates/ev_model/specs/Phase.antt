@@ -20,7 +20,7 @@ abbrev pub has_live : List GenRow → Kind → List ℕ → Bool
 has_live rows kind name = list_any (λ (row : GenRow). is_row_of kind name row && is_live row.status) rows
 
 -- nothing is waited for under the name: it serves, or nothing of it is live
-abbrev pub has_come : List GenRow → Kind → List ℕ → Bool
+unfoldable pub has_come : List GenRow → Kind → List ℕ → Bool
 has_come rows kind name = has_active rows kind name || not (has_live rows kind name)
 
 -- a first response came, and nothing is waited for under its names

@@ -70,17 +70,21 @@ add_row kind item content world = keep_version kind item (record world {
   made = world.made + 1;
 })
 
-abbrev pub add_new : Kind → ItemParts → Body → World → World
-add_new kind item (Good content) world = add_row kind item content world
-add_new kind item (Bad rule) world = world
+-- the world after a good resource with its verdict
+abbrev pub add_good : Kind → Verdict → ItemParts → Content → World → World
+add_good kind New item content world = add_row kind item content world
+add_good kind Same item content world = keep_version kind item world
+add_good kind Kept item content world = world
+add_good kind Unasked item content world = world
+add_good kind (Refused rule) item content world = world
 
 -- the world after a resource with its verdict: one that is refused changes nothing
+abbrev pub add_by : Kind → Verdict → ItemParts → Body → World → World
+add_by kind verdict item (Good content) world = add_good kind verdict item content world
+add_by kind verdict item (Bad rule) world = world
+
 abbrev pub add_item : Kind → Verdict → ItemParts → World → World
-add_item kind New item world = add_new kind item item.body world
-add_item kind Same item world = keep_version kind item world
-add_item kind Kept item world = world
-add_item kind Unasked item world = world
-add_item kind (Refused rule) item world = world
+add_item kind verdict item world = add_by kind verdict item item.body world
 
 -- the world after these resources with their verdicts, in order
 abbrev pub add_items : Kind → List Verdict → List ItemParts → World → World

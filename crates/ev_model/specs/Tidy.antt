@@ -1,6 +1,6 @@
 -- What follows each event by itself: generations that are ready take the place of those before them, and the phase moves on.
 -- Source: cluster manager warming of Envoy's documentation: an updated cluster serves once it has warmed.
-use Rattle.std.specs.Prelude.{ℕ, Bool, true, false, not, ◌&&◌, if◌then◌else◌, List}
+use Rattle.std.specs.Prelude.{Bool, true, false, not, ◌&&◌, if◌then◌else◌, List}
 use Rattle.std.specs.List.{list_any}
 use Rattle.ev_types.specs.declared.clusters.Discovery.{Discovery}
 use Rattle.ev_types.specs.declared.clusters.Discovery.TheVariants.{Static, Eds}

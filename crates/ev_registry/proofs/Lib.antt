@@ -1,3 +1,5 @@
 pub mod Standing
 pub mod RowLemmas
 pub mod VersionLemmas
+pub mod TextLemmas
+pub mod ResponseLemmas

@@ -1,3 +1,4 @@
 pub mod Worlds
 pub mod Registries
 pub mod Places
+pub mod Texts

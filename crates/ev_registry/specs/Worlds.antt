@@ -1,5 +1,5 @@
 -- What the registry's state stands for.
-use Rattle.std.specs.Prelude.{ℕ, false, List, [], ◌∷◌, None}
+use Rattle.std.specs.Prelude.{false, [], ◌∷◌, None}
 use Rattle.ev_model.specs.World.{World, empty_picture}
 use Rattle.ev_registry.specs.declared.state.State.{State}
 

@@ -1,7 +1,11 @@
 //! The registry: what the managers know, and the journal of what was done. Each call is one step of the flat machine.
 #![tactic(auto)]
 
+mod changes;
+mod items;
 mod journal;
+mod phases;
+mod requests;
 mod rows;
 mod state;
 mod versions;

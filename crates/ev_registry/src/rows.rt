@@ -6,9 +6,7 @@ ghost use Rattle.ev_model.specs.Rows.{with_statuses, status_left, removed_status
 ghost use Rattle.ev_model.specs.Tidy.{is_due, is_ready, is_static, has_successor, status_by, promoted_status};
 
 use ev_rules::is_removed;
-use ev_types::{
-    Content, Discovery, GenRow, Kind, Live, Lives, Response, RowStatus, Seq, TryCopy,
-};
+use ev_types::{Content, Discovery, GenRow, Kind, Live, Lives, Response, RowStatus, Seq, TryCopy};
 use std::alloc::{AllocError, Global};
 
 /// The live rows, in order.
@@ -171,7 +169,8 @@ fn promoted_status(due: &[&GenRow], row: &GenRow) -> RowStatus
 fn has_successor(due: &[&GenRow], row: &GenRow) -> bool
     ensures { result ≡ list_any (λ other. is_row_of row.now.kind row.now.name other.now) due.now }
 {
-    due.iter().any(|other| is_row_of(row.kind, row.name.as_str(), other))
+    due.iter()
+        .any(|other| is_row_of(row.kind, row.name.as_str(), other))
 }
 
 fn is_due(row: &GenRow) -> bool

@@ -1,11 +1,19 @@
-ghost use Rattle.std.specs.Prelude.{◌≡◌, ◌<◌, IfOk, length};
-ghost use Rattle.ev_model.specs.World.{opening};
+ghost use Rattle.std.specs.Prelude.{◌≡◌, IfOk, Some, length, true};
 ghost use Rattle.ev_types.specs.Scripts.{MayMake};
-ghost use Rattle.ev_model.specs.Requests.{clusters_request};
-ghost use Rattle.ev_model.specs.Step.{step, connect, settle};
+ghost use Rattle.ev_types.specs.declared.contents.Kind.TheVariants.{Cds};
+ghost use Rattle.ev_model.specs.World.{opening};
+ghost use Rattle.ev_model.specs.Live.{lives_of};
+ghost use Rattle.ev_model.specs.Verdicts.{verdicts_of};
+ghost use Rattle.ev_model.specs.Step.{step, connect, respond, answered, responded};
 ghost use Rattle.ev_registry.specs.Worlds.{world_of};
 
-use ev_types::{Actor, Answer, Event, Kind, Request, Seq, Text, TryCopy};
+use crate::items::made_names;
+use crate::requests::{connect_requests, reply_of, requests_of};
+use crate::rows;
+use ev_rules::verdicts;
+use ev_types::{
+    Actor, Answer, Event, GenRow, KeptVersion, Kind, Phase, Response, Seq, Text, TryCopy, Verdict,
+};
 use std::alloc::{AllocError, Global};
 
 /// What the managers know.
@@ -14,6 +22,11 @@ pub(crate) struct State {
     pub(crate) node: Text,
     pub(crate) stream: bool,
     pub(crate) held: Seq<u64>,
+    pub(crate) rows: Seq<GenRow>,
+    pub(crate) made: u32,
+    pub(crate) versions: Seq<KeptVersion>,
+    pub(crate) first_clusters: Option<Seq<Text>>,
+    pub(crate) phase: Phase,
 }
 
 /// The state in which nothing is known yet.
@@ -24,6 +37,11 @@ pub(crate) fn first_state(alloc: Global, workers: u32, node: &Text) -> Result<St
         node: node.copy(alloc)?,
         stream: false,
         held: Seq::from_vec(vec![in alloc; 0; workers as usize]?),
+        rows: Seq::new(alloc),
+        made: 0,
+        versions: Seq::new(alloc),
+        first_clusters: None,
+        phase: Phase::Clusters,
     })
 }
 
@@ -33,6 +51,11 @@ impl TryCopy for State {
             node: self.node.copy(alloc)?,
             stream: self.stream,
             held: self.held.copy(alloc)?,
+            rows: self.rows.copy(alloc)?,
+            made: self.made,
+            versions: self.versions.copy(alloc)?,
+            first_clusters: self.first_clusters.copy(alloc)?,
+            phase: self.phase,
         })
     }
 }
@@ -50,6 +73,7 @@ impl State {
     {
         match (actor, event) {
             (Actor::Stream, Event::Connect) => self.connected(alloc),
+            (Actor::Stream, Event::Response(response)) => self.responded(alloc, response),
             (Actor::Worker(worker), Event::Settle) => self.settled(alloc, worker),
             _ => unreachable!(),
         }
@@ -58,40 +82,64 @@ impl State {
     fn connected(&self, alloc: Global) -> Result<(State, Answer), AllocError>
         ensures { IfOk result (λ r. (world_of r.0, r.1) ≡ connect (world_of self.now)) }
     {
-        let mut next = self.copy(alloc)?;
         if self.stream {
-            return Ok((next, Answer::Ignored));
+            return Ok((self.copy(alloc)?, Answer::Ignored));
         }
-        next.stream = true;
-        let mut requests = Seq::new(alloc);
-        requests.push(self.clusters_request(alloc)?)?;
+        let mut next = self.opened(alloc)?;
+        next.tidy(alloc)?;
+        let requests = connect_requests(alloc, self)?;
         Ok((next, Answer::Moved { requests }))
     }
 
-    fn clusters_request(&self, alloc: Global) -> Result<Request, AllocError>
-        ensures { IfOk result (λ request. request ≡ clusters_request (world_of self.now)) }
-    {
-        Ok(Request {
-            kind: Kind::Cds,
-            node: Some(self.node.copy(alloc)?),
-            subscribe: Seq::new(alloc),
-            unsubscribe: Seq::new(alloc),
-            versions: Seq::new(alloc),
-            nonce: None,
-            error: None,
-        })
-    }
-
-    fn settled(&self, alloc: Global, worker: u32) -> Result<(State, Answer), AllocError>
-        requires { worker < length self.now.held }
-        ensures { IfOk result (λ r. (world_of r.0, r.1) ≡ settle (world_of self.now) worker) }
+    // The same with a stream that is open.
+    fn opened(&self, alloc: Global) -> Result<State, AllocError>
+        ensures { IfOk result (λ next. world_of next ≡ record (world_of self.now) { stream = true }) }
     {
         let mut next = self.copy(alloc)?;
-        next.held.set(worker as usize, 0);
-        let answer = Answer::Settled {
-            closed: Seq::new(alloc),
-            version: 0,
-        };
-        Ok((next, answer))
+        next.stream = true;
+        Ok(next)
+    }
+
+    fn responded(&self, alloc: Global, response: &Response) -> Result<(State, Answer), AllocError>
+        ensures { IfOk result (λ r. (world_of r.0, r.1) ≡ respond response.now (world_of self.now)) }
+    {
+        match (self.stream, response.kind) {
+            (true, Some(Kind::Cds)) => self.answered(alloc, response),
+            _ => Ok((self.copy(alloc)?, Answer::Ignored)),
+        }
+    }
+
+    // A response of clusters is answered.
+    fn answered(&self, alloc: Global, response: &Response) -> Result<(State, Answer), AllocError>
+        requires { response.now.kind ≡ Some Cds }
+        ensures { IfOk result (λ r. (world_of r.0, r.1)
+            ≡ answered Cds response.now (verdicts_of (lives_of (world_of self.now)) response.now) (world_of self.now)) }
+    {
+        let lives = rows::lives_of(alloc, self.rows.as_slice())?;
+        let verdicts = verdicts(alloc, &lives, response)?;
+        let next = self.changed(alloc, response, verdicts.as_slice())?;
+        let reply = reply_of(alloc, response, verdicts.as_slice())?;
+        let requests = requests_of(alloc, self, &next, reply)?;
+        let verdicts = Seq::from_vec(verdicts);
+        Ok((next, Answer::Replied { requests, verdicts }))
+    }
+
+    // The state that a response of clusters leaves, with these verdicts on its resources.
+    fn changed(
+        &self,
+        alloc: Global,
+        response: &Response,
+        verdicts: &[Verdict],
+    ) -> Result<State, AllocError>
+        requires { length verdicts.now ≡ length response.now.items }
+        ensures { IfOk result (λ next. world_of next ≡ responded Cds response.now verdicts.now (world_of self.now)) }
+    {
+        let items = response.items.as_slice();
+        let mut next = self.copy(alloc)?;
+        next.remove(alloc, response);
+        next.add(alloc, verdicts, items)?;
+        next.note_first(made_names(alloc, verdicts, items)?);
+        next.tidy(alloc)?;
+        Ok(next)
     }
 }

@@ -48,7 +48,8 @@ fn first_stop(versions: &[KeptVersion], new: &KeptVersion) -> Option<usize>
 fn stops(new: &KeptVersion, kept: &KeptVersion) -> bool
     ensures { result ≡ (is_version_of new.now.kind new.now.name kept.now || is_before new.now.name kept.now.name) }
 {
-    is_version_of(new.kind, new.name.as_str(), kept) || is_before(new.name.as_str(), kept.name.as_str())
+    is_version_of(new.kind, new.name.as_str(), kept)
+        || is_before(new.name.as_str(), kept.name.as_str())
 }
 
 fn is_version_of(kind: Kind, name: &str, kept: &KeptVersion) -> bool

@@ -1,4 +1,4 @@
-ghost use Rattle.std.specs.Prelude.{◌≡◌, IfOk, OnOk, IsSome, option_map, if◌then◌else◌};
+ghost use Rattle.std.specs.Prelude.{◌≡◌, IfOk, OnOk, IsSome, length, option_map, if◌then◌else◌};
 ghost use Rattle.ev_types.specs.declared.events.Verdict.TheVariants.{Kept, Unasked};
 ghost use Rattle.ev_model.specs.Verdicts.{verdicts_of, verdict_of, body_verdict, good_verdict, against, lives_after, with_new};
 
@@ -15,7 +15,8 @@ pub fn verdicts(
     response: &Response,
 ) -> Result<Vec<Verdict>, AllocError>
     requires { IsSome response.now.kind }
-    ensures { IfOk result (λ verdicts. verdicts.items ≡ verdicts_of lives.now.rows response.now) }
+    ensures verdicts { IfOk result (λ verdicts. verdicts.items ≡ verdicts_of lives.now.rows response.now) }
+    ensures one_each { IfOk result (λ verdicts. length verdicts.items ≡ length response.now.items) }
 {
     let Some(kind) = response.kind else {
         return Ok(Vec::new(alloc));
@@ -70,7 +71,11 @@ fn good_verdict(kind: Kind, lives: &[Live], name: &str, content: &Content) -> Ve
 fn watched_verdict(watched: bool) -> Verdict
     ensures { result ≡ (if watched then Kept else Unasked) }
 {
-    if watched { Verdict::Kept } else { Verdict::Unasked }
+    if watched {
+        Verdict::Kept
+    } else {
+        Verdict::Unasked
+    }
 }
 
 // Whether the newest generation has this content already.

@@ -110,7 +110,9 @@ pub(crate) fn next_number(lives: &[Live]) -> Result<Gen, AllocError>
 pub(crate) fn is_watched(lives: &[Live], kind: Kind, name: &str) -> bool
     ensures { result ≡ is_watched lives.now kind name.now }
 {
-    lives.iter().any(|live| depends_on(&live.content, kind, name))
+    lives
+        .iter()
+        .any(|live| depends_on(&live.content, kind, name))
 }
 
 // Whether a generation of this content depends on the name.
@@ -134,9 +136,7 @@ fn depends_on(content: &Content, kind: Kind, name: &str) -> bool
 pub(crate) fn is_taken(lives: &[Live], name: &str, content: &Content) -> bool
     ensures { result ≡ is_taken lives.now name.now content.now }
 {
-    lives
-        .iter()
-        .any(|live| shares_address(&live.content, content) && live.name.as_str() != name)
+    lives.iter().any(|live| shares_address(&live.content, content) && live.name.as_str() != name)
 }
 
 // Whether both are listeners of one address.
@@ -144,7 +144,8 @@ fn shares_address(content: &Content, other: &Content) -> bool
     ensures { result ≡ shares_address (address_of content.now) (address_of other.now) }
 {
     match (content, other) {
-        (Content::Listener(listener), Content::Listener(other)) => listener.address == other.address,
+        (Content::Listener(listener), Content::Listener(other)) => listener.address
+            == other.address,
         _ => false,
     }
 }

@@ -66,7 +66,10 @@ fn lesser(rule: Option<u8>, other: Option<u8>) -> Option<u8>
 fn times_named(name: &str, items: &[Item]) -> usize
     ensures { result ≡ length (items_named name.now items.now) }
 {
-    items.iter().filter(|item| item.name.as_str() == name).count()
+    items
+        .iter()
+        .filter(|item| item.name.as_str() == name)
+        .count()
 }
 
 // Whether the name is one of these.
@@ -81,6 +84,5 @@ fn is_among(name: &str, names: &[Text]) -> bool
 pub fn is_removed(response: &Response, name: &str) -> bool
     ensures { result ≡ is_removed response.now name.now }
 {
-    is_among(name, response.removed.as_slice())
-        && times_named(name, response.items.as_slice()) == 0
+    is_among(name, response.removed.as_slice()) && times_named(name, response.items.as_slice()) == 0
 }

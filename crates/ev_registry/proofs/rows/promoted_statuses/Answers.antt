@@ -10,7 +10,7 @@ use Rattle.ev_registry.proofs.rows.promoted_statuses.Goals as goal
 pub loop-row-preserved : goal.loop-row-preserved
 loop-row-preserved c =
     let told : c.promoted_status.result ≡ promoted_status c.args.rows.now c.row-item.result =
-      status_told c.args.rows.now c.row-item.result c.in_ok-due.due.items c.promoted_status.result c.in_ok-due.ensures
-        (c.promoted_status.ensures
-         ∙ ap (λ (due : List (Bor GenRow)). status_by (list_any (λ (other : Bor GenRow). is_row_of c.row-item.result.kind c.row-item.result.name other.now) due) (is_ready c.row-item.result.content) c.row-item.result.status) c.as_slice.ensures.value) in
+    status_told c.args.rows.now c.row-item.result c.in_ok-due.due.items c.promoted_status.result c.in_ok-due.ensures
+    (c.promoted_status.ensures
+    ∙ ap (λ (due : List (Bor GenRow)). status_by (list_any (λ (other : Bor GenRow). is_row_of c.row-item.result.kind c.row-item.result.name other.now) due) (is_ready c.row-item.result.content) c.row-item.result.status) c.as_slice.ensures.value) in
     grind (arith, common_steps)

@@ -1,8 +1,11 @@
-use Rattle.std.proofs.Common.{◌≡◌, ◌++◌, drop}
+use Rattle.std.proofs.Common.{◌≡◌, ◌++◌, drop, length}
 use Rattle.ev_model.specs.Verdicts.{verdicts_from, lives_left}
 use Rattle.ev_rules.proofs.judging.verdicts.Given as goal
 
 abbrev pub invariant-loop-item : goal.invariant-loop-item
-invariant-loop-item l =
-    l.verdicts.items ++ verdicts_from l.kind l.response l.left.items (drop l.item-index l.item-items)
-    ≡ verdicts_from l.kind l.response (lives_left l.kind l.response l.fn.lives.rows) l.response.items
+invariant-loop-item l = record {
+  so_far :
+      l.verdicts.items ++ verdicts_from l.kind l.response l.left.items (drop l.item-index l.item-items)
+      ≡ verdicts_from l.kind l.response (lives_left l.kind l.response l.fn.lives.rows) l.response.items;
+  one_each : length l.verdicts.items ≡ l.item-index;
+}

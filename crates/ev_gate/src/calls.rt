@@ -1,0 +1,129 @@
+//! A gate is made with its passes, and closed with them.
+ghost use Rattle.std.specs.Prelude.{◌≡◌, ◌+◌, ◌<◌, ◌≤◌, [], false, length, IfOk, IfErr, vec_capacity};
+ghost use Rattle.ev_gate.specs.Words.{gate_id, first_of, seats_of, AreNew, AreAll, IsWhole};
+ghost use Rattle.ev_gate.specs.Inner.{IsLeader, IsGathering, IsLast};
+
+use crate::gate::{Gate, Pass};
+use crate::plays::{Gathering, Seating};
+use crate::stands::Stands;
+use crate::view::{GateSeat, GateTable, Terms};
+use atomic_table::{Refused, Table};
+use std::alloc::{AllocError, Global};
+use std::snapshot::Snapshot;
+
+impl<V: Stands> Gate<V> {
+    /// A gate round `value` with this many seats, and a pass for each. Without memory the value comes back.
+    pub fn new(
+        alloc: Global,
+        value: V,
+        seats: u32,
+    ) -> Result<(Gate<V>, Vec<Pass<V>>), (V, AllocError)>
+        requires some_seat { 0 < seats }
+        requires few { seats ≤ 20 }
+        ensures gate { IfOk result (λ r. (first_of r.0 ≡ value) × (seats_of r.0 ≡ seats)) }
+        ensures passes { IfOk result (λ r.
+            AreNew (gate_id r.0) seats (V.opening value) (V.commits value) r.1.items) }
+        ensures value_returned { IfErr result (λ r. r.0 ≡ value) }
+    {
+        let passes = match Vec::with_capacity(alloc, seats as usize) {
+            Ok(passes) => passes,
+            Err(error) => return Err((value, error)),
+        };
+        match Gate::founded(alloc, value, seats) {
+            Ok((gate, leader)) => {
+                let passes = gate.seated(passes, leader, seats);
+                Ok((gate, passes))
+            }
+            Err(value) => {
+                passes.destroy_empty();
+                Err((value, AllocError))
+            }
+        }
+    }
+
+    /// Closes the gate, once all its passes are back, and gives the value. Its history is whole: each seat's commits in
+    /// it are those that its pass counts as its own, each once and in their order.
+    pub fn close(self, passes: Vec<Pass<V>>) -> V
+        requires { AreAll (gate_id self) (seats_of self) passes.items }
+        ensures opening { V.opening result ≡ V.opening (first_of self) }
+        ensures history { IsWhole (V.commits (first_of self)) (V.commits result) passes.items }
+    {
+        let leader = self.gathered(passes);
+        let Gate { table } = self;
+        taken_out(table, leader)
+    }
+
+    // The gate and its first seat, which leads the others.
+    fn founded(alloc: Global, value: V, seats: u32) -> Result<(Gate<V>, GateSeat<V>), V>
+        requires some_seat { 0 < seats }
+        requires few { seats ≤ 20 }
+        ensures gate { IfOk result (λ r. (first_of r.0 ≡ value) × (seats_of r.0 ≡ seats)) }
+        ensures leader { IfOk result (λ r. let v = first_of r.0 in
+            IsLeader (gate_id r.0) 1 (V.opening v) (V.commits v) r.1) }
+        ensures value_returned { IfErr result (λ v. v ≡ value) }
+    {
+        let terms = Terms {
+            value: Snapshot::of(&value),
+            seats,
+        };
+        let mut slots = match Vec::with_capacity(alloc, 1) {
+            Ok(slots) => slots,
+            Err(_) => return Err(value),
+        };
+        slots.push_reserved(Some(value));
+        match Table::new(alloc, &[0, 0], slots, &terms) {
+            Ok((table, leader)) => Ok((Gate { table }, leader)),
+            Err(Refused { mut slots }) => {
+                let slot = slots.take_last();
+                slots.destroy_empty();
+                Err(slot.unwrap())
+            }
+        }
+    }
+
+    // A pass for each seat: the leader makes the others.
+    fn seated(&self, mut passes: Vec<Pass<V>>, mut leader: GateSeat<V>, seats: u32) -> Vec<Pass<V>>
+        requires some_seat { (0 < seats) × (seats ≡ seats_of self.now) }
+        requires room { (passes.items ≡ []) × (seats ≤ vec_capacity passes) }
+        requires leader { let v = first_of self.now in
+            IsLeader (gate_id self.now) 1 (V.opening v) (V.commits v) leader }
+        ensures { let v = first_of self.now in
+            AreNew (gate_id self.now) seats (V.opening v) (V.commits v) result.items }
+    {
+        for _made in 1..seats {
+            let seat = self.table.shared.split_seat::<Seating>(&mut leader);
+            passes.push_reserved(Pass { seat });
+        }
+        passes.insert(0, Pass { seat: leader }).unwrap();
+        passes
+    }
+
+    // The leader takes in the other seats, in the order of their numbers.
+    fn gathered(&self, mut passes: Vec<Pass<V>>) -> GateSeat<V>
+        requires { AreAll (gate_id self.now) (seats_of self.now) passes.items }
+        ensures { IsGathering (gate_id self.now) passes.items [] result }
+    {
+        let Pass { seat: mut leader } = passes.remove(0);
+        while !passes.is_empty() {
+            let Pass { seat } = passes.remove(0);
+            self.table.shared.join_seat::<Gathering>(&mut leader, seat);
+        }
+        passes.destroy_empty();
+        leader
+    }
+}
+
+// The last value, out of the table.
+fn taken_out<V: Stands>(table: GateTable<V>, leader: GateSeat<V>) -> V
+    requires slots { table.shared.table_id.slots ≡ 1 }
+    requires seat { leader.table_id ≡ table.shared.table_id }
+    requires first { leader.me.0.number ≡ 0 }
+    requires idle { (leader.me.0.spent ≡ false) × (leader.me.0.serving ≡ false) }
+    requires all { length leader.me.0.told + 1 ≡ table.shared.key.seats }
+    ensures { IsLast V.opening V.commits table.shared.key leader.me.0 result }
+{
+    let mut closed = table.close_with(leader);
+    let slot = closed.take(0);
+    closed.free();
+    slot.unwrap()
+}
