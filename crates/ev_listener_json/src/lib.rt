@@ -9,3 +9,6 @@ mod managers;
 mod objects;
 
 pub use listeners::read_listener;
+
+#[cfg(test)]
+mod tests;

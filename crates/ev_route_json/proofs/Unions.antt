@@ -2,7 +2,6 @@
 use Rattle.std.proofs.Common.{ℕ, ◌+◌, ◌<◌, ◌++◌, length, get_or, take, drop, sym, ◌≡◌, List, [], ◌∷◌, Bool, true, false, ◌||◌, refl, ap, map, ◌∙◌}
 use Rattle.std.specs.List.{list_any}
 use Rattle.std.proofs.lemmas.List.{drop_more, map_more, map-append}
-use Rattle.std.proofs.Math.Seq.{drop-length}
 use Rattle.ev_route_json.specs.declared.broken.Broken.{Broken}
 use Rattle.ev_route_json.specs.Parts.{unbroken, both, all_of}
 
@@ -65,7 +64,3 @@ rest_more f g xs i x done here next whole lt at so is joined =
     let rest = all_of (map g (map f (drop (i + 1) xs))) in
     ap (λ b. both b rest) joined ∙ both_assoc done here rest ∙ ap (λ b. both done (both b rest)) (is ∙ ap (λ e. g (f e)) at)
     ∙ sym (ap (λ l. both done (all_of (map g (map f l)))) (drop_more xs i x lt)) ∙ so
-
--- no rest is left
-pub rest_none : {X D : Type 0} (f : X → D) (g : D → Broken) (xs : List X) (done whole : Broken) → both done (all_of (map g (map f (drop (length xs) xs)))) ≡ whole → done ≡ whole
-rest_none f g xs done whole so = sym (both_unbroken done) ∙ sym (ap (λ l. both done (all_of (map g (map f l)))) (drop-length xs)) ∙ so

@@ -17,7 +17,7 @@ pub use domains::repeats_domain;
 pub use matches::{MatchLook, look_match};
 pub use parts::{Part, look_all};
 pub use presence::{Presence, exactly_one, look_for};
-pub use readers::{read_routes, read_target};
+pub use readers::{read_routes, read_target, table_rule_is_least, target_rule_is_least};
 pub use tables::look_table;
 pub use targets::look_target;
 

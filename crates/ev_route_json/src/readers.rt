@@ -1,7 +1,8 @@
+ghost use Rattle.serde_json.specs.Data.{Data};
 ghost use Rattle.serde_json.specs.View.{view};
-ghost use Rattle.ev_tree.specs.Rules.{Reads};
-ghost use Rattle.ev_route_json.specs.Targets.{target_reading};
-ghost use Rattle.ev_route_json.specs.Tables.{table_reading};
+ghost use Rattle.ev_tree.specs.Rules.{Reads, IsLeast, least};
+ghost use Rattle.ev_route_json.specs.Targets.{target_reading, target_rules};
+ghost use Rattle.ev_route_json.specs.Tables.{table_reading, table_rules};
 
 use crate::tables::look_table;
 use crate::targets::look_target;
@@ -16,7 +17,7 @@ use std::alloc::Global;
 /// # Errors
 /// `Rule` with the least rule that it breaks, of V6 and V19 to V24, and `OutOfMemory`.
 pub fn read_routes(alloc: Global, value: &Value) -> Result<RouteTable, ReadError>
-    ensures reads { Reads result (table_reading (view value.now)) }
+    ensures { Reads result (table_reading (view value.now)) }
 {
     let look = look_table(alloc, Some(value))?;
     let broken = look.broken;
@@ -39,7 +40,7 @@ pub fn read_routes(alloc: Global, value: &Value) -> Result<RouteTable, ReadError
 /// # Errors
 /// `Rule` with the least rule that it breaks, of V6 and V22 to V24, and `OutOfMemory`.
 pub fn read_target(alloc: Global, value: &Value) -> Result<Target, ReadError>
-    ensures reads { Reads result (target_reading (view value.now)) }
+    ensures { Reads result (target_reading (view value.now)) }
 {
     let look = look_target(alloc, Some(value))?;
     let broken = look.broken;
@@ -53,3 +54,14 @@ pub fn read_target(alloc: Global, value: &Value) -> Result<Target, ReadError>
         None => Ok(look.value),
     }
 }
+
+/// The rule by which a route configuration is refused is the least of all that it breaks, and where there is
+/// none, it breaks none: a law of the definitions.
+pub fn table_rule_is_least()
+    ensures { (tree : Data) → IsLeast (table_rules tree) (least (table_rules tree)) }
+{}
+
+/// The same of a target.
+pub fn target_rule_is_least()
+    ensures { (tree : Data) → IsLeast (target_rules tree) (least (target_rules tree)) }
+{}

@@ -1,0 +1,237 @@
+use crate::read_listener;
+use ev_tree::ReadError;
+use ev_types::{Listener, Serve, Target};
+use serde_json::Value;
+use std::alloc::{AllocError, Global};
+use std::test::Fail;
+
+/// What the reader answers, as text: the content, or the rule.
+fn told(alloc: Global, read: Result<Listener, ReadError>) -> Result<String, AllocError> {
+    match read {
+        Ok(listener) => describe(alloc, &listener),
+        Err(error) => format!(in alloc; "{error}"),
+    }
+}
+
+fn describe(alloc: Global, listener: &Listener) -> Result<String, AllocError> {
+    let serve = describe_serve(alloc, &listener.serve)?;
+    let name = listener.name.as_str();
+    let address = listener.address.address.as_str();
+    let port = listener.address.port;
+    format!(in alloc; "{name} at {address}:{port} serves {serve}")
+}
+
+fn describe_serve(alloc: Global, serve: &Serve) -> Result<String, AllocError> {
+    match serve {
+        Serve::Rds { name, limited } => {
+            let name = name.as_str();
+            let limited = *limited;
+            format!(in alloc; "routes {name}, limited {limited}")
+        }
+        Serve::Inline(table) => {
+            let count = table.hosts.len();
+            format!(in alloc; "{count} hosts")
+        }
+        Serve::Tcp(Target::One(cluster)) => {
+            let cluster = cluster.as_str();
+            format!(in alloc; "cluster {cluster}")
+        }
+        Serve::Tcp(Target::Weighted(clusters)) => {
+            let count = clusters.clusters().len();
+            format!(in alloc; "{count} clusters")
+        }
+    }
+}
+
+/// The start of a listener that is good: the members of a case come after its own, and take their place.
+const LISTENER: &str =
+    r#"{"name":"in","address":{"socket_address":{"address":"10.1.0.1","port_value":8080}},"filter_chains":[{"filters":[{"typed_config":{"@type":"type.googleapis.com/envoy.extensions.filters.network.tcp_proxy.v3.TcpProxy","cluster":"c"}}]}],"#;
+
+/// A listener up to the configuration of its connection manager.
+const MANAGER: &str =
+    r#"{"name":"in","address":{"socket_address":{"address":"10.1.0.1","port_value":8080}},"filter_chains":[{"filters":[{"typed_config":{"@type":"type.googleapis.com/envoy.extensions.filters.network.http_connection_manager.v3.HttpConnectionManager","#;
+
+/// What is told of each case of a table. The members of its body stand between the two texts.
+fn answers(alloc: Global, table: &str, before: &str, after: &str) -> Result<String, Fail> {
+    let mut told_all = String::new(alloc);
+    if let Value::Array(pairs) = Value::from_str(alloc, table)? {
+        for pair in pairs.as_slice() {
+            if let (Some(Value::String(rule)), Some(case)) = (pair.get(0usize), pair.get(1usize)) {
+                let members = case.to_string(alloc)?;
+                let mut body = String::from_str(alloc, before)?;
+                body.push_str(members.as_str().trim_start_matches('{'))?;
+                body.push_str(after)?;
+                let answer = told(
+                    alloc,
+                    read_listener(alloc, &Value::from_str(alloc, body.as_str())?),
+                )?;
+                let right = match rule.as_str() {
+                    "ok" => answer.as_str().contains(" serves "),
+                    rule => answer.as_str() == rule,
+                };
+                if !right {
+                    told_all.push_str(answer.as_str())?;
+                    told_all.push_str(members.as_str())?;
+                }
+            }
+        }
+    }
+    Ok(told_all)
+}
+
+const LISTENERS: &str = r#"[
+  ["ok", {"stat_prefix":0}],
+  ["ok", {"name":"l","traffic_direction":"INBOUND","listener_filters":[{}],"access_log":{}}],
+  ["V3", {"name":""}],
+  ["V3", {"name":null,"filter_chains":{},"address":null}],
+  ["V6", {"name":7}],
+  ["V6", {"address":[]}],
+  ["V6", {"address":{"socket_address":{"address":1,"port_value":1}}}],
+  ["V6", {"address":{"socket_address":{"address":"","port_value":-1}}}],
+  ["V6", {"address":{"socket_address":{"address":"a","port_value":1,"protocol":"SCTP"}}}],
+  ["V6", {"address":{"socket_address":{"protocol":2}},"filter_chains":[]}],
+  ["V6", {"filter_chains":{}}],
+  ["V6", {"filter_chains":[{"filter_chain_match":[]}]}],
+  ["V6", {"filter_chains":[{"filters":{}}]}],
+  ["V6", {"filter_chains":[{},{"filters":[7]}]}],
+  ["V6", {"filter_chains":[{"filters":[{"typed_config":1}]}]}],
+  ["V6", {"filter_chains":[{"filters":[{"typed_config":{"@type":3}}]}]}],
+  ["V6", {"filter_chains":[{"filters":[{"typed_config":{},"typedConfig":{}}]}]}],
+  ["V6", {"default_filter_chain":[]}],
+  ["V6", {"default_filter_chain":{},"defaultFilterChain":{}}],
+  ["V14", {"address":null}],
+  ["V14", {"address":{"pipe":{"path":"/s"}},"filter_chains":[]}],
+  ["V14", {"address":{"socket_address":{"address":"","port_value":1}}}],
+  ["V14", {"address":{"socketAddress":{"address":"a","portValue":65536}}}],
+  ["V14", {"address":{"socketAddress":{"address":"a","portValue":"1","protocol":"UDP"}}}],
+  ["V14", {"address":{"socketAddress":{"address":"a","portValue":1,"protocol":1}}}],
+  ["ok", {"address":{"socketAddress":{"address":"a","portValue":0,"protocol":"TCP"}}}],
+  ["V16", {"filter_chains":[]}],
+  ["V16", {"filter_chains":null}],
+  ["V16", {"filter_chains":[{},{}]}],
+  ["V16", {"default_filter_chain":{"filters":7}}],
+  ["V16", {"filter_chains":[{"filter_chain_match":{"server_names":[],"prefix_ranges":null}}]}],
+  ["V17", {"filter_chains":[{"filter_chain_match":{"server_names":null}}]}],
+  ["V17", {"filter_chains":[{"filters":[]}]}],
+  ["V17", {"filter_chains":[{"filters":[{"name":"n"},{"typed_config":{"cluster":7}}]}]}],
+  ["V17", {"filter_chains":[{"filters":[{"typed_config":{"@type":"type.googleapis.com/envoy.extensions.filters.network.rbac.v3.RBAC"}}]}]}],
+  ["V17", {"filter_chains":[{"filters":[{"typed_config":{"@type":"type.googleapis.com/envoy.extensions.filters.network.tcp_proxy.v3.TcpProxy","cluster":"a"}},{"typed_config":{"@type":"type.googleapis.com/envoy.extensions.filters.network.tcp_proxy.v3.TcpProxy","cluster":""}}]}]}],
+  ["ok", {"filter_chains":[{"filters":[{"typed_config":{"@type":"x","cluster":7}},{"typed_config":null},{"typed_config":{"@type":"type.googleapis.com/envoy.extensions.filters.network.tcp_proxy.v3.TcpProxy","cluster":"a"}}]}]}],
+  ["V6", {"filter_chains":[{"filters":[{"typed_config":{"@type":"type.googleapis.com/envoy.extensions.filters.network.tcp_proxy.v3.TcpProxy","cluster":1}}]}]}],
+  ["V22", {"filter_chains":[{"filters":[{"typed_config":{"@type":"type.googleapis.com/envoy.extensions.filters.network.tcp_proxy.v3.TcpProxy","stat_prefix":"s"}}]}]}],
+  ["V22", {"filter_chains":[{"filters":[{"typed_config":{"@type":"type.googleapis.com/envoy.extensions.filters.network.tcp_proxy.v3.TcpProxy","cluster":"a","weighted_clusters":{}}}]}]}],
+  ["V23", {"filter_chains":[{"filters":[{"typed_config":{"@type":"type.googleapis.com/envoy.extensions.filters.network.tcp_proxy.v3.TcpProxy","cluster":""}}]}]}],
+  ["V24", {"filter_chains":[{"filters":[{"typed_config":{"@type":"type.googleapis.com/envoy.extensions.filters.network.tcp_proxy.v3.TcpProxy","weighted_clusters":{"clusters":[{"name":"a"}]}}}]}]}]
+]"#;
+
+const MANAGERS: &str = r#"[
+  ["ok", {"rds":{"config_source":{"ads":{}},"route_config_name":"r"}}],
+  ["ok", {"rds":{"configSource":{"self":{},"initial_fetch_timeout":"0s"},"routeConfigName":"r"},"route_config":null,"scoped_routes":null}],
+  ["ok", {"route_config":{}}],
+  ["V2", {"rds":{"config_source":{"ads":{}}}}],
+  ["V2", {"rds":{"config_source":{"ads":{}},"route_config_name":""},"scoped_routes":1,"scopedRoutes":1}],
+  ["V2", {"rds":{},"route_config":{}}],
+  ["V6", {"rds":[]}],
+  ["V6", {"rds":{"route_config_name":7}}],
+  ["V6", {"rds":{"config_source":"ads","route_config_name":"r"}}],
+  ["V6", {"rds":{"config_source":{"ads":1},"route_config_name":"r"}}],
+  ["V6", {"rds":{"config_source":{"initial_fetch_timeout":5},"route_config_name":"r"}}],
+  ["V6", {"route_config":""}],
+  ["V6", {"route_config":{"name":1},"rds":{"route_config_name":"r"}}],
+  ["V6", {"scoped_routes":1,"scopedRoutes":1}],
+  ["V10", {"rds":{"route_config_name":"r"}}],
+  ["V10", {"rds":{"config_source":{},"route_config_name":"r"},"route_config":{}}],
+  ["V10", {"rds":{"config_source":{"ads":{},"self":{}},"route_config_name":"r"}}],
+  ["V10", {"rds":{"config_source":{"ads":{},"path":0},"route_config_name":"r"}}],
+  ["V10", {"rds":{"config_source":{"ads":{},"initialFetchTimeout":"-1s"},"route_config_name":"r"}}],
+  ["V18", {"stat_prefix":"s"}],
+  ["V18", {"rds":{"config_source":{"ads":{}},"route_config_name":"r"},"route_config":{"virtual_hosts":[{}]}}],
+  ["V18", {"route_config":{},"scoped_routes":0}],
+  ["V18", {"rds":{"config_source":{"ads":{}},"route_config_name":"r"},"scopedRoutes":[]}],
+  ["V19", {"route_config":{"virtual_hosts":[{"name":"h"}]}}],
+  ["V20", {"route_config":{"virtual_hosts":[{"name":"h","domains":["x.Y","X.y"]}]}}],
+  ["V21", {"route_config":{"virtual_hosts":[{"name":"h","domains":["*"],"routes":[{"redirect":{}}]}]}}],
+  ["V22", {"route_config":{"virtual_hosts":[{"name":"h","domains":["*"],"routes":[{"match":{"prefix":"/"}}]}]}}],
+  ["V23", {"route_config":{"virtual_hosts":[{"name":"h","domains":["*"],"routes":[{"match":{"prefix":"/"},"route":{"cluster":""}}]}]}}],
+  ["V24", {"route_config":{"virtual_hosts":[{"name":"h","domains":["*"],"routes":[{"match":{"prefix":"/"},"route":{"weighted_clusters":{}}}]}]}}]
+]"#;
+
+/// Listeners as control planes write them, with what is told of each.
+const WHOLE: &str = r#"[
+  ["ingress at 0.0.0.0:8443 serves routes shop, limited false", {
+    "@type": "type.googleapis.com/envoy.config.listener.v3.Listener",
+    "name": "ingress",
+    "address": {"socketAddress": {"protocol": "TCP", "address": "0.0.0.0", "portValue": 8443}},
+    "accessLog": [{"name": "file", "typedConfig": {"path": "/dev/stdout"}}],
+    "listenerFilters": [{"name": "tls_inspector", "typedConfig": {}}],
+    "filterChains": [{
+      "filterChainMatch": {},
+      "transportSocket": {"name": "tls", "typedConfig": {"commonTlsContext": {"alpnProtocols": ["h2"]}}},
+      "filters": [
+        {"name": "rbac", "typedConfig": {"@type": "type.googleapis.com/envoy.extensions.filters.network.rbac.v3.RBAC", "rules": {}}},
+        {"name": "hcm", "typedConfig": {
+          "@type": "type.googleapis.com/envoy.extensions.filters.network.http_connection_manager.v3.HttpConnectionManager",
+          "statPrefix": "ingress",
+          "useRemoteAddress": true,
+          "rds": {"configSource": {"ads": {}, "initialFetchTimeout": "0.000s", "resourceApiVersion": "V3"}, "routeConfigName": "shop"},
+          "httpFilters": [{"name": "router", "typedConfig": {}}],
+          "upgradeConfigs": [{"upgradeType": "websocket"}]
+        }}
+      ]
+    }],
+    "perConnectionBufferLimitBytes": 32768
+  }],
+  ["admin at ::1:0 serves 1 hosts", {
+    "name": "admin",
+    "address": {"socket_address": {"address": "::1", "port_value": "0", "ipv4_compat": true}},
+    "filter_chains": [{"filters": [{"typed_config": {"@type": "type.googleapis.com/envoy.extensions.filters.network.http_connection_manager.v3.HttpConnectionManager", "stat_prefix": "a",
+      "route_config": {"name": "local", "virtual_hosts": [{"name": "all", "domains": ["*"], "routes": [
+        {"match": {"prefix": "/"}, "direct_response": {"status": 200}}]}]}}}]}]
+  }],
+  ["db at 10.0.0.9:5432 serves 2 clusters", {
+    "name": "db",
+    "address": {"socket_address": {"address": "10.0.0.9", "port_value": 5432}},
+    "enable_reuse_port": true,
+    "filter_chains": [{"name": "", "filters": [{"name": "tcp", "typed_config": {"@type": "type.googleapis.com/envoy.extensions.filters.network.tcp_proxy.v3.TcpProxy", "stat_prefix": "db",
+      "idle_timeout": "3600s", "weighted_clusters": {"clusters": [{"name": "a", "weight": 3}, {"name": "b", "weight": 1}]}}}]}]
+  }],
+  ["cache at c:1 serves cluster redis", {
+    "name": "cache", "address": {"socket_address": {"address": "c", "port_value": 1}},
+    "filter_chains": [{"filters": [{"typed_config": {"@type": "type.googleapis.com/envoy.extensions.filters.network.tcp_proxy.v3.TcpProxy", "cluster": "redis"}}]}]
+  }]
+]"#;
+
+#[test]
+fn each_rule_alone_and_beside_others(rt: HostRuntime) -> Result<(), Fail> {
+    let alloc = rt.alloc();
+    let wrong = answers(alloc, LISTENERS, LISTENER, "")?;
+    assert_eq!(rt; wrong.as_str(), "");
+    let wrong = answers(alloc, MANAGERS, MANAGER, "}]}]}")?;
+    assert_eq!(rt; wrong.as_str(), "");
+    let unlike = answers(alloc, r#"[["V18",{"route_config":{}}]]"#, MANAGER, "}]}]}")?;
+    assert_eq!(rt;
+        unlike.as_str(),
+        r#"in at 10.1.0.1:8080 serves 0 hosts{"route_config":{}}"#
+    );
+    Ok(())
+}
+
+#[test]
+fn whole_listeners(rt: HostRuntime) -> Result<(), Fail> {
+    let alloc = rt.alloc();
+    let mut count = 0u8;
+    if let Value::Array(pairs) = Value::from_str(alloc, WHOLE)? {
+        for pair in pairs.as_slice() {
+            if let (Some(Value::String(content)), Some(body)) = (
+                pair.get(0usize),
+                pair.get(1usize),
+            ) {
+                let answer = told(alloc, read_listener(alloc, body))?;
+                assert_eq!(rt; answer.as_str(), content.as_str());
+                count = count.saturating_add(1);
+            }
+        }
+    }
+    assert_eq!(rt; count, 4);
+    Ok(())
+}

@@ -1,0 +1,7 @@
+use Rattle.std.proofs.Common.{rules}
+use Rattle.ev_tree.proofs.Leasts.{least_is_least}
+use Rattle.ev_route_json.specs.Targets.{target_rules}
+use Rattle.ev_route_json.proofs.readers.target_rule_is_least.Goals as goal
+
+pub returns : goal.returns
+returns c = λ tree. least_is_least (target_rules tree) (search rules)
