@@ -1,3 +1,4 @@
 pub mod RequestLemmas
 pub mod BodyLemmas
 mod ResponseLemmas
+pub mod LeastLemmas

@@ -12,10 +12,10 @@ use Rattle.ev_tree.specs.declared.outcome.Found.{Found}
 use Rattle.ev_tree.specs.declared.outcome.Found.TheVariants.{Absent, Wrong, Given}
 use Rattle.ev_tree.specs.Forms.{is_object, given_or, text_of}
 use Rattle.ev_tree.specs.Rules.{least, is_name}
-use Rattle.ev_cluster_json.specs.Clusters.{cluster_reading}
-use Rattle.ev_cluster_json.specs.Assignments.{assignment_reading}
-use Rattle.ev_route_json.specs.Tables.{table_reading}
-use Rattle.ev_listener_json.specs.Listeners.{listener_reading}
+use Rattle.ev_cluster_json.specs.Clusters.{cluster_reading, cluster_rules}
+use Rattle.ev_cluster_json.specs.Assignments.{assignment_reading, assignment_rules}
+use Rattle.ev_route_json.specs.Tables.{table_reading, table_rules}
+use Rattle.ev_listener_json.specs.Listeners.{listener_reading, listener_rules}
 use Rattle.ev_wire.specs.Requests.{type_url}
 
 -- an object whose `@type` is that of the kind
@@ -71,3 +71,22 @@ unfoldable pub body_of : Kind → List ℕ → Data → Body
 body_of kind name body =
     if breaks_v1 kind body then Bad 1
     else body_with (least ((2, breaks_v2 name) ∷ (3, breaks_v3 kind name body) ∷ [])) (content_of kind body)
+
+-- ---- all form rules, of which a body breaks the least
+
+-- the rules that a reader finds
+abbrev pub content_rules : Kind → Data → List (ℕ × Bool)
+content_rules Cds body = cluster_rules body
+content_rules Eds body = assignment_rules body
+content_rules Lds body = listener_rules body
+content_rules Rds body = table_rules body
+
+-- the rules that a resource with this outer name may break, and whether it does. V2 and V3 stand twice where a
+-- reader finds them too: a name inside the resource is too long, or its own name is none.
+abbrev pub form_rules : Kind → List ℕ → Data → List (ℕ × Bool)
+form_rules kind name body = (1, breaks_v1 kind body) ∷ (2, breaks_v2 name) ∷ (3, breaks_v3 kind name body) ∷ content_rules kind body
+
+-- the rule that refuses a body
+abbrev pub rule_in : Body → Option ℕ
+rule_in (Good content) = None
+rule_in (Bad rule) = Some rule

@@ -1,8 +1,10 @@
-ghost use Rattle.std.specs.Prelude.{◌≡◌, ◌∷◌, [], IfOk};
+ghost use Rattle.std.specs.Prelude.{◌≡◌, ℕ, List, IfOk};
+ghost use Rattle.serde_json.specs.Data.{Data};
 ghost use Rattle.serde_json.specs.View.{view};
 ghost use Rattle.ev_tree.specs.Forms.{found_map, tree_of};
-ghost use Rattle.ev_tree.specs.Rules.{Reads, least};
-ghost use Rattle.ev_wire.specs.Bodies.{is_of_type, breaks_v3, differs, content_of, body_with, body_of};
+ghost use Rattle.ev_tree.specs.Rules.{Reads, IsLeast};
+ghost use Rattle.ev_wire.specs.Bodies.{is_of_type, breaks_v3, differs, content_of, body_with, body_of, form_rules, rule_in};
+ghost use Rattle.ev_types.specs.declared.contents.Kind.{Kind};
 
 use crate::kinds::{name_field, type_url};
 use ev_cluster_json::{read_assignment, read_cluster};
@@ -39,6 +41,13 @@ pub(crate) fn read_body(
         Err(ReadError::OutOfMemory) => Err(AllocError),
     }
 }
+
+/// The rule by which a resource is refused is the least of all form rules that it breaks, and a good one
+/// breaks none: a law of the definitions.
+#[tactic(auto, using(crate::proofs::LeastLemmas::body_least))]
+pub fn body_rule_is_least()
+    ensures { (kind : Kind) (name : List ℕ) (body : Data) → IsLeast (form_rules kind name body) (rule_in (body_of kind name body)) }
+{}
 
 /// Whether a body is an object whose `@type` is that of the kind.
 #[tactic(auto, unfolding(crate::specs::Bodies::is_of_type))]

@@ -9,6 +9,7 @@ mod responses;
 #[cfg(test)]
 mod tests;
 
+pub use bodies::body_rule_is_least;
 pub use outcome::WireError;
 pub use requests::{request_value, write_request};
 pub use responses::read_response;

@@ -1,4 +1,4 @@
-use crate::{WireError, read_response, request_value, write_request};
+use crate::{WireError, body_rule_is_least, read_response, request_value, write_request};
 use ev_types::{Body, Content, Kind, Name, Request, Response, Seq, Text};
 use serde_json::Value;
 use std::alloc::{AllocError, Global};
@@ -146,6 +146,7 @@ fn one_refused_of_two(rt: HostRuntime) -> Result<(), Fail> {
         r#"{"typeUrl":"type.googleapis.com/envoy.config.cluster.v3.Cluster","nonce":"7","resources":[{"name":"a","version":"v1","resource":{"@type":"type.googleapis.com/envoy.config.cluster.v3.Cluster","name":"a","type":"STATIC","loadAssignment":{"clusterName":"a","endpoints":[{"lbEndpoints":[{"endpoint":{"address":{"socketAddress":{"address":"10.0.0.1","portValue":80}}}}]}]}}},{"name":"b","version":"v1","resource":{"@type":"type.googleapis.com/envoy.config.cluster.v3.Cluster","name":"b","type":"EDS"}}]}"#;
     let message = Value::from_str(alloc, json)?;
     let got = told(alloc, &message)?;
+    body_rule_is_least();
     assert_eq!(rt; got.as_str(), "cds 7: a@v1=cluster b@v1=V8 ");
     assert_eq!(rt;
         read_response(alloc, &Value::Null).err(),

@@ -1,8 +1,7 @@
 -- Where both lists have their forms, the elements decide; the items that were read are those of the elements.
-use Rattle.std.proofs.Common.{◌≡◌, ◌∙◌, sym, ap, subst, map, List, Bool, true}
+use Rattle.std.proofs.Common.{◌∙◌, sym, ap, subst, map, List}
 use Rattle.std.specs.List.{All, list_all}
 use Rattle.serde_json.specs.View.{view}
-use Rattle.serde_json.specs.Data.{Data}
 use Rattle.ev_types.specs.Items.{ItemParts, IsBodyOf}
 use Rattle.ev_tree.specs.Forms.{listed, text_in}
 use Rattle.ev_wire.specs.Responses.{has_lists, is_entry, item_of, entries_of, removed_of}

@@ -1,7 +1,6 @@
 -- Without a head there is no response; with it the type says whether the lists are looked at.
-use Rattle.std.proofs.Common.{◌≡◌, ◌∙◌, sym, ap, Option, Some}
+use Rattle.std.proofs.Common.{◌∙◌, sym, ap, Option}
 use Rattle.serde_json.specs.View.{view}
-use Rattle.ev_types.specs.Items.{ItemParts, ResponseParts}
 use Rattle.ev_types.specs.declared.contents.Kind.{Kind}
 use Rattle.ev_wire.specs.Responses.{has_lists_of, parts_of, given_if, response_of}
 use Rattle.ev_wire.proofs.ResponseLemmas.{reads_same, given_if-some, given_if-none, no_head, known_head, unread_response}
