@@ -6,6 +6,8 @@ mod lines;
 mod members;
 mod program;
 #[cfg(test)]
+mod program_tests;
+#[cfg(test)]
 mod reading_tests;
 mod render;
 mod replay;
