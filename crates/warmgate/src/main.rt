@@ -2,6 +2,9 @@
 //! managers do with them.
 #![tactic(auto)]
 
+ghost use Rattle.std.specs.Prelude.{◌≡◌};
+ghost use Rattle.warmgate.specs.Exit.{exit_of};
+
 use ev_app::{Status, run_program};
 use ev_io::{StdSink, StdSource};
 use ev_types::Text;
@@ -50,7 +53,9 @@ fn report(rt: &impl Eprint, status: Status) -> io::Result<()> {
 }
 
 // The exit status of the process.
-fn exit_status(status: Status) -> u8 {
+fn exit_status(status: Status) -> u8
+    ensures { result ≡ exit_of status }
+{
     match status {
         Status::Done => 0,
         Status::Usage => 2,
