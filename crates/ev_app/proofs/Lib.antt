@@ -4,3 +4,4 @@ pub mod FloatLemmas
 pub mod MemberLemmas
 pub mod ScriptLemmas
 pub mod TopLemmas
+pub mod LawLemmas

@@ -2,6 +2,7 @@
 #![tactic(auto)]
 
 mod input;
+mod laws;
 mod lines;
 mod members;
 mod program;
@@ -13,4 +14,5 @@ mod render;
 mod replay;
 mod script;
 
+pub use laws::{acknowledges_exactly, has_one_replay, holds_operations};
 pub use program::{Status, run_program};

@@ -1,4 +1,4 @@
-use crate::{Status, run_program};
+use crate::{Status, acknowledges_exactly, has_one_replay, holds_operations, run_program};
 use ev_io::{MemSink, MemSource};
 use ev_registry::Registry;
 use ev_rules::verdicts;
@@ -155,6 +155,9 @@ fn judges_addresses_and_watched_names(rt: HostRuntime) -> Result<(), Fail> {
 
 #[test]
 fn a_registry_enters_what_it_does(rt: HostRuntime) -> Result<(), Fail> {
+    has_one_replay();
+    holds_operations();
+    acknowledges_exactly();
     let alloc = rt.alloc();
     let node = Text::new(alloc, "n")?;
     let mut registry = Registry::new(alloc, 1, &node)?;
