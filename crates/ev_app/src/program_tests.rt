@@ -2,7 +2,9 @@ use crate::{Status, acknowledges_exactly, has_one_replay, holds_operations, run_
 use ev_io::{MemSink, MemSource};
 use ev_registry::Registry;
 use ev_rules::verdicts;
-use ev_types::{Actor, Body, Event, Gen, Live, Lives, Response, Seq, Text, TryCopy, Verdict};
+use ev_types::{
+    Actor, Arrival, Body, Event, Gen, Live, Lives, Response, Seq, Text, TryCopy, Verdict,
+};
 use ev_wire::read_response;
 use serde_json::Value;
 use std::alloc::Global;
@@ -66,23 +68,37 @@ fn tells_why_it_ends(rt: HostRuntime) -> Result<(), Fail> {
         assert_eq!(rt; status, Status::Usage);
         assert_eq!(rt; written.len(), 0);
     }
-    let rows = [
-        (1, 0, Status::ReadFault, 0),
-        (2, 0, Status::ReadFault, 0),
-        (5, 0, Status::ReadFault, 0),
-        (6, 0, Status::Done, 1488),
-        (0, 1, Status::WriteFault, 0),
-        (0, 2, Status::WriteFault, 10),
-        (0, 149, Status::WriteFault, 1480),
-        (0, 150, Status::Done, 1488),
-    ];
-    for (read, write, want, length) in rows {
-        let reads = vec![in alloc; read]?;
-        let writes = vec![in alloc; write]?;
-        let (status, written) = ran(alloc, &["replay"], input, reads, writes)?;
-        assert_eq!(rt; status, want, "read {read} and write {write}");
-        assert_eq!(rt; written.len(), length, "read {read} and write {write}");
+    for call in 1..=5 {
+        let (status, written) = ran(
+            alloc,
+            &["replay"],
+            input,
+            vec![in alloc; call]?,
+            Vec::new(alloc),
+        )?;
+        assert_eq!(rt; status, Status::ReadFault, "read {call}");
+        assert_eq!(rt; written.len(), 0, "read {call}");
     }
+    for call in 1..=149 {
+        let (status, written) = ran(
+            alloc,
+            &["replay"],
+            input,
+            Vec::new(alloc),
+            vec![in alloc; call]?,
+        )?;
+        assert_eq!(rt; status, Status::WriteFault, "write {call}");
+        assert_eq!(rt; written.len() as u64, 10 * (call - 1), "write {call}");
+    }
+    let (status, written) = ran(
+        alloc,
+        &["replay"],
+        input,
+        vec![in alloc; 6]?,
+        vec![in alloc; 150]?,
+    )?;
+    assert_eq!(rt; status, Status::Done);
+    assert_eq!(rt; written.len(), 1488);
     let none = Vec::new(alloc);
     let (status, written) = ran(alloc, &["replay"], "x", none, Vec::new(alloc))?;
     assert_eq!(rt; status, Status::BadScript { line: 1, kind: 6 });
@@ -135,6 +151,7 @@ const ENDPOINTS_C: &str =
 #[test]
 fn judges_addresses_and_watched_names(rt: HostRuntime) -> Result<(), Fail> {
     let alloc = rt.alloc();
+    let _ = Arrival::Absent.copy(alloc)?;
     let rows = [
         (LISTENER_A, true, LISTENER_B, Verdict::Refused(15)),
         (LISTENER_A, false, LISTENER_B, Verdict::Refused(15)),
@@ -144,7 +161,7 @@ fn judges_addresses_and_watched_names(rt: HostRuntime) -> Result<(), Fail> {
         (CLUSTER_BY_EDS, false, ENDPOINTS_C, Verdict::Unasked),
     ];
     for (before, warming, message, want) in rows {
-        let lives = live(alloc, &read(alloc, before)?, warming)?;
+        let lives = live(alloc, &read(alloc, before)?, warming)?.copy(alloc)?;
         let response = read(alloc, message)?;
         assert!(rt; response.kind.is_some());
         let found = verdicts(alloc, &lives, &response)?;

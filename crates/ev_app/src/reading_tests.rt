@@ -2,6 +2,7 @@ use crate::input::{InputFault, read_input};
 use crate::lines::Lines;
 use crate::script::read_script;
 use ev_io::MemSource;
+use ev_types::TryCopy;
 use std::test::Fail;
 
 #[test]
@@ -59,7 +60,9 @@ fn reads_scripts(rt: HostRuntime) -> Result<(), Fail> {
         ),
     ];
     for (text, workers, node, count) in wants {
-        let script = read_script(rt.alloc(), text.as_bytes())?.ok_or("no script")?;
+        let script = read_script(rt.alloc(), text.as_bytes())?
+            .ok_or("no script")?
+            .copy(rt.alloc())?;
         assert_eq!(rt; script.workers, workers, "workers of {text}");
         assert_eq!(rt; script.node.as_str(), node, "node of {text}");
         assert_eq!(rt; script.count, count, "count of {text}");
