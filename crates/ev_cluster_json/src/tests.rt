@@ -2,6 +2,7 @@ use crate::{read_assignment, read_cluster};
 use ev_tree::ReadError;
 use ev_types::{Cluster, Discovery};
 use serde_json::Value;
+use std::alloc::Global;
 use std::test::Fail;
 
 /// The number of the rule that refused a resource, 0 for one that was read and 99 for want of memory.
@@ -13,23 +14,23 @@ fn rule<T: Drop>(read: Result<T, ReadError>) -> u8 {
     }
 }
 
+/// The number of the rule that refused the cluster that `json` writes.
+fn cluster_rule(alloc: Global, json: &str) -> Result<u8, Fail> {
+    let value = Value::from_str(alloc, json)?;
+    Ok(rule(read_cluster(alloc, &value)))
+}
+
 #[test]
-fn least_rule_of_a_cluster(rt: HostRuntime) -> Result<(), Fail> {
+fn clusters_that_break_one_rule_or_none(rt: HostRuntime) -> Result<(), Fail> {
     let alloc = rt.alloc();
     let rows = [
         (r#"{"name":"a","type":"EDS"}"#, 8),
-        (r#"{"name":"a","type":"EDS","connectTimeout":"0s"}"#, 8),
-        (r#"{"name":"a","type":"EDS","connectTimeout":"1"}"#, 6),
         (
             r#"{"name":"a","type":"EDS","edsClusterConfig":{},"eds_cluster_config":{}}"#,
             6,
         ),
         (r#"{"name":"a","type":"EDS","edsClusterConfig":{}}"#, 10),
         // each rule alone
-        (
-            r#"{"name":"a","edsClusterConfig":{"serviceName":"LONG"}}"#,
-            2,
-        ),
         (r#"{}"#, 3),
         (r#"{"name":"a"}"#, 0),
         (r#"{"name":"a","type":"STRICT_DNS"}"#, 7),
@@ -51,6 +52,23 @@ fn least_rule_of_a_cluster(rt: HostRuntime) -> Result<(), Fail> {
         (
             r#"{"name":"a","loadAssignment":{"endpoints":[{"priority":129}]}}"#,
             13,
+        ),
+    ];
+    for (json, want) in rows {
+        assert_eq!(rt; cluster_rule(alloc, json)?, want, "{json}");
+    }
+    Ok(())
+}
+
+#[test]
+fn least_rule_of_clusters_that_break_several(rt: HostRuntime) -> Result<(), Fail> {
+    let alloc = rt.alloc();
+    let rows = [
+        (r#"{"name":"a","type":"EDS","connectTimeout":"0s"}"#, 8),
+        (r#"{"name":"a","type":"EDS","connectTimeout":"1"}"#, 6),
+        (
+            r#"{"name":"a","edsClusterConfig":{"serviceName":"LONG"}}"#,
+            2,
         ),
         // beside a lower and a higher one
         (
@@ -79,6 +97,19 @@ fn least_rule_of_a_cluster(rt: HostRuntime) -> Result<(), Fail> {
             r#"{"name":"a","loadAssignment":{"endpoints":[{"priority":200},{"lbEndpoints":[null]}]}}"#,
             6,
         ),
+    ];
+    let long = "x".repeat(alloc, 513)?;
+    for (json, want) in rows {
+        let body = json.replace(alloc, "LONG", long.as_str())?;
+        assert_eq!(rt; cluster_rule(alloc, body.as_str())?, want, "{json}");
+    }
+    Ok(())
+}
+
+#[test]
+fn which_fields_of_a_cluster_are_looked_at(rt: HostRuntime) -> Result<(), Fail> {
+    let alloc = rt.alloc();
+    let rows = [
         // what isn't looked at, and null
         (
             r#"{"name":"a","type":"EDS","edsClusterConfig":{"edsConfig":{"ads":{}}},"loadAssignment":7}"#,
@@ -91,11 +122,8 @@ fn least_rule_of_a_cluster(rt: HostRuntime) -> Result<(), Fail> {
         (r#"{"name":"a","loadAssignment":7}"#, 6),
         (r#"{"name":"a","edsClusterConfig":{"edsConfig":"ads"}}"#, 6),
     ];
-    let long = "x".repeat(alloc, 513)?;
     for (json, want) in rows {
-        let body = json.replace(alloc, "LONG", long.as_str())?;
-        let value = Value::from_str(alloc, body.as_str())?;
-        assert_eq!(rt; rule(read_cluster(alloc, &value)), want, "{json}");
+        assert_eq!(rt; cluster_rule(alloc, json)?, want, "{json}");
     }
     Ok(())
 }

@@ -151,7 +151,7 @@ fn the_other_forms(rt: HostRuntime) -> Result<(), Fail> {
 }
 
 #[test]
-fn addresses_and_sources(rt: HostRuntime) -> Result<(), Fail> {
+fn broken_rules_of_socket_addresses(rt: HostRuntime) -> Result<(), Fail> {
     let alloc = rt.alloc();
     let rows = [
         (
@@ -197,6 +197,12 @@ fn addresses_and_sources(rt: HostRuntime) -> Result<(), Fail> {
             "{json}"
         );
     }
+    Ok(())
+}
+
+#[test]
+fn limits_and_broken_rules_of_config_sources(rt: HostRuntime) -> Result<(), Fail> {
+    let alloc = rt.alloc();
     let rows = [
         (r#"{"ads":{}}"#, true, false, false),
         (
