@@ -3,7 +3,7 @@ use Rattle.std.proofs.Common.{◌≡◌, Bool, false, ◌||◌, refl, ◌∙◌,
 use Rattle.serde_json.specs.Data.{Data}
 use Rattle.serde_json.specs.Written.{has_float}
 use Rattle.ev_types.specs.declared.events.Answer.{Answer}
-use Rattle.ev_types.specs.declared.events.Answer.TheVariants.{Ignored, Moved, Replied, Settled}
+use Rattle.ev_types.specs.declared.events.Answer.TheVariants.{Ignored, Done, Moved, Replied, Version, Unchanged, Reaped, InUse, NoListener, NoRoute, Redirect, NoCluster, NoEndpoint, Local, Served, NotOpen, Settled}
 use Rattle.ev_types.specs.declared.events.Entry.{Entry}
 use Rattle.ev_wire.specs.Requests.{request_tree}
 use Rattle.ev_wire.proofs.RequestLemmas.{items_have_float-map, request_tree-whole}
@@ -14,9 +14,22 @@ neither a b h k = ap (λ c. c || b) h ∙ k
 
 pub answer_tree-whole : (answer : Answer) → has_float (answer_tree answer) ≡ false
 answer_tree-whole Ignored = refl
+answer_tree-whole Done = refl
 answer_tree-whole (Moved requests) = neither _ _ (items_have_float-map request_tree request_tree-whole requests) refl
 answer_tree-whole (Replied requests verdicts) =
     neither _ _ (items_have_float-map request_tree request_tree-whole requests) (neither _ _ (items_have_float-map verdict_tree (λ _. refl) verdicts) refl)
+answer_tree-whole (Version version) = refl
+answer_tree-whole Unchanged = refl
+answer_tree-whole (Reaped numbers) = neither _ _ (items_have_float-map number_tree (λ _. refl) numbers) refl
+answer_tree-whole InUse = refl
+answer_tree-whole NoListener = refl
+answer_tree-whole (NoRoute listener) = refl
+answer_tree-whole (Redirect listener) = refl
+answer_tree-whole (NoCluster listener) = refl
+answer_tree-whole (NoEndpoint listener) = refl
+answer_tree-whole (Local listener status) = refl
+answer_tree-whole (Served listener cluster host) = refl
+answer_tree-whole NotOpen = refl
 answer_tree-whole (Settled closed version) = neither _ _ (items_have_float-map number_tree (λ _. refl) closed) refl
 
 pub entry_tree-whole : (entry : Entry) → has_float (entry_tree entry) ≡ false

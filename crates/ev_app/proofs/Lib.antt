@@ -3,5 +3,6 @@ pub mod LineLemmas
 pub mod FloatLemmas
 pub mod MemberLemmas
 pub mod ScriptLemmas
+pub mod ReplayLemmas
 pub mod TopLemmas
 pub mod LawLemmas

@@ -1,5 +1,5 @@
 -- The lines of a script, one more at a time.
-use Rattle.std.proofs.Common.{◌≡◌, ℕ, zero, suc, ◌+◌, ◌<◌, List, [], ◌∷◌, ◌++◌, length, map, get_or, append-nil, append_assoc, add-zero, arith, codes, Bool, true, false, cond, IfSome, Option, None, Some, option_map, option_and_then, refl, sym, ap, subst, ◌∙◌}
+use Rattle.std.proofs.Common.{◌≡◌, ℕ, zero, suc, ◌+◌, ◌<◌, List, [], ◌∷◌, ◌++◌, length, map, get_or, append-nil, append_assoc, add-zero, arith, codes, Bool, true, false, cond, IsTrue, IfSome, Option, None, Some, option_map, option_and_then, refl, sym, ap, subst, ◌∙◌}
 use Rattle.std.proofs.lemmas.List.{length-map, get_or-map}
 use Rattle.std.proofs.lemmas.List.Elements.{All-cons, All-nil}
 use Rattle.std.specs.Prelude.{⊤, slice_index_or}
@@ -8,13 +8,16 @@ use Rattle.std.specs.Str.{bytes_eq}
 use Rattle.serde_json.specs.Data.{Data}
 use Rattle.serde_json.specs.Find.{get, as_str}
 use Rattle.ev_types.specs.Items.{ResponseParts}
-use Rattle.ev_types.specs.Scripts.{MayMake, IsScript}
+use Rattle.ev_types.specs.Events.{MayMake}
+use Rattle.ev_types.specs.Scripts.{IsScript, items_of}
 use Rattle.ev_types.specs.declared.events.Line.{Line}
 use Rattle.ev_types.specs.declared.events.Actor.TheVariants.{Stream}
 use Rattle.ev_types.specs.declared.events.Event.TheVariants.{Connect}
 use Rattle.ev_app.specs.declared.script.Header.{Header}
 use Rattle.ev_app.specs.Members.{tree_of, has_only}
-use Rattle.ev_app.specs.Script.{line_of, line_by, connect_line, response_line, response_at, lines_from, IsHeader, AreNumbered}
+use Rattle.ev_registry.specs.Built.{is_built, IsBuilt}
+use Rattle.ev_wire.specs.Responses.{response_of}
+use Rattle.ev_app.specs.Script.{line_of, line_by, connect_line, response_line, response_at, built, lines_from, IsHeader, AreNumbered}
 
 -- lines before lines before others
 twice : (lines : List Line) (line : Line) (others : Option (List Line)) → option_map (λ more. lines ++ more) (option_map (λ more. line ∷ more) others) ≡ option_map (λ more. (lines ++ line ∷ []) ++ more) others
@@ -58,20 +61,35 @@ some_any : {A : Type 0} (o : Option A) → IfSome o (λ _. ⊤)
 some_any None = tt
 some_any (Some x) = tt
 
--- a line has its place, and an actor that its event allows
+-- a line has its place, an actor that its event allows, and an event that the registry takes
 pub record IsLineAt (at : ℕ) (line : Line) : Type 0 where
   pub place : line.at ≡ at
   pub allowed : (workers : ℕ) → MayMake workers line.actor line.event
+  pub built : IsBuilt line.event
 
 connect_kept : (at : ℕ) (tree : Data) → IfSome (connect_line at tree) (IsLineAt at)
-connect_kept at tree = some_test (IsLineAt at) (has_only (codes "op" ∷ []) tree) _ record { place = refl; allowed = λ _. tt }
+connect_kept at tree = some_test (IsLineAt at) (has_only (codes "op" ∷ []) tree) _ record { place = refl; allowed = λ _. tt; built = tt }
 
-at_kept : (at : ℕ) (response : Option ResponseParts) → IfSome (response_at at response) (IsLineAt at)
-at_kept at None = tt
-at_kept at (Some response) = record { place = refl; allowed = λ _. tt }
+told : (b : Bool) → b ≡ true → IsTrue b
+told b e = search e
+
+-- a response that is answered at this stage is built
+built_kept : (response : Option ResponseParts) → IfSome (option_and_then built response) (λ r. IsTrue (is_built r))
+built_kept None = tt
+built_kept (Some response) = by_test (is_built response) refl
+  where
+    by_test : (t : Bool) → is_built response ≡ t → IfSome (cond t (Some response) None) (λ r. IsTrue (is_built r))
+    by_test true e = told (is_built response) e
+    by_test false e = tt
+
+at_kept : (at : ℕ) (response : Option ResponseParts) → IfSome response (λ r. IsTrue (is_built r)) → IfSome (response_at at response) (IsLineAt at)
+at_kept at None kept = tt
+at_kept at (Some response) kept = record { place = refl; allowed = λ _. tt; built = kept }
 
 response_kept : (at : ℕ) (tree : Data) → IfSome (response_line at tree) (IsLineAt at)
-response_kept at tree = some_test (IsLineAt at) (has_only (codes "op" ∷ codes "message" ∷ []) tree) _ (at_kept at _)
+response_kept at tree =
+    let response : Option ResponseParts = option_and_then response_of (get (codes "message") tree) in
+    some_test (IsLineAt at) (has_only (codes "op" ∷ codes "message" ∷ []) tree) _ (at_kept at (option_and_then built response) (built_kept response))
 
 either_test : {A : Type 0} (P : A → Type 0) (b : Bool) (o q : Option A) → IfSome o P → IfSome q P → IfSome (cond b o q) P
 either_test P true o q h k = h
@@ -90,6 +108,7 @@ numbered_cons : (at : ℕ) (line : Line) (lines : List Line) → IsLineAt at lin
 numbered_cons at line lines first others = record {
   places = places;
   allowed = λ workers. All-cons (λ (l : Line). MayMake workers l.actor l.event) line lines (first.allowed workers) (others.allowed workers);
+  built = All-cons (λ (l : Line). IsBuilt l.event) line lines first.built others.built;
 }
   where
     places : (k : ℕ) (d : Line) → k < length (line ∷ lines) → (slice_index_or (line ∷ lines) k d).at ≡ at + k
@@ -98,7 +117,7 @@ numbered_cons at line lines first others = record {
 
 -- the lines that are read are numbered
 pub numbered_lines : (at : ℕ) (texts : List (List ℕ)) → IfSome (lines_from at texts) (AreNumbered at)
-numbered_lines at [] = record { places = λ k d h. absurd (omega arith); allowed = λ workers. All-nil (λ (l : Line). MayMake workers l.actor l.event) }
+numbered_lines at [] = record { places = λ k d h. absurd (omega arith); allowed = λ workers. All-nil (λ (l : Line). MayMake workers l.actor l.event); built = All-nil (λ (l : Line). IsBuilt l.event) }
 numbered_lines at (text ∷ texts) =
     some_and_then (AreNumbered at) (IsLineAt at) (option_and_then (line_of at) (tree_of text)) (λ line. option_map (λ lines. line ∷ lines) (lines_from (at + 1) texts))
     (some_and_then (IsLineAt at) (λ _. ⊤) (tree_of text) (line_of at) (some_any _) (λ tree _. line_kept at tree))
@@ -123,8 +142,8 @@ rising lines numbered k h =
     omega arith
 
 -- what a script keeps, of a header and of lines that are numbered
-pub script_kept : (header : Header) (lines : List Line) → IsHeader header → AreNumbered 2 lines → length lines + 1 < 4294967295 → IsScript record { workers = header.workers; auto = false; node = header.node; lines = lines; count = length lines + 1 }
-script_kept header lines kept numbered few = record {
+pub script_kept : (header : Header) (lines : List Line) → IsHeader header → AreNumbered 2 lines → length lines + 1 < 4294967295 → items_of lines < 4294967295 → IsScript record { workers = header.workers; auto = false; node = header.node; lines = lines; count = length lines + 1 }
+script_kept header lines kept numbered few items = record {
   some_worker = kept.some_worker;
   few_workers = kept.few_workers;
   named = kept.named;
@@ -133,6 +152,7 @@ script_kept header lines kept numbered few = record {
   rising = rising lines numbered;
   numbered = λ k d h. let e : (get_or lines k d).at ≡ 2 + k = numbered.places k d h in (omega arith, omega arith);
   allowed = numbered.allowed header.workers;
+  few_items = items;
 }
 
 -- a fact of what is there

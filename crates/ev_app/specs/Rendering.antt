@@ -6,13 +6,16 @@ use Rattle.serde_json.specs.View.{items_of}
 use Rattle.serde_json.specs.Written.{compact_text}
 use Rattle.ev_types.specs.declared.events.Actor.{Actor}
 use Rattle.ev_types.specs.declared.events.Actor.TheVariants.{Stream, Health, Timer, Main, Worker}
-use Rattle.ev_types.specs.declared.events.Event.{Event}
-use Rattle.ev_types.specs.declared.events.Event.TheVariants.{Connect, Response, Settle}
+use Rattle.ev_types.specs.declared.events.Op.{Op}
+use Rattle.ev_types.specs.declared.events.Op.TheVariants.{Connect, Disconnect, Response, Health as health, FetchTimeout, DrainTimeout, Publish, Reap, Accept, Close, Settle}
 use Rattle.ev_types.specs.declared.events.Answer.{Answer}
-use Rattle.ev_types.specs.declared.events.Answer.TheVariants.{Ignored, Moved, Replied, Settled}
+use Rattle.ev_types.specs.declared.events.Answer.TheVariants.{Ignored, Done, Moved, Replied, Version, Unchanged, Reaped, InUse, NoListener, NoRoute, Redirect, NoCluster, NoEndpoint, Local, Served, NotOpen, Settled}
+use Rattle.ev_types.specs.declared.hosts.Host.{Host}
 use Rattle.ev_types.specs.declared.events.Verdict.{Verdict}
 use Rattle.ev_types.specs.declared.events.Verdict.TheVariants.{New, Same, Kept, Unasked, Refused}
 use Rattle.ev_types.specs.declared.events.Entry.{Entry}
+use Rattle.ev_types.specs.declared.contents.Request.{Request}
+use Rattle.ev_types.specs.Events.{op_of}
 use Rattle.ev_wire.specs.Requests.{request_tree}
 
 -- an actor in words: a worker is `w` and its number
@@ -23,10 +26,18 @@ actor_text Timer = codes "timer"
 actor_text Main = codes "main"
 actor_text (Worker worker) = codes "w" ++ decimal worker
 
--- an event's word
-abbrev pub op_text : Event → List ℕ
+-- an operation's word
+abbrev pub op_text : Op → List ℕ
 op_text Connect = codes "connect"
-op_text (Response response) = codes "response"
+op_text Disconnect = codes "disconnect"
+op_text Response = codes "response"
+op_text health = codes "health"
+op_text FetchTimeout = codes "fetchTimeout"
+op_text DrainTimeout = codes "drainTimeout"
+op_text Publish = codes "publish"
+op_text Reap = codes "reap"
+op_text Accept = codes "accept"
+op_text Close = codes "close"
 op_text Settle = codes "settle"
 
 -- a number as data
@@ -44,15 +55,56 @@ verdict_text (Refused rule) = codes "V" ++ decimal rule
 abbrev pub verdict_tree : Verdict → Data
 verdict_tree verdict = string (verdict_text verdict)
 
+-- requests that are sent
+abbrev pub requests_tree : List Request → Data
+requests_tree requests = array (items_of (map request_tree requests))
+
+-- numbers of generations or connections
+abbrev pub numbers_tree : List ℕ → Data
+numbers_tree numbers = array (items_of (map number_tree numbers))
+
+-- what becomes of a connection that a listener takes and no host serves
+abbrev pub unserved_tree : List ℕ → ℕ → Data
+unserved_tree word listener = object (member (codes "listener") (number_tree listener) (member (codes "result") (string word) no_members))
+
+-- a connection that is answered at once
+abbrev pub local_tree : ℕ → ℕ → Data
+local_tree listener status = object
+    (member (codes "listener") (number_tree listener)
+    (member (codes "result") (string (codes "local"))
+    (member (codes "status") (number_tree status) no_members)))
+
+-- a connection that goes to a host of a cluster
+abbrev pub served_tree : ℕ → ℕ → Host → Data
+served_tree listener cluster host = object
+    (member (codes "address") (string host.address)
+    (member (codes "cluster") (number_tree cluster)
+    (member (codes "listener") (number_tree listener)
+    (member (codes "port") (number_tree host.port)
+    (member (codes "result") (string (codes "served")) no_members)))))
+
 -- an answer
 abbrev pub answer_tree : Answer → Data
 answer_tree Ignored = string (codes "ignored")
-answer_tree (Moved requests) = object (member (codes "requests") (array (items_of (map request_tree requests))) no_members)
+answer_tree Done = string (codes "done")
+answer_tree (Moved requests) = object (member (codes "requests") (requests_tree requests) no_members)
 answer_tree (Replied requests verdicts) =
-    object (member (codes "requests") (array (items_of (map request_tree requests)))
+    object (member (codes "requests") (requests_tree requests)
     (member (codes "verdicts") (array (items_of (map verdict_tree verdicts))) no_members))
+answer_tree (Version version) = object (member (codes "version") (number_tree version) no_members)
+answer_tree Unchanged = string (codes "unchanged")
+answer_tree (Reaped numbers) = object (member (codes "reaped") (numbers_tree numbers) no_members)
+answer_tree InUse = string (codes "inUse")
+answer_tree NoListener = string (codes "noListener")
+answer_tree (NoRoute listener) = unserved_tree (codes "noRoute") listener
+answer_tree (Redirect listener) = unserved_tree (codes "redirect") listener
+answer_tree (NoCluster listener) = unserved_tree (codes "noCluster") listener
+answer_tree (NoEndpoint listener) = unserved_tree (codes "noEndpoint") listener
+answer_tree (Local listener status) = local_tree listener status
+answer_tree (Served listener cluster host) = served_tree listener cluster host
+answer_tree NotOpen = string (codes "notOpen")
 answer_tree (Settled closed version) =
-    object (member (codes "closed") (array (items_of (map number_tree closed))) (member (codes "version") (number_tree version) no_members))
+    object (member (codes "closed") (numbers_tree closed) (member (codes "version") (number_tree version) no_members))
 
 -- an entry
 abbrev pub entry_tree : Entry → Data
@@ -60,7 +112,7 @@ entry_tree entry = object
     (member (codes "actor") (string (actor_text entry.actor))
     (member (codes "answer") (answer_tree entry.answer)
     (member (codes "at") (number_tree entry.at)
-    (member (codes "op") (string (op_text entry.event))
+    (member (codes "op") (string (op_text (op_of entry.event)))
     (member (codes "step") (number_tree entry.step) no_members)))))
 
 -- the first line of a journal

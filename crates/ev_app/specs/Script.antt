@@ -1,23 +1,17 @@
 -- The script that bytes are. It is this project's own format: lines of JSON, the first a header, and
 -- every other an operation.
-use Rattle.std.specs.Prelude.{◌≡◌, ℕ, ◌+◌, ◌<◌, ◌≤◌, All, slice_index_or, List, [], ◌∷◌, length, Bool, true, false, not, ◌&&◌, nat_le, if◌then◌else◌, codes, Option, None, Some, option_map, option_and_then}
-use Rattle.std.specs.List.{list_all}
+use Rattle.std.specs.Prelude.{◌≡◌, ℕ, ◌+◌, ◌<◌, ◌≤◌, All, slice_index_or, List, [], ◌∷◌, length, false, nat_le, if◌then◌else◌, codes, Option, None, Some, option_map, option_and_then}
 use Rattle.std.specs.Str.{bytes_eq}
 use Rattle.serde_json.specs.Data.{Data}
 use Rattle.serde_json.specs.Find.{get, as_str}
-use Rattle.ev_types.specs.Scripts.{ScriptParts, MayMake}
+use Rattle.ev_types.specs.Scripts.{ScriptParts}
+use Rattle.ev_types.specs.Events.{MayMake}
 use Rattle.ev_types.specs.Texts.{IsName}
-use Rattle.ev_types.specs.Kinds.{kind_same}
-use Rattle.ev_types.specs.Items.{ItemParts, ResponseParts}
-use Rattle.ev_types.specs.declared.contents.Kind.{Kind}
-use Rattle.ev_types.specs.declared.contents.Kind.TheVariants.{Cds}
-use Rattle.ev_types.specs.declared.contents.Content.TheVariants.{Cluster, Assignment, Listener, Routes}
-use Rattle.ev_types.specs.declared.contents.Body.{Body}
-use Rattle.ev_types.specs.declared.contents.Body.TheVariants.{Good, Bad}
+use Rattle.ev_types.specs.Items.{ResponseParts}
 use Rattle.ev_types.specs.declared.events.Line.{Line}
 use Rattle.ev_types.specs.declared.events.Actor.TheVariants.{Stream}
 use Rattle.ev_types.specs.declared.events.Event.TheVariants.{Connect, Response}
-use Rattle.ev_model.specs.Tidy.{is_static}
+use Rattle.ev_registry.specs.Built.{is_built, IsBuilt}
 use Rattle.ev_wire.specs.Responses.{response_of}
 use Rattle.ev_app.specs.declared.script.Header.{Header}
 use Rattle.ev_app.specs.Input.{max_input_bytes}
@@ -37,25 +31,8 @@ header_of tree =
 abbrev pub connect_line : ℕ → Data → Option Line
 connect_line at tree = if has_only (codes "op" ∷ []) tree then Some (record { at = at; actor = Stream; event = Connect }) else None
 
--- a resource whose cluster waits for nothing, or that is refused by its form
-abbrev pub is_built_body : Body → Bool
-is_built_body (Good (Cluster cluster)) = is_static cluster.discovery && not cluster.checked
-is_built_body (Good (Assignment rows)) = false
-is_built_body (Good (Listener listener)) = false
-is_built_body (Good (Routes table)) = false
-is_built_body (Bad rule) = true
-
--- the type of clusters
-abbrev pub is_of_clusters : Option Kind → Bool
-is_of_clusters None = false
-is_of_clusters (Some kind) = kind_same kind Cds
-
--- A response that this stage answers: one of clusters, each of which waits for nothing or is refused by its form. The
--- others are built with the managers that warm them.
-abbrev pub is_built : ResponseParts → Bool
-is_built response = is_of_clusters response.kind && list_all (λ (item : ItemParts). is_built_body item.body) response.items
-
--- the response, where this stage answers it
+-- The response, where this stage answers it: one of clusters, each of which waits for nothing or is refused by its form.
+-- The others are built with the managers that warm them.
 abbrev pub built : ResponseParts → Option ResponseParts
 built response = if is_built response then Some response else None
 
@@ -108,7 +85,14 @@ pub record IsHeader (header : Header) : Type 0 where
   pub few_workers : header.workers ≤ 16
   pub named : IsName header.node
 
--- lines that are numbered one after another from this place on, each with an actor that its event allows
+-- lines that are numbered one after another from this place on, each with an actor that its event allows, and one that the
+-- registry takes
 pub record AreNumbered (at : ℕ) (lines : List Line) : Type 0 where
   pub places : (k : ℕ) (line : Line) → k < length lines → (slice_index_or lines k line).at ≡ at + k
   pub allowed : (workers : ℕ) → All (λ (line : Line). MayMake workers line.actor line.event) lines
+  pub built : All (λ (line : Line). IsBuilt line.event) lines
+
+-- a script that the registry takes: each of its lines is built so far, and nothing follows a line by itself
+pub record IsTaken (script : ScriptParts) : Type 0 where
+  pub by_hand : script.auto ≡ false
+  pub built : All (λ (line : Line). IsBuilt line.event) script.lines

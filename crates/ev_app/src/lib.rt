@@ -5,12 +5,16 @@ mod input;
 mod laws;
 mod lines;
 mod members;
+#[cfg(test)]
+mod picture_tests;
 mod program;
 #[cfg(test)]
 mod program_tests;
 #[cfg(test)]
 mod reading_tests;
 mod render;
+#[cfg(test)]
+mod rendering_tests;
 mod replay;
 mod script;
 

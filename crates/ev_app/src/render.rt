@@ -3,9 +3,9 @@ ghost use Rattle.serde_json.specs.Data.{array};
 ghost use Rattle.serde_json.specs.View.{view, items_of};
 ghost use Rattle.serde_json.specs.Written.{has_float};
 ghost use Rattle.ev_wire.specs.Requests.{request_tree};
-ghost use Rattle.ev_app.specs.Rendering.{number_tree, rendering_of, line_text, entry_tree, header_tree, end_tree, answer_tree, actor_text, op_text, verdict_text, verdict_tree};
+ghost use Rattle.ev_app.specs.Rendering.{number_tree, numbers_tree, requests_tree, unserved_tree, local_tree, served_tree, rendering_of, line_text, entry_tree, header_tree, end_tree, answer_tree, actor_text, op_text, verdict_text, verdict_tree};
 
-use ev_types::{Actor, Answer, Entry, Event, Request, Verdict};
+use ev_types::{Actor, Answer, Entry, Gen, Host, Op, Request, Verdict};
 use ev_wire::request_value;
 use serde_json::{Value, json};
 use std::alloc::{AllocError, Global};
@@ -77,7 +77,7 @@ fn entry_value(alloc: Global, entry: &Entry) -> Result<Value, AllocError>
         "actor": actor,
         "answer": answer,
         "at": entry.at,
-        "op": op_word(&entry.event),
+        "op": op_word(entry.event.op()),
         "step": entry.step,
     })
 }
@@ -95,14 +95,22 @@ fn actor_word(alloc: Global, actor: Actor) -> Result<String, AllocError>
     }
 }
 
-// An event's word.
-fn op_word(event: &Event) -> &'static str
-    ensures { result.now ≡ op_text event.now }
+// An operation's word.
+fn op_word(op: Op) -> &'static str
+    ensures { result.now ≡ op_text op }
 {
-    match event {
-        Event::Connect => "connect",
-        Event::Response(_) => "response",
-        Event::Settle => "settle",
+    match op {
+        Op::Connect => "connect",
+        Op::Disconnect => "disconnect",
+        Op::Response => "response",
+        Op::Health => "health",
+        Op::FetchTimeout => "fetchTimeout",
+        Op::DrainTimeout => "drainTimeout",
+        Op::Publish => "publish",
+        Op::Reap => "reap",
+        Op::Accept => "accept",
+        Op::Close => "close",
+        Op::Settle => "settle",
     }
 }
 
@@ -111,24 +119,96 @@ fn answer_value(alloc: Global, answer: &Answer) -> Result<Value, AllocError>
 {
     match answer {
         Answer::Ignored => json!(in alloc; "ignored"),
-        Answer::Moved { requests } => {
-            let requests = request_values(alloc, requests.as_slice())?;
-            json!(in alloc; {"requests": requests})
-        }
+        Answer::Done => json!(in alloc; "done"),
+        Answer::Moved { requests } => moved_value(alloc, requests.as_slice()),
         Answer::Replied { requests, verdicts } => {
-            let requests = request_values(alloc, requests.as_slice())?;
-            let verdicts = verdict_values(alloc, verdicts.as_slice())?;
-            json!(in alloc; {"requests": requests, "verdicts": verdicts})
+            replied_value(alloc, requests.as_slice(), verdicts.as_slice())
         }
-        Answer::Settled { closed, version } => {
-            let closed = number_values(alloc, closed.as_slice())?;
-            json!(in alloc; {"closed": closed, "version": *version})
-        }
+        Answer::Version(version) => json!(in alloc; {"version": *version}),
+        Answer::Unchanged => json!(in alloc; "unchanged"),
+        Answer::Reaped(numbers) => reaped_value(alloc, numbers.as_slice()),
+        Answer::InUse => json!(in alloc; "inUse"),
+        Answer::NoListener => json!(in alloc; "noListener"),
+        Answer::NoRoute { listener } => unserved_value(alloc, "noRoute", *listener),
+        Answer::Redirect { listener } => unserved_value(alloc, "redirect", *listener),
+        Answer::NoCluster { listener } => unserved_value(alloc, "noCluster", *listener),
+        Answer::NoEndpoint { listener } => unserved_value(alloc, "noEndpoint", *listener),
+        Answer::Local { listener, status } => local_value(alloc, *listener, *status),
+        Answer::Served {
+            listener,
+            cluster,
+            host,
+        } => served_value(alloc, *listener, *cluster, host),
+        Answer::NotOpen => json!(in alloc; "notOpen"),
+        Answer::Settled { closed, version } => settled_value(alloc, closed.as_slice(), *version),
     }
 }
 
+fn moved_value(alloc: Global, requests: &[Request]) -> Result<Value, AllocError>
+    ensures { IfOk result (λ v. view v ≡ answer_tree (Answer.Moved requests.now)) }
+{
+    let requests = request_values(alloc, requests)?;
+    json!(in alloc; {"requests": requests})
+}
+
+fn replied_value(
+    alloc: Global,
+    requests: &[Request],
+    verdicts: &[Verdict],
+) -> Result<Value, AllocError>
+    ensures { IfOk result (λ v. view v ≡ answer_tree (Answer.Replied requests.now verdicts.now)) }
+{
+    let requests = request_values(alloc, requests)?;
+    let verdicts = verdict_values(alloc, verdicts)?;
+    json!(in alloc; {"requests": requests, "verdicts": verdicts})
+}
+
+fn reaped_value(alloc: Global, numbers: &[Gen]) -> Result<Value, AllocError>
+    ensures { IfOk result (λ v. view v ≡ answer_tree (Answer.Reaped numbers.now)) }
+{
+    let numbers = generation_values(alloc, numbers)?;
+    json!(in alloc; {"reaped": numbers})
+}
+
+// What becomes of a connection that a listener takes and no host serves.
+fn unserved_value(alloc: Global, word: &str, listener: Gen) -> Result<Value, AllocError>
+    ensures { IfOk result (λ v. view v ≡ unserved_tree word.now listener) }
+{
+    json!(in alloc; {"listener": listener.number(), "result": word})
+}
+
+fn local_value(alloc: Global, listener: Gen, status: u16) -> Result<Value, AllocError>
+    ensures { IfOk result (λ v. view v ≡ local_tree listener status) }
+{
+    json!(in alloc; {"listener": listener.number(), "result": "local", "status": status})
+}
+
+fn served_value(
+    alloc: Global,
+    listener: Gen,
+    cluster: Gen,
+    host: &Host,
+) -> Result<Value, AllocError>
+    ensures { IfOk result (λ v. view v ≡ served_tree listener cluster host.now) }
+{
+    json!(in alloc; {
+        "address": host.address.as_str(),
+        "cluster": cluster.number(),
+        "listener": listener.number(),
+        "port": host.port,
+        "result": "served",
+    })
+}
+
+fn settled_value(alloc: Global, closed: &[u64], version: u64) -> Result<Value, AllocError>
+    ensures { IfOk result (λ v. view v ≡ answer_tree (Answer.Settled closed.now version)) }
+{
+    let closed = number_values(alloc, closed)?;
+    json!(in alloc; {"closed": closed, "version": version})
+}
+
 fn request_values(alloc: Global, requests: &[Request]) -> Result<Value, AllocError>
-    ensures { IfOk result (λ v. view v ≡ array (items_of (map request_tree requests.now))) }
+    ensures { IfOk result (λ v. view v ≡ requests_tree requests.now) }
 {
     let mut values = Vec::with_capacity(alloc, requests.len())?;
     for request in requests {
@@ -138,11 +218,21 @@ fn request_values(alloc: Global, requests: &[Request]) -> Result<Value, AllocErr
 }
 
 fn number_values(alloc: Global, numbers: &[u64]) -> Result<Value, AllocError>
-    ensures { IfOk result (λ v. view v ≡ array (items_of (map number_tree numbers.now))) }
+    ensures { IfOk result (λ v. view v ≡ numbers_tree numbers.now) }
 {
     let mut values = Vec::with_capacity(alloc, numbers.len())?;
     for number in numbers {
         values.push(Value::from(*number))?;
+    }
+    Ok(Value::Array(values))
+}
+
+fn generation_values(alloc: Global, numbers: &[Gen]) -> Result<Value, AllocError>
+    ensures { IfOk result (λ v. view v ≡ numbers_tree numbers.now) }
+{
+    let mut values = Vec::with_capacity(alloc, numbers.len())?;
+    for number in numbers {
+        values.push(Value::from(number.number()))?;
     }
     Ok(Value::Array(values))
 }

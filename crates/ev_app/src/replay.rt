@@ -1,12 +1,15 @@
 ghost use Rattle.std.specs.Prelude.{◌≡◌, IfOk};
 ghost use Rattle.ev_app.specs.Replay.{HasReplayed};
+ghost use Rattle.ev_app.specs.Script.{IsTaken};
 
 use ev_registry::Registry;
 use ev_types::{Actor, Event, Script};
 use std::alloc::{AllocError, Global};
 
-/// The registry after the whole script, on one thread.
+/// The registry after the whole script, on one thread, where it takes the script's lines.
+#[tactic(auto, using(crate::proofs::ReplayLemmas::taken_operations))]
 pub(crate) fn replay(alloc: Global, script: &Script) -> Result<Registry, AllocError>
+    requires { IsTaken script.now }
     ensures { IfOk result (λ registry. HasReplayed script.now registry) }
 {
     let mut registry = Registry::new(alloc, script.workers, &script.node)?;

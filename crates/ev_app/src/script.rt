@@ -4,7 +4,9 @@ ghost use Rattle.serde_json.specs.Find.{get, as_str};
 ghost use Rattle.serde_json.specs.View.{view};
 ghost use Rattle.ev_types.specs.Texts.{IsName};
 ghost use Rattle.ev_app.specs.Members.{tree_of, whole_within, name_of, or_default};
-ghost use Rattle.ev_app.specs.Script.{header_of, line_of, line_by, connect_line, response_line, response_at, built, is_built, is_built_body, is_of_clusters, lines_from, script_of, IsHeader};
+ghost use Rattle.ev_types.specs.Scripts.{items_in, items_of};
+ghost use Rattle.ev_registry.specs.Built.{is_built, is_built_body, is_of_clusters};
+ghost use Rattle.ev_app.specs.Script.{header_of, line_of, line_by, connect_line, response_line, response_at, built, lines_from, script_of, IsHeader, IsTaken};
 ghost use Rattle.ev_wire.specs.Responses.{response_of};
 
 use crate::input::MAX_INPUT_BYTES;
@@ -29,7 +31,8 @@ struct Header {
 
 /// The script that `bytes` are, or none where they aren't one.
 pub(crate) fn read_script(alloc: Global, bytes: &[u8]) -> Result<Option<Script>, AllocError>
-    ensures { IfOk result (λ script. script ≡ script_of bytes.now) }
+    ensures script { IfOk result (λ script. script ≡ script_of bytes.now) }
+    ensures taken { IfOk result (λ script. IfSome script IsTaken) }
 {
     if bytes.len() > MAX_INPUT_BYTES {
         return Ok(None);
@@ -44,6 +47,7 @@ pub(crate) fn read_script(alloc: Global, bytes: &[u8]) -> Result<Option<Script>,
     let Some(lines) = read_lines(alloc, texts)? else {
         return Ok(None);
     };
+    count_items(lines.as_slice())?;
     let count = lines.len() as u32 + 1;
     Ok(Some(Script {
         workers: header.workers,
@@ -122,6 +126,41 @@ fn read_lines(alloc: Global, texts: Lines<'_>) -> Result<Option<Seq<Line>>, Allo
         at += 1;
     }
     Ok(Some(Seq::from_vec(lines)))
+}
+
+// Counts the resources of the lines' responses, which are fewer than 2^32 - 1 together. More, which no input has room
+// for, would be want of memory.
+fn count_items(lines: &[Line]) -> Result<u32, AllocError>
+    ensures count { IfOk result (λ count. count ≡ items_of lines.now) }
+    ensures few { IfOk result (λ count. count < 4294967295) }
+{
+    let mut count = 0;
+    for line in lines {
+        count = with_items(count, items_in(&line.event))?;
+    }
+    Ok(count)
+}
+
+// So many resources more.
+fn with_items(count: u32, items: usize) -> Result<u32, AllocError>
+    requires { count < 4294967295 }
+    ensures sum { IfOk result (λ sum. sum ≡ count + items) }
+    ensures few { IfOk result (λ sum. sum < 4294967295) }
+{
+    if items >= (u32::MAX - count) as usize {
+        return Err(AllocError);
+    }
+    Ok(count + items as u32)
+}
+
+// How many resources an event brings.
+fn items_in(event: &Event) -> usize
+    ensures { result ≡ items_in event.now }
+{
+    match event {
+        Event::Response(response) => response.items.len(),
+        _ => 0,
+    }
 }
 
 // The line that a text is, at its place, or none where it isn't one.

@@ -1,26 +1,39 @@
 -- Runs that go on by one entry.
-use Rattle.std.proofs.Common.{◌≡◌, ℕ, List, [], ◌∷◌, ◌++◌, length, refl, ap, ◌∙◌, Option, Some, None, Bool, true, false}
+use Rattle.std.proofs.Common.{◌≡◌, ℕ, List, [], ◌∷◌, ◌++◌, length, refl, ap, ◌∙◌, Option, Some, None, Bool, true, false, if◌then◌else◌, ◌||◌}
+use Rattle.std.specs.List.{AllByRecursion}
+use Rattle.std.specs.Option.{is_some}
 use Rattle.std.proofs.lemmas.List.{length-set}
+use Rattle.std.proofs.lemmas.Bool.{both_ways}
 use Rattle.ev_types.specs.Items.{ItemParts, ResponseParts}
+use Rattle.ev_types.specs.Events.{MayMake}
 use Rattle.ev_types.specs.declared.contents.Kind.{Kind}
 use Rattle.ev_types.specs.declared.contents.Kind.TheVariants.{Cds, Eds, Lds, Rds}
 use Rattle.ev_types.specs.declared.contents.Content.{Content}
 use Rattle.ev_types.specs.declared.contents.Body.{Body}
 use Rattle.ev_types.specs.declared.contents.Body.TheVariants.{Good, Bad}
+use Rattle.ev_types.specs.declared.hosts.Host.{Host}
+use Rattle.ev_types.specs.declared.rows.GenRow.{GenRow}
+use Rattle.ev_types.specs.declared.events.Ask.{Ask}
 use Rattle.ev_types.specs.declared.events.Verdict.{Verdict}
 use Rattle.ev_types.specs.declared.events.Verdict.TheVariants.{New, Same, Kept, Unasked, Refused}
 use Rattle.ev_types.specs.declared.events.Actor.{Actor}
-use Rattle.ev_types.specs.declared.events.Actor.TheVariants.{Stream, Health, Timer, Main, Worker}
+use Rattle.ev_types.specs.declared.events.Actor.TheVariants.{Stream, Health as health_checker, Timer, Main, Worker}
 use Rattle.ev_types.specs.declared.events.Event.{Event}
-use Rattle.ev_types.specs.declared.events.Event.TheVariants.{Connect, Response, Settle}
+use Rattle.ev_types.specs.declared.events.Event.TheVariants.{Connect, Disconnect, Response, Health, FetchTimeout, DrainTimeout, Publish, Reap, Accept, Close, Settle}
+use Rattle.ev_types.specs.declared.events.Answer.{Answer}
 use Rattle.ev_types.specs.declared.events.Entry.{Entry}
 use Rattle.ev_model.specs.World.{World}
-use Rattle.ev_model.specs.Step.{step, connect, respond, respond_by}
 use Rattle.ev_model.specs.Live.{lives_of}
+use Rattle.ev_model.specs.Watching.{is_watched}
+use Rattle.ev_model.specs.Phase.{is_clusters}
 use Rattle.ev_model.specs.Verdicts.{verdicts_of}
-use Rattle.ev_model.specs.Rows.{with_removals, add_good, add_by, add_item, add_items}
-use Rattle.ev_model.specs.Runs.{world_after, RunsFrom}
-use Rattle.ev_types.specs.Scripts.{MayMake}
+use Rattle.ev_model.specs.Rows.{with_removals, with_content, add_row, keep_value, keep_version, told_of_refusal, refuse, add_item, add_items, made_names, with_first}
+use Rattle.ev_model.specs.Picture.{picture_of, picture_same}
+use Rattle.ev_model.specs.Dead.{last_picture}
+use Rattle.ev_model.specs.Signals.{health_of, rows_meant, name_timeout_of, is_awaited, fetch_timeout, expire, unexpired}
+use Rattle.ev_model.specs.Connections.{accept, close, is_open}
+use Rattle.ev_model.specs.Step.{step, respond_by, answered}
+use Rattle.ev_model.specs.Runs.{world_after, RunsFrom, is_batched, IsUnbroken}
 
 -- the world after one entry more
 pub world_after-more : (world : World) (entries : List Entry) (entry : Entry)
@@ -38,23 +51,50 @@ RunsFrom-more workers world [] entry run may answered = (may, answered, tt)
 RunsFrom-more workers world (first ∷ entries) entry run may answered =
     (run.0, run.1, RunsFrom-more workers (step world first.actor first.event).0 entries entry run.2 may answered)
 
-connect-held : (world : World) (b : Bool) → world.stream ≡ b → (connect world).0.held ≡ world.held
-connect-held world true h = simp h refl
-connect-held world false h = simp h refl
+-- a journal with no accept or close stays unbroken with one entry more that is none
+pub IsUnbroken-more : (entries : List Entry) (entry : Entry)
+    → AllByRecursion (λ (e : Entry). is_batched e.event ≡ false) entries
+    → is_batched entry.event ≡ false
+    → IsUnbroken (entries ++ entry ∷ [])
+IsUnbroken-more [] entry none isnt = (λ h. absurd (both_ways (is_batched entry.event) isnt h), tt)
+IsUnbroken-more (first ∷ entries) entry none isnt =
+    (λ h. absurd (both_ways (is_batched first.event) none.0 h), IsUnbroken-more entries entry none.1 isnt)
 
-good-held : (kind : Kind) (verdict : Verdict) (item : ItemParts) (content : Content) (world : World) → (add_good kind verdict item content world).held ≡ world.held
-good-held kind New item content world = refl
-good-held kind Same item content world = refl
-good-held kind Kept item content world = refl
-good-held kind Unasked item content world = refl
-good-held kind (Refused rule) item content world = refl
+-- both branches of a choice keep the versions that workers hold
+if-held : (b : Bool) (one other : World × Answer) (world : World) → one.0.held ≡ world.held → other.0.held ≡ world.held
+    → (if b then one else other).0.held ≡ world.held
+if-held true one other world o t = o
+if-held false one other world o t = t
 
-by-held : (kind : Kind) (verdict : Verdict) (item : ItemParts) (body : Body) (world : World) → (add_by kind verdict item body world).held ≡ world.held
-by-held kind verdict item (Good content) world = good-held kind verdict item content world
-by-held kind verdict item (Bad rule) world = refl
+removals-held : (kind : Kind) (response : ResponseParts) (world : World) → (with_removals kind response world).held ≡ world.held
+removals-held Cds response world = refl
+removals-held Eds response world = refl
+removals-held Lds response world = refl
+removals-held Rds response world = refl
+
+told-held : (kind : Kind) (name : List ℕ) (world : World) (b : Bool) → is_watched (lives_of world) kind name ≡ b
+    → (told_of_refusal kind name world).held ≡ world.held
+told-held kind name world true h = simp h refl
+told-held kind name world false h = simp h refl
+
+refuse-held : (kind : Kind) (name : List ℕ) (world : World) → (refuse kind name world).held ≡ world.held
+refuse-held Cds name world = refl
+refuse-held Eds name world = told-held Eds name world (is_watched (lives_of world) Eds name) refl
+refuse-held Lds name world = refl
+refuse-held Rds name world = told-held Rds name world (is_watched (lives_of world) Rds name) refl
+
+content-held : (change : Content → World → World) (body : Body) (world : World)
+    → ((content : Content) → (change content world).held ≡ world.held)
+    → (with_content change body world).held ≡ world.held
+content-held change (Good content) world keeps = keeps content
+content-held change (Bad rule) world keeps = refl
 
 item-held : (kind : Kind) (verdict : Verdict) (item : ItemParts) (world : World) → (add_item kind verdict item world).held ≡ world.held
-item-held kind verdict item world = by-held kind verdict item item.body world
+item-held kind New item world = content-held (add_row kind item) item.body world (λ content. refl)
+item-held kind Same item world = content-held (λ content. keep_version kind item) item.body world (λ content. refl)
+item-held kind Kept item world = content-held (keep_value kind item) item.body world (λ content. refl)
+item-held kind Unasked item world = refl
+item-held kind (Refused rule) item world = refuse-held kind item.name world
 
 items-held : (kind : Kind) (verdicts : List Verdict) (items : List ItemParts) (world : World) → (add_items kind verdicts items world).held ≡ world.held
 items-held kind [] items world = refl
@@ -62,26 +102,62 @@ items-held kind (verdict ∷ verdicts) [] world = refl
 items-held kind (verdict ∷ verdicts) (item ∷ items) world =
     items-held kind verdicts items (add_item kind verdict item world) ∙ item-held kind verdict item world
 
-respond_by-held : (kind : Option Kind) (response : ResponseParts) (world : World) → (respond_by kind response world).0.held ≡ world.held
-respond_by-held None response world = refl
-respond_by-held (Some Cds) response world =
-    items-held Cds (verdicts_of (lives_of world) response) response.items (with_removals Cds response world)
-respond_by-held (Some Eds) response world = refl
-respond_by-held (Some Lds) response world = refl
-respond_by-held (Some Rds) response world = refl
+first-held : (kind : Kind) (names : List (List ℕ)) (world : World) → (with_first kind names world).held ≡ world.held
+first-held Cds names world = refl
+first-held Eds names world = refl
+first-held Lds names world = refl
+first-held Rds names world = refl
 
-respond-held : (response : ResponseParts) (world : World) (b : Bool) → world.stream ≡ b → (respond response world).0.held ≡ world.held
-respond-held response world true h = simp h (respond_by-held response.kind response world)
-respond-held response world false h = simp h refl
+answered-held : (kind : Kind) (response : ResponseParts) (verdicts : List Verdict) (world : World)
+    → (answered kind response verdicts world).0.held ≡ world.held
+answered-held kind response verdicts world =
+    first-held kind (made_names verdicts response.items) (add_items kind verdicts response.items (with_removals kind response world))
+    ∙ items-held kind verdicts response.items (with_removals kind response world)
+    ∙ removals-held kind response world
+
+by-held : (kind : Option Kind) (response : ResponseParts) (world : World) → (respond_by kind response world).0.held ≡ world.held
+by-held None response world = refl
+by-held (Some kind) response world = answered-held kind response (verdicts_of (lives_of world) response) world
+
+health-held : (host : Host) (healthy : Bool) (rows : List GenRow) (world : World) → (health_of host healthy rows world).0.held ≡ world.held
+health-held host healthy [] world = refl
+health-held host healthy (row ∷ rows) world = refl
+
+name-held : (kind : Kind) (name : Option (List ℕ)) (world : World) → (name_timeout_of kind name world).0.held ≡ world.held
+name-held kind None world = refl
+name-held kind (Some name) world = if-held (is_awaited world kind name) _ _ world refl refl
+
+timeout-held : (kind : Kind) (name : Option (List ℕ)) (world : World) → (fetch_timeout kind name world).0.held ≡ world.held
+timeout-held Cds name world = if-held (is_some world.first_clusters || world.late_clusters) _ _ world refl refl
+timeout-held Eds name world = name-held Eds name world
+timeout-held Lds name world =
+    if-held (is_clusters world.phase || (is_some world.first_listeners || world.late_listeners)) _ _ world refl refl
+timeout-held Rds name world = name-held Rds name world
+
+expire-held : (numbers : List ℕ) (world : World) → (expire numbers world).0.held ≡ world.held
+expire-held [] world = refl
+expire-held (number ∷ numbers) world = refl
+
+accept-held : (ask : Ask) (worker : ℕ) (world : World) → (accept ask worker world).0.held ≡ world.held
+accept-held ask worker world = if-held (is_open world worker ask.conn) _ _ world refl refl
+
+close-held : (connection worker : ℕ) (world : World) → (close connection worker world).0.held ≡ world.held
+close-held connection worker world = if-held (is_open world worker connection) _ _ world refl refl
 
 -- no event changes how many workers there are
 pub length-held : (world : World) (actor : Actor) (event : Event) → length (step world actor event).0.held ≡ length world.held
-length-held world Stream Connect = ap length (connect-held world world.stream refl)
-length-held world Stream (Response response) = ap length (respond-held response world world.stream refl)
+length-held world actor Connect = ap length (if-held world.stream _ _ world refl refl)
+length-held world actor Disconnect = ap length (if-held world.stream _ _ world refl refl)
+length-held world actor (Response response) = ap length (if-held world.stream _ _ world (by-held response.kind response world) refl)
+length-held world actor (Health cluster host healthy) = ap length (health-held host healthy (rows_meant world cluster host) world)
+length-held world actor (FetchTimeout timeout) = ap length (timeout-held timeout.kind timeout.name world)
+length-held world actor (DrainTimeout listener) = ap length (expire-held (unexpired world listener) world)
+length-held world actor Publish = ap length (if-held (picture_same (picture_of world) (last_picture world)) _ _ world refl refl)
+length-held world actor Reap = refl
+length-held world (Worker worker) (Accept ask) = ap length (accept-held ask worker world)
+length-held world (Worker worker) (Close connection) = ap length (close-held connection worker world)
 length-held world (Worker worker) Settle = length-set world.held worker _
-length-held world Stream Settle = refl
-length-held world Health event = refl
+length-held world Stream event = refl
+length-held world health_checker event = refl
 length-held world Timer event = refl
 length-held world Main event = refl
-length-held world (Worker worker) Connect = refl
-length-held world (Worker worker) (Response response) = refl

@@ -1,17 +1,20 @@
 -- Which operations a script holds for each actor, and in which order a replay takes them. This project's own.
-use Rattle.std.specs.Prelude.{ℕ, ◌≡◌, ◌+◌, Bool, true, false, ◌==◌, List, [], ◌∷◌, ◌++◌, map, filter}
-use Rattle.std.specs.List.{range_with_len}
+use Rattle.std.specs.Prelude.{ℕ, ◌≡◌, ◌+◌, ◌%◌, Bool, true, false, not, ◌&&◌, ◌==◌, nat_lt, nat_le, if◌then◌else◌, List, [], ◌∷◌, ◌++◌, map, filter, length, refl}
+use Rattle.std.specs.Bool.{Decides}
+use Rattle.std.specs.List.{range_with_len, list_any, flat_map}
+use Rattle.std.proofs.Common.{ap}
+use Rattle.ev_types.specs.Same.{decides_as, numbers_decide}
 use Rattle.ev_types.specs.Scripts.{ScriptParts}
 use Rattle.ev_types.specs.declared.events.Actor.{Actor}
 use Rattle.ev_types.specs.declared.events.Actor.TheVariants.{Stream, Health, Timer, Main, Worker}
 use Rattle.ev_types.specs.declared.events.Event.{Event}
-use Rattle.ev_types.specs.declared.events.Event.TheVariants.{Settle}
+use Rattle.ev_types.specs.declared.events.Event.TheVariants.{Connect, Disconnect, Response, Health as health, FetchTimeout, DrainTimeout, Publish, Reap, Accept, Close, Settle}
 use Rattle.ev_types.specs.declared.events.Answer.{Answer}
 use Rattle.ev_types.specs.declared.events.Entry.{Entry}
 use Rattle.ev_types.specs.declared.events.Line.{Line}
 use Rattle.ev_model.specs.World.{World, opening}
 use Rattle.ev_model.specs.Step.{step}
-use Rattle.ev_model.specs.Runs.{IsRun}
+use Rattle.ev_model.specs.Runs.{IsRun, is_batched}
 
 -- what an actor does at a line of the script, or in a step after it
 pub record Operation : Type 0 where
@@ -24,13 +27,13 @@ pub record Operation : Type 0 where
 abbrev pub line_operation : Line → Operation
 line_operation line = record { actor = line.actor; at = line.at; step = 0; event = line.event }
 
+-- a step of the line's actor behind the line
+abbrev pub step_behind : Line → ℕ → Event → Operation
+step_behind line step event = record { actor = line.actor; at = line.at; step = step; event = event }
+
 -- each worker settles once more behind the script's last line
 abbrev pub last_settle : ScriptParts → ℕ → Operation
 last_settle script worker = record { actor = Worker worker; at = script.count + 1; step = 0; event = Settle }
-
--- the operations in the order of a replay: the lines, then the last settles by worker
-abbrev pub replay_operations : ScriptParts → List Operation
-replay_operations script = map line_operation script.lines ++ map (last_settle script) (range_with_len 0 script.workers)
 
 -- the two are one actor
 abbrev pub actor_same : Actor → Actor → Bool
@@ -41,9 +44,87 @@ actor_same Main Main = true
 actor_same (Worker a) (Worker b) = a == b
 actor_same a b = false
 
+-- the test holds of equal actors alone
+pub actor_decides : (a b : Actor) → Decides (actor_same a b) (a ≡ b)
+actor_decides Stream Stream = (λ h. refl, λ e. refl)
+actor_decides Health Health = (λ h. refl, λ e. refl)
+actor_decides Timer Timer = (λ h. refl, λ e. refl)
+actor_decides Main Main = (λ h. refl, λ e. refl)
+actor_decides (Worker a) (Worker b) = decides_as (numbers_decide a b) (λ e. ap Worker e) (λ e. cc)
+actor_decides a b = (λ h. cc, λ e. cc)
+
+-- an actor whose lines are followed by a publication and a reaping, where the script says `auto`
+abbrev pub is_automatic : Actor → Bool
+is_automatic Stream = true
+is_automatic Health = true
+is_automatic Timer = true
+is_automatic Main = false
+is_automatic (Worker worker) = false
+
+-- a worker settles
+abbrev pub is_settle : Event → Bool
+is_settle Connect = false
+is_settle Disconnect = false
+is_settle (Response response) = false
+is_settle (health cluster host healthy) = false
+is_settle (FetchTimeout timeout) = false
+is_settle (DrainTimeout listener) = false
+is_settle Publish = false
+is_settle Reap = false
+is_settle (Accept ask) = false
+is_settle (Close connection) = false
+is_settle Settle = true
+
+-- the worker of a line settles by a line of its own between an earlier line and this one
+abbrev pub settles_between : Line → Line → Line → Bool
+settles_between earlier line other =
+    is_settle other.event && actor_same other.actor line.actor && nat_lt earlier.at other.at && nat_le other.at line.at
+
+-- an accept or close of the same worker, not behind this line, with no settle of the worker's own between
+abbrev pub is_since_settle : List Line → Line → Line → Bool
+is_since_settle lines line other =
+    is_batched other.event && actor_same other.actor line.actor && nat_le other.at line.at && not (list_any (settles_between other line) lines)
+
+-- so many accepts and closes a batch may have
+abbrev pub batch_limit : ℕ
+batch_limit = 256
+
+-- A batch is full at a line: it is an accept or close, and with it those since the worker's last settle line are so many.
+-- A settle is forced behind each full batch, so twice so many make a full batch again, and so on.
+abbrev pub is_full_at : List Line → Line → Bool
+is_full_at lines line = is_batched line.event && (length (filter (is_since_settle lines line) lines) % batch_limit == 0)
+
+-- what follows a line: with `auto` a publication and a reaping, and a settle where a batch is full
+abbrev pub followers : ScriptParts → Line → List Operation
+followers script line =
+    if script.auto && is_automatic line.actor then step_behind line 1 Publish ∷ step_behind line 2 Reap ∷ []
+    else (if is_full_at script.lines line then step_behind line 1 Settle ∷ [] else [])
+
+-- the operations of a line
+abbrev pub line_operations : ScriptParts → Line → List Operation
+line_operations script line = line_operation line ∷ followers script line
+
+-- all operations of a script: those of its lines, then the last settles by worker
+abbrev pub all_operations : ScriptParts → List Operation
+all_operations script = flat_map (line_operations script) script.lines ++ map (last_settle script) (range_with_len 0 script.workers)
+
 -- the operations that a script holds for an actor, in order
 abbrev pub operations_of : ScriptParts → Actor → List Operation
-operations_of script actor = filter (λ (o : Operation). actor_same o.actor actor) (replay_operations script)
+operations_of script actor = filter (λ (o : Operation). actor_same o.actor actor) (all_operations script)
+
+-- an operation goes directly before the next one of the same actor
+abbrev pub put_before_next : Operation → List Operation → List Operation
+put_before_next o [] = o ∷ []
+put_before_next o (next ∷ os) = if actor_same next.actor o.actor then o ∷ next ∷ os else next ∷ put_before_next o os
+
+-- the operations with each worker's accepts and closes directly before its next settle
+abbrev pub with_batches : List Operation → List Operation
+with_batches [] = []
+with_batches (o ∷ os) = if is_batched o.event then put_before_next o (with_batches os) else o ∷ with_batches os
+
+-- the operations in the order of a replay
+abbrev pub replay_operations : ScriptParts → List Operation
+replay_operations script = with_batches (all_operations script)
 
 -- what an entry did
 abbrev pub operation_of : Entry → Operation

@@ -28,25 +28,25 @@ abbrev pub have_come : List GenRow → Kind → Option (List (List ℕ)) → Boo
 have_come rows kind None = false
 have_come rows kind (Some names) = list_all (has_come rows kind) names
 
--- the clusters were waited for
+-- the first clusters have come, or timed out
 abbrev pub clusters_have_come : World → Bool
 clusters_have_come world = world.late_clusters || have_come world.rows Cds world.first_clusters
 
--- the listeners were waited for
+-- the first listeners have come, or timed out
 abbrev pub listeners_have_come : World → Bool
 listeners_have_come world = world.late_listeners || have_come world.rows Lds world.first_listeners
 
--- the phase of a world in which listeners are asked for
+-- the phase of a world in which listeners are asked for: they serve once the first have come, or timed out
 abbrev pub listeners_phase : World → Phase
 listeners_phase world = if listeners_have_come world then Serving else Listeners
 
--- the phase that a world in this phase moves on to
+-- the phase that a world in this phase moves on to, or this one; it may be the next but one
 abbrev pub phase_from : Phase → World → Phase
 phase_from Clusters world = if clusters_have_come world then listeners_phase world else Clusters
 phase_from Listeners world = listeners_phase world
 phase_from Serving world = Serving
 
--- the phase that the world moves on to
+-- the phase that the world moves on to: it never goes back
 abbrev pub phase_after : World → Phase
 phase_after world = phase_from world.phase world
 
@@ -55,3 +55,9 @@ abbrev pub is_clusters : Phase → Bool
 is_clusters Clusters = true
 is_clusters Listeners = false
 is_clusters Serving = false
+
+-- listeners serve
+abbrev pub is_serving : Phase → Bool
+is_serving Clusters = false
+is_serving Listeners = false
+is_serving Serving = true

@@ -1,5 +1,6 @@
--- What a response does to the generations and versions: removals first, then its resources in order. Source: the xDS transport
--- protocol, incremental variant; that an update is a whole new generation which warms is Envoy's cluster manager warming.
+-- What a response does to generations, arrivals and versions: removals first, then its resources in order. Source: the xDS
+-- transport protocol, incremental variant; that an update is a whole new generation which warms is Envoy's cluster manager
+-- warming.
 use Rattle.std.specs.Prelude.{ℕ, Bool, true, false, not, ◌&&◌, ◌+◌, if◌then◌else◌, List, [], ◌∷◌, ◌++◌, filter, map, Option, Some, None}
 use Rattle.std.specs.Str.{bytes_eq}
 use Rattle.ev_types.specs.Items.{ItemParts, ResponseParts}
@@ -14,7 +15,11 @@ use Rattle.ev_types.specs.declared.rows.RowStatus.{RowStatus}
 use Rattle.ev_types.specs.declared.rows.RowStatus.TheVariants.{Warming, Active, Draining, Dropped}
 use Rattle.ev_types.specs.declared.rows.GenRow.{GenRow}
 use Rattle.ev_types.specs.declared.rows.KeptVersion.{KeptVersion}
-use Rattle.ev_model.specs.World.{World}
+use Rattle.ev_types.specs.declared.rows.Arrival.{Arrival}
+use Rattle.ev_types.specs.declared.rows.Arrival.TheVariants.{Value, Absent, Bad as bad}
+use Rattle.ev_model.specs.World.{World, Arrived}
+use Rattle.ev_model.specs.Live.{lives_of}
+use Rattle.ev_model.specs.Watching.{is_watched}
 use Rattle.ev_types.specs.Kinds.{kind_same}
 use Rattle.ev_types.specs.Statuses.{is_warming}
 use Rattle.ev_model.specs.Verdicts.{is_removed}
@@ -43,12 +48,35 @@ status_left kind response row = if kind_same row.kind kind && is_removed respons
 abbrev pub is_version_left : Kind → ResponseParts → KeptVersion → Bool
 is_version_left kind response kept = not (kind_same kept.kind kind && is_removed response kept.name)
 
--- the world after the removals of a response of this kind
-abbrev pub with_removals : Kind → ResponseParts → World → World
-with_removals kind response world = record world {
+-- something more came for a name of this kind
+abbrev pub arrived : Kind → Arrival → List ℕ → Arrived
+arrived kind arrival name = record { kind = kind; name = name; arrival = arrival }
+
+-- clusters or listeners that a response of this kind removes drain or are dropped, and their versions go
+abbrev pub without_rows : Kind → ResponseParts → World → World
+without_rows kind response world = record world {
   rows = with_statuses (status_left kind response) world.rows;
   versions = filter (is_version_left kind response) world.versions;
 }
+
+-- the removed names of a response of this kind that are watched
+abbrev pub absent_names : Kind → ResponseParts → World → List (List ℕ)
+absent_names kind response world =
+    filter (λ name. is_removed response name && is_watched (lives_of world) kind name) response.removed
+
+-- a watched name of endpoints or routes that a response removes is told of; its value stays, and its version goes
+abbrev pub with_absences : Kind → ResponseParts → World → World
+with_absences kind response world = record world {
+  arrivals = world.arrivals ++ map (arrived kind Absent) (absent_names kind response world);
+  versions = filter (is_version_left kind response) world.versions;
+}
+
+-- the world after the removals of a response of this kind
+abbrev pub with_removals : Kind → ResponseParts → World → World
+with_removals Cds response world = without_rows Cds response world
+with_removals Eds response world = with_absences Eds response world
+with_removals Lds response world = without_rows Lds response world
+with_removals Rds response world = with_absences Rds response world
 
 -- a generation that warms under the name of a new one is dropped
 abbrev pub replaced_status : Kind → List ℕ → GenRow → RowStatus
@@ -70,21 +98,35 @@ add_row kind item content world = keep_version kind item (record world {
   made = world.made + 1;
 })
 
--- the world after a good resource with its verdict
-abbrev pub add_good : Kind → Verdict → ItemParts → Content → World → World
-add_good kind New item content world = add_row kind item content world
-add_good kind Same item content world = keep_version kind item world
-add_good kind Kept item content world = world
-add_good kind Unasked item content world = world
-add_good kind (Refused rule) item content world = world
+-- the value of a watched name is kept with its version
+abbrev pub keep_value : Kind → ItemParts → Content → World → World
+keep_value kind item content world =
+    keep_version kind item (record world { arrivals = world.arrivals ++ arrived kind (Value content) item.name ∷ [] })
 
--- the world after a resource with its verdict: one that is refused changes nothing
-abbrev pub add_by : Kind → Verdict → ItemParts → Body → World → World
-add_by kind verdict item (Good content) world = add_good kind verdict item content world
-add_by kind verdict item (Bad rule) world = world
+-- what is done with a good resource; with a bad one nothing is
+abbrev pub with_content : (Content → World → World) → Body → World → World
+with_content change (Good content) world = change content world
+with_content change (Bad rule) world = world
 
+-- a watched name whose resource was refused is told of
+abbrev pub told_of_refusal : Kind → List ℕ → World → World
+told_of_refusal kind name world =
+    if is_watched (lives_of world) kind name then record world { arrivals = world.arrivals ++ arrived kind bad name ∷ [] } else world
+
+-- the world after a refusal: one of a cluster or listener changes nothing
+abbrev pub refuse : Kind → List ℕ → World → World
+refuse Cds name world = world
+refuse Eds name world = told_of_refusal Eds name world
+refuse Lds name world = world
+refuse Rds name world = told_of_refusal Rds name world
+
+-- the world after a resource with its verdict
 abbrev pub add_item : Kind → Verdict → ItemParts → World → World
-add_item kind verdict item world = add_by kind verdict item item.body world
+add_item kind New item world = with_content (add_row kind item) item.body world
+add_item kind Same item world = with_content (λ content. keep_version kind item) item.body world
+add_item kind Kept item world = with_content (keep_value kind item) item.body world
+add_item kind Unasked item world = world
+add_item kind (Refused rule) item world = refuse kind item.name world
 
 -- the world after these resources with their verdicts, in order
 abbrev pub add_items : Kind → List Verdict → List ItemParts → World → World
@@ -92,6 +134,7 @@ add_items kind [] items world = world
 add_items kind (verdict ∷ verdicts) [] world = world
 add_items kind (verdict ∷ verdicts) (item ∷ items) world = add_items kind verdicts items (add_item kind verdict item world)
 
+-- a generation is made
 abbrev pub is_new : Verdict → Bool
 is_new New = true
 is_new Same = false

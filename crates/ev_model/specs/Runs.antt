@@ -1,6 +1,9 @@
 -- What a journal is a run of. This project's own.
-use Rattle.std.specs.Prelude.{ℕ, ◌≡◌, List, [], ◌∷◌, take, ⊤}
-use Rattle.ev_types.specs.Scripts.{MayMake}
+use Rattle.std.specs.Prelude.{ℕ, ◌≡◌, Bool, true, false, List, [], ◌∷◌, take, ⊤}
+use Rattle.ev_types.specs.Events.{MayMake}
+use Rattle.ev_types.specs.declared.events.Actor.{Actor}
+use Rattle.ev_types.specs.declared.events.Event.{Event}
+use Rattle.ev_types.specs.declared.events.Event.TheVariants.{Connect, Disconnect, Response, Health, FetchTimeout, DrainTimeout, Publish, Reap, Accept, Close, Settle}
 use Rattle.ev_types.specs.declared.events.Entry.{Entry}
 use Rattle.ev_model.specs.World.{World, opening}
 use Rattle.ev_model.specs.Step.{step}
@@ -22,6 +25,31 @@ RunsFrom workers world (entry ∷ entries) =
     × (entry.answer ≡ (step world entry.actor entry.event).1)
     × RunsFrom workers (step world entry.actor entry.event).0 entries
 
+-- an accept or a close: it stands in a batch of its worker, which a settle ends
+abbrev pub is_batched : Event → Bool
+is_batched Connect = false
+is_batched Disconnect = false
+is_batched (Response response) = false
+is_batched (Health cluster host healthy) = false
+is_batched (FetchTimeout timeout) = false
+is_batched (DrainTimeout listener) = false
+is_batched Publish = false
+is_batched Reap = false
+is_batched (Accept ask) = true
+is_batched (Close connection) = true
+is_batched Settle = false
+
+-- there is a next entry, and it is this actor's
+abbrev pub GoesOnWith : Actor → List Entry → Type 0
+GoesOnWith actor [] = ⊥
+GoesOnWith actor (entry ∷ entries) = entry.actor ≡ actor
+
+-- no batch is broken: directly behind an accept or a close stands an entry of the same worker
+abbrev pub IsUnbroken : List Entry → Type 0
+IsUnbroken [] = ⊤
+IsUnbroken (entry ∷ entries) = (is_batched entry.event ≡ true → GoesOnWith entry.actor entries) × IsUnbroken entries
+
 -- the journal is a run of the machine
-abbrev pub IsRun : ℕ → List ℕ → List Entry → Type 0
-IsRun workers node journal = RunsFrom workers (opening workers node) journal
+pub record IsRun (workers : ℕ) (node : List ℕ) (journal : List Entry) : Type 0 where
+  pub answers : RunsFrom workers (opening workers node) journal
+  pub batches : IsUnbroken journal

@@ -1,28 +1,33 @@
--- What one event does to the world, and how it is answered. Source: the xDS transport protocol for streams and responses;
--- that workers settle on a published picture is this project's own.
-use Rattle.std.specs.Prelude.{ℕ, Bool, true, List, [], ◌∷◌, ◌&&◌, ◌==◌, not, nat_le, slice_set, filter, map, if◌then◌else◌, Option, Some, None}
-use Rattle.std.specs.List.{list_any}
+-- What one event does to the world, and how it is answered. Source: the xDS transport protocol, incremental variant, for
+-- streams and responses; the other events stand in modules of their own.
+use Rattle.std.specs.Prelude.{ℕ, true, false, List, if◌then◌else◌, Option, Some, None}
 use Rattle.ev_types.specs.Items.{ResponseParts}
 use Rattle.ev_types.specs.declared.contents.Kind.{Kind}
-use Rattle.ev_types.specs.declared.contents.Kind.TheVariants.{Cds, Eds, Lds, Rds}
 use Rattle.ev_types.specs.declared.events.Verdict.{Verdict}
 use Rattle.ev_types.specs.declared.events.Actor.{Actor}
-use Rattle.ev_types.specs.declared.events.Actor.TheVariants.{Stream, Health, Timer, Main, Worker}
+use Rattle.ev_types.specs.declared.events.Actor.TheVariants.{Stream, Health as health_checker, Timer, Main, Worker}
 use Rattle.ev_types.specs.declared.events.Event.{Event}
-use Rattle.ev_types.specs.declared.events.Event.TheVariants.{Connect, Response, Settle}
+use Rattle.ev_types.specs.declared.events.Event.TheVariants.{Connect, Disconnect, Response, Health, FetchTimeout, DrainTimeout, Publish, Reap, Accept, Close, Settle}
 use Rattle.ev_types.specs.declared.events.Answer.{Answer}
-use Rattle.ev_types.specs.declared.events.Answer.TheVariants.{Ignored, Moved, Replied, Settled}
-use Rattle.ev_model.specs.World.{World, OpenMember, last_version}
+use Rattle.ev_types.specs.declared.events.Answer.TheVariants.{Ignored, Done, Moved, Replied}
+use Rattle.ev_model.specs.World.{World}
 use Rattle.ev_model.specs.Live.{lives_of}
 use Rattle.ev_model.specs.Verdicts.{verdicts_of}
 use Rattle.ev_model.specs.Rows.{with_removals, add_items, made_names, with_first}
 use Rattle.ev_model.specs.Tidy.{tidy}
 use Rattle.ev_model.specs.Requests.{connect_requests, requests_of, reply_of}
+use Rattle.ev_model.specs.Signals.{health, fetch_timeout, drain_timeout}
+use Rattle.ev_model.specs.Publishing.{publish, reap}
+use Rattle.ev_model.specs.Connections.{accept, close, settle}
 
 -- a stream opens; where one is open already, nothing is done
 abbrev pub connect : World → World × Answer
 connect world =
     if world.stream then (world, Ignored) else (tidy (record world { stream = true }), Moved (connect_requests world))
+
+-- the stream is lost; where none is open, nothing is done
+abbrev pub disconnect : World → World × Answer
+disconnect world = if world.stream then (tidy (record world { stream = false }), Done) else (world, Ignored)
 
 -- the world that a response of this kind leaves, with these verdicts on its resources
 abbrev pub responded : Kind → ResponseParts → List Verdict → World → World
@@ -35,50 +40,33 @@ answered kind response verdicts world =
     let after = responded kind response verdicts world in
     (after, Replied (requests_of world after (Some (reply_of kind response verdicts))) verdicts)
 
--- a response of this type. Those of clusters alone are answered in this stage.
+-- a response of this type; of a type that isn't read, nothing is done
 abbrev pub respond_by : Option Kind → ResponseParts → World → World × Answer
-respond_by (Some Cds) response world = answered Cds response (verdicts_of (lives_of world) response) world
-respond_by (Some Eds) response world = (world, Ignored)
-respond_by (Some Lds) response world = (world, Ignored)
-respond_by (Some Rds) response world = (world, Ignored)
 respond_by None response world = (world, Ignored)
+respond_by (Some kind) response world = answered kind response (verdicts_of (lives_of world) response) world
 
 -- a response; where no stream is open, nothing is done
 abbrev pub respond : ResponseParts → World → World × Answer
 respond response world = if world.stream then respond_by response.kind response world else (world, Ignored)
 
--- a number goes before the first that isn't below it
-abbrev pub insert_ascending : ℕ → List ℕ → List ℕ
-insert_ascending n [] = n ∷ []
-insert_ascending n (m ∷ ms) = if nat_le n m then n ∷ m ∷ ms else m ∷ insert_ascending n ms
+-- what a worker does; no other actor does it
+abbrev pub of_worker : (ℕ → World → World × Answer) → Actor → World → World × Answer
+of_worker change Stream world = (world, Ignored)
+of_worker change health_checker world = (world, Ignored)
+of_worker change Timer world = (world, Ignored)
+of_worker change Main world = (world, Ignored)
+of_worker change (Worker worker) world = change worker world
 
--- the numbers from the least to the greatest
-abbrev pub ascending : List ℕ → List ℕ
-ascending [] = []
-ascending (n ∷ ns) = insert_ascending n (ascending ns)
-
--- the member is this worker's, on a listener whose drain timeout came
-abbrev pub is_closing : World → ℕ → OpenMember → Bool
-is_closing world worker member = (member.worker == worker) && list_any (λ n. n == member.listener) world.expired
-
--- the worker's connections on expired listeners are closed, and it takes over the last picture
-abbrev pub settle : World → ℕ → World × Answer
-settle world worker = (
-  record world {
-    opened = filter (λ m. not (is_closing world worker m)) world.opened;
-    held = slice_set world.held worker (last_version world);
-  },
-  Settled (ascending (map (λ (m : OpenMember). m.connection) (filter (is_closing world worker) world.opened))) (last_version world),
-)
-
--- the world after the event, and the answer to it; an event of an actor that isn't its own does nothing
+-- the world after the event, and the answer to it
 abbrev pub step : World → Actor → Event → World × Answer
-step world Stream Connect = connect world
-step world Stream (Response response) = respond response world
-step world (Worker worker) Settle = settle world worker
-step world Stream Settle = (world, Ignored)
-step world Health event = (world, Ignored)
-step world Timer event = (world, Ignored)
-step world Main event = (world, Ignored)
-step world (Worker worker) Connect = (world, Ignored)
-step world (Worker worker) (Response response) = (world, Ignored)
+step world actor Connect = connect world
+step world actor Disconnect = disconnect world
+step world actor (Response response) = respond response world
+step world actor (Health cluster host healthy) = health cluster host healthy world
+step world actor (FetchTimeout timeout) = fetch_timeout timeout.kind timeout.name world
+step world actor (DrainTimeout listener) = drain_timeout listener world
+step world actor Publish = publish world
+step world actor Reap = reap world
+step world actor (Accept ask) = of_worker (accept ask) actor world
+step world actor (Close connection) = of_worker (close connection) actor world
+step world actor Settle = of_worker settle actor world

@@ -1,39 +1,31 @@
--- What follows each event by itself: generations that are ready take the place of those before them, and the phase moves on.
--- Source: cluster manager warming of Envoy's documentation: an updated cluster serves once it has warmed.
-use Rattle.std.specs.Prelude.{Bool, true, false, not, ◌&&◌, if◌then◌else◌, List}
+-- What follows each event of the stream, the health checker and the timers by itself, but publications, reapings and what is
+-- ignored. Source: cluster manager warming of Envoy's documentation: an updated generation serves once it has warmed, and the
+-- one before it drains.
+use Rattle.std.specs.Prelude.{Bool, not, ◌&&◌, ◌||◌, ◌==◌, if◌then◌else◌, List, filter}
 use Rattle.std.specs.List.{list_any}
-use Rattle.ev_types.specs.declared.clusters.Discovery.{Discovery}
-use Rattle.ev_types.specs.declared.clusters.Discovery.TheVariants.{Static, Eds}
-use Rattle.ev_types.specs.declared.contents.Content.{Content}
-use Rattle.ev_types.specs.declared.contents.Content.TheVariants.{Cluster as a_cluster, Assignment as an_assignment, Listener as a_listener, Routes as routes}
+use Rattle.ev_types.specs.Hosts.{HostRowParts}
+use Rattle.ev_types.specs.SameHosts.{host_same}
+use Rattle.ev_types.specs.Statuses.{is_warming, is_live}
+use Rattle.ev_types.specs.declared.hosts.Host.{Host}
 use Rattle.ev_types.specs.declared.rows.RowStatus.{RowStatus}
 use Rattle.ev_types.specs.declared.rows.RowStatus.TheVariants.{Warming, Active, Draining, Dropped}
 use Rattle.ev_types.specs.declared.rows.GenRow.{GenRow}
-use Rattle.ev_model.specs.World.{World}
-use Rattle.ev_types.specs.Statuses.{is_warming}
+use Rattle.ev_types.specs.declared.rows.KeptVersion.{KeptVersion}
+use Rattle.ev_types.specs.declared.rows.Live.{Live}
+use Rattle.ev_model.specs.World.{World, Arrived, HealthResult}
+use Rattle.ev_model.specs.Live.{lives_of}
+use Rattle.ev_model.specs.Watching.{is_watched, is_by_name}
+use Rattle.ev_model.specs.Warming.{is_ready, assignment_of}
 use Rattle.ev_model.specs.Rows.{is_row_of, with_statuses}
 use Rattle.ev_model.specs.Phase.{phase_after}
 
--- the hosts stand in the cluster itself
-abbrev pub is_static : Discovery → Bool
-is_static (Static rows) = true
-is_static (Eds service limited) = false
-
--- nothing is waited for: a cluster whose hosts stand in it and aren't health checked. No other resource is brought by a
--- script of this stage.
-abbrev pub is_ready : Content → Bool
-is_ready (a_cluster cluster) = is_static cluster.discovery && not cluster.checked
-is_ready (an_assignment rows) = false
-is_ready (a_listener listener) = false
-is_ready (routes table) = false
-
 -- the row warms and is ready
-abbrev pub is_due : GenRow → Bool
-is_due row = is_warming row.status && is_ready row.content
+abbrev pub is_due : World → GenRow → Bool
+is_due world row = is_warming row.status && is_ready world row
 
 -- a row of the same kind and name is due
-abbrev pub has_successor : List GenRow → GenRow → Bool
-has_successor rows row = list_any (λ (other : GenRow). is_row_of row.kind row.name other && is_due other) rows
+abbrev pub has_successor : World → GenRow → Bool
+has_successor world row = list_any (λ (other : GenRow). is_row_of row.kind row.name other && is_due world other) world.rows
 
 -- a row that warms and is ready serves, and one that served before it drains
 abbrev pub status_by : Bool → Bool → RowStatus → RowStatus
@@ -43,17 +35,41 @@ status_by succeeded ready Draining = Draining
 status_by succeeded ready Dropped = Dropped
 
 -- the status of a row once all rows that are due serve
-abbrev pub promoted_status : List GenRow → GenRow → RowStatus
-promoted_status rows row = status_by (has_successor rows row) (is_ready row.content) row.status
+abbrev pub promoted_status : World → GenRow → RowStatus
+promoted_status world row = status_by (has_successor world row) (is_ready world row) row.status
 
--- the world in which all rows that are due serve
+-- first: each warming row that is ready serves, and its active predecessor drains
 abbrev pub promoted : World → World
-promoted world = record world { rows = with_statuses (promoted_status world.rows) world.rows }
+promoted world = record world { rows = with_statuses (promoted_status world) world.rows }
 
--- the world with the phase that it moves on to
+-- the version is that of a cluster or listener, or of a watched name
+abbrev pub is_version_due : List Live → KeptVersion → Bool
+is_version_due lives kept = not (is_by_name kept.kind) || is_watched lives kept.kind kept.name
+
+-- second: values, marks and versions of endpoints and routes go whose name isn't watched any more
+abbrev pub without_unwatched : World → World
+without_unwatched world = record world {
+  arrivals = filter (λ (a : Arrived). is_watched (lives_of world) a.kind a.name) world.arrivals;
+  versions = filter (is_version_due (lives_of world)) world.versions;
+}
+
+-- the host stands among these
+abbrev pub has_host : Host → List HostRowParts → Bool
+has_host host rows = list_any (λ (h : HostRowParts). host_same h.host host) rows
+
+-- the result is of a live row, and of a host that is in its assignment now
+abbrev pub is_result_due : World → HealthResult → Bool
+is_result_due world result =
+    list_any (λ (row : GenRow). is_live row.status && (row.number == result.number) && has_host result.host (assignment_of world row)) world.rows
+
+-- third: results go of rows that aren't live, and of hosts that aren't in the row's assignment now
+abbrev pub without_old_results : World → World
+without_old_results world = record world { results = filter (is_result_due world) world.results }
+
+-- fourth and fifth: where the first clusters have come, listeners are awaited; and where those have come, they serve
 abbrev pub with_phase : World → World
 with_phase world = record world { phase = phase_after world }
 
--- what follows each event by itself
+-- all five, in this order
 abbrev pub tidy : World → World
-tidy world = with_phase (promoted world)
+tidy world = with_phase (without_old_results (without_unwatched (promoted world)))

@@ -77,7 +77,7 @@ abbrev pub is_taken : List Live → List ℕ → Content → Bool
 is_taken lives name content =
     list_any (λ (live : Live). shares_address (address_of live.content) (address_of content) && not (bytes_eq live.name name)) lives
 
--- the same content as the newest generation's, where there is one
+-- same where the newest generation's content is equal, new otherwise
 abbrev pub against : Option Live → Content → Verdict
 against None content = New
 against (Some live) content = if content_same live.content content then Same else New
@@ -139,5 +139,6 @@ abbrev pub verdicts_by : Option Kind → List Live → ResponseParts → List Ve
 verdicts_by None lives response = []
 verdicts_by (Some kind) lives response = verdicts_for kind lives response
 
+-- the verdicts on a response, over the live rows before it
 abbrev pub verdicts_of : List Live → ResponseParts → List Verdict
 verdicts_of lives response = verdicts_by response.kind lives response

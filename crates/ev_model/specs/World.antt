@@ -3,14 +3,12 @@
 use Rattle.std.specs.Prelude.{ℕ, Bool, false, List, [], ◌∷◌, Option, None, replicate, length, ◌-◌}
 use Rattle.ev_types.specs.declared.contents.Kind.{Kind}
 use Rattle.ev_types.specs.declared.hosts.Host.{Host}
-use Rattle.ev_types.specs.Hosts.{HostRowParts}
-use Rattle.ev_types.specs.declared.routes.RouteTable.{RouteTable}
-use Rattle.ev_types.specs.declared.routes.Target.{Target}
 use Rattle.ev_types.specs.declared.rows.GenRow.{GenRow}
 use Rattle.ev_types.specs.declared.rows.Arrival.{Arrival}
 use Rattle.ev_types.specs.declared.rows.KeptVersion.{KeptVersion}
 use Rattle.ev_types.specs.declared.rows.Phase.{Phase}
 use Rattle.ev_types.specs.declared.rows.Phase.TheVariants.{Clusters}
+use Rattle.ev_model.specs.declared.pictures.Picture.{Picture}
 
 -- something came for a name of this kind
 pub record Arrived : Type 0 where
@@ -31,29 +29,7 @@ pub record OpenMember : Type 0 where
   pub listener : ℕ
   pub cluster : Option ℕ
 
--- an active cluster as workers see it, with the hosts that may be chosen
-pub record ServedCluster : Type 0 where
-  pub number : ℕ
-  pub name : List ℕ
-  pub hosts : List HostRowParts
-
--- where a listener's connections go
-pub data Routing : Type 0 where
-  table : RouteTable → Routing
-  tcp : Target → Routing
-
--- an active listener as workers see it
-pub record ServedListener : Type 0 where
-  pub number : ℕ
-  pub name : List ℕ
-  pub address : Host
-  pub routing : Routing
-
--- what workers may serve
-pub record Picture : Type 0 where
-  pub clusters : List ServedCluster
-  pub listeners : List ServedListener
-
+-- the picture that is held before the first is published
 abbrev pub empty_picture : Picture
 empty_picture = record { clusters = []; listeners = [] }
 

@@ -1,3 +1,5 @@
+pub mod PlainLemmas
+pub mod BuiltLemmas
 pub mod Standing
 pub mod RowLemmas
 pub mod VersionLemmas

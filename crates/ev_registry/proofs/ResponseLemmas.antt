@@ -25,6 +25,15 @@ items_more verdicts items before after place verdict item within here is came =
     ∙ ap (λ (its : List ItemParts). add_items Cds (get_or verdicts place verdict ∷ drop (place + 1) verdicts) its before)
     (drop_more items place item here ∙ ap (λ (it : ItemParts). it ∷ drop (place + 1) items) (sym is)))
 
+-- the changes before the world is tidied are those of the machine
+pub noted_is : (world removed added noted : World) (response : ResponseParts) (verdicts : List Verdict) (names : List (List ℕ))
+    → removed ≡ with_removals Cds response world
+    → added ≡ add_items Cds verdicts response.items removed
+    → noted ≡ with_first Cds names added
+    → noted ≡ with_first Cds names (add_items Cds verdicts response.items (with_removals Cds response world))
+noted_is world removed added noted response verdicts names r a f =
+    f ∙ ap (with_first Cds names) (a ∙ ap (add_items Cds verdicts response.items) r)
+
 -- the changes one after another are those of the machine
 pub changed_is : (world removed added noted after : World) (response : ResponseParts) (verdicts : List Verdict) (names : List (List ℕ))
     → removed ≡ with_removals Cds response world

@@ -7,7 +7,9 @@ use Rattle.std.proofs.lemmas.List.Edits.{map_over_more}
 use Rattle.ev_types.specs.declared.rows.RowStatus.{RowStatus}
 use Rattle.ev_types.specs.declared.rows.GenRow.{GenRow}
 use Rattle.ev_model.specs.Rows.{with_statuses, is_row_of}
-use Rattle.ev_model.specs.Tidy.{is_due, is_ready, status_by, promoted_status}
+use Rattle.ev_model.specs.Tidy.{status_by}
+use Rattle.ev_registry.specs.Built.{is_built_content}
+use Rattle.ev_registry.specs.Plain.{is_plain_due, plain_status}
 
 -- one more row has its new status
 pub statuses_more : (status_of : GenRow → RowStatus) (xs ys : List GenRow) (i : ℕ) (x : GenRow) (status : RowStatus)
@@ -39,14 +41,14 @@ any_map P (row ∷ rows) = ap (λ b. P row.now || b) (any_map P rows)
 
 -- what is due tells each row's new status
 pub status_told : (rows : List GenRow) (row : GenRow) (due : List (Bor GenRow)) (status : RowStatus)
-    → map (λ (other : Bor GenRow). other.now) due ≡ filter is_due rows
-    → status ≡ status_by (list_any (λ (other : Bor GenRow). is_row_of row.kind row.name other.now) due) (is_ready row.content) row.status
-    → status ≡ promoted_status rows row
+    → map (λ (other : Bor GenRow). other.now) due ≡ filter is_plain_due rows
+    → status ≡ status_by (list_any (λ (other : Bor GenRow). is_row_of row.kind row.name other.now) due) (is_built_content row.content) row.status
+    → status ≡ plain_status rows row
 status_told rows row due status are said =
-    said ∙ ap (λ b. status_by b (is_ready row.content) row.status)
+    said ∙ ap (λ b. status_by b (is_built_content row.content) row.status)
     (any_map (is_row_of row.kind row.name) due
     ∙ ap (list_any (is_row_of row.kind row.name)) are
-    ∙ any_due (is_row_of row.kind row.name) is_due rows)
+    ∙ any_due (is_row_of row.kind row.name) is_plain_due rows)
 
 -- the row at a place that isn't written yet
 row_here : (before xs ys : List GenRow) (i : ℕ) (x : GenRow) → length before ≡ i → i < length xs → ys ≡ before ++ drop i xs → get_or ys i x ≡ get_or xs i x

@@ -1,3 +1,5 @@
+pub mod Built
+pub mod Plain
 pub mod Worlds
 pub mod Registries
 pub mod Places

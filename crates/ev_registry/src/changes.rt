@@ -1,9 +1,10 @@
-ghost use Rattle.std.specs.Prelude.{◌≡◌, ◌<◌, IfOk, OnOk, length};
+ghost use Rattle.std.specs.Prelude.{◌≡◌, ◌<◌, All, IfOk, OnOk, length};
 ghost use Rattle.ev_types.specs.Items.{IsGood};
 ghost use Rattle.ev_types.specs.declared.contents.Kind.TheVariants.{Cds};
 ghost use Rattle.ev_model.specs.Rows.{with_removals, add_items, add_item, add_row, keep_version, with_first};
-ghost use Rattle.ev_model.specs.Tidy.{tidy, promoted};
-ghost use Rattle.ev_model.specs.Step.{settle};
+ghost use Rattle.ev_model.specs.Tidy.{tidy};
+ghost use Rattle.ev_model.specs.Connections.{settle};
+ghost use Rattle.ev_registry.specs.Plain.{IsPlain, IsOnCluster, plain_promoted};
 ghost use Rattle.ev_registry.specs.Worlds.{world_of};
 
 use crate::phases::phase_after;
@@ -36,7 +37,8 @@ impl State {
         verdicts: &[Verdict],
         items: &[Item],
     ) -> Result<(), AllocError>
-        requires { length verdicts.now ≡ length items.now }
+        requires one_each { length verdicts.now ≡ length items.now }
+        requires on_clusters { All IsOnCluster verdicts.now }
         ensures { OnOk result (world_of self.new ≡ add_items Cds verdicts.now items.now (world_of self.old)) }
     {
         for (place, item) in items.iter().enumerate() {
@@ -47,6 +49,7 @@ impl State {
 
     // One resource comes in.
     fn add_item(&mut self, alloc: Global, verdict: Verdict, item: &Item) -> Result<(), AllocError>
+        requires { IsOnCluster verdict }
         ensures { OnOk result (world_of self.new ≡ add_item Cds verdict item.now (world_of self.old)) }
     {
         match (verdict, &item.body) {
@@ -107,6 +110,7 @@ impl State {
 
     /// Generations that are ready take the place of those before them, and the phase moves on.
     pub(crate) fn tidy(&mut self, alloc: Global) -> Result<(), AllocError>
+        requires { IsPlain (world_of self.old) }
         ensures { OnOk result (world_of self.new ≡ tidy (world_of self.old)) }
     {
         self.promote(alloc)?;
@@ -114,8 +118,9 @@ impl State {
         Ok(())
     }
 
+    // All generations that wait for nothing serve.
     fn promote(&mut self, alloc: Global) -> Result<(), AllocError>
-        ensures { OnOk result (world_of self.new ≡ promoted (world_of self.old)) }
+        ensures { OnOk result (world_of self.new ≡ plain_promoted (world_of self.old)) }
     {
         let mut rows = mem::replace(&mut self.rows, Seq::new(alloc)).into_vec();
         rows::promote(alloc, &mut rows)?;
@@ -126,7 +131,7 @@ impl State {
     /// A worker takes over the last picture. None of its connections is closed, since no drain timeout comes in this stage.
     pub(crate) fn settled(&self, alloc: Global, worker: u32) -> Result<(State, Answer), AllocError>
         requires { worker < length self.now.held }
-        ensures { IfOk result (λ r. (world_of r.0, r.1) ≡ settle (world_of self.now) worker) }
+        ensures { IfOk result (λ r. (world_of r.0, r.1) ≡ settle worker (world_of self.now)) }
     {
         let mut next = self.copy(alloc)?;
         next.held.set(worker as usize, 0);

@@ -1,8 +1,9 @@
 ghost use Rattle.std.specs.Prelude.{◌≡◌, ◌≤◌, ◌+◌, [], ◌∷◌, ◌++◌, IfOk, OnErr};
 ghost use Rattle.ev_model.specs.World.{last_version};
-ghost use Rattle.ev_types.specs.Scripts.{MayMake};
+ghost use Rattle.ev_types.specs.Events.{MayMake};
 ghost use Rattle.ev_model.specs.Runs.{IsRun};
 ghost use Rattle.ev_model.specs.Step.{step as machine_step};
+ghost use Rattle.ev_registry.specs.Built.{IsBuilt};
 
 use crate::state::{State, first_state};
 use ev_types::{Actor, Answer, Entry, Event, Text, TryCopy};
@@ -48,7 +49,8 @@ impl Registry {
         })
     }
 
-    /// Makes one step of the machine and enters it in the journal. Without memory all stays as it was.
+    /// Makes one step of the machine and enters it in the journal. Without memory all stays as it was. So far it takes
+    /// connects, responses of clusters that wait for nothing, and settles.
     pub fn apply(
         &mut self,
         actor: Actor,
@@ -56,7 +58,8 @@ impl Registry {
         step: u32,
         event: &Event,
     ) -> Result<Answer, AllocError>
-        requires { MayMake self.old.workers actor event.now }
+        requires allowed { MayMake self.old.workers actor event.now }
+        requires built { IsBuilt event.now }
         ensures answer { IfOk result (λ answer. answer ≡ (machine_step (world_now self.old) actor event.now).1) }
         ensures entry { IfOk result (λ answer. self.new ≡ record self.old { journal = self.old.journal ++ record { actor = actor; at = at; step = step; event = event.now; answer = answer } ∷ [] }) }
         ensures err { OnErr result (self.new ≡ self.old) }

@@ -2,6 +2,7 @@ ghost use Rattle.std.specs.Prelude.{◌≡◌, ◌++◌, [], ◌∷◌, Some, If
 ghost use Rattle.ev_types.specs.declared.contents.Kind.TheVariants.{Cds};
 ghost use Rattle.ev_model.specs.Phase.{is_clusters};
 ghost use Rattle.ev_model.specs.Requests.{clusters_request, listeners_request, connect_requests, requests_of, reply_of, refusals, refusal_text, joined, message_of};
+ghost use Rattle.ev_registry.specs.Plain.{IsPlain};
 ghost use Rattle.ev_registry.specs.Texts.{separated};
 ghost use Rattle.ev_registry.specs.Worlds.{world_of};
 
@@ -12,6 +13,7 @@ use std::alloc::{AllocError, Global};
 
 /// What is asked for when a stream opens.
 pub(crate) fn connect_requests(alloc: Global, state: &State) -> Result<Seq<Request>, AllocError>
+    requires { IsPlain (world_of state.now) }
     ensures { IfOk result (λ requests. requests ≡ connect_requests (world_of state.now)) }
 {
     let mut requests = Seq::new(alloc);
@@ -29,6 +31,8 @@ pub(crate) fn requests_of(
     after: &State,
     reply: Request,
 ) -> Result<Seq<Request>, AllocError>
+    requires before { IsPlain (world_of before.now) }
+    requires after { IsPlain (world_of after.now) }
     ensures { IfOk result (λ requests. requests ≡ requests_of (world_of before.now) (world_of after.now) (Some reply)) }
 {
     let mut requests = Seq::new(alloc);

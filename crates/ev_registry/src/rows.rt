@@ -3,7 +3,9 @@ ghost use Rattle.std.specs.List.{list_any};
 ghost use Rattle.ev_types.specs.Statuses.{is_live};
 ghost use Rattle.ev_model.specs.Live.{live_of};
 ghost use Rattle.ev_model.specs.Rows.{with_statuses, status_left, removed_status, replaced_status, is_row_of};
-ghost use Rattle.ev_model.specs.Tidy.{is_due, is_ready, is_static, has_successor, status_by, promoted_status};
+ghost use Rattle.ev_model.specs.Tidy.{status_by};
+ghost use Rattle.ev_registry.specs.Built.{is_static, is_built_content};
+ghost use Rattle.ev_registry.specs.Plain.{is_plain_due, plain_status};
 
 use ev_rules::is_removed;
 use ev_types::{Content, Discovery, GenRow, Kind, Live, Lives, Response, RowStatus, Seq, TryCopy};
@@ -99,7 +101,7 @@ pub(crate) fn is_row_of(kind: Kind, name: &str, row: &GenRow) -> bool
 /// Lets each row that is due serve, and those that served before them drain. Without memory the rows stay as they were.
 #[tactic(auto, using(crate::proofs::RowLemmas::statuses_more, crate::proofs::RowLemmas::status_here))]
 pub(crate) fn promote(alloc: Global, rows: &mut Vec<GenRow>) -> Result<(), AllocError>
-    ensures ok { OnOk result (rows.new.items ≡ with_statuses (promoted_status rows.old.items) rows.old.items) }
+    ensures ok { OnOk result (rows.new.items ≡ with_statuses (plain_status rows.old.items) rows.old.items) }
 {
     let statuses = promoted_statuses(alloc, rows.as_slice())?;
     for (place, row) in rows.iter_mut().enumerate() {
@@ -110,7 +112,7 @@ pub(crate) fn promote(alloc: Global, rows: &mut Vec<GenRow>) -> Result<(), Alloc
 
 // The rows that are due.
 fn due_rows(alloc: Global, rows: &[GenRow]) -> Result<Vec<&GenRow>, AllocError>
-    ensures { IfOk result (λ due. map (λ row. row.now) due.items ≡ filter is_due rows.now) }
+    ensures { IfOk result (λ due. map (λ row. row.now) due.items ≡ filter is_plain_due rows.now) }
 {
     let mut due = Vec::new(alloc);
     for row in rows {
@@ -121,7 +123,7 @@ fn due_rows(alloc: Global, rows: &[GenRow]) -> Result<Vec<&GenRow>, AllocError>
 
 // Puts a row to the others, where it is due.
 fn push_due<'a>(row: &'a GenRow, due: &mut Vec<&'a GenRow>) -> Result<(), AllocError>
-    ensures { OnOk result (map (λ row. row.now) due.new.items ≡ map (λ row. row.now) due.old.items ++ filter is_due (row.now ∷ [])) }
+    ensures { OnOk result (map (λ row. row.now) due.new.items ≡ map (λ row. row.now) due.old.items ++ filter is_plain_due (row.now ∷ [])) }
 {
     if is_due(row) {
         due.push(row)?;
@@ -131,7 +133,7 @@ fn push_due<'a>(row: &'a GenRow, due: &mut Vec<&'a GenRow>) -> Result<(), AllocE
 
 // The statuses after all rows that are due serve.
 fn promoted_statuses(alloc: Global, rows: &[GenRow]) -> Result<Vec<RowStatus>, AllocError>
-    ensures { IfOk result (λ statuses. statuses.items ≡ map (promoted_status rows.now) rows.now) }
+    ensures { IfOk result (λ statuses. statuses.items ≡ map (plain_status rows.now) rows.now) }
 {
     let due = due_rows(alloc, rows)?;
     let mut statuses = Vec::with_capacity(alloc, rows.len())?;
@@ -143,7 +145,7 @@ fn promoted_statuses(alloc: Global, rows: &[GenRow]) -> Result<Vec<RowStatus>, A
 
 // The status of a row where these rows are due.
 fn promoted_status(due: &[&GenRow], row: &GenRow) -> RowStatus
-    ensures { result ≡ status_by (list_any (λ other. is_row_of row.now.kind row.now.name other.now) due.now) (is_ready row.now.content) row.now.status }
+    ensures { result ≡ status_by (list_any (λ other. is_row_of row.now.kind row.now.name other.now) due.now) (is_built_content row.now.content) row.now.status }
 {
     match row.status {
         RowStatus::Warming => {
@@ -174,14 +176,14 @@ fn has_successor(due: &[&GenRow], row: &GenRow) -> bool
 }
 
 fn is_due(row: &GenRow) -> bool
-    ensures { result ≡ is_due row.now }
+    ensures { result ≡ is_plain_due row.now }
 {
     row.status.is_warming() && is_ready(&row.content)
 }
 
 // Whether a generation of this content waits for nothing.
 fn is_ready(content: &Content) -> bool
-    ensures { result ≡ is_ready content.now }
+    ensures { result ≡ is_built_content content.now }
 {
     match content {
         Content::Cluster(cluster) => match cluster.discovery {

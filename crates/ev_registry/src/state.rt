@@ -1,10 +1,12 @@
-ghost use Rattle.std.specs.Prelude.{◌≡◌, IfOk, Some, length, true};
-ghost use Rattle.ev_types.specs.Scripts.{MayMake};
+ghost use Rattle.std.specs.Prelude.{◌≡◌, All, IfOk, IsTrue, Some, length, true};
+ghost use Rattle.ev_types.specs.Events.{MayMake};
 ghost use Rattle.ev_types.specs.declared.contents.Kind.TheVariants.{Cds};
 ghost use Rattle.ev_model.specs.World.{opening};
 ghost use Rattle.ev_model.specs.Live.{lives_of};
 ghost use Rattle.ev_model.specs.Verdicts.{verdicts_of};
 ghost use Rattle.ev_model.specs.Step.{step, connect, respond, answered, responded};
+ghost use Rattle.ev_registry.specs.Built.{IsBuilt, is_built};
+ghost use Rattle.ev_registry.specs.Plain.{IsPlain, IsOnCluster};
 ghost use Rattle.ev_registry.specs.Worlds.{world_of};
 
 use crate::items::made_names;
@@ -68,7 +70,9 @@ impl State {
         actor: Actor,
         event: &Event,
     ) -> Result<(State, Answer), AllocError>
-        requires { MayMake (length self.now.held) actor event.now }
+        requires allowed { MayMake (length self.now.held) actor event.now }
+        requires built { IsBuilt event.now }
+        requires plain { IsPlain (world_of self.now) }
         ensures { IfOk result (λ r. (world_of r.0, r.1) ≡ step (world_of self.now) actor event.now) }
     {
         match (actor, event) {
@@ -80,6 +84,7 @@ impl State {
     }
 
     fn connected(&self, alloc: Global) -> Result<(State, Answer), AllocError>
+        requires { IsPlain (world_of self.now) }
         ensures { IfOk result (λ r. (world_of r.0, r.1) ≡ connect (world_of self.now)) }
     {
         if self.stream {
@@ -101,6 +106,8 @@ impl State {
     }
 
     fn responded(&self, alloc: Global, response: &Response) -> Result<(State, Answer), AllocError>
+        requires built { IsTrue (is_built response.now) }
+        requires plain { IsPlain (world_of self.now) }
         ensures { IfOk result (λ r. (world_of r.0, r.1) ≡ respond response.now (world_of self.now)) }
     {
         match (self.stream, response.kind) {
@@ -111,7 +118,9 @@ impl State {
 
     // A response of clusters is answered.
     fn answered(&self, alloc: Global, response: &Response) -> Result<(State, Answer), AllocError>
-        requires { response.now.kind ≡ Some Cds }
+        requires of_clusters { response.now.kind ≡ Some Cds }
+        requires built { IsTrue (is_built response.now) }
+        requires plain { IsPlain (world_of self.now) }
         ensures { IfOk result (λ r. (world_of r.0, r.1)
             ≡ answered Cds response.now (verdicts_of (lives_of (world_of self.now)) response.now) (world_of self.now)) }
     {
@@ -131,7 +140,10 @@ impl State {
         response: &Response,
         verdicts: &[Verdict],
     ) -> Result<State, AllocError>
-        requires { length verdicts.now ≡ length response.now.items }
+        requires one_each { length verdicts.now ≡ length response.now.items }
+        requires on_clusters { All IsOnCluster verdicts.now }
+        requires built { IsTrue (is_built response.now) }
+        requires plain { IsPlain (world_of self.now) }
         ensures { IfOk result (λ next. world_of next ≡ responded Cds response.now verdicts.now (world_of self.now)) }
     {
         let items = response.items.as_slice();

@@ -8,6 +8,9 @@ pub mod SameRoutes
 pub mod SameListeners
 pub mod Items
 pub mod SameContents
+pub mod Timeouts
+pub mod Events
 pub mod Scripts
 pub mod Kinds
 pub mod Statuses
+pub mod SameAnswers

@@ -1,4 +1,4 @@
-use crate::{Request, Response, Seq, Text, TryCopy};
+use crate::{FetchTimeout, Gen, Host, Name, Request, Response, Seq, Text, TryCopy};
 use std::alloc::{AllocError, Global};
 use std::marker::Model;
 
@@ -17,25 +17,128 @@ pub enum Actor {
     Worker(u32),
 }
 
+/// What a connection asks for, when a worker accepts it.
+#[derive(Drop)]
+pub struct Ask {
+    /// The connection's number, by which its worker closes it.
+    pub conn: u64,
+    /// The address and port that it came to.
+    pub address: Host,
+    /// The host that it names, with the port where it names one.
+    pub host: Text,
+    /// The path that it asks for, with its query.
+    pub path: Text,
+    /// The number by which clusters and hosts are picked in proportion to their weights.
+    pub pick: u64,
+}
+
+impl TryCopy for Ask {
+    fn copy(&self, alloc: Global) -> Result<Ask, AllocError> {
+        Ok(Ask {
+            conn: self.conn,
+            address: self.address.copy(alloc)?,
+            host: self.host.copy(alloc)?,
+            path: self.path.copy(alloc)?,
+            pick: self.pick,
+        })
+    }
+}
+
 /// What happens to the managers.
 #[derive(Drop)]
 pub enum Event {
     /// A stream to the control plane opens.
     Connect,
+    /// The stream is lost.
+    Disconnect,
     /// A response comes on the stream.
     Response(Response),
-    /// A worker takes over the last snapshot.
+    /// A health check of a cluster's host ended.
+    Health {
+        cluster: Name,
+        host: Host,
+        healthy: bool,
+    },
+    /// An initial fetch timeout came.
+    FetchTimeout(FetchTimeout),
+    /// The drain timeout of a listener's old generations came.
+    DrainTimeout(Name),
+    /// A new picture is published for the workers, where it changed.
+    Publish,
+    /// Generations that nothing holds any more are destroyed.
+    Reap,
+    /// A worker accepts a connection.
+    Accept(Ask),
+    /// A worker closes the connection of this number.
+    Close(u64),
+    /// A worker takes over the last picture.
     Settle,
+}
+
+impl Event {
+    ghost use Rattle.std.specs.Prelude.{◌≡◌};
+    ghost use Rattle.ev_types.specs.Events.{op_of};
+
+    /// The word of the event.
+    pub fn op(&self) -> Op
+        ensures { result ≡ op_of self.now }
+    {
+        match self {
+            Event::Connect => Op::Connect,
+            Event::Disconnect => Op::Disconnect,
+            Event::Response(_) => Op::Response,
+            Event::Health { .. } => Op::Health,
+            Event::FetchTimeout(_) => Op::FetchTimeout,
+            Event::DrainTimeout(_) => Op::DrainTimeout,
+            Event::Publish => Op::Publish,
+            Event::Reap => Op::Reap,
+            Event::Accept(_) => Op::Accept,
+            Event::Close(_) => Op::Close,
+            Event::Settle => Op::Settle,
+        }
+    }
 }
 
 impl TryCopy for Event {
     fn copy(&self, alloc: Global) -> Result<Event, AllocError> {
         match self {
             Event::Connect => Ok(Event::Connect),
+            Event::Disconnect => Ok(Event::Disconnect),
             Event::Response(response) => Ok(Event::Response(response.copy(alloc)?)),
+            Event::Health {
+                cluster,
+                host,
+                healthy,
+            } => Ok(Event::Health {
+                cluster: cluster.copy(alloc)?,
+                host: host.copy(alloc)?,
+                healthy: *healthy,
+            }),
+            Event::FetchTimeout(timeout) => Ok(Event::FetchTimeout(timeout.copy(alloc)?)),
+            Event::DrainTimeout(listener) => Ok(Event::DrainTimeout(listener.copy(alloc)?)),
+            Event::Publish => Ok(Event::Publish),
+            Event::Reap => Ok(Event::Reap),
+            Event::Accept(ask) => Ok(Event::Accept(ask.copy(alloc)?)),
+            Event::Close(conn) => Ok(Event::Close(*conn)),
             Event::Settle => Ok(Event::Settle),
         }
     }
+}
+
+/// The word of an event, as it stands in a journal's line.
+#[derive(Clone, Copy, Debug, PartialEq, Eq)]
+pub enum Op {
+    Connect,
+    Disconnect,
+    Response,
+    Health,
+    FetchTimeout,
+    DrainTimeout,
+    Publish,
+    Reap,
+    Accept,
+    Close,
+    Settle,
 }
 
 /// What is said of one resource of a response.
@@ -64,6 +167,8 @@ impl TryCopy for Verdict {
 pub enum Answer {
     /// Nothing is done.
     Ignored,
+    /// It is done, and nothing is to be told.
+    Done,
     /// These requests are sent.
     Moved {
         requests: Seq<Request>,
@@ -73,6 +178,45 @@ pub enum Answer {
         requests: Seq<Request>,
         verdicts: Seq<Verdict>,
     },
+    /// A picture is published under this version.
+    Version(u64),
+    /// The picture is the last one, and none is published.
+    Unchanged,
+    /// These generations are destroyed.
+    Reaped(Seq<Gen>),
+    /// The worker has a connection of this number open.
+    InUse,
+    /// No listener has the address.
+    NoListener,
+    /// The listener has no route for it.
+    NoRoute {
+        listener: Gen,
+    },
+    /// It is answered by a redirect.
+    Redirect {
+        listener: Gen,
+    },
+    /// There is no cluster of the name that it is to go to.
+    NoCluster {
+        listener: Gen,
+    },
+    /// The cluster has no host that may be chosen.
+    NoEndpoint {
+        listener: Gen,
+    },
+    /// It is answered at once with this status.
+    Local {
+        listener: Gen,
+        status: u16,
+    },
+    /// It goes to this host.
+    Served {
+        listener: Gen,
+        cluster: Gen,
+        host: Host,
+    },
+    /// The worker has no connection of this number open.
+    NotOpen,
     /// The worker holds this version, and these connections were closed.
     Settled {
         closed: Seq<u64>,
@@ -82,20 +226,41 @@ pub enum Answer {
 
 impl TryCopy for Answer {
     fn copy(&self, alloc: Global) -> Result<Answer, AllocError> {
-        match self {
-            Answer::Ignored => Ok(Answer::Ignored),
-            Answer::Moved { requests } => Ok(Answer::Moved {
+        Ok(match self {
+            &Answer::Ignored => Answer::Ignored,
+            &Answer::Done => Answer::Done,
+            &Answer::Version(version) => Answer::Version(version),
+            &Answer::Unchanged => Answer::Unchanged,
+            &Answer::InUse => Answer::InUse,
+            &Answer::NoListener => Answer::NoListener,
+            &Answer::NoRoute { listener } => Answer::NoRoute { listener },
+            &Answer::Redirect { listener } => Answer::Redirect { listener },
+            &Answer::NoCluster { listener } => Answer::NoCluster { listener },
+            &Answer::NoEndpoint { listener } => Answer::NoEndpoint { listener },
+            &Answer::Local { listener, status } => Answer::Local { listener, status },
+            &Answer::NotOpen => Answer::NotOpen,
+            Answer::Moved { requests } => Answer::Moved {
                 requests: requests.copy(alloc)?,
-            }),
-            Answer::Replied { requests, verdicts } => Ok(Answer::Replied {
+            },
+            Answer::Replied { requests, verdicts } => Answer::Replied {
                 requests: requests.copy(alloc)?,
                 verdicts: verdicts.copy(alloc)?,
-            }),
-            Answer::Settled { closed, version } => Ok(Answer::Settled {
+            },
+            Answer::Reaped(numbers) => Answer::Reaped(numbers.copy(alloc)?),
+            Answer::Served {
+                listener,
+                cluster,
+                host,
+            } => Answer::Served {
+                listener: *listener,
+                cluster: *cluster,
+                host: host.copy(alloc)?,
+            },
+            Answer::Settled { closed, version } => Answer::Settled {
                 closed: closed.copy(alloc)?,
                 version: *version,
-            }),
-        }
+            },
+        })
     }
 }
 
@@ -140,7 +305,8 @@ impl TryCopy for Line {
 }
 
 /// A script. It has 1 to 16 workers, a node of 1 to 512 bytes, and its lines' numbers rise from 2 at least to `count`
-/// at most, which is below 2^32 - 1; each line has an actor that its event allows.
+/// at most, which is below 2^32 - 1; each line has an actor that its event allows, and its responses have fewer than
+/// 2^32 - 1 resources together.
 #[derive(Drop)]
 pub struct Script {
     pub workers: u32,

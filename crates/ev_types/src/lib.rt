@@ -7,17 +7,20 @@ mod contents;
 mod copies;
 mod events;
 mod hosts;
+mod journals;
 mod listeners;
 mod lists;
 mod routes;
 mod rows;
 mod texts;
+mod timeouts;
 
 pub use clusters::{Cluster, Discovery};
 pub use contents::{Body, Content, Item, Kind, Request, Response};
 pub use copies::TryCopy;
-pub use events::{Actor, Answer, Entry, Event, Line, Script, Verdict};
+pub use events::{Actor, Answer, Ask, Entry, Event, Line, Op, Script, Verdict};
 pub use hosts::{Assignment, Host, HostRow, ROW_LIMIT};
+pub use journals::{Finding, Row};
 pub use listeners::{Listener, Serve};
 pub use lists::Seq;
 pub use routes::{
@@ -25,3 +28,4 @@ pub use routes::{
 };
 pub use rows::{Arrival, Gen, GenRow, KeptVersion, Live, Lives, Phase, RowStatus};
 pub use texts::{MAX_NAME_LENGTH, Name, NameError, Text};
+pub use timeouts::FetchTimeout;

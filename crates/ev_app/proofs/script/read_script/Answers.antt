@@ -1,5 +1,6 @@
 -- There are no more lines than bytes, and what was read keeps what a script does.
-use Rattle.std.proofs.Common.{◌≡◌, ◌<◌, length, Some, sym, ◌∙◌, arith}
+use Rattle.std.proofs.Common.{◌≡◌, ◌<◌, length, Some, refl, sym, ap, ◌∙◌, arith}
+use Rattle.ev_types.specs.Scripts.{items_of}
 use Rattle.ev_app.specs.Script.{lines_from, IsHeader, AreNumbered}
 use Rattle.ev_app.proofs.LineLemmas.{length-other_lines}
 use Rattle.ev_app.proofs.ScriptLemmas.{given, numbered_lines, length-lines_from, script_kept}
@@ -36,4 +37,11 @@ invariant_of-result c =
     let few = few_lines c in
     let header : IsHeader c.in-Some-2.header = given IsHeader _ _ c.in-Some-2.is c.in_ok-header.ensures.kept in
     let numbered : AreNumbered 2 c.in-Some-3.lines = given (AreNumbered 2) _ _ (read_is c) (numbered_lines 2 c.next.new.self) in
-    rw c.len.ensures.count (script_kept c.in-Some-2.header c.in-Some-3.lines header numbered (omega (arith, c.len.ensures.count)))
+    let items : items_of c.in-Some-3.lines < 4294967295 = omega (arith, c.in_ok-count_items.ensures.few, c.in_ok-count_items.ensures.count, ap items_of c.as_slice.ensures.elements) in
+    rw c.len.ensures.count (script_kept c.in-Some-2.header c.in-Some-3.lines header numbered (omega (arith, c.len.ensures.count)) items)
+
+pub returns-clause-taken : goal.returns-clause-taken
+returns-clause-taken c =
+    let read : lines_from 2 c.next.new.self ≡ Some c.in-Some-3.lines = sym c.in_ok-lines.ensures.lines ∙ c.in-Some-3.is in
+    let numbered : AreNumbered 2 c.in-Some-3.lines = given (AreNumbered 2) _ _ read (numbered_lines 2 c.next.new.self) in
+    record { by_hand = refl; built = numbered.built }

@@ -1,5 +1,5 @@
 use Rattle.std.proofs.Common.{sym, subst}
-use Rattle.ev_types.specs.Scripts.{MayMake}
+use Rattle.ev_types.specs.Events.{MayMake}
 use Rattle.ev_registry.specs.Worlds.{world_of}
 use Rattle.ev_registry.specs.Registries.{RegistryParts}
 use Rattle.ev_registry.proofs.Standing.{Stands-step}
@@ -12,5 +12,6 @@ invariant_of-self-2 c =
     record { workers = c.self.inside.workers; node = c.self.inside.node; journal = c.self.inside.journal.items }
     record { actor = c.args.actor; at = c.args.at; step = c.args.step; event = c.args.event.now; answer = c.in_ok-state.answer }
     c.self.invariant
-    (subst (λ (r : RegistryParts). MayMake r.workers c.args.actor c.args.event.now) (sym c.self.view_is) c.requires)
+    (subst (λ (r : RegistryParts). MayMake r.workers c.args.actor c.args.event.now) (sym c.self.view_is) c.requires.allowed)
+    c.requires.built
     c.in_ok-state.ensures)

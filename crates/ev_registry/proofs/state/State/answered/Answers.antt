@@ -1,4 +1,4 @@
-use Rattle.std.proofs.Common.{◌∙◌, ap, sym, ◌≡◌, List, map, filter}
+use Rattle.std.proofs.Common.{◌∙◌, ap, sym, subst, ◌≡◌, List, map, filter}
 use Rattle.ev_types.specs.Statuses.{is_live}
 use Rattle.ev_types.specs.declared.contents.Kind.TheVariants.{Cds}
 use Rattle.ev_types.specs.declared.rows.Live.{Live}
@@ -8,7 +8,9 @@ use Rattle.ev_model.specs.Live.{live_of, lives_of}
 use Rattle.ev_model.specs.Verdicts.{verdicts_of}
 use Rattle.ev_model.specs.Requests.{reply_of}
 use Rattle.ev_model.specs.Step.{responded}
+use Rattle.ev_registry.specs.Plain.{IsPlain}
 use Rattle.ev_registry.specs.Worlds.{world_of}
+use Rattle.ev_registry.proofs.BuiltLemmas.{verdicts_all, responded_plain}
 use Rattle.ev_registry.proofs.ResponseLemmas.{answered_is}
 use Rattle.ev_registry.proofs.state.State.answered.Goals as goal
 
@@ -27,3 +29,16 @@ returns c =
     (c.in_ok-next.ensures ∙ ap (λ (vs : List Verdict). responded Cds c.args.response.now vs (world_of c.args.self.now)) (c.as_slice-2.ensures.value ∙ sym c.from_vec-verdicts.ensures.elements))
     (c.in_ok-reply.ensures ∙ ap (reply_of Cds c.args.response.now) (c.as_slice-3.ensures.value ∙ sym c.from_vec-verdicts.ensures.elements))
     c.in_ok-requests.ensures
+
+pub changed-requires-clause-on_clusters : goal.changed-requires-clause-on_clusters
+changed-requires-clause-on_clusters c =
+    verdicts_all c.as_slice-2.result.now c.in_ok-lives.lives.rows c.args.response.now
+    (c.as_slice-2.ensures.value ∙ c.in_ok-verdicts.ensures.verdicts) c.requires.of_clusters
+
+pub requests_of-requires-clause-after : goal.requests_of-requires-clause-after
+requests_of-requires-clause-after c =
+    subst IsPlain (sym c.in_ok-next.ensures)
+    (responded_plain c.args.response.now c.as_slice-2.result.now (world_of c.args.self.now) c.requires.built
+    (verdicts_all c.as_slice-2.result.now c.in_ok-lives.lives.rows c.args.response.now
+    (c.as_slice-2.ensures.value ∙ c.in_ok-verdicts.ensures.verdicts) c.requires.of_clusters)
+    c.requires.plain)

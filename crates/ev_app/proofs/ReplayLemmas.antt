@@ -1,0 +1,62 @@
+-- A script whose lines the registry takes is replayed line by line: nothing follows a line, and nothing is batched.
+use Rattle.std.proofs.Common.{◌≡◌, Bool, false, ◌&&◌, ◌%◌, ◌==◌, cond, List, [], ◌∷◌, ◌++◌, map, filter, length, refl, ap, ◌∙◌}
+use Rattle.std.specs.Prelude.{All}
+use Rattle.std.specs.List.{flat_map, range_with_len}
+use Rattle.std.proofs.lemmas.List.Elements.{All-head, All-tail, All-append, All-map, All-weaker}
+use Rattle.ev_types.specs.Scripts.{ScriptParts}
+use Rattle.ev_types.specs.declared.events.Event.{Event}
+use Rattle.ev_types.specs.declared.events.Event.TheVariants.{Connect, Disconnect, Response, Health, FetchTimeout, DrainTimeout, Publish, Reap, Accept, Close, Settle}
+use Rattle.ev_types.specs.declared.events.Line.{Line}
+use Rattle.ev_model.specs.Runs.{is_batched}
+use Rattle.ev_model.specs.Operations.{Operation, line_operation, step_behind, is_automatic, is_since_settle, is_full_at, batch_limit, followers, line_operations, last_settle, put_before_next, with_batches, replay_operations}
+use Rattle.ev_registry.specs.Built.{IsBuilt}
+use Rattle.ev_app.specs.Script.{IsTaken}
+
+-- an event that the registry takes is no accept or close
+not_batched : (event : Event) → IsBuilt event → is_batched event ≡ false
+not_batched Connect built = refl
+not_batched Disconnect built = refl
+not_batched (Response response) built = refl
+not_batched (Health cluster host healthy) built = refl
+not_batched (FetchTimeout timeout) built = refl
+not_batched (DrainTimeout listener) built = refl
+not_batched Publish built = refl
+not_batched Reap built = refl
+not_batched (Accept ask) built = absurd built
+not_batched (Close connection) built = absurd built
+not_batched Settle built = refl
+
+-- nothing follows a line that is no accept or close, without `auto`
+nothing_follows : (script : ScriptParts) (line : Line) → script.auto ≡ false → is_batched line.event ≡ false → followers script line ≡ []
+nothing_follows script line by_hand alone =
+    ap (λ (auto : Bool). cond (auto && is_automatic line.actor) (step_behind line 1 Publish ∷ step_behind line 2 Reap ∷ []) (cond (is_full_at script.lines line) (step_behind line 1 Settle ∷ []) [])) by_hand
+    ∙ ap (λ (batched : Bool). cond (batched && (length (filter (is_since_settle script.lines line) script.lines) % batch_limit == 0)) (step_behind line 1 Settle ∷ []) []) alone
+
+-- so each of the lines is one operation
+lines_alone : (script : ScriptParts) (lines : List Line) → script.auto ≡ false → All (λ (line : Line). IsBuilt line.event) lines
+    → flat_map (line_operations script) lines ≡ map line_operation lines
+lines_alone script [] by_hand built = refl
+lines_alone script (line ∷ lines) by_hand built =
+    ap (λ (os : List Operation). (line_operation line ∷ os) ++ flat_map (line_operations script) lines)
+    (nothing_follows script line by_hand (not_batched line.event (All-head (λ (l : Line). IsBuilt l.event) line lines built)))
+    ∙ ap (λ (os : List Operation). line_operation line ∷ os) (lines_alone script lines by_hand (All-tail (λ (l : Line). IsBuilt l.event) line lines built))
+
+-- operations of which none is an accept or close stay as they are
+unbatched : (os : List Operation) → All (λ (o : Operation). is_batched o.event ≡ false) os → with_batches os ≡ os
+unbatched [] alone = refl
+unbatched (o ∷ os) alone =
+    ap (λ (batched : Bool). cond batched (put_before_next o (with_batches os)) (o ∷ with_batches os)) (All-head (λ (p : Operation). is_batched p.event ≡ false) o os alone)
+    ∙ ap (λ (ps : List Operation). o ∷ ps) (unbatched os (All-tail (λ (p : Operation). is_batched p.event ≡ false) o os alone))
+
+-- the operations of such a script's replay
+pub taken_operations : (script : ScriptParts) → IsTaken script
+    → replay_operations script ≡ map line_operation script.lines ++ map (last_settle script) (range_with_len 0 script.workers)
+taken_operations script taken =
+    ap (λ (os : List Operation). with_batches (os ++ map (last_settle script) (range_with_len 0 script.workers))) (lines_alone script script.lines taken.by_hand taken.built)
+    ∙ unbatched (map line_operation script.lines ++ map (last_settle script) (range_with_len 0 script.workers)) none
+  where
+    none : All (λ (o : Operation). is_batched o.event ≡ false) (map line_operation script.lines ++ map (last_settle script) (range_with_len 0 script.workers))
+    none = All-append (λ (o : Operation). is_batched o.event ≡ false) (map line_operation script.lines) (map (last_settle script) (range_with_len 0 script.workers))
+        (All-map (λ (o : Operation). is_batched o.event ≡ false) line_operation script.lines
+        (All-weaker (λ (line : Line). IsBuilt line.event) (λ (line : Line). is_batched line.event ≡ false) (λ line built. not_batched line.event built) script.lines taken.built))
+        (All-map (λ (o : Operation). is_batched o.event ≡ false) (last_settle script) (range_with_len 0 script.workers) (λ k worker h. refl))

@@ -1,0 +1,108 @@
+-- What a worker does: it accepts connections in the picture that it holds, closes them, and settles on the last picture. This
+-- project's own, for Envoy's worker threads; that connections on a drained listener are closed is draining.
+use Rattle.std.specs.Prelude.{ℕ, Bool, not, ◌&&◌, ◌==◌, if◌then◌else◌, List, [], ◌∷◌, ◌++◌, filter, find, map, slice_set, slice_get, Option, Some, None, option_and_then, option_map}
+use Rattle.std.specs.List.{list_any}
+use Rattle.ev_types.specs.Hosts.{HostRowParts}
+use Rattle.ev_types.specs.declared.hosts.Host.{Host}
+use Rattle.ev_types.specs.declared.events.Ask.{Ask}
+use Rattle.ev_types.specs.declared.events.Answer.{Answer}
+use Rattle.ev_types.specs.declared.events.Answer.TheVariants.{InUse, NoListener as no_listener, NoRoute as no_route, Redirect as redirect, NoCluster as no_cluster, NoEndpoint as no_endpoint, Local as local, Served as served, Done, NotOpen, Settled}
+use Rattle.ev_model.specs.declared.pictures.Picture.{Picture}
+use Rattle.ev_model.specs.declared.pictures.ServedCluster.{ServedCluster}
+use Rattle.ev_model.specs.declared.pictures.Choice.{Choice}
+use Rattle.ev_model.specs.declared.pictures.Choice.TheVariants.{NoListener, NoRoute, Local, Redirect, NoCluster, NoEndpoint, Served}
+use Rattle.ev_model.specs.World.{World, OpenMember, last_version}
+use Rattle.ev_model.specs.Choice.{choice_of}
+use Rattle.ev_model.specs.Dead.{picture_held}
+use Rattle.ev_model.specs.Signals.{has_number}
+use Rattle.ev_model.specs.Publishing.{ascending}
+
+-- the member is this worker's connection of this number
+abbrev pub is_member : ℕ → ℕ → OpenMember → Bool
+is_member worker connection member = (member.worker == worker) && (member.connection == connection)
+
+-- the worker has the connection open
+abbrev pub is_open : World → ℕ → ℕ → Bool
+is_open world worker connection = list_any (is_member worker connection) world.opened
+
+-- the cluster of this number in a picture
+abbrev pub cluster_numbered : Picture → ℕ → Option ServedCluster
+cluster_numbered picture number = find (λ (c : ServedCluster). c.number == number) picture.clusters
+
+-- the host at a place of a cluster
+abbrev pub host_in : ℕ → ServedCluster → Option Host
+host_in place cluster = option_map (λ (h : HostRowParts). h.host) (slice_get cluster.hosts place)
+
+-- the host at a place of the cluster of this number in a picture
+abbrev pub host_at : Picture → ℕ → ℕ → Option Host
+host_at picture cluster place = option_and_then (host_in place) (cluster_numbered picture cluster)
+
+-- the answer with the host that was chosen; a choice in a picture always has its host there
+abbrev pub served_by : ℕ → ℕ → Option Host → Answer
+served_by listener cluster None = no_endpoint listener
+served_by listener cluster (Some host) = served listener cluster host
+
+-- a choice as an answer
+abbrev pub answer_of : Picture → Choice → Answer
+answer_of picture NoListener = no_listener
+answer_of picture (NoRoute listener) = no_route listener
+answer_of picture (Local listener status) = local listener status
+answer_of picture (Redirect listener) = redirect listener
+answer_of picture (NoCluster listener) = no_cluster listener
+answer_of picture (NoEndpoint listener) = no_endpoint listener
+answer_of picture (Served listener cluster place) = served_by listener cluster (host_at picture cluster place)
+
+-- the member that a worker's connection opens on a listener and, where it is forwarded, on a cluster
+abbrev pub member_on : ℕ → ℕ → ℕ → Option ℕ → OpenMember
+member_on worker connection listener cluster =
+    record { worker = worker; connection = connection; listener = listener; cluster = cluster }
+
+-- what a choice opens: nothing without a listener
+abbrev pub members_of : ℕ → ℕ → Choice → List OpenMember
+members_of worker connection NoListener = []
+members_of worker connection (NoRoute listener) = member_on worker connection listener None ∷ []
+members_of worker connection (Local listener status) = member_on worker connection listener None ∷ []
+members_of worker connection (Redirect listener) = member_on worker connection listener None ∷ []
+members_of worker connection (NoCluster listener) = member_on worker connection listener None ∷ []
+members_of worker connection (NoEndpoint listener) = member_on worker connection listener None ∷ []
+members_of worker connection (Served listener cluster place) = member_on worker connection listener (Some cluster) ∷ []
+
+-- a connection is accepted with this choice
+abbrev pub opened_by : ℕ → ℕ → Choice → World → World × Answer
+opened_by worker connection choice world = (
+  record world { opened = world.opened ++ members_of worker connection choice },
+  answer_of (picture_held world worker) choice,
+)
+
+-- a worker accepts a connection; where it has one of this number open, nothing is done
+abbrev pub accept : Ask → ℕ → World → World × Answer
+accept ask worker world =
+    if is_open world worker ask.conn
+    then (world, InUse)
+    else opened_by worker ask.conn (choice_of (picture_held world worker) ask) world
+
+-- a worker closes a connection; where it isn't open there, nothing is done
+abbrev pub close : ℕ → ℕ → World → World × Answer
+close connection worker world =
+    if is_open world worker connection
+    then (record world { opened = filter (λ (m : OpenMember). not (is_member worker connection m)) world.opened }, Done)
+    else (world, NotOpen)
+
+-- the member is this worker's, on a listener whose drain timeout came
+abbrev pub is_closing : World → ℕ → OpenMember → Bool
+is_closing world worker member = (member.worker == worker) && has_number member.listener world.expired
+
+-- the numbers of the connections that a settle closes, from the least to the greatest
+abbrev pub closed_by : World → ℕ → List ℕ
+closed_by world worker = ascending (map (λ (m : OpenMember). m.connection) (filter (is_closing world worker) world.opened))
+
+-- the connections that a settle leaves
+abbrev pub left_open : World → ℕ → List OpenMember
+left_open world worker = filter (λ (m : OpenMember). not (is_closing world worker m)) world.opened
+
+-- the worker's connections on expired listeners are closed, and it takes over the last picture
+abbrev pub settle : ℕ → World → World × Answer
+settle worker world = (
+  record world { opened = left_open world worker; held = slice_set world.held worker (last_version world) },
+  Settled (closed_by world worker) (last_version world),
+)

@@ -1,0 +1,206 @@
+-- What holds of every journal that is a run, so that operators may rely on it. This project's own; each law speaks of the
+-- journal and the worlds that it leads through.
+use Rattle.std.specs.Prelude.{ℕ, ◌≡◌, ◌<◌, ◌≤◌, ◌+◌, ◌⊎◌, false, IsTrue, List, filter, take, drop, Contains, Option, Some, None, slice_get, ⊤}
+use Rattle.std.specs.List.{list_any}
+use Rattle.std.specs.List.Sorted.{IsStrictlyIncreasing}
+use Rattle.ev_types.specs.Items.{ItemParts, ResponseParts}
+use Rattle.ev_types.specs.declared.contents.Kind.{Kind}
+use Rattle.ev_types.specs.declared.contents.Kind.TheVariants.{Cds, Eds, Lds, Rds}
+use Rattle.ev_types.specs.declared.contents.Request.{Request}
+use Rattle.ev_types.specs.declared.events.Actor.{Actor}
+use Rattle.ev_types.specs.declared.events.Actor.TheVariants.{Worker}
+use Rattle.ev_types.specs.declared.events.Event.TheVariants.{Response}
+use Rattle.ev_types.specs.declared.events.Answer.TheVariants.{Replied}
+use Rattle.ev_types.specs.declared.events.Verdict.{Verdict}
+use Rattle.ev_types.specs.declared.events.Verdict.TheVariants.{Refused}
+use Rattle.ev_types.specs.declared.events.Entry.{Entry}
+use Rattle.ev_types.specs.declared.rows.GenRow.{GenRow}
+use Rattle.ev_types.specs.declared.rows.KeptVersion.{KeptVersion}
+use Rattle.ev_types.specs.declared.rows.RowStatus.TheVariants.{Active}
+use Rattle.ev_model.specs.World.{World}
+use Rattle.ev_model.specs.Live.{lives_of}
+use Rattle.ev_model.specs.Versions.{is_version_of}
+use Rattle.ev_model.specs.Watching.{Dependency, dependency_of, is_watched}
+use Rattle.ev_model.specs.Warming.{is_ready, value_of}
+use Rattle.ev_model.specs.Rows.{is_row_of}
+use Rattle.ev_model.specs.Picture.{is_shown}
+use Rattle.ev_model.specs.Dead.{picture_at, last_picture}
+use Rattle.ev_model.specs.Signals.{has_number}
+use Rattle.ev_model.specs.Runs.{world_at}
+use Rattle.ev_model.specs.Entries.{MadeRow, made_of, names_row, has_arrived_for, is_accept, version_settled_by, last_settled, version_published, numbers_reaped, connection_of, closes}
+
+-- a journal, with the workers and the node of its machine
+pub record Told : Type 0 where
+  pub workers : ℕ
+  pub node : List ℕ
+  pub journal : List Entry
+
+-- the world after the first k entries
+abbrev pub world_told : Told → ℕ → World
+world_told told k = world_at told.workers told.node told.journal k
+
+-- the entry stands at place k, from 0
+abbrev pub IsEntryAt : Told → ℕ → Entry → Type 0
+IsEntryAt told k entry = slice_get told.journal k ≡ Some entry
+
+-- the generation of this number serves in the world, and is ready there
+pub record IsServing (world : World) (number : ℕ) : Type 0 where
+  pub row : GenRow
+  pub among : Contains world.rows row
+  pub numbered : row.number ≡ number
+  pub active : row.status ≡ Active
+  pub ready : IsTrue (is_ready world row)
+
+-- one of these entries answers the wait of the generation, where it depends on something
+abbrev pub HasBeenAnswered : Option Dependency → MadeRow → List Entry → Type 0
+HasBeenAnswered None row entries = ⊤
+HasBeenAnswered (Some d) row entries = IsTrue (list_any (has_arrived_for row) entries)
+
+-- the generation of this number was made, and answered by entries not behind place q
+pub record WasAnswered (told : Told) (number q : ℕ) : Type 0 where
+  pub row : MadeRow
+  pub made : made_of told.journal number ≡ Some row
+  pub answered : HasBeenAnswered (dependency_of row.content) row (take (q + 1) told.journal)
+
+-- it served and was ready after some entry before place p
+pub record HadWarmed (told : Told) (number p : ℕ) : Type 0 where
+  pub place : ℕ
+  pub earlier : place < p
+  pub serving : IsServing (world_told told (place + 1)) number
+  pub answered : WasAnswered told number place
+
+-- it had warmed before the picture of this version was published, at some place before k
+pub record WasWarm (told : Told) (number version k : ℕ) : Type 0 where
+  pub place : ℕ
+  pub earlier : place < k
+  pub entry : Entry
+  pub there : IsEntryAt told place entry
+  pub published : version_published entry.answer ≡ Some version
+  pub warmed : HadWarmed told number place
+
+-- the accept at place k is of this worker, and its answer names the generation
+pub record Accepts (told : Told) (k : ℕ) (worker : Actor) (number : ℕ) : Type 0 where
+  pub entry : Entry
+  pub there : IsEntryAt told k entry
+  pub accept : IsTrue (is_accept entry.event)
+  pub by : entry.actor ≡ worker
+  pub names : IsTrue (names_row number entry.answer)
+
+-- connections go only to warmed generations: what an accept names had warmed before the picture that its worker holds was published
+abbrev pub Warmed : Told → Type 0
+Warmed told =
+    (k : ℕ) (worker : Actor) (number : ℕ) → Accepts told k worker number → WasWarm told number (last_settled (take k told.journal) worker) k
+
+-- at place k the actor settles on the version
+pub record SettlesOn (told : Told) (k : ℕ) (actor : Actor) (version : ℕ) : Type 0 where
+  pub entry : Entry
+  pub there : IsEntryAt told k entry
+  pub settled : version_settled_by actor entry ≡ Some version
+
+-- no worker's snapshot goes back: of two settles of an actor the later has no smaller version
+abbrev pub Forward : Told → Type 0
+Forward told =
+    (j k : ℕ) (actor : Actor) (version next : ℕ) → j < k → SettlesOn told j actor version → SettlesOn told k actor next → version ≤ next
+
+-- the accept at place j named the generation, for this connection of the actor
+pub record Opened (told : Told) (j : ℕ) (actor : Actor) (number connection : ℕ) : Type 0 where
+  pub entry : Entry
+  pub there : IsEntryAt told j entry
+  pub by : entry.actor ≡ actor
+  pub names : IsTrue (names_row number entry.answer)
+  pub of : connection_of entry.event ≡ Some connection
+
+-- an entry between the places j and k has closed the actor's connection
+abbrev pub IsClosedBetween : Told → ℕ → ℕ → Actor → ℕ → Type 0
+IsClosedBetween told j k actor connection = IsTrue (list_any (closes actor connection) (drop (j + 1) (take k told.journal)))
+
+-- each connection that an accept before place k opened on the generation was closed between
+abbrev pub IsClosedBefore : Told → ℕ → ℕ → Type 0
+IsClosedBefore told number k =
+    (j : ℕ) (actor : Actor) (connection : ℕ) → j < k → Opened told j actor number connection → IsClosedBetween told j k actor connection
+
+-- no picture that a worker has settled on last shows the generation, and neither does the last picture
+pub record IsUnseen (told : Told) (number k : ℕ) : Type 0 where
+  pub held : (worker : ℕ) → worker < told.workers → is_shown number (picture_at (world_told told k) (last_settled (take k told.journal) (Worker worker))) ≡ false
+  pub last : is_shown number (last_picture (world_told told k)) ≡ false
+
+-- a generation is destroyed only when no connection is open on it and no worker's snapshot holds it
+pub record IsUnused (told : Told) (number k : ℕ) : Type 0 where
+  pub closed : IsClosedBefore told number k
+  pub unseen : IsUnseen told number k
+
+-- the entry at place k destroys the generation
+pub record Reaps (told : Told) (k number : ℕ) : Type 0 where
+  pub entry : Entry
+  pub there : IsEntryAt told k entry
+  pub names : IsTrue (has_number number (numbers_reaped entry.answer))
+
+-- what a reaping names is unused
+abbrev pub Unused : Told → Type 0
+Unused told = (k number : ℕ) → Reaps told k number → IsUnused told number k
+
+-- the entry at place k neither destroys the generation again, nor accepts a connection on it, nor publishes a picture that shows it
+pub record IsGone (told : Told) (number k : ℕ) (entry : Entry) : Type 0 where
+  pub reaped : has_number number (numbers_reaped entry.answer) ≡ false
+  pub accepted : names_row number entry.answer ≡ false
+  pub published : (version : ℕ) → version_published entry.answer ≡ Some version → is_shown number (picture_at (world_told told (k + 1)) version) ≡ false
+
+-- a generation is destroyed once: a reaping names each once, and no later entry has it
+pub record Once (told : Told) : Type 0 where
+  pub ascending : (k : ℕ) (entry : Entry) → IsEntryAt told k entry → IsStrictlyIncreasing (numbers_reaped entry.answer)
+  pub after : (j k number : ℕ) (later : Entry) → j < k → Reaps told j number → IsEntryAt told k later → IsGone told number k later
+
+-- the generations of a name
+abbrev pub rows_named : World → Kind → List ℕ → List GenRow
+rows_named world kind name = filter (is_row_of kind name) world.rows
+
+-- the version of a name
+abbrev pub versions_named : World → Kind → List ℕ → List KeptVersion
+versions_named world kind name = filter (is_version_of kind name) world.versions
+
+-- the generations and the version of the name are as they were
+pub record KeepsRows (before after : World) (kind : Kind) (name : List ℕ) : Type 0 where
+  pub rows : rows_named after kind name ≡ rows_named before kind name
+  pub version : versions_named after kind name ≡ versions_named before kind name
+
+-- the value and the version of the name are as they were
+pub record KeepsValue (before after : World) (kind : Kind) (name : List ℕ) : Type 0 where
+  pub value : value_of after kind name ≡ value_of before kind name
+  pub version : versions_named after kind name ≡ versions_named before kind name
+
+-- what a refusal leaves: a cluster's or listener's generations and version; a name's value and version, or it isn't watched any more
+abbrev pub Keeps : World → World → Kind → List ℕ → Type 0
+Keeps before after Cds name = KeepsRows before after Cds name
+Keeps before after Eds name = KeepsValue before after Eds name ⊎ (is_watched (lives_of after) Eds name ≡ false)
+Keeps before after Lds name = KeepsRows before after Lds name
+Keeps before after Rds name = KeepsValue before after Rds name ⊎ (is_watched (lives_of after) Rds name ≡ false)
+
+-- the resource at this place of the response is refused
+pub record IsRefusedAt (response : ResponseParts) (verdicts : List Verdict) (place : ℕ) (item : ItemParts) : Type 0 where
+  pub rule : ℕ
+  pub refused : slice_get verdicts place ≡ Some (Refused rule)
+  pub there : slice_get response.items place ≡ Some item
+
+-- the entry at place k is a response of this kind, replied to with these verdicts
+pub record IsReplied (told : Told) (k : ℕ) (kind : Kind) (response : ResponseParts) (verdicts : List Verdict) : Type 0 where
+  pub entry : Entry
+  pub there : IsEntryAt told k entry
+  pub event : entry.event ≡ Response response
+  pub requests : List Request
+  pub answer : entry.answer ≡ Replied requests verdicts
+  pub typed : response.kind ≡ Some kind
+
+-- a refused update takes nothing away
+abbrev pub Stays : Told → Type 0
+Stays told =
+    (k : ℕ) (kind : Kind) (response : ResponseParts) (verdicts : List Verdict) (place : ℕ) (item : ItemParts)
+    → IsReplied told k kind response verdicts → IsRefusedAt response verdicts place item
+    → Keeps (world_told told k) (world_told told (k + 1)) kind item.name
+
+-- all five
+pub record Laws (told : Told) : Type 0 where
+  pub warmed : Warmed told
+  pub forward : Forward told
+  pub unused : Unused told
+  pub once : Once told
+  pub stays : Stays told

@@ -1,0 +1,130 @@
+-- What workers may serve. This project's own, for Envoy's snapshots of clusters and listeners on its worker threads.
+use Rattle.std.specs.Prelude.{ℕ, ◌≡◌, Bool, false, ◌&&◌, ◌||◌, ◌==◌, if◌then◌else◌, List, [], ◌∷◌, filter, map, Option, Some, None}
+use Rattle.std.specs.List.{list_any, flat_map}
+use Rattle.std.specs.Str.{bytes_eq}
+use Rattle.std.specs.Bool.{Decides}
+use Rattle.std.proofs.Common.{ap}
+use lib.Pointwise.{pointwise, pointwise_decides}
+use Rattle.ev_types.specs.Kinds.{kind_same}
+use Rattle.ev_types.specs.Same.{both_decide, decides_as, bytes_decide, numbers_decide}
+use Rattle.ev_types.specs.SameHosts.{host_same, rows_same, host_decides, rows_decide}
+use Rattle.ev_types.specs.SameRoutes.{target_same, route_table_same, target_decides, route_table_decides}
+use Rattle.ev_types.specs.Statuses.{is_active}
+use Rattle.ev_types.specs.declared.contents.Kind.{Kind}
+use Rattle.ev_types.specs.declared.contents.Kind.TheVariants.{Cds, Rds, Lds}
+use Rattle.ev_types.specs.declared.contents.Content.{Content}
+use Rattle.ev_types.specs.declared.contents.Content.TheVariants.{Cluster as a_cluster, Assignment as an_assignment, Listener as a_listener, Routes as routes}
+use Rattle.ev_types.specs.declared.listeners.Serve.{Serve}
+use Rattle.ev_types.specs.declared.listeners.Serve.TheVariants.{Rds as by_rds, Inline, Tcp as by_tcp}
+use Rattle.ev_types.specs.declared.routes.RouteTable.{RouteTable}
+use Rattle.ev_types.specs.declared.rows.GenRow.{GenRow}
+use Rattle.ev_model.specs.declared.pictures.Picture.{Picture}
+use Rattle.ev_model.specs.declared.pictures.Routing.{Routing}
+use Rattle.ev_model.specs.declared.pictures.Routing.TheVariants.{Table, Tcp}
+use Rattle.ev_model.specs.declared.pictures.ServedCluster.{ServedCluster}
+use Rattle.ev_model.specs.declared.pictures.ServedListener.{ServedListener}
+use Rattle.ev_model.specs.World.{World}
+use Rattle.ev_model.specs.Versions.{is_before}
+use Rattle.ev_model.specs.Warming.{value_of, assignment_of, is_eligible}
+use Rattle.ev_model.specs.Phase.{is_serving}
+
+-- a row goes before the first whose name is greater
+abbrev pub with_row : GenRow → List GenRow → List GenRow
+with_row row [] = row ∷ []
+with_row row (other ∷ others) = if is_before row.name other.name then row ∷ other ∷ others else other ∷ with_row row others
+
+-- the rows in the order of their names
+abbrev pub by_name : List GenRow → List GenRow
+by_name [] = []
+by_name (row ∷ rows) = with_row row (by_name rows)
+
+-- the active rows of this kind, in the order of their names
+abbrev pub active_rows : World → Kind → List GenRow
+active_rows world kind = by_name (filter (λ (row : GenRow). kind_same row.kind kind && is_active row.status) world.rows)
+
+-- an active cluster, with the hosts that may be chosen in the order of its assignment
+abbrev pub served_cluster : World → GenRow → ServedCluster
+served_cluster world row =
+    record { number = row.number; name = row.name; hosts = filter (is_eligible world row) (assignment_of world row) }
+
+-- the routes of a value; without one there are none
+abbrev pub table_in : Option Content → RouteTable
+table_in None = record { hosts = [] }
+table_in (Some (a_cluster cluster)) = record { hosts = [] }
+table_in (Some (an_assignment rows)) = record { hosts = [] }
+table_in (Some (a_listener listener)) = record { hosts = [] }
+table_in (Some (routes table)) = table
+
+-- where a listener's connections go: by the routes that are its name's value, by its own, or to its target
+abbrev pub routing_of : World → Serve → Routing
+routing_of world (by_rds name limited) = Table (table_in (value_of world Rds name))
+routing_of world (Inline table) = Table table
+routing_of world (by_tcp target) = Tcp target
+
+-- an active listener; what is no listener isn't shown
+abbrev pub served_listener : World → GenRow → Content → List ServedListener
+served_listener world row (a_cluster cluster) = []
+served_listener world row (an_assignment rows) = []
+served_listener world row (a_listener listener) =
+    record { number = row.number; name = row.name; address = listener.address; routing = routing_of world listener.serve } ∷ []
+served_listener world row (routes table) = []
+
+-- the active listeners, in the order of their names
+abbrev pub served_listeners : World → List ServedListener
+served_listeners world = flat_map (λ (row : GenRow). served_listener world row row.content) (active_rows world Lds)
+
+-- what workers may serve now: each active cluster and, once listeners serve, each active listener
+abbrev pub picture_of : World → Picture
+picture_of world = record {
+  clusters = map (served_cluster world) (active_rows world Cds);
+  listeners = if is_serving world.phase then served_listeners world else [];
+}
+
+-- the same generation of the same cluster, with the same hosts
+abbrev pub served_cluster_same : ServedCluster → ServedCluster → Bool
+served_cluster_same a b = (a.number == b.number) && bytes_eq a.name b.name && rows_same a.hosts b.hosts
+
+-- the same routes, or the same target
+abbrev pub routing_same : Routing → Routing → Bool
+routing_same (Table a) (Table b) = route_table_same a b
+routing_same (Table a) (Tcp b) = false
+routing_same (Tcp a) (Table b) = false
+routing_same (Tcp a) (Tcp b) = target_same a b
+
+-- the same generation of the same listener, at the same address, with the same routing
+abbrev pub served_listener_same : ServedListener → ServedListener → Bool
+served_listener_same a b = (a.number == b.number) && bytes_eq a.name b.name && host_same a.address b.address && routing_same a.routing b.routing
+
+-- the same clusters and the same listeners
+abbrev pub picture_same : Picture → Picture → Bool
+picture_same a b = pointwise served_cluster_same a.clusters b.clusters && pointwise served_listener_same a.listeners b.listeners
+
+-- the generation of this number is shown
+abbrev pub is_shown : ℕ → Picture → Bool
+is_shown number picture =
+    list_any (λ (c : ServedCluster). c.number == number) picture.clusters || list_any (λ (l : ServedListener). l.number == number) picture.listeners
+
+pub served_cluster_decides : (a b : ServedCluster) → Decides (served_cluster_same a b) (a ≡ b)
+served_cluster_decides a b = decides_as
+    (both_decide (both_decide (numbers_decide a.number b.number) (bytes_decide a.name b.name)) (rows_decide a.hosts b.hosts))
+    (λ p. λ i. record { number = p.0.0 i; name = p.0.1 i; hosts = p.1 i })
+    (λ e. ((ap (λ (c : ServedCluster). c.number) e, ap (λ (c : ServedCluster). c.name) e), ap (λ (c : ServedCluster). c.hosts) e))
+
+pub routing_decides : (a b : Routing) → Decides (routing_same a b) (a ≡ b)
+routing_decides (Table a) (Table b) = decides_as (route_table_decides a b) (λ e. ap Table e) (λ e. cc)
+routing_decides (Table a) (Tcp b) = (λ h. cc, λ e. cc)
+routing_decides (Tcp a) (Table b) = (λ h. cc, λ e. cc)
+routing_decides (Tcp a) (Tcp b) = decides_as (target_decides a b) (λ e. ap Tcp e) (λ e. cc)
+
+pub served_listener_decides : (a b : ServedListener) → Decides (served_listener_same a b) (a ≡ b)
+served_listener_decides a b = decides_as
+    (both_decide (both_decide (both_decide (numbers_decide a.number b.number) (bytes_decide a.name b.name)) (host_decides a.address b.address)) (routing_decides a.routing b.routing))
+    (λ p. λ i. record { number = p.0.0.0 i; name = p.0.0.1 i; address = p.0.1 i; routing = p.1 i })
+    (λ e. (((ap (λ (l : ServedListener). l.number) e, ap (λ (l : ServedListener). l.name) e), ap (λ (l : ServedListener). l.address) e), ap (λ (l : ServedListener). l.routing) e))
+
+-- the test holds of equal pictures alone
+pub picture_decides : (a b : Picture) → Decides (picture_same a b) (a ≡ b)
+picture_decides a b = decides_as
+    (both_decide (pointwise_decides served_cluster_decides a.clusters b.clusters) (pointwise_decides served_listener_decides a.listeners b.listeners))
+    (λ (p, q). λ i. record { clusters = p i; listeners = q i })
+    (λ e. (ap (λ (c : Picture). c.clusters) e, ap (λ (c : Picture). c.listeners) e))

@@ -1,0 +1,195 @@
+use ev_types::{Assignment, Gen, Host, Name, RouteTable, Seq, Target, TryCopy};
+use std::alloc::{AllocError, Global};
+
+/// An active cluster as workers see it, with the hosts that may be chosen, in the order of its assignment.
+#[derive(Drop)]
+pub struct ServedCluster {
+    pub number: Gen,
+    pub name: Name,
+    pub hosts: Assignment,
+}
+
+impl TryCopy for ServedCluster {
+    fn copy(&self, alloc: Global) -> Result<ServedCluster, AllocError> {
+        Ok(ServedCluster {
+            number: self.number,
+            name: self.name.copy(alloc)?,
+            hosts: self.hosts.copy(alloc)?,
+        })
+    }
+}
+
+impl PartialEq for ServedCluster {
+    ghost use Rattle.std.specs.Cmp.{decided, partial_equiv_from_equiv};
+    ghost use Rattle.ev_model.specs.Picture.{served_cluster_same, served_cluster_decides};
+
+    ghost eq = { served_cluster_same };
+
+    ghost laws = { partial_equiv_from_equiv (decided served_cluster_same served_cluster_decides) };
+
+    fn eq(&self, other: &ServedCluster) -> bool {
+        self.number == other.number && self.name == other.name && self.hosts == other.hosts
+    }
+}
+
+impl Eq for ServedCluster {
+    ghost use Rattle.std.specs.Cmp.{decided};
+    ghost use Rattle.ev_model.specs.Picture.{served_cluster_same, served_cluster_decides};
+
+    ghost laws = { decided served_cluster_same served_cluster_decides };
+}
+
+/// Where a listener's connections go.
+#[derive(Drop)]
+pub enum Routing {
+    /// By routes.
+    Table(RouteTable),
+    /// By a TCP proxy to this target.
+    Tcp(Target),
+}
+
+impl TryCopy for Routing {
+    fn copy(&self, alloc: Global) -> Result<Routing, AllocError> {
+        match self {
+            Routing::Table(table) => Ok(Routing::Table(table.copy(alloc)?)),
+            Routing::Tcp(target) => Ok(Routing::Tcp(target.copy(alloc)?)),
+        }
+    }
+}
+
+impl PartialEq for Routing {
+    ghost use Rattle.std.specs.Cmp.{decided, partial_equiv_from_equiv};
+    ghost use Rattle.ev_model.specs.Picture.{routing_same, routing_decides};
+
+    ghost eq = { routing_same };
+
+    ghost laws = { partial_equiv_from_equiv (decided routing_same routing_decides) };
+
+    fn eq(&self, other: &Routing) -> bool {
+        match (self, other) {
+            (Routing::Table(table), Routing::Table(other)) => table == other,
+            (Routing::Tcp(target), Routing::Tcp(other)) => target == other,
+            _ => false,
+        }
+    }
+}
+
+impl Eq for Routing {
+    ghost use Rattle.std.specs.Cmp.{decided};
+    ghost use Rattle.ev_model.specs.Picture.{routing_same, routing_decides};
+
+    ghost laws = { decided routing_same routing_decides };
+}
+
+/// An active listener as workers see it.
+#[derive(Drop)]
+pub struct ServedListener {
+    pub number: Gen,
+    pub name: Name,
+    pub address: Host,
+    pub routing: Routing,
+}
+
+impl TryCopy for ServedListener {
+    fn copy(&self, alloc: Global) -> Result<ServedListener, AllocError> {
+        Ok(ServedListener {
+            number: self.number,
+            name: self.name.copy(alloc)?,
+            address: self.address.copy(alloc)?,
+            routing: self.routing.copy(alloc)?,
+        })
+    }
+}
+
+impl PartialEq for ServedListener {
+    ghost use Rattle.std.specs.Cmp.{decided, partial_equiv_from_equiv};
+    ghost use Rattle.ev_model.specs.Picture.{served_listener_same, served_listener_decides};
+
+    ghost eq = { served_listener_same };
+
+    ghost laws = { partial_equiv_from_equiv (decided served_listener_same served_listener_decides) };
+
+    fn eq(&self, other: &ServedListener) -> bool {
+        self.number == other.number
+            && self.name == other.name
+            && self.address == other.address
+            && self.routing == other.routing
+    }
+}
+
+impl Eq for ServedListener {
+    ghost use Rattle.std.specs.Cmp.{decided};
+    ghost use Rattle.ev_model.specs.Picture.{served_listener_same, served_listener_decides};
+
+    ghost laws = { decided served_listener_same served_listener_decides };
+}
+
+/// What workers may serve: clusters and listeners, both sorted by name. It has no listeners before the phase is Serving.
+#[derive(Drop)]
+pub struct Picture {
+    pub clusters: Seq<ServedCluster>,
+    pub listeners: Seq<ServedListener>,
+}
+
+impl TryCopy for Picture {
+    fn copy(&self, alloc: Global) -> Result<Picture, AllocError> {
+        Ok(Picture {
+            clusters: self.clusters.copy(alloc)?,
+            listeners: self.listeners.copy(alloc)?,
+        })
+    }
+}
+
+impl PartialEq for Picture {
+    ghost use Rattle.std.specs.Cmp.{decided, partial_equiv_from_equiv};
+    ghost use Rattle.ev_model.specs.Picture.{picture_same, picture_decides};
+
+    ghost eq = { picture_same };
+
+    ghost laws = { partial_equiv_from_equiv (decided picture_same picture_decides) };
+
+    fn eq(&self, other: &Picture) -> bool {
+        self.clusters == other.clusters && self.listeners == other.listeners
+    }
+}
+
+impl Eq for Picture {
+    ghost use Rattle.std.specs.Cmp.{decided};
+    ghost use Rattle.ev_model.specs.Picture.{picture_same, picture_decides};
+
+    ghost laws = { decided picture_same picture_decides };
+}
+
+/// Where a connection goes, as it is chosen in a picture.
+#[derive(Clone, Copy, Debug, PartialEq, Eq)]
+pub enum Choice {
+    /// No listener has the address.
+    NoListener,
+    /// The listener has no route for it.
+    NoRoute {
+        listener: Gen,
+    },
+    /// It is answered at once with this status.
+    Local {
+        listener: Gen,
+        status: u16,
+    },
+    /// It is answered by a redirect.
+    Redirect {
+        listener: Gen,
+    },
+    /// There is no cluster of the name that it is to go to.
+    NoCluster {
+        listener: Gen,
+    },
+    /// The cluster has no host that may be chosen.
+    NoEndpoint {
+        listener: Gen,
+    },
+    /// It goes to the host at this place of the cluster's list.
+    Served {
+        listener: Gen,
+        cluster: Gen,
+        host: u32,
+    },
+}

@@ -1,0 +1,35 @@
+use crate::{Actor, Answer, Op, TryCopy};
+use std::alloc::{AllocError, Global};
+
+/// One line of a journal as it is written: it has the event's word, and not the event.
+#[derive(Drop)]
+pub struct Row {
+    pub actor: Actor,
+    pub at: u32,
+    pub step: u32,
+    pub op: Op,
+    pub answer: Answer,
+}
+
+impl TryCopy for Row {
+    fn copy(&self, alloc: Global) -> Result<Row, AllocError> {
+        Ok(Row {
+            actor: self.actor,
+            at: self.at,
+            step: self.step,
+            op: self.op,
+            answer: self.answer.copy(alloc)?,
+        })
+    }
+}
+
+/// What is found of a journal that is held against its script.
+#[derive(Clone, Copy, Debug, PartialEq, Eq)]
+pub enum Finding {
+    /// It is a run of the machine that holds the script's operations.
+    Legal,
+    /// The row of this number, from 1, isn't answered as the machine answers, or breaks into a worker's batch.
+    IllegalAt(u32),
+    /// The row of this number, from 1, isn't its actor's next operation, or is missing.
+    NotTheScript(u32),
+}
