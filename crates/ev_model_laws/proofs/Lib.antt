@@ -1,0 +1,14 @@
+pub mod TidyLists
+pub mod TidyLemmas
+pub mod NothingDoneLemmas
+pub mod FindingCounts
+pub mod FindingRows
+pub mod ScriptOperations
+pub mod FindingLemmas
+pub mod KeepLemmas
+pub mod PhaseLemmas
+pub mod NumberLemmas
+pub mod CountLemmas
+pub mod OneANameLemmas
+pub mod ReplayLemmas
+pub mod VersionLemmas

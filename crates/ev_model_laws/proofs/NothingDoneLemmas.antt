@@ -1,0 +1,106 @@
+-- Events that are answered as having done nothing, by cases on the event and the tests in it.
+use Rattle.std.proofs.Common.{◌≡◌, ℕ, Bool, true, false, ◌||◌, if◌then◌else◌, List, [], ◌∷◌, Option, Some, None, is_some, refl, IsTrue}
+use Rattle.ev_types.specs.Items.{ResponseParts}
+use Rattle.ev_types.specs.declared.hosts.Host.{Host}
+use Rattle.ev_types.specs.declared.contents.Kind.{Kind}
+use Rattle.ev_types.specs.declared.contents.Kind.TheVariants.{Cds, Eds, Lds, Rds}
+use Rattle.ev_types.specs.declared.events.Actor.{Actor}
+use Rattle.ev_types.specs.declared.events.Actor.TheVariants.{Stream, Health as health_checker, Timer, Main, Worker}
+use Rattle.ev_types.specs.declared.events.Event.TheVariants.{Connect, Disconnect, Response, Health, FetchTimeout, DrainTimeout, Publish, Reap, Accept, Close, Settle}
+use Rattle.ev_types.specs.declared.events.Answer.{Answer}
+use Rattle.ev_types.specs.declared.rows.GenRow.{GenRow}
+use Rattle.ev_model.specs.declared.pictures.Picture.{Picture}
+use Rattle.ev_model.specs.declared.pictures.Choice.{Choice}
+use Rattle.ev_model.specs.declared.pictures.Choice.TheVariants.{NoListener, NoRoute, Local, Redirect, NoCluster, NoEndpoint, Served}
+use Rattle.ev_model.specs.World.{World}
+use Rattle.ev_model.specs.Choice.{choice_of}
+use Rattle.ev_model.specs.Picture.{picture_of, picture_same}
+use Rattle.ev_model.specs.Dead.{last_picture, picture_held}
+use Rattle.ev_model.specs.Phase.{is_clusters}
+use Rattle.ev_model.specs.Signals.{rows_meant, health_of, is_awaited, name_timeout_of, fetch_timeout, unexpired, expire}
+use Rattle.ev_model.specs.Connections.{is_open, host_at, served_by, answer_of, opened_by, accept, close, settle}
+use Rattle.ev_model.specs.Step.{connect, disconnect, respond_by, of_worker}
+use Rattle.ev_model_laws.specs.NothingDone.{is_nothing_done, LeavesAsItWas}
+
+-- where nothing is done by the answer, the world is as it was
+abbrev Leaves : World → World × Answer → Type 0
+Leaves world done = IsTrue (is_nothing_done done.1) → done.0 ≡ world
+
+-- what holds of both branches of a test
+leaves_if : (test : Bool) (world : World) (one other : World × Answer) → Leaves world one → Leaves world other
+    → Leaves world (if test then one else other)
+leaves_if true world one other by_one by_other = by_one
+leaves_if false world one other by_one by_other = by_other
+
+connect_leaves : (world : World) → Leaves world (connect world)
+connect_leaves world = leaves_if world.stream world _ _ (λ h. refl) (λ h. cc)
+
+disconnect_leaves : (world : World) → Leaves world (disconnect world)
+disconnect_leaves world = leaves_if world.stream world _ _ (λ h. cc) (λ h. refl)
+
+respond_by_leaves : (kind : Option Kind) (response : ResponseParts) (world : World) → Leaves world (respond_by kind response world)
+respond_by_leaves None response world h = refl
+respond_by_leaves (Some kind) response world h = cc
+
+health_leaves : (host : Host) (healthy : Bool) (rows : List GenRow) (world : World) → Leaves world (health_of host healthy rows world)
+health_leaves host healthy [] world h = refl
+health_leaves host healthy (row ∷ rows) world h = cc
+
+name_leaves : (kind : Kind) (name : Option (List ℕ)) (world : World) → Leaves world (name_timeout_of kind name world)
+name_leaves kind None world = λ h. refl
+name_leaves kind (Some name) world = leaves_if (is_awaited world kind name) world _ _ (λ h. cc) (λ h. refl)
+
+timeout_leaves : (kind : Kind) (name : Option (List ℕ)) (world : World) → Leaves world (fetch_timeout kind name world)
+timeout_leaves Cds name world = leaves_if (is_some world.first_clusters || world.late_clusters) world _ _ (λ h. refl) (λ h. cc)
+timeout_leaves Eds name world = name_leaves Eds name world
+timeout_leaves Lds name world =
+    leaves_if (is_clusters world.phase || (is_some world.first_listeners || world.late_listeners)) world _ _ (λ h. refl) (λ h. cc)
+timeout_leaves Rds name world = name_leaves Rds name world
+
+expire_leaves : (numbers : List ℕ) (world : World) → Leaves world (expire numbers world)
+expire_leaves [] world h = refl
+expire_leaves (number ∷ numbers) world h = cc
+
+served_done : (listener cluster : ℕ) (host : Option Host) → is_nothing_done (served_by listener cluster host) ≡ false
+served_done listener cluster None = refl
+served_done listener cluster (Some host) = refl
+
+-- an accepted connection is answered by its choice, and never as nothing done
+choice_done : (picture : Picture) (choice : Choice) → is_nothing_done (answer_of picture choice) ≡ false
+choice_done picture NoListener = refl
+choice_done picture (NoRoute listener) = refl
+choice_done picture (Local listener status) = refl
+choice_done picture (Redirect listener) = refl
+choice_done picture (NoCluster listener) = refl
+choice_done picture (NoEndpoint listener) = refl
+choice_done picture (Served listener cluster place) = served_done listener cluster (host_at picture cluster place)
+
+opened_leaves : (worker connection : ℕ) (choice : Choice) (world : World) → Leaves world (opened_by worker connection choice world)
+opened_leaves worker connection choice world h =
+    let done : is_nothing_done (answer_of (picture_held world worker) choice) ≡ false = choice_done (picture_held world worker) choice in cc
+
+worker_leaves : (change : ℕ → World → World × Answer) (actor : Actor) (world : World) → ((worker : ℕ) → Leaves world (change worker world))
+    → Leaves world (of_worker change actor world)
+worker_leaves change Stream world each h = refl
+worker_leaves change health_checker world each h = refl
+worker_leaves change Timer world each h = refl
+worker_leaves change Main world each h = refl
+worker_leaves change (Worker worker) world each h = each worker h
+
+pub left_as_it_was : LeavesAsItWas
+left_as_it_was world actor Connect = connect_leaves world
+left_as_it_was world actor Disconnect = disconnect_leaves world
+left_as_it_was world actor (Response response) =
+    leaves_if world.stream world _ _ (respond_by_leaves response.kind response world) (λ h. refl)
+left_as_it_was world actor (Health cluster host healthy) = health_leaves host healthy (rows_meant world cluster host) world
+left_as_it_was world actor (FetchTimeout timeout) = timeout_leaves timeout.kind timeout.name world
+left_as_it_was world actor (DrainTimeout listener) = expire_leaves (unexpired world listener) world
+left_as_it_was world actor Publish = leaves_if (picture_same (picture_of world) (last_picture world)) world _ _ (λ h. refl) (λ h. cc)
+left_as_it_was world actor Reap = λ h. cc
+left_as_it_was world actor (Accept ask) =
+    worker_leaves (accept ask) actor world
+    (λ worker. leaves_if (is_open world worker ask.conn) world _ _ (λ h. refl)
+    (opened_leaves worker ask.conn (choice_of (picture_held world worker) ask) world))
+left_as_it_was world actor (Close connection) =
+    worker_leaves (close connection) actor world (λ worker. leaves_if (is_open world worker connection) world _ _ (λ h. cc) (λ h. refl))
+left_as_it_was world actor Settle = worker_leaves settle actor world (λ worker h. cc)

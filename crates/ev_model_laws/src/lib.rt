@@ -1,0 +1,20 @@
+//! Laws of the flat machine's definitions alone. Each function does nothing, and its contract is a law.
+#![tactic(auto)]
+
+mod legal_findings;
+mod nothing_done;
+mod numbers;
+mod one_a_name;
+mod one_replay;
+mod phase_forward;
+mod tidying;
+mod versions_kept;
+
+pub use legal_findings::legal_exactly;
+pub use nothing_done::nothing_done_leaves_the_world;
+pub use numbers::numbers_are_drawn_once;
+pub use one_a_name::one_warms_and_one_serves;
+pub use one_replay::has_a_replay;
+pub use phase_forward::phase_never_goes_back;
+pub use tidying::tidies_once;
+pub use versions_kept::versions_are_kept_once;

@@ -1,0 +1,12 @@
+//! Worked rows of the flat machine. Each function does nothing; its contract says that a replay by the machine's definitions
+//! gives the answers and the pictures of the row, as they stand in `specs/`, and is proved by computing both sides.
+#![tactic(auto)]
+
+mod rows;
+
+pub use rows::{
+    automatic, content_returns, domains, drain_timer, findings, full_batch, growing_assignment,
+    in_use, late_batch, lost_stream, no_hosts, one_address, one_refused_of_two, realistic,
+    refused_update, same_content_new_version, timeouts_of_listeners, two_timeouts,
+    watch_ends_and_begins, weights,
+};

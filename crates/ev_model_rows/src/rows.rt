@@ -1,0 +1,133 @@
+ghost use Rattle.ev_model_rows.specs.ContentReturns.{Answers as ContentReturnsAnswers, Pictures as ContentReturnsPictures};
+ghost use Rattle.ev_model_rows.specs.TwoTimeouts.{Answers as TwoTimeoutsAnswers, Pictures as TwoTimeoutsPictures};
+ghost use Rattle.ev_model_rows.specs.GrowingAssignment.{Answers as GrowingAssignmentAnswers, Pictures as GrowingAssignmentPictures};
+ghost use Rattle.ev_model_rows.specs.NoHosts.{Answers as NoHostsAnswers, Pictures as NoHostsPictures};
+ghost use Rattle.ev_model_rows.specs.LateBatch.{Answers as LateBatchAnswers, Pictures as LateBatchPictures};
+ghost use Rattle.ev_model_rows.specs.DrainTimer.{Answers as DrainTimerAnswers, Pictures as DrainTimerPictures};
+ghost use Rattle.ev_model_rows.specs.OneAddress.{Answers as OneAddressAnswers, Pictures as OneAddressPictures};
+ghost use Rattle.ev_model_rows.specs.WatchEndsAndBegins.{Answers as WatchEndsAndBeginsAnswers, Pictures as WatchEndsAndBeginsPictures};
+ghost use Rattle.ev_model_rows.specs.LostStream.{Answers as LostStreamAnswers};
+ghost use Rattle.ev_model_rows.specs.OneRefusedOfTwo.{Answers as OneRefusedOfTwoAnswers};
+ghost use Rattle.ev_model_rows.specs.RefusedUpdate.{Answers as RefusedUpdateAnswers, Pictures as RefusedUpdatePictures};
+ghost use Rattle.ev_model_rows.specs.SameContentNewVersion.{Answers as SameContentNewVersionAnswers};
+ghost use Rattle.ev_model_rows.specs.InUse.{Answers as InUseAnswers};
+ghost use Rattle.ev_model_rows.specs.TimeoutsOfListeners.{Answers as TimeoutsOfListenersAnswers};
+ghost use Rattle.ev_model_rows.specs.Realistic.{Answers as RealisticAnswers, Pictures as RealisticPictures};
+ghost use Rattle.ev_model_rows.specs.Automatic.{Answers as AutomaticAnswers, Pictures as AutomaticPictures};
+ghost use Rattle.ev_model_rows.specs.Domains.{Answers as DomainsAnswers, Pictures as DomainsPictures};
+ghost use Rattle.ev_model_rows.specs.Weights.{Answers as WeightsAnswers, Pictures as WeightsPictures};
+ghost use Rattle.ev_model_rows.specs.FullBatch.{IsFull};
+ghost use Rattle.ev_model_rows.specs.Findings.{Found};
+
+/// A content that returns: an update that never warmed is dropped, and the generation that served goes once nothing holds it. It does nothing.
+pub fn content_returns()
+    ensures answers { ContentReturnsAnswers }
+    ensures pictures { ContentReturnsPictures }
+{}
+
+/// Two clusters wait for one name: a fetch timeout releases the one whose wait is limited, and a value, a word of the control plane, the other. It does nothing.
+pub fn two_timeouts()
+    ensures answers { TwoTimeoutsAnswers }
+    ensures pictures { TwoTimeoutsPictures }
+{}
+
+/// An assignment grows while its checked cluster warms: it is warm once each host of the assignment then has a result. It does nothing.
+pub fn growing_assignment()
+    ensures answers { GrowingAssignmentAnswers }
+    ensures pictures { GrowingAssignmentPictures }
+{}
+
+/// A cluster without hosts is warm, and has no endpoint for a connection. It does nothing.
+pub fn no_hosts()
+    ensures answers { NoHostsAnswers }
+    ensures pictures { NoHostsPictures }
+{}
+
+/// A batch stands before the settle that ends it, and what it opened keeps its generation until it is closed. It does nothing.
+pub fn late_batch()
+    ensures answers { LateBatchAnswers }
+    ensures pictures { LateBatchPictures }
+{}
+
+/// The drain timer of a listener: connections on its old generation are closed when their worker settles. It does nothing.
+pub fn drain_timer()
+    ensures answers { DrainTimerAnswers }
+    ensures pictures { DrainTimerPictures }
+{}
+
+/// A live listener owns its address; once it is removed, another may have it in the same response. It does nothing.
+pub fn one_address()
+    ensures answers { OneAddressAnswers }
+    ensures pictures { OneAddressPictures }
+{}
+
+/// A watch that another cluster takes over keeps its value; one that ends and begins again waits anew. It does nothing.
+pub fn watch_ends_and_begins()
+    ensures answers { WatchEndsAndBeginsAnswers }
+    ensures pictures { WatchEndsAndBeginsPictures }
+{}
+
+/// A stream that is lost and opened again: nothing else changes, and what is held is named at the connect. It does nothing.
+pub fn lost_stream()
+    ensures answers { LostStreamAnswers }
+{}
+
+/// One resource of two is refused: the response is, and the good one is applied. It does nothing.
+pub fn one_refused_of_two()
+    ensures answers { OneRefusedOfTwoAnswers }
+{}
+
+/// An update that is refused takes nothing away. It does nothing.
+pub fn refused_update()
+    ensures answers { RefusedUpdateAnswers }
+    ensures pictures { RefusedUpdatePictures }
+{}
+
+/// A resource whose content is that of the newest generation makes none, and its version is kept. It does nothing.
+pub fn same_content_new_version()
+    ensures answers { SameContentNewVersionAnswers }
+{}
+
+/// A connection number is in use until it is closed. It does nothing.
+pub fn in_use()
+    ensures answers { InUseAnswers }
+{}
+
+/// Fetch timeouts of clusters, listeners and routes. It does nothing.
+pub fn timeouts_of_listeners()
+    ensures answers { TimeoutsOfListenersAnswers }
+{}
+
+/// A proxy with two workers boots, serves and closes. It does nothing.
+pub fn realistic()
+    ensures answers { RealisticAnswers }
+    ensures pictures { RealisticPictures }
+{}
+
+/// With `auto` each line of the stream, the health checker and the timers is followed by a publication and a reaping. It does nothing.
+pub fn automatic()
+    ensures answers { AutomaticAnswers }
+    ensures pictures { AutomaticPictures }
+{}
+
+/// A virtual host is found by its domains: one that is equal, then the longest suffix, then `*`; ASCII letters in either case. It does nothing.
+pub fn domains()
+    ensures answers { DomainsAnswers }
+    ensures pictures { DomainsPictures }
+{}
+
+/// A pick takes a cluster by the weights of the target, and its quotient a host by the weights of the cluster. It does nothing.
+pub fn weights()
+    ensures answers { WeightsAnswers }
+    ensures pictures { WeightsPictures }
+{}
+
+/// A batch is full with 256 lines: a settle is forced behind the 256th, and not behind its neighbours. It does nothing.
+pub fn full_batch()
+    ensures { IsFull }
+{}
+
+/// What is found of the journal of the late batch: it is legal, and in three other forms it isn't. It does nothing.
+pub fn findings()
+    ensures { Found }
+{}
