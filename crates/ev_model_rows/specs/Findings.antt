@@ -1,17 +1,12 @@
 -- Findings on the journal of the late batch.
 use Rattle.std.specs.Prelude.{◌≡◌, List, [], ◌++◌, map, take, drop}
-use Rattle.ev_types.specs.Events.{op_of}
-use Rattle.ev_types.specs.declared.events.Entry.{Entry}
 use Rattle.ev_types.specs.declared.journals.Row.{Row}
 use Rattle.ev_types.specs.declared.journals.Finding.TheVariants.{Legal, IllegalAt, NotTheScript}
 use Rattle.ev_model.specs.Operations.{replay_order}
 use Rattle.ev_model.specs.Finding.{finding_of}
+use Rattle.ev_model_laws.specs.LegalFindings.{row_of}
 use Rattle.ev_model_rows.specs.Words.{script_of}
 use Rattle.ev_model_rows.specs.LateBatch.{deeds}
-
--- an entry as its row
-abbrev pub row_of : Entry → Row
-row_of entry = record { actor = entry.actor; at = entry.at; step = entry.step; op = op_of entry.event; answer = entry.answer }
 
 -- the rows of the journal
 abbrev pub rows : List Row
