@@ -6,7 +6,7 @@ use Rattle.std.proofs.Common.{ap}
 use lib.Pointwise.{pointwise, pointwise_decides}
 use Rattle.ev_types.specs.declared.contents.Request.{Request}
 use Rattle.ev_types.specs.declared.events.Verdict.{Verdict}
-use Rattle.ev_types.specs.declared.events.Verdict.TheVariants.{New, Same, Kept, Unasked, Refused}
+use Rattle.ev_types.specs.declared.events.Verdict.TheVariants.{New, Same, Kept, Unasked, Renewed, Refused}
 use Rattle.ev_types.specs.declared.events.Answer.{Answer}
 use Rattle.ev_types.specs.declared.events.Answer.TheVariants.{Ignored, Done, Moved, Replied, Version, Unchanged, Reaped, InUse, NoListener, NoRoute, Redirect, NoCluster, NoEndpoint, Local, Served, NotOpen, Settled}
 use Rattle.ev_types.specs.Kinds.{kind_same, kind_decides}
@@ -36,6 +36,7 @@ verdict_same New New = true
 verdict_same Same Same = true
 verdict_same Kept Kept = true
 verdict_same Unasked Unasked = true
+verdict_same Renewed Renewed = true
 verdict_same (Refused a) (Refused b) = a == b
 verdict_same a b = false
 
@@ -105,6 +106,7 @@ verdict_decides New New = (λ h. refl, λ e. refl)
 verdict_decides Same Same = (λ h. refl, λ e. refl)
 verdict_decides Kept Kept = (λ h. refl, λ e. refl)
 verdict_decides Unasked Unasked = (λ h. refl, λ e. refl)
+verdict_decides Renewed Renewed = (λ h. refl, λ e. refl)
 verdict_decides (Refused a) (Refused b) = decides_as (numbers_decide a b) (λ e. ap Refused e) (λ e. cc)
 verdict_decides a b = (λ h. cc, λ e. cc)
 

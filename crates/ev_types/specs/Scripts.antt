@@ -5,7 +5,7 @@ use Rattle.ev_types.specs.Texts.{IsName}
 use Rattle.ev_types.specs.Events.{MayMake}
 use Rattle.ev_types.specs.declared.events.Line.{Line}
 use Rattle.ev_types.specs.declared.events.Event.{Event}
-use Rattle.ev_types.specs.declared.events.Event.TheVariants.{Connect, Disconnect, Response, Health, FetchTimeout, DrainTimeout, Publish, Reap, Accept, Close, Settle}
+use Rattle.ev_types.specs.declared.events.Event.TheVariants.{Connect, Disconnect, Response, Health, FetchTimeout, DrainTimeout, TtlExpired, Publish, Reap, Accept, Close, Settle}
 
 -- a script: its header, its lines and the number of the last one
 pub record ScriptParts : Type 0 where
@@ -23,6 +23,7 @@ items_in (Response response) = length response.items
 items_in (Health cluster host healthy) = 0
 items_in (FetchTimeout timeout) = 0
 items_in (DrainTimeout listener) = 0
+items_in (TtlExpired kind name) = 0
 items_in Publish = 0
 items_in Reap = 0
 items_in (Accept ask) = 0

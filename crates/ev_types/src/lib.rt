@@ -20,7 +20,7 @@ pub use contents::{Body, Content, Item, Kind, Request, Response};
 pub use copies::TryCopy;
 pub use events::{Actor, Answer, Ask, Entry, Event, Line, Op, Script, Verdict};
 pub use hosts::{Assignment, Host, HostRow, ROW_LIMIT};
-pub use journals::{Finding, Row};
+pub use journals::{Finding, Format, Row};
 pub use listeners::{Listener, Serve};
 pub use lists::Seq;
 pub use routes::{
