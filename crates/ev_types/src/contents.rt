@@ -1,9 +1,11 @@
-use crate::{Assignment, Cluster, Listener, Name, NameError, RouteTable, Seq, Text, TryCopy};
+use crate::{
+    Assignment, Cluster, Listener, Name, NameError, RouteTable, Seq, Shared, Text, TryCopy,
+};
 use std::alloc::{AllocError, Global};
 use std::marker::Model;
 
 /// The four types of resource, named by the services that bring them.
-#[derive(Clone, Copy, Debug, PartialEq, Eq)]
+#[derive(Clone, Copy, Debug, PartialEq, Eq, Hash)]
 pub enum Kind {
     /// Clusters.
     Cds,
@@ -33,13 +35,13 @@ impl Kind {
     }
 }
 
-/// What a resource of one of the four types says.
+/// What a resource of one of the four types says. It is shared: a copy takes no memory.
 #[derive(Drop)]
 pub enum Content {
-    Cluster(Cluster),
-    Assignment(Assignment),
-    Listener(Listener),
-    Routes(RouteTable),
+    Cluster(Shared<Cluster>),
+    Assignment(Shared<Assignment>),
+    Listener(Shared<Listener>),
+    Routes(Shared<RouteTable>),
 }
 
 impl TryCopy for Content {
