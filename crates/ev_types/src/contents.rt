@@ -5,7 +5,7 @@ use std::alloc::{AllocError, Global};
 use std::marker::Model;
 
 /// The four types of resource, named by the services that bring them.
-#[derive(Clone, Copy, Debug, PartialEq, Eq, Hash)]
+#[derive(Clone, Copy, Debug, Hash)]
 pub enum Kind {
     /// Clusters.
     Cds,
@@ -33,6 +33,26 @@ impl Kind {
             _ => false,
         }
     }
+}
+
+impl PartialEq for Kind {
+    ghost use Rattle.std.specs.Cmp.{decided, partial_equiv_from_equiv};
+    ghost use Rattle.ev_types.specs.Kinds.{kind_same, kind_decides};
+
+    ghost eq = { kind_same };
+
+    ghost laws = { partial_equiv_from_equiv (decided kind_same kind_decides) };
+
+    fn eq(&self, other: &Kind) -> bool {
+        self.is(*other)
+    }
+}
+
+impl Eq for Kind {
+    ghost use Rattle.std.specs.Cmp.{decided};
+    ghost use Rattle.ev_types.specs.Kinds.{kind_same, kind_decides};
+
+    ghost laws = { decided kind_same kind_decides };
 }
 
 /// What a resource of one of the four types says. It is shared: a copy takes no memory.
