@@ -105,8 +105,11 @@ impl Eq for Content {
 /// time to live that is given anew.
 #[derive(Drop)]
 pub enum Body {
+    /// What the resource says.
     Good(Content),
+    /// The number of the least rule that the resource breaks.
     Bad(u8),
+    /// No body: the time to live of what is held is given anew.
     Beat,
 }
 
