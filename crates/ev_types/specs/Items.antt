@@ -49,15 +49,15 @@ IsNamed (Bad rule) = ⊥
 IsNamed Beat = ⊤
 
 -- the type of resource that has this content
-abbrev pub kind_of : Content → Kind
-kind_of (Cluster cluster) = Cds
-kind_of (Assignment rows) = Eds
-kind_of (Listener listener) = Lds
-kind_of (Routes table) = Rds
+abbrev pub content_kind : Content → Kind
+content_kind (Cluster cluster) = Cds
+content_kind (Assignment rows) = Eds
+content_kind (Listener listener) = Lds
+content_kind (Routes table) = Rds
 
 -- a good body has content of this type
 abbrev pub IsBodyOf : Kind → Body → Type 0
-IsBodyOf kind (Good content) = kind_of content ≡ kind
+IsBodyOf kind (Good content) = content_kind content ≡ kind
 IsBodyOf kind (Bad rule) = ⊤
 IsBodyOf kind Beat = ⊤
 

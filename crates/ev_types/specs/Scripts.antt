@@ -3,6 +3,7 @@ use Rattle.std.specs.Prelude.{◌≤◌, ◌<◌, List, ℕ, Bool, All, map, len
 use Rattle.std.specs.List.Sorted.{IsStrictlyIncreasing}
 use Rattle.ev_types.specs.Texts.{IsName}
 use Rattle.ev_types.specs.Events.{MayMake}
+use Rattle.ev_types.specs.declared.limits.TheConstants.{MAX_WORKERS, LINE_LIMIT, ITEM_LIMIT}
 use Rattle.ev_types.specs.declared.events.Line.{Line}
 use Rattle.ev_types.specs.declared.events.Event.{Event}
 use Rattle.ev_types.specs.declared.events.Event.TheVariants.{Connect, Disconnect, Response, Health, FetchTimeout, DrainTimeout, TtlExpired, Publish, Reap, Accept, Close, Settle}
@@ -37,11 +38,11 @@ items_of lines = sum_by (λ (line : Line). items_in line.event) lines
 -- what every script keeps
 pub record IsScript (script : ScriptParts) : Type 0 where
   pub some_worker : 1 ≤ script.workers
-  pub few_workers : script.workers ≤ 16
+  pub few_workers : script.workers ≤ MAX_WORKERS
   pub named : IsName script.node
   pub counted : 1 ≤ script.count
-  pub few_lines : script.count < 4294967295
+  pub few_lines : script.count < LINE_LIMIT
   pub rising : IsStrictlyIncreasing (map (λ (line : Line). line.at) script.lines)
   pub numbered : All (λ (line : Line). (2 ≤ line.at) × (line.at ≤ script.count)) script.lines
   pub allowed : All (λ (line : Line). MayMake script.workers line.actor line.event) script.lines
-  pub few_items : items_of script.lines < 4294967295
+  pub few_items : items_of script.lines < ITEM_LIMIT

@@ -1,9 +1,11 @@
-use crate::{Assignment, Cluster, Listener, Name, NameError, RouteTable, Seq, Text, TryCopy};
+use crate::{
+    Assignment, Cluster, Listener, Name, NameError, RouteTable, Seq, Shared, Text, TryCopy,
+};
 use std::alloc::{AllocError, Global};
 use std::marker::Model;
 
 /// The four types of resource, named by the services that bring them.
-#[derive(Clone, Copy, Debug, PartialEq, Eq)]
+#[derive(Clone, Copy, Debug, Hash)]
 pub enum Kind {
     /// Clusters.
     Cds,
@@ -33,13 +35,33 @@ impl Kind {
     }
 }
 
-/// What a resource of one of the four types says.
+impl PartialEq for Kind {
+    ghost use Rattle.std.specs.Cmp.{decided, partial_equiv_from_equiv};
+    ghost use Rattle.ev_types.specs.Kinds.{kind_same, kind_decides};
+
+    ghost eq = { kind_same };
+
+    ghost laws = { partial_equiv_from_equiv (decided kind_same kind_decides) };
+
+    fn eq(&self, other: &Kind) -> bool {
+        self.is(*other)
+    }
+}
+
+impl Eq for Kind {
+    ghost use Rattle.std.specs.Cmp.{decided};
+    ghost use Rattle.ev_types.specs.Kinds.{kind_same, kind_decides};
+
+    ghost laws = { decided kind_same kind_decides };
+}
+
+/// What a resource of one of the four types says. It is shared: a copy takes no memory.
 #[derive(Drop)]
 pub enum Content {
-    Cluster(Cluster),
-    Assignment(Assignment),
-    Listener(Listener),
-    Routes(RouteTable),
+    Cluster(Shared<Cluster>),
+    Assignment(Shared<Assignment>),
+    Listener(Shared<Listener>),
+    Routes(Shared<RouteTable>),
 }
 
 impl TryCopy for Content {
@@ -83,8 +105,11 @@ impl Eq for Content {
 /// time to live that is given anew.
 #[derive(Drop)]
 pub enum Body {
+    /// What the resource says.
     Good(Content),
+    /// The number of the least rule that the resource breaks.
     Bad(u8),
+    /// No body: the time to live of what is held is given anew.
     Beat,
 }
 

@@ -317,9 +317,9 @@ impl TryCopy for Line {
     }
 }
 
-/// A script. It has 1 to 16 workers, a node of 1 to 512 bytes, and its lines' numbers rise from 2 at least to `count`
-/// at most, which is below 2^32 - 1; each line has an actor that its event allows, and its responses have fewer than
-/// 2^32 - 1 resources together.
+/// A script. It has 1 to `MAX_WORKERS` workers, a node of 1 to 512 bytes, and its lines' numbers rise from 2 at least to `count`
+/// at most, which is below `LINE_LIMIT`; each line has an actor that its event allows, and its responses have fewer than
+/// `ITEM_LIMIT` resources together.
 #[derive(Drop)]
 pub struct Script {
     pub workers: u32,

@@ -3,7 +3,7 @@ use std::alloc::{AllocError, Global};
 use std::marker::Model;
 
 /// The number of a generation, from 1. Numbers are drawn from one counter for clusters and listeners.
-#[derive(Clone, Copy, Debug, PartialEq, Eq, PartialOrd, Ord)]
+#[derive(Clone, Copy, Debug, PartialEq, Eq, PartialOrd, Ord, Hash)]
 pub struct Gen {
     number: u32,
 }
