@@ -1,4 +1,4 @@
-use ev_types::{Assignment, Gen, Host, Name, RouteTable, Seq, Target, TryCopy};
+use ev_types::{Assignment, Gen, Host, Name, RouteTable, Seq, Shared, Target, TryCopy};
 use std::alloc::{AllocError, Global};
 
 /// An active cluster as workers see it, with the hosts that may be chosen, in the order of its assignment.
@@ -42,8 +42,8 @@ impl Eq for ServedCluster {
 /// Where a listener's connections go.
 #[derive(Drop)]
 pub enum Routing {
-    /// By routes.
-    Table(RouteTable),
+    /// By routes, which are shared with the resource that brought them.
+    Table(Shared<RouteTable>),
     /// By a TCP proxy to this target.
     Tcp(Target),
 }
