@@ -5,3 +5,4 @@ pub mod Lines
 pub mod LineFaults
 pub mod Found
 pub mod LinesState
+pub mod ReadLine

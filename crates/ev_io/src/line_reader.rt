@@ -3,9 +3,11 @@ ghost use Rattle.std.specs.Io.KnownBytes.{IsAtEnd};
 ghost use Rattle.ev_io.specs.declared.limits.TheConstants.{MAX_INPUT_BYTES, MAX_PIECE_BYTES};
 ghost use Rattle.ev_io.specs.Outside.{Rose, Takes};
 ghost use Rattle.ev_io.specs.Found.{Finds, IsLine, IsOpen};
-ghost use Rattle.ev_io.specs.LinesState.{Grows};
+ghost use Rattle.ev_io.specs.declared.faults.LineFault.{LineFault};
+ghost use Rattle.ev_io.specs.LinesState.{HasTaken, Grows};
+ghost use Rattle.ev_io.specs.ReadLine.{IsUnfinished, ReadsLine};
 
-use super::faults::LineFault;
+use super::faults::{LineEnd, LineFault};
 use super::found::{Found, find_next};
 use super::limits::{MAX_INPUT_BYTES, MAX_PIECE_BYTES};
 use super::outside::{Failed, Source};
@@ -69,10 +71,51 @@ impl Lines {
         self.given
     }
 
+    /// Puts the next line into `out`, without its line feed, which the last line may lack. An empty
+    /// line is a line. It asks the source for pieces of at most 65,536 bytes, each only where the
+    /// bytes taken hold neither the next line's end nor a fault, and never for byte 67,108,866.
+    /// After any answer but a line `out` is as before.
+    ///
+    /// # Errors
+    /// `TooLong`, `TooMany` and `TooLarge` where the first fault of the bytes taken stands in the
+    /// next line, and `Failed` where a read failed before: each call from then on answers the same.
+    /// `OutOfMemory` where there is no memory: the next call goes on with the bytes taken.
+    pub fn read_line<S: Source>(&mut self, source: &mut S, out: &mut Vec<u8>) -> Result<LineEnd, LineFault>
+        // What the answer means, whatever bytes were taken before.
+        ensures reads { self.old.told ≡ None → (more : List ℕ) × Takes (S.left source.old) (S.left source.new) more × ((bytes : List ℕ) → HasTaken self.old bytes → ReadsLine self.old self.new bytes more out.old.items out.new.items result) }
+        ensures at_end { IsTrue self.new.ended → IsTrue self.old.ended ⊎ IsAtEnd (S.left source.new) }
+        ensures at_most { self.new.taken ≤ MAX_INPUT_BYTES + 1 }
+
+        // A fault is told ever after.
+        ensures again { (fault : LineFault) → self.old.told ≡ Some fault → (result ≡ Err fault) × (self.new ≡ self.old) × (source.new ≡ source.old) × (out.new.items ≡ out.old.items) }
+
+        // The source isn't touched where it isn't needed, and its count rises where a read fails.
+        ensures untouched { (bytes : List ℕ) → HasTaken self.old bytes → (source.new ≡ source.old) ⊎ IsUnfinished self.old.given self.old.ended bytes }
+        ensures failed { result ≡ Err LineFault.Failed → (self.old.told ≡ Some LineFault.Failed) ⊎ Rose (S.faults source.old) (S.faults source.new) }
+        ensures same_count { (S.faults source.new ≡ S.faults source.old) ⊎ (result ≡ Err LineFault.Failed) }
+        ensures count { S.faults source.old ≤ S.faults source.new }
+    {
+        if let Some(fault) = self.told {
+            return Err(fault);
+        }
+        match self.find(source)? {
+            Found::Line(length) => {
+                self.give(length, out)?;
+                Ok(LineEnd::Line)
+            }
+            Found::End => Ok(LineEnd::End),
+            Found::Fault(fault) => {
+                self.told = Some(fault);
+                Err(fault)
+            }
+        }
+    }
+
     // What stands next in the bytes taken.
     #[tactic(auto, using(std::proofs::lemmas::List::take_rest))]
     fn next(&self) -> Option<Found>
-        ensures { Finds self.now.taken self.now.given self.now.pending self.now.ended result }
+        ensures found { Finds self.now.taken self.now.given self.now.pending self.now.ended result }
+        ensures at_most { self.now.taken ≤ MAX_INPUT_BYTES + 1 }
     {
         find_next(
             &self.buffer[self.start..],
@@ -102,6 +145,29 @@ impl Lines {
         Ok(())
     }
 
+    // What stands next, of as many pieces as it takes.
+    fn find<S: Source>(&mut self, source: &mut S) -> Result<Found, LineFault>
+        requires { self.old.told ≡ None }
+        ensures grows { (more : List ℕ) × Grows (S.left source.old) (S.left source.new) self.old self.new more }
+        ensures found { IfOk result (λ found. Finds self.new.taken self.new.given self.new.pending self.new.ended (Some found)) }
+        ensures told { OnOk result (self.new.told ≡ None) }
+        ensures failed { result ≡ Err LineFault.Failed → (self.new.told ≡ Some LineFault.Failed) × Rose (S.faults source.old) (S.faults source.new) × Finds self.new.taken self.new.given self.new.pending self.new.ended None }
+        ensures no_memory { result ≡ Err LineFault.OutOfMemory → (self.new.told ≡ None) × (S.faults source.new ≡ S.faults source.old) }
+        ensures causes { IfErr result (λ fault. (fault ≡ LineFault.Failed) ⊎ (fault ≡ LineFault.OutOfMemory)) }
+        ensures untouched { ((source.new ≡ source.old) × (self.new ≡ self.old)) ⊎ Finds self.old.taken self.old.given self.old.pending self.old.ended None }
+        ensures at_end { IsTrue self.new.ended → IsTrue self.old.ended ⊎ IsAtEnd (S.left source.new) }
+        ensures at_most { self.new.taken ≤ MAX_INPUT_BYTES + 1 }
+        ensures same_count { OnOk result (S.faults source.new ≡ S.faults source.old) }
+        ensures count { S.faults source.old ≤ S.faults source.new }
+    {
+        'pieces: loop {
+            if let Some(found) = self.next() {
+                return Ok(found);
+            }
+            self.take_piece(source)?;
+        }
+    }
+
     // Takes a piece of the source, or its end.
     fn take_piece<S: Source>(&mut self, source: &mut S) -> Result<(), LineFault>
         requires untold { self.old.told ≡ None }
@@ -110,10 +176,12 @@ impl Lines {
         ensures told { OnOk result (self.new.told ≡ None) }
         ensures progress { OnOk result (IsTrue self.new.ended ⊎ (self.old.taken < self.new.taken)) }
         ensures at_end { IsTrue self.new.ended → IsAtEnd (S.left source.new) }
+        ensures at_most { self.new.taken ≤ MAX_INPUT_BYTES + 1 }
         ensures failed { result ≡ Err LineFault.Failed → (self.new ≡ record self.old { told = Some LineFault.Failed }) × Rose (S.faults source.old) (S.faults source.new) }
         ensures no_memory { result ≡ Err LineFault.OutOfMemory → (self.new ≡ self.old) × (source.new ≡ source.old) }
         ensures causes { IfErr result (λ fault. (fault ≡ LineFault.Failed) ⊎ (fault ≡ LineFault.OutOfMemory)) }
         ensures same_count { OnOk result (S.faults source.new ≡ S.faults source.old) }
+        ensures count { S.faults source.old ≤ S.faults source.new }
     {
         drop_front(&mut self.buffer, self.start);
         self.start = 0;
@@ -179,6 +247,7 @@ fn append_piece<S: Source>(
     ensures takes { IfOk result (λ count. Takes (S.left source.old) (S.left source.new) (take count piece.new)) }
     ensures end { IfOk result (λ count. count ≡ 0 → IsAtEnd (S.left source.new)) }
     ensures same_count { OnOk result (S.faults source.new ≡ S.faults source.old) }
+    ensures count { S.faults source.old ≤ S.faults source.new }
     ensures unchanged { OnErr result ((bytes.new.items ≡ bytes.old.items) × (S.left source.new ≡ S.left source.old)) }
     ensures failed { result ≡ Err LineFault.Failed → Rose (S.faults source.old) (S.faults source.new) }
     ensures no_memory { result ≡ Err LineFault.OutOfMemory → source.new ≡ source.old }
