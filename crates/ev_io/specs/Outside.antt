@@ -1,6 +1,6 @@
 -- Words for what a source and a sink count and append.
 use Rattle.std.specs.Prelude.{◌≡◌, ℕ, ◌+◌, ◌-◌, ◌^◌, ◌<◌, ◌≤◌, ◌⊎◌, min, List, length, take, Option}
-use Rattle.std.specs.Io.KnownBytes.{append_known}
+use Rattle.std.specs.Io.KnownBytes.{append_known, prepend_known}
 
 -- the last value of a counter of 64 bits
 abbrev pub last_count : ℕ
@@ -17,3 +17,8 @@ Rose before after = (before < after) ⊎ (after ≡ last_count)
 -- told bytes gained a front of these bytes, and what isn't told stays untold
 abbrev pub AppendsPrefix : Option (List ℕ) → Option (List ℕ) → List ℕ → Type 0
 AppendsPrefix before after bytes = (n : ℕ) × (n ≤ length bytes) × (after ≡ append_known before (take n bytes))
+
+-- these bytes were taken: told bytes begin with them and lose exactly them, and what isn't told
+-- stays untold
+abbrev pub Takes : Option (List ℕ) → Option (List ℕ) → List ℕ → Type 0
+Takes before after bytes = before ≡ prepend_known bytes after

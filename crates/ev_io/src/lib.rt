@@ -4,11 +4,18 @@
 #![tactic(auto)]
 
 mod calls;
+mod faults;
+mod found;
+mod limits;
+mod line_reader;
 mod memory_sink;
 mod memory_source;
 mod outside;
 mod standard;
 
+pub use faults::{LineEnd, LineFault, ScriptFault};
+pub use limits::{MAX_INPUT_BYTES, MAX_LINE_BYTES, MAX_LINES, MAX_PIECE_BYTES};
+pub use line_reader::Lines;
 pub use memory_sink::MemSink;
 pub use memory_source::MemSource;
 pub use outside::{Failed, Sink, Source, write_all};

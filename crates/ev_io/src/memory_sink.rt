@@ -79,13 +79,13 @@ impl Sink for MemSink {
         ensures bytes { IfOk result (λ n. Some self.new.written ≡ append_known (Some self.old.written) (take n bytes.now)) }
         ensures unchanged { OnErr result (Some self.new.written ≡ Some self.old.written) }
         ensures failed { OnErr result (Rose self.old.faults self.new.faults) }
+        ensures same_count { OnOk result (self.new.faults ≡ self.old.faults) }
         ensures count { self.old.faults ≤ self.new.faults }
 
         // Which calls fail, how much the others take, and what is counted.
         ensures fails { IsErr result ↔ NextWriteFails self.old bytes.now }
         ensures takes { IfOk result (λ n. n ≡ min (self.old.room - length self.old.written) (min (length bytes.now) self.old.piece)) }
         ensures counts { OnErr result (self.new.faults ≡ raised self.old.faults) }
-        ensures same_count { OnOk result (self.new.faults ≡ self.old.faults) }
         ensures plan { self.new ≡ record self.old {
           written = self.new.written;
           calls = raised self.old.calls;

@@ -59,13 +59,13 @@ impl Source for MemSource {
         ensures end { IfOk result (λ n. n ≡ 0 → 0 < length buf.new → IsAtEnd (Some self.new.left)) }
         ensures unchanged { OnErr result (Some self.new.left ≡ Some self.old.left) }
         ensures failed { OnErr result (Rose self.old.faults self.new.faults) }
+        ensures same_count { OnOk result (self.new.faults ≡ self.old.faults) }
         ensures count { self.old.faults ≤ self.new.faults }
 
         // Which calls fail, how much the others give, and what is counted.
         ensures fails { IsErr result ↔ NextReadFails self.old }
         ensures gives { IfOk result (λ n. n ≡ min (length self.old.left) (min (length buf.new) self.old.piece)) }
         ensures counts { OnErr result (self.new.faults ≡ raised self.old.faults) }
-        ensures same_count { OnOk result (self.new.faults ≡ self.old.faults) }
         ensures plan { self.new ≡ record self.old {
           left = self.new.left;
           calls = raised self.old.calls;

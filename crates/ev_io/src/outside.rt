@@ -19,13 +19,15 @@ pub trait Source {
     /// empty is the end of input.
     ///
     /// # Errors
-    /// `Failed` where the outside failed. Nothing was taken then, and the call may be made again.
+    /// `Failed` where the outside failed: nothing was taken, and the count rose. An `Ok` leaves the
+    /// count as it was, so the count tells whether any call failed.
     fn read(&mut self, buf: &mut [u8]) -> Result<usize, Failed>
         ensures bound { IfOk result (λ n. n ≤ length buf.new) }
         ensures bytes { IfOk result (λ n. left self.old ≡ prepend_known (take n buf.new) (left self.new)) }
         ensures end { IfOk result (λ n. n ≡ 0 → 0 < length buf.new → IsAtEnd (left self.new)) }
         ensures unchanged { OnErr result (left self.new ≡ left self.old) }
         ensures failed { OnErr result (Rose (faults self.old) (faults self.new)) }
+        ensures same_count { OnOk result (faults self.new ≡ faults self.old) }
         ensures count { faults self.old ≤ faults self.new };
 }
 
@@ -41,25 +43,29 @@ pub trait Sink {
     /// Appends the first bytes of `bytes` and says how many: at least one where there is one.
     ///
     /// # Errors
-    /// `Failed` where the outside failed. Nothing was appended then.
+    /// `Failed` where the outside failed: nothing was appended, and the count rose. An `Ok` leaves
+    /// the count as it was, so the count tells whether any call failed.
     fn write(&mut self, bytes: &[u8]) -> Result<usize, Failed>
         ensures bound { IfOk result (λ n. n ≤ length bytes.now) }
         ensures some { IfOk result (λ n. 0 < length bytes.now → 0 < n) }
         ensures bytes { IfOk result (λ n. written self.new ≡ append_known (written self.old) (take n bytes.now)) }
         ensures unchanged { OnErr result (written self.new ≡ written self.old) }
         ensures failed { OnErr result (Rose (faults self.old) (faults self.new)) }
+        ensures same_count { OnOk result (faults self.new ≡ faults self.old) }
         ensures count { faults self.old ≤ faults self.new };
 }
 
 /// Writes all of `bytes`, in as many calls as it takes.
 ///
 /// # Errors
-/// `Failed` where one of the sink's calls failed. What was appended before is a prefix of `bytes`.
+/// `Failed` where one of the sink's calls failed: its count rose. What was appended before is a
+/// prefix of `bytes`. After an `Ok` the count is as before.
 #[tactic(auto, using(crate::proofs::Known::appended_more))]
 pub fn write_all<K: Sink>(sink: &mut K, bytes: &[u8]) -> Result<(), Failed>
     ensures whole { OnOk result (K.written sink.new ≡ append_known (K.written sink.old) bytes.now) }
     ensures prefix { OnErr result (AppendsPrefix (K.written sink.old) (K.written sink.new) bytes.now) }
     ensures failed { OnErr result (Rose (K.faults sink.old) (K.faults sink.new)) }
+    ensures same_count { OnOk result (K.faults sink.new ≡ K.faults sink.old) }
     ensures count { K.faults sink.old ≤ K.faults sink.new }
 {
     let mut done = 0;

@@ -49,9 +49,9 @@ impl<R: Read> Source for StdSource<R> {
     fn read(&mut self, buf: &mut [u8]) -> Result<usize, Failed>
         ensures bound { IfOk result (λ n. n ≤ length buf.new) }
         ensures failed { OnErr result (Rose (read_faults self.old) (read_faults self.new)) }
+        ensures same_count { OnOk result (read_faults self.new ≡ read_faults self.old) }
         ensures count { read_faults self.old ≤ read_faults self.new }
         ensures counts { OnErr result (read_faults self.new ≡ raised (read_faults self.old)) }
-        ensures same_count { OnOk result (read_faults self.new ≡ read_faults self.old) }
         ensures reader { ReadConsumes (R.remaining (reader_of self.old)) (R.remaining (reader_of self.new)) result buf.new }
     {
         match self.reader.read(buf) {
@@ -93,9 +93,9 @@ impl<W: Write> Sink for StdSink<W> {
         ensures bound { IfOk result (λ n. n ≤ length bytes.now) }
         ensures some { IfOk result (λ n. 0 < length bytes.now → 0 < n) }
         ensures failed { OnErr result (Rose (write_faults self.old) (write_faults self.new)) }
+        ensures same_count { OnOk result (write_faults self.new ≡ write_faults self.old) }
         ensures count { write_faults self.old ≤ write_faults self.new }
         ensures counts { OnErr result (write_faults self.new ≡ raised (write_faults self.old)) }
-        ensures same_count { OnOk result (write_faults self.new ≡ write_faults self.old) }
         ensures writer { IfOk result (λ n. Appends (W.contents (writer_of self.old)) (W.contents (writer_of self.new)) (take n bytes.now)) }
     {
         match self.write_through(bytes) {
