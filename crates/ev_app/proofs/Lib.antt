@@ -5,4 +5,3 @@ pub mod MemberLemmas
 pub mod ScriptLemmas
 pub mod ReplayLemmas
 pub mod TopLemmas
-pub mod LawLemmas

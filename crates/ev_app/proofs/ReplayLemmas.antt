@@ -1,14 +1,14 @@
 -- A script whose lines the registry takes is replayed line by line: nothing follows a line, and nothing is batched.
-use Rattle.std.proofs.Common.{◌≡◌, Bool, false, ◌&&◌, ◌%◌, ◌==◌, cond, List, [], ◌∷◌, ◌++◌, map, filter, length, refl, ap, ◌∙◌}
+use Rattle.std.proofs.Common.{◌≡◌, Bool, false, not, ◌&&◌, ◌%◌, ◌==◌, cond, List, [], ◌∷◌, ◌++◌, map, filter, length, refl, ap, ◌∙◌}
 use Rattle.std.specs.Prelude.{All}
-use Rattle.std.specs.List.{flat_map, range_with_len}
+use Rattle.std.specs.List.{list_any, flat_map, range_with_len}
 use Rattle.std.proofs.lemmas.List.Elements.{All-head, All-tail, All-append, All-map, All-weaker}
 use Rattle.ev_types.specs.Scripts.{ScriptParts}
 use Rattle.ev_types.specs.declared.events.Event.{Event}
-use Rattle.ev_types.specs.declared.events.Event.TheVariants.{Connect, Disconnect, Response, Health, FetchTimeout, DrainTimeout, Publish, Reap, Accept, Close, Settle}
+use Rattle.ev_types.specs.declared.events.Event.TheVariants.{Connect, Disconnect, Response, Health, FetchTimeout, DrainTimeout, TtlExpired, Publish, Reap, Accept, Close, Settle}
 use Rattle.ev_types.specs.declared.events.Line.{Line}
 use Rattle.ev_model.specs.Runs.{is_batched}
-use Rattle.ev_model.specs.Operations.{Operation, line_operation, step_behind, is_automatic, is_since_settle, is_full_at, batch_limit, followers, line_operations, last_settle, put_before_next, with_batches, replay_operations}
+use Rattle.ev_model.specs.Operations.{Operation, line_operation, step_behind, is_automatic, is_since_settle, is_full_at, batch_limit, followers, line_operations, last_settle, actor_same, is_earlier, is_settle_between, is_in_batch, with_batch, replay_operations}
 use Rattle.ev_registry.specs.Built.{IsBuilt}
 use Rattle.ev_app.specs.Script.{IsTaken}
 
@@ -20,6 +20,7 @@ not_batched (Response response) built = refl
 not_batched (Health cluster host healthy) built = refl
 not_batched (FetchTimeout timeout) built = refl
 not_batched (DrainTimeout listener) built = refl
+not_batched (TtlExpired kind name) built = refl
 not_batched Publish built = refl
 not_batched Reap built = refl
 not_batched (Accept ask) built = absurd built
@@ -41,19 +42,32 @@ lines_alone script (line ∷ lines) by_hand built =
     (nothing_follows script line by_hand (not_batched line.event (All-head (λ (l : Line). IsBuilt l.event) line lines built)))
     ∙ ap (λ (os : List Operation). line_operation line ∷ os) (lines_alone script lines by_hand (All-tail (λ (l : Line). IsBuilt l.event) line lines built))
 
--- operations of which none is an accept or close stay as they are
-unbatched : (os : List Operation) → All (λ (o : Operation). is_batched o.event ≡ false) os → with_batches os ≡ os
-unbatched [] alone = refl
-unbatched (o ∷ os) alone =
-    ap (λ (batched : Bool). cond batched (put_before_next o (with_batches os)) (o ∷ with_batches os)) (All-head (λ (p : Operation). is_batched p.event ≡ false) o os alone)
-    ∙ ap (λ (ps : List Operation). o ∷ ps) (unbatched os (All-tail (λ (p : Operation). is_batched p.event ≡ false) o os alone))
+-- among operations of which none is an accept or close nothing is batched
+no_batch : (all : List Operation) (last : Operation) (os : List Operation) → All (λ (o : Operation). is_batched o.event ≡ false) os
+    → filter (is_in_batch all last) os ≡ []
+no_batch all last [] alone = refl
+no_batch all last (o ∷ os) alone =
+    ap (λ (batched : Bool). cond (batched && actor_same o.actor last.actor && is_earlier o last && not (list_any (is_settle_between o last) all)) (o ∷ filter (is_in_batch all last) os) (filter (is_in_batch all last) os))
+    (All-head (λ (p : Operation). is_batched p.event ≡ false) o os alone)
+    ∙ no_batch all last os (All-tail (λ (p : Operation). is_batched p.event ≡ false) o os alone)
+
+-- so each goes alone
+each_alone : (all os : List Operation) → All (λ (o : Operation). is_batched o.event ≡ false) all → All (λ (o : Operation). is_batched o.event ≡ false) os
+    → flat_map (with_batch all) (filter (λ (o : Operation). not (is_batched o.event)) os) ≡ os
+each_alone all [] alone others = refl
+each_alone all (o ∷ os) alone others =
+    ap (λ (batched : Bool). flat_map (with_batch all) (cond (not batched) (o ∷ filter (λ (p : Operation). not (is_batched p.event)) os) (filter (λ (p : Operation). not (is_batched p.event)) os)))
+    (All-head (λ (p : Operation). is_batched p.event ≡ false) o os others)
+    ∙ ap (λ (batch : List Operation). (batch ++ o ∷ []) ++ flat_map (with_batch all) (filter (λ (p : Operation). not (is_batched p.event)) os)) (no_batch all o all alone)
+    ∙ ap (λ (ps : List Operation). o ∷ ps) (each_alone all os alone (All-tail (λ (p : Operation). is_batched p.event ≡ false) o os others))
 
 -- the operations of such a script's replay
 pub taken_operations : (script : ScriptParts) → IsTaken script
     → replay_operations script ≡ map line_operation script.lines ++ map (last_settle script) (range_with_len 0 script.workers)
 taken_operations script taken =
-    ap (λ (os : List Operation). with_batches (os ++ map (last_settle script) (range_with_len 0 script.workers))) (lines_alone script script.lines taken.by_hand taken.built)
-    ∙ unbatched (map line_operation script.lines ++ map (last_settle script) (range_with_len 0 script.workers)) none
+    ap (λ (os : List Operation). flat_map (with_batch os) (filter (λ (o : Operation). not (is_batched o.event)) os))
+    (ap (λ (os : List Operation). os ++ map (last_settle script) (range_with_len 0 script.workers)) (lines_alone script script.lines taken.by_hand taken.built))
+    ∙ each_alone _ _ none none
   where
     none : All (λ (o : Operation). is_batched o.event ≡ false) (map line_operation script.lines ++ map (last_settle script) (range_with_len 0 script.workers))
     none = All-append (λ (o : Operation). is_batched o.event ≡ false) (map line_operation script.lines) (map (last_settle script) (range_with_len 0 script.workers))

@@ -1,15 +1,11 @@
 -- What is taken of the input.
-use Rattle.std.specs.Prelude.{◌≡◌, ℕ, ◌+◌, ◌≤◌, List, length, Option}
-use Rattle.std.specs.Io.KnownBytes.{prepend_known, IsAtEnd}
+use Rattle.std.specs.Prelude.{ℕ, ◌+◌, ◌≤◌, List, length, Option}
+use Rattle.std.specs.Io.KnownBytes.{IsAtEnd}
+use Rattle.ev_io.specs.Outside.{Takes}
 
 -- the most bytes that a script has
 abbrev pub max_input_bytes : ℕ
 max_input_bytes = 67108864
-
--- these bytes were taken: told bytes begin with them and lose exactly them, and what isn't told
--- stays untold
-abbrev pub Takes : Option (List ℕ) → Option (List ℕ) → List ℕ → Type 0
-Takes before after bytes = before ≡ prepend_known bytes after
 
 -- some bytes were taken, at most so many
 abbrev pub TakesUpTo : Option (List ℕ) → Option (List ℕ) → ℕ → Type 0

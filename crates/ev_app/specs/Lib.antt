@@ -5,4 +5,3 @@ pub mod Script
 pub mod Rendering
 pub mod Replay
 pub mod Status
-pub mod Laws

@@ -1,4 +1,5 @@
 -- The text of a journal: lines of compact JSON with sorted keys, each closed by a line feed. This project's own; a request's
+-- text is that of the crate that writes requests.
 use Rattle.std.specs.Prelude.{ℕ, List, [], ◌∷◌, ◌++◌, length, map, codes, decimal}
 use Rattle.std.specs.List.{flat_map}
 use Rattle.serde_json.specs.Data.{Data, number, unsigned, string, array, object, member, no_members}
@@ -7,13 +8,15 @@ use Rattle.serde_json.specs.Written.{compact_text}
 use Rattle.ev_types.specs.declared.events.Actor.{Actor}
 use Rattle.ev_types.specs.declared.events.Actor.TheVariants.{Stream, Health, Timer, Main, Worker}
 use Rattle.ev_types.specs.declared.events.Op.{Op}
-use Rattle.ev_types.specs.declared.events.Op.TheVariants.{Connect, Disconnect, Response, Health as health, FetchTimeout, DrainTimeout, Publish, Reap, Accept, Close, Settle}
+use Rattle.ev_types.specs.declared.events.Op.TheVariants.{Connect, Disconnect, Response, Health as health, FetchTimeout, DrainTimeout, TtlExpired, Publish, Reap, Accept, Close, Settle}
 use Rattle.ev_types.specs.declared.events.Answer.{Answer}
 use Rattle.ev_types.specs.declared.events.Answer.TheVariants.{Ignored, Done, Moved, Replied, Version, Unchanged, Reaped, InUse, NoListener, NoRoute, Redirect, NoCluster, NoEndpoint, Local, Served, NotOpen, Settled}
 use Rattle.ev_types.specs.declared.hosts.Host.{Host}
 use Rattle.ev_types.specs.declared.events.Verdict.{Verdict}
-use Rattle.ev_types.specs.declared.events.Verdict.TheVariants.{New, Same, Kept, Unasked, Refused}
+use Rattle.ev_types.specs.declared.events.Verdict.TheVariants.{New, Same, Kept, Unasked, Renewed, Refused}
 use Rattle.ev_types.specs.declared.events.Entry.{Entry}
+use Rattle.ev_types.specs.declared.journals.Format.{Format}
+use Rattle.ev_types.specs.declared.journals.Format.TheVariants.{One, Two}
 use Rattle.ev_types.specs.declared.contents.Request.{Request}
 use Rattle.ev_types.specs.Events.{op_of}
 use Rattle.ev_wire.specs.Requests.{request_tree}
@@ -34,6 +37,7 @@ op_text Response = codes "response"
 op_text health = codes "health"
 op_text FetchTimeout = codes "fetchTimeout"
 op_text DrainTimeout = codes "drainTimeout"
+op_text TtlExpired = codes "ttlExpired"
 op_text Publish = codes "publish"
 op_text Reap = codes "reap"
 op_text Accept = codes "accept"
@@ -50,6 +54,7 @@ verdict_text New = codes "new"
 verdict_text Same = codes "same"
 verdict_text Kept = codes "kept"
 verdict_text Unasked = codes "unasked"
+verdict_text Renewed = codes "renewed"
 verdict_text (Refused rule) = codes "V" ++ decimal rule
 
 abbrev pub verdict_tree : Verdict → Data
@@ -115,9 +120,15 @@ entry_tree entry = object
     (member (codes "op") (string (op_text (op_of entry.event)))
     (member (codes "step") (number_tree entry.step) no_members)))))
 
+-- the number of a format
+abbrev pub format_number : Format → ℕ
+format_number One = 1
+format_number Two = 2
+
 -- the first line of a journal
-abbrev pub header_tree : ℕ → Data
-header_tree workers = object (member (codes "format") (number_tree 1) (member (codes "workers") (number_tree workers) no_members))
+abbrev pub header_tree : Format → ℕ → Data
+header_tree format workers =
+    object (member (codes "format") (number_tree (format_number format)) (member (codes "workers") (number_tree workers) no_members))
 
 -- the last line of a journal, with the number of its entries
 abbrev pub end_tree : ℕ → Data
@@ -128,6 +139,6 @@ unfoldable pub line_text : Data → List ℕ
 line_text tree = compact_text tree ++ 10 ∷ []
 
 -- the whole text of a journal
-abbrev pub rendering_of : ℕ → List Entry → List ℕ
-rendering_of workers journal =
-    line_text (header_tree workers) ++ flat_map (λ entry. line_text (entry_tree entry)) journal ++ line_text (end_tree (length journal))
+abbrev pub rendering_of : Format → ℕ → List Entry → List ℕ
+rendering_of format workers journal =
+    line_text (header_tree format workers) ++ flat_map (λ entry. line_text (entry_tree entry)) journal ++ line_text (end_tree (length journal))

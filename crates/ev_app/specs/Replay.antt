@@ -1,5 +1,6 @@
--- What a registry shows once a script was replayed.
+-- What a registry shows once a script was replayed. Journals are of format 2.
 use Rattle.std.specs.Prelude.{ℕ, ◌≡◌, List, Some}
+use Rattle.ev_types.specs.declared.journals.Format.TheVariants.{Two}
 use Rattle.ev_types.specs.Scripts.{ScriptParts}
 use Rattle.ev_types.specs.declared.events.Entry.{Entry}
 use Rattle.ev_model.specs.Operations.{IsReplay}
@@ -9,14 +10,15 @@ use Rattle.ev_app.specs.Script.{script_of}
 
 -- the registry has the script's workers and node, and its journal is the script's replay
 pub record HasReplayed (script : ScriptParts) (registry : RegistryParts) : Type 0 where
+  pub format : registry.format ≡ Two
   pub workers : registry.workers ≡ script.workers
   pub node : registry.node ≡ script.node
-  pub journal : IsReplay script registry.journal
+  pub journal : IsReplay Two script registry.journal
 
 -- the bytes are a script, and the text is that of the journal of its replay
 pub record IsReplayText (bytes text : List ℕ) : Type 0 where
   pub script : ScriptParts
   pub is_script : script_of bytes ≡ Some script
   pub journal : List Entry
-  pub replay : IsReplay script journal
-  pub rendered : text ≡ rendering_of script.workers journal
+  pub replay : IsReplay Two script journal
+  pub rendered : text ≡ rendering_of Two script.workers journal

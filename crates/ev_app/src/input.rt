@@ -1,17 +1,17 @@
-ghost use Rattle.std.specs.Prelude.{◌≡◌, ◌+◌, ◌≤◌, length, vec_len, IfOk};
+ghost use Rattle.std.specs.Prelude.{◌≡◌, ◌+◌, ◌≤◌, length, vec_len, IfOk, OnOk};
 ghost use Rattle.ev_io.specs.Outside.{Rose};
 ghost use Rattle.ev_app.specs.Input.{TakesInput, TakesUpTo, max_input_bytes};
 
 use ev_io::{Failed, Source};
 use std::alloc::{AllocError, Global};
 
-/// The most bytes that a script has.
+// The most bytes that a script has.
 pub(crate) const MAX_INPUT_BYTES: usize = 67_108_864;
 
-/// The most bytes that one read asks for.
+// The most bytes that one read asks for.
 const MAX_PIECE: usize = 65_536;
 
-/// Why the input couldn't be taken.
+// Why the input couldn't be taken.
 #[derive(Clone, Copy, Debug, PartialEq, Eq)]
 pub(crate) enum InputFault {
     /// A read failed.
@@ -30,18 +30,17 @@ impl From<AllocError> for InputFault {
     }
 }
 
-/// Takes the whole input, or its first 67,108,865 bytes where it has so many. No byte after those
-/// is asked for.
-///
-/// # Errors
-/// `ReadFailed` where a read failed before that, and `OutOfMemory` where there is no memory for
-/// what was taken.
+// Takes the whole input, or its first 67,108,865 bytes where it has so many. No byte after those
+// is asked for. The answer is `ReadFailed` where a read failed before that, and `OutOfMemory` where
+// there is no memory for what was taken, and then no read has failed.
 #[tactic(auto, using(crate::proofs::InputLemmas::taken_more))]
 pub(crate) fn read_input<S: Source>(alloc: Global, source: &mut S) -> Result<Vec<u8>, InputFault>
     ensures input { IfOk result (λ bytes. TakesInput (S.left source.old) (S.left source.new) bytes.items) }
     ensures failed { result ≡ Err InputFault.ReadFailed → Rose (S.faults source.old) (S.faults source.new) }
     ensures before_end { result ≡ Err InputFault.ReadFailed → TakesUpTo (S.left source.old) (S.left source.new) max_input_bytes }
     ensures no_memory { result ≡ Err InputFault.OutOfMemory → TakesUpTo (S.left source.old) (S.left source.new) (max_input_bytes + 1) }
+    ensures well { OnOk result (S.faults source.new ≡ S.faults source.old) }
+    ensures no_fault { result ≡ Err InputFault.OutOfMemory → S.faults source.new ≡ S.faults source.old }
     ensures count { S.faults source.old ≤ S.faults source.new }
 {
     let mut taken = Vec::new(alloc);

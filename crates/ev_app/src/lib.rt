@@ -2,7 +2,6 @@
 #![tactic(auto)]
 
 mod input;
-mod laws;
 mod lines;
 mod members;
 #[cfg(test)]
@@ -18,5 +17,4 @@ mod rendering_tests;
 mod replay;
 mod script;
 
-pub use laws::{acknowledges_exactly, has_one_replay, holds_operations};
 pub use program::{Status, run_program};

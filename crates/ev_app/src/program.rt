@@ -1,14 +1,14 @@
 ghost use Rattle.std.specs.Prelude.{◌≡◌, ◌≢◌, ◌↔◌, ◌⊎◌, IsTrue, IfOk, MatchOption, None};
 ghost use Rattle.ev_app.specs.Script.{script_of};
 ghost use Rattle.ev_app.specs.Replay.{IsReplayText};
-ghost use Rattle.ev_app.specs.Status.{outside_of, replay_words, TouchesNothing, Replays, Refuses, FailsToRead, FailsToWrite, LacksMemory, IsHonest, CountsOn, OnUsage, OnDone, OnBadScript, OnReadFault, OnWriteFault, OnOutOfMemory};
+ghost use Rattle.ev_app.specs.Status.{outside_of, replay_arguments, IsHonest, CountsOn, Ends};
 
 use crate::input::{InputFault, read_input};
-use crate::render::rendering;
+use crate::render::render;
 use crate::replay::replay;
 use crate::script::read_script;
 use ev_io::{Sink, Source, write_all};
-use ev_types::Text;
+use ev_types::{Format, Text};
 use std::alloc::{AllocError, Global};
 
 /// How a call of the program ends.
@@ -16,7 +16,7 @@ use std::alloc::{AllocError, Global};
 pub enum Status {
     /// The input was read to its end, and the whole text was written.
     Done,
-    /// The words aren't a form that is built.
+    /// The arguments aren't a form that is built.
     Usage,
     /// The input isn't a script.
     BadScript { line: u32, kind: u8 },
@@ -28,36 +28,27 @@ pub enum Status {
     OutOfMemory,
 }
 
-/// Runs the program on the words of its command line. The word `replay` reads a script, replays it on one thread and
-/// writes its journal; other words are `Usage`.
+/// Runs the program on the arguments of its command line. The one argument `replay` reads a script, replays it on one
+/// thread and writes its journal, in format 2; other arguments are `Usage`.
 ///
-/// An input that isn't a script is `BadScript` with line 1 and kind 6. After want of memory nothing is written.
+/// An input that isn't a script is `BadScript` with line 1 and kind 6. Out of memory, nothing is written. An answer
+/// without a fault of the source leaves the source's count of faults as it was, and so it is of the sink.
 pub fn run_program<S: Source, K: Sink>(
     alloc: Global,
-    words: &[Text],
+    arguments: &[Text],
     source: &mut S,
     sink: &mut K,
 ) -> Status
-    ensures usage { (result ≡ Status.Usage) ↔ (words.now ≢ replay_words) }
-    ensures usage_only { OnUsage result (TouchesNothing
-        (outside_of S.left S.faults K.written K.faults source.old source.new sink.old sink.new)) }
-    ensures done { OnDone result (Replays
-        (outside_of S.left S.faults K.written K.faults source.old source.new sink.old sink.new)) }
-    ensures bad_script { OnBadScript result (λ line kind. (line ≡ 1) × (kind ≡ 6) × Refuses
-        (outside_of S.left S.faults K.written K.faults source.old source.new sink.old sink.new)) }
-    ensures read_fault { OnReadFault result (FailsToRead
-        (outside_of S.left S.faults K.written K.faults source.old source.new sink.old sink.new)) }
-    ensures write_fault { OnWriteFault result (FailsToWrite
-        (outside_of S.left S.faults K.written K.faults source.old source.new sink.old sink.new)) }
-    ensures out_of_memory { OnOutOfMemory result (LacksMemory
-        (outside_of S.left S.faults K.written K.faults source.old source.new sink.old sink.new)) }
+    ensures usage { (result ≡ Status.Usage) ↔ (arguments.now ≢ replay_arguments) }
+    ensures ends { Ends result
+        (outside_of S.left S.faults K.written K.faults source.old source.new sink.old sink.new) }
     ensures counts { CountsOn
         (outside_of S.left S.faults K.written K.faults source.old source.new sink.old sink.new) }
-    ensures completes { words.now ≡ replay_words → IsHonest
+    ensures completes { arguments.now ≡ replay_arguments → IsHonest
         (outside_of S.left S.faults K.written K.faults source.old source.new sink.old sink.new)
         → (result ≡ Status.Done) ⊎ (result ≡ Status.OutOfMemory) }
 {
-    if !is_replay(words) {
+    if !is_replay(arguments) {
         return Status::Usage;
     }
     let bytes = match read_input(alloc, source) {
@@ -76,12 +67,12 @@ pub fn run_program<S: Source, K: Sink>(
     }
 }
 
-// Whether the words are the one word `replay`.
-fn is_replay(words: &[Text]) -> bool
-    ensures { IsTrue result ↔ (words.now ≡ replay_words) }
+// Whether the arguments are the one argument `replay`.
+fn is_replay(arguments: &[Text]) -> bool
+    ensures { IsTrue result ↔ (arguments.now ≡ replay_arguments) }
 {
-    match words {
-        [word] => word.as_str() == "replay",
+    match arguments {
+        [argument] => argument.as_str() == "replay",
         _ => false,
     }
 }
@@ -94,5 +85,6 @@ fn replay_text(alloc: Global, bytes: &[u8]) -> Result<Option<Vec<u8>>, AllocErro
         return Ok(None);
     };
     let registry = replay(alloc, &script)?;
-    Ok(Some(rendering(alloc, script.workers, registry.journal())?))
+    let journal = registry.journal();
+    Ok(Some(render(alloc, Format::Two, script.workers, journal)?))
 }

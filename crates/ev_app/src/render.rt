@@ -3,22 +3,23 @@ ghost use Rattle.serde_json.specs.Data.{array};
 ghost use Rattle.serde_json.specs.View.{view, items_of};
 ghost use Rattle.serde_json.specs.Written.{has_float};
 ghost use Rattle.ev_wire.specs.Requests.{request_tree};
-ghost use Rattle.ev_app.specs.Rendering.{number_tree, numbers_tree, requests_tree, unserved_tree, local_tree, served_tree, rendering_of, line_text, entry_tree, header_tree, end_tree, answer_tree, actor_text, op_text, verdict_text, verdict_tree};
+ghost use Rattle.ev_app.specs.Rendering.{format_number, number_tree, numbers_tree, requests_tree, unserved_tree, local_tree, served_tree, rendering_of, line_text, entry_tree, header_tree, end_tree, answer_tree, actor_text, op_text, verdict_text, verdict_tree};
 
-use ev_types::{Actor, Answer, Entry, Gen, Host, Op, Request, Verdict};
+use ev_types::{Actor, Answer, Entry, Format, Gen, Host, Op, Request, Verdict};
 use ev_wire::request_value;
 use serde_json::{Value, json};
 use std::alloc::{AllocError, Global};
 
-/// The text of a journal.
-pub(crate) fn rendering(
+// The text of a journal.
+pub(crate) fn render(
     alloc: Global,
+    format: Format,
     workers: u32,
     journal: &[Entry],
 ) -> Result<Vec<u8>, AllocError>
-    ensures { IfOk result (λ text. text.items ≡ rendering_of workers journal.now) }
+    ensures { IfOk result (λ text. text.items ≡ rendering_of format workers journal.now) }
 {
-    let mut text = header_line(alloc, workers)?;
+    let mut text = header_line(alloc, format, workers)?;
     for entry in journal {
         text.extend_from_slice(entry_line(alloc, entry)?.as_slice())?;
     }
@@ -37,18 +38,21 @@ fn line_of(alloc: Global, value: &Value) -> Result<Vec<u8>, AllocError>
     Ok(line)
 }
 
-fn header_line(alloc: Global, workers: u32) -> Result<Vec<u8>, AllocError>
-    ensures { IfOk result (λ line. line.items ≡ line_text (header_tree workers)) }
+// The first line.
+fn header_line(alloc: Global, format: Format, workers: u32) -> Result<Vec<u8>, AllocError>
+    ensures { IfOk result (λ line. line.items ≡ line_text (header_tree format workers)) }
 {
-    line_of(alloc, &header_value(alloc, workers)?)
+    line_of(alloc, &header_value(alloc, format, workers)?)
 }
 
+// The last line.
 fn end_line(alloc: Global, entries: usize) -> Result<Vec<u8>, AllocError>
     ensures { IfOk result (λ line. line.items ≡ line_text (end_tree entries)) }
 {
     line_of(alloc, &end_value(alloc, entries)?)
 }
 
+// An entry's line.
 #[tactic(auto, using(crate::proofs::FloatLemmas::entry_whole))]
 fn entry_line(alloc: Global, entry: &Entry) -> Result<Vec<u8>, AllocError>
     ensures { IfOk result (λ line. line.items ≡ line_text (entry_tree entry.now)) }
@@ -56,18 +60,21 @@ fn entry_line(alloc: Global, entry: &Entry) -> Result<Vec<u8>, AllocError>
     line_of(alloc, &entry_value(alloc, entry)?)
 }
 
-fn header_value(alloc: Global, workers: u32) -> Result<Value, AllocError>
-    ensures { IfOk result (λ v. view v ≡ header_tree workers) }
+// The first line's tree.
+fn header_value(alloc: Global, format: Format, workers: u32) -> Result<Value, AllocError>
+    ensures { IfOk result (λ v. view v ≡ header_tree format workers) }
 {
-    json!(in alloc; {"format": 1, "workers": workers})
+    json!(in alloc; {"format": format_number(format), "workers": workers})
 }
 
+// The last line's tree.
 fn end_value(alloc: Global, entries: usize) -> Result<Value, AllocError>
     ensures { IfOk result (λ v. view v ≡ end_tree entries) }
 {
     json!(in alloc; {"end": entries})
 }
 
+// An entry's tree.
 fn entry_value(alloc: Global, entry: &Entry) -> Result<Value, AllocError>
     ensures { IfOk result (λ v. view v ≡ entry_tree entry.now) }
 {
@@ -80,6 +87,16 @@ fn entry_value(alloc: Global, entry: &Entry) -> Result<Value, AllocError>
         "op": op_word(entry.event.op()),
         "step": entry.step,
     })
+}
+
+// The number of a format.
+fn format_number(format: Format) -> u32
+    ensures { result ≡ format_number format }
+{
+    match format {
+        Format::One => 1,
+        Format::Two => 2,
+    }
 }
 
 // An actor in words.
@@ -106,6 +123,7 @@ fn op_word(op: Op) -> &'static str
         Op::Health => "health",
         Op::FetchTimeout => "fetchTimeout",
         Op::DrainTimeout => "drainTimeout",
+        Op::TtlExpired => "ttlExpired",
         Op::Publish => "publish",
         Op::Reap => "reap",
         Op::Accept => "accept",
@@ -114,6 +132,7 @@ fn op_word(op: Op) -> &'static str
     }
 }
 
+// An answer's tree.
 fn answer_value(alloc: Global, answer: &Answer) -> Result<Value, AllocError>
     ensures { IfOk result (λ v. view v ≡ answer_tree answer.now) }
 {
@@ -144,6 +163,7 @@ fn answer_value(alloc: Global, answer: &Answer) -> Result<Value, AllocError>
     }
 }
 
+// The tree of an answer with requests.
 fn moved_value(alloc: Global, requests: &[Request]) -> Result<Value, AllocError>
     ensures { IfOk result (λ v. view v ≡ answer_tree (Answer.Moved requests.now)) }
 {
@@ -151,6 +171,7 @@ fn moved_value(alloc: Global, requests: &[Request]) -> Result<Value, AllocError>
     json!(in alloc; {"requests": requests})
 }
 
+// The tree of an answer to a response.
 fn replied_value(
     alloc: Global,
     requests: &[Request],
@@ -163,6 +184,7 @@ fn replied_value(
     json!(in alloc; {"requests": requests, "verdicts": verdicts})
 }
 
+// The tree of an answer to a reaping.
 fn reaped_value(alloc: Global, numbers: &[Gen]) -> Result<Value, AllocError>
     ensures { IfOk result (λ v. view v ≡ answer_tree (Answer.Reaped numbers.now)) }
 {
@@ -177,12 +199,14 @@ fn unserved_value(alloc: Global, word: &str, listener: Gen) -> Result<Value, All
     json!(in alloc; {"listener": listener.number(), "result": word})
 }
 
+// The tree of a connection that is answered at once.
 fn local_value(alloc: Global, listener: Gen, status: u16) -> Result<Value, AllocError>
     ensures { IfOk result (λ v. view v ≡ local_tree listener status) }
 {
     json!(in alloc; {"listener": listener.number(), "result": "local", "status": status})
 }
 
+// The tree of a connection that goes to a host.
 fn served_value(
     alloc: Global,
     listener: Gen,
@@ -200,6 +224,7 @@ fn served_value(
     })
 }
 
+// The tree of an answer to a settle.
 fn settled_value(alloc: Global, closed: &[u64], version: u64) -> Result<Value, AllocError>
     ensures { IfOk result (λ v. view v ≡ answer_tree (Answer.Settled closed.now version)) }
 {
@@ -207,6 +232,7 @@ fn settled_value(alloc: Global, closed: &[u64], version: u64) -> Result<Value, A
     json!(in alloc; {"closed": closed, "version": version})
 }
 
+// The trees of requests.
 fn request_values(alloc: Global, requests: &[Request]) -> Result<Value, AllocError>
     ensures { IfOk result (λ v. view v ≡ requests_tree requests.now) }
 {
@@ -217,6 +243,7 @@ fn request_values(alloc: Global, requests: &[Request]) -> Result<Value, AllocErr
     Ok(Value::Array(values))
 }
 
+// The trees of connections' numbers.
 fn number_values(alloc: Global, numbers: &[u64]) -> Result<Value, AllocError>
     ensures { IfOk result (λ v. view v ≡ numbers_tree numbers.now) }
 {
@@ -227,6 +254,7 @@ fn number_values(alloc: Global, numbers: &[u64]) -> Result<Value, AllocError>
     Ok(Value::Array(values))
 }
 
+// The trees of generations' numbers.
 fn generation_values(alloc: Global, numbers: &[Gen]) -> Result<Value, AllocError>
     ensures { IfOk result (λ v. view v ≡ numbers_tree numbers.now) }
 {
@@ -237,6 +265,7 @@ fn generation_values(alloc: Global, numbers: &[Gen]) -> Result<Value, AllocError
     Ok(Value::Array(values))
 }
 
+// The trees of verdicts.
 fn verdict_values(alloc: Global, verdicts: &[Verdict]) -> Result<Value, AllocError>
     ensures { IfOk result (λ v. view v ≡ array (items_of (map verdict_tree verdicts.now))) }
 {
@@ -256,6 +285,7 @@ fn verdict_word(alloc: Global, verdict: Verdict) -> Result<String, AllocError>
         Verdict::Same => String::from_str(alloc, "same"),
         Verdict::Kept => String::from_str(alloc, "kept"),
         Verdict::Unasked => String::from_str(alloc, "unasked"),
+        Verdict::Renewed => String::from_str(alloc, "renewed"),
         Verdict::Refused(rule) => format!(in alloc; "V{rule}"),
     }
 }

@@ -1,11 +1,11 @@
-ghost use Rattle.std.specs.Prelude.{◌≡◌, ◌+◌, ◌^◌, ◌<◌, ◌≤◌, length, option_map, option_and_then, codes, IfOk, IfSome};
+ghost use Rattle.std.specs.Prelude.{◌≡◌, ◌+◌, ◌^◌, ◌<◌, ◌≤◌, ◌&&◌, not, length, option_map, option_and_then, codes, IfOk, IfSome};
 ghost use Rattle.std.specs.List.{list_all};
 ghost use Rattle.serde_json.specs.Find.{get, as_str};
 ghost use Rattle.serde_json.specs.View.{view};
 ghost use Rattle.ev_types.specs.Texts.{IsName};
 ghost use Rattle.ev_app.specs.Members.{tree_of, whole_within, name_of, or_default};
 ghost use Rattle.ev_types.specs.Scripts.{items_in, items_of};
-ghost use Rattle.ev_registry.specs.Built.{is_built, is_built_body, is_of_clusters};
+ghost use Rattle.ev_registry.specs.Built.{is_built, is_built_body, is_of_clusters, is_static};
 ghost use Rattle.ev_app.specs.Script.{header_of, line_of, line_by, connect_line, response_line, response_at, built, lines_from, script_of, IsHeader, IsTaken};
 ghost use Rattle.ev_wire.specs.Responses.{response_of};
 
@@ -13,7 +13,7 @@ use crate::input::MAX_INPUT_BYTES;
 use crate::lines::Lines;
 use crate::members::{has_only, name_of, read_tree, whole_within};
 use ev_types::{
-    Actor, Body, Content, Discovery, Event, Item, Kind, Line, Response, Script, Seq, Text,
+    Actor, Body, Cluster, Content, Discovery, Event, Item, Kind, Line, Response, Script, Seq, Text,
 };
 use ev_wire::{WireError, read_response};
 use serde_json::Value;
@@ -298,16 +298,23 @@ fn is_of_clusters(kind: Option<Kind>) -> bool
     }
 }
 
-// Whether a body is that of a cluster which waits for nothing, or is refused by its form.
+// Whether a cluster waits for nothing.
+fn is_built_cluster(cluster: &Cluster) -> bool
+    ensures { result ≡ (is_static cluster.now.discovery && not cluster.now.checked) }
+{
+    match cluster.discovery {
+        Discovery::Static(_) => !cluster.checked,
+        Discovery::Eds { .. } => false,
+    }
+}
+
+// Whether a body is that of a cluster which waits for nothing, is refused by its form, or is a heartbeat.
 fn is_built_body(body: &Body) -> bool
     ensures { result ≡ is_built_body body.now }
 {
     match body {
-        Body::Good(Content::Cluster(cluster)) => match cluster.discovery {
-            Discovery::Static(_) => !cluster.checked,
-            Discovery::Eds { .. } => false,
-        },
+        Body::Good(Content::Cluster(cluster)) => is_built_cluster(cluster.get()),
         Body::Good(_) => false,
-        Body::Bad(_) => true,
+        Body::Bad(_) | Body::Beat => true,
     }
 }

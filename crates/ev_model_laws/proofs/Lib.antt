@@ -12,3 +12,4 @@ pub mod ScriptOperations
 pub mod RisingOperations
 pub mod BatchLemmas
 pub mod ReplayLemmas
+pub mod AcknowledgeLemmas

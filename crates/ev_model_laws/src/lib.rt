@@ -1,6 +1,7 @@
 //! Laws of the flat machine's definitions alone. Each function does nothing, and its contract is a law.
 #![tactic(auto)]
 
+mod acknowledging;
 mod legal_findings;
 mod nothing_done;
 mod numbers;
@@ -10,6 +11,7 @@ mod phase_forward;
 mod tidying;
 mod versions_kept;
 
+pub use acknowledging::acknowledges_exactly;
 pub use legal_findings::legal_exactly;
 pub use nothing_done::nothing_done_leaves_the_world;
 pub use numbers::numbers_are_drawn_once;

@@ -18,26 +18,26 @@ fn main(rt: HostRuntime) -> ExitCode {
     ExitCode::from(exit_status(status))
 }
 
-// Runs the program over the command line's words and the standard streams.
+// Runs the program over the command line's arguments and the standard streams.
 fn status_of(rt: &HostRuntime) -> Status {
-    let words = match words_of(rt) {
-        Ok(words) => words,
+    let arguments = match arguments_of(rt) {
+        Ok(arguments) => arguments,
         Err(error) if error.kind() == io::ErrorKind::OutOfMemory => return Status::OutOfMemory,
         Err(_) => Vec::new(rt.alloc()),
     };
     let mut source = StdSource::new(rt.reader());
     let mut sink = StdSink::new(io::writer(rt));
-    run_program(rt.alloc(), words.as_slice(), &mut source, &mut sink)
+    run_program(rt.alloc(), arguments.as_slice(), &mut source, &mut sink)
 }
 
-// The words of the command line after the program's name. Words that aren't text are an error of another kind than
-// want of memory.
-fn words_of(rt: &(impl Env + AllocGlobal)) -> io::Result<Vec<Text>> {
-    let mut words = Vec::new(rt.alloc());
-    for word in std::env::args(rt)?.skip(1) {
-        words.push(Text::new(rt.alloc(), word.as_str())?)?;
+// The arguments of the command line after the program's name. One that isn't text is an error of another kind than being
+// out of memory.
+fn arguments_of(rt: &(impl Env + AllocGlobal)) -> io::Result<Vec<Text>> {
+    let mut arguments = Vec::new(rt.alloc());
+    for argument in std::env::args(rt)?.skip(1) {
+        arguments.push(Text::new(rt.alloc(), argument.as_str())?)?;
     }
-    Ok(words)
+    Ok(arguments)
 }
 
 // Says on standard error why the program ended, where it did not end well.

@@ -1,7 +1,7 @@
 use Rattle.std.proofs.Common.{◌≡◌, ◌↔◌, ◌≤◌, ◌<◌, ℕ, List, [], ◌∷◌, length, get_or, Bool, true, IsTrue, codes, ap, sym, ◌∙◌, arith}
 use Rattle.std.specs.Str.{bytes_eq}
 use Rattle.std.proofs.lemmas.Slice.Eq.{bytes_eq-Decides}
-use Rattle.ev_app.specs.Status.{replay_words}
+use Rattle.ev_app.specs.Status.{replay_arguments}
 use Rattle.ev_app.proofs.program.is_replay.Goals as goal
 
 holds : (b : Bool) → IsTrue b → b ≡ true
@@ -12,7 +12,7 @@ told b e = search e
 
 -- one word is the one word of the form exactly where its bytes are
 one_word : (words : List (List ℕ)) (word : List ℕ) (b : Bool) → 1 ≤ length words → length words < 2 → word ≡ get_or words 0 word
-    → b ≡ bytes_eq word (codes "replay") → IsTrue b ↔ (words ≡ replay_words)
+    → b ≡ bytes_eq word (codes "replay") → IsTrue b ↔ (words ≡ replay_arguments)
 one_word [] word b some few is tested = absurd (omega arith)
 one_word (w ∷ []) word b some few is tested = (
   λ h. ap (λ v. v ∷ []) (sym is ∙ (bytes_eq-Decides word (codes "replay")).0 (sym tested ∙ holds b h)),
@@ -22,5 +22,5 @@ one_word (w ∷ v ∷ ws) word b some few is tested = absurd (omega arith)
 
 pub returns-in-len1 : goal.returns-in-len1
 returns-in-len1 c =
-    one_word c.args.words.now c.word-item.result c.eq.result c.in-len1.len_at_least c.in-len1.len_below c.word-item.is
+    one_word c.args.arguments.now c.argument-item.result c.eq.result c.in-len1.len_at_least c.in-len1.len_below c.argument-item.is
     (c.eq.ensures ∙ ap (λ w. bytes_eq w (codes "replay")) c.as_str.ensures.bytes)

@@ -35,6 +35,7 @@ settled_more script worker journal entry is order =
 
 pub loop-worker-preserved : goal.loop-worker-preserved
 loop-worker-preserved c = record {
+  format = search rules;
   workers = search rules;
   node = search rules;
   order = rw c.in_ok-apply-2.ensures.entry (settled_more c.args.script.now c.loop-worker.worker c.loop-worker.registry.journal _ (ap (λ (s : ScriptParts). last_settle s c.loop-worker.worker) c.script.view_is) c.loop-worker.invariant.order);
