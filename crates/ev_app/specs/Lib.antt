@@ -5,3 +5,4 @@ pub mod Script
 pub mod Rendering
 pub mod Replay
 pub mod Status
+pub mod Exit

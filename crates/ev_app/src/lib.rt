@@ -4,17 +4,10 @@
 mod input;
 mod lines;
 mod members;
-#[cfg(test)]
-mod picture_tests;
 mod program;
-#[cfg(test)]
-mod program_tests;
-#[cfg(test)]
-mod reading_tests;
 mod render;
-#[cfg(test)]
-mod rendering_tests;
 mod replay;
 mod script;
 
 pub use program::{Status, run_program};
+pub use render::render_journal;

@@ -4,7 +4,7 @@ ghost use Rattle.ev_app.specs.Replay.{IsReplayText};
 ghost use Rattle.ev_app.specs.Status.{outside_of, replay_arguments, IsHonest, CountsOn, Ends};
 
 use crate::input::{InputFault, read_input};
-use crate::render::render;
+use crate::render::render_journal;
 use crate::replay::replay;
 use crate::script::read_script;
 use ev_io::{Sink, Source, write_all};
@@ -26,6 +26,24 @@ pub enum Status {
     WriteFault,
     /// There was no memory.
     OutOfMemory,
+}
+
+impl Status {
+    ghost use Rattle.ev_app.specs.Exit.{exit_of};
+
+    /// The exit status of the process: 0 for Done, then 2 to 6 in the order in which the statuses stand.
+    pub fn exit_status(self) -> u8
+        ensures { result ≡ exit_of self }
+    {
+        match self {
+            Status::Done => 0,
+            Status::Usage => 2,
+            Status::BadScript { .. } => 3,
+            Status::ReadFault => 4,
+            Status::WriteFault => 5,
+            Status::OutOfMemory => 6,
+        }
+    }
 }
 
 /// Runs the program on the arguments of its command line. The one argument `replay` reads a script, replays it on one
@@ -85,6 +103,6 @@ fn replay_text(alloc: Global, bytes: &[u8]) -> Result<Option<Vec<u8>>, AllocErro
         return Ok(None);
     };
     let registry = replay(alloc, &script)?;
-    let journal = registry.journal();
-    Ok(Some(render(alloc, Format::Two, script.workers, journal)?))
+    let text = render_journal(alloc, Format::Two, script.workers, registry.journal())?;
+    Ok(Some(text))
 }

@@ -10,8 +10,9 @@ use ev_wire::request_value;
 use serde_json::{Value, json};
 use std::alloc::{AllocError, Global};
 
-// The text of a journal.
-pub(crate) fn render(
+/// The text of a journal of a format, for so many workers: a first line, a line an entry, and the end line with their
+/// number, each closed by a line feed.
+pub fn render_journal(
     alloc: Global,
     format: Format,
     workers: u32,

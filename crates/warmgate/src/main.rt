@@ -2,9 +2,6 @@
 //! managers do with them.
 #![tactic(auto)]
 
-ghost use Rattle.std.specs.Prelude.{◌≡◌};
-ghost use Rattle.warmgate.specs.Exit.{exit_of};
-
 use ev_app::{Status, run_program};
 use ev_io::{StdSink, StdSource};
 use ev_types::Text;
@@ -15,7 +12,7 @@ use std::rt::Env;
 fn main(rt: HostRuntime) -> ExitCode {
     let status = status_of(&rt);
     let _ = report(&rt, status);
-    ExitCode::from(exit_status(status))
+    ExitCode::from(status.exit_status())
 }
 
 // Runs the program over the command line's arguments and the standard streams.
@@ -49,19 +46,5 @@ fn report(rt: &impl Eprint, status: Status) -> io::Result<()> {
         Status::ReadFault => eprintln!(rt; "read fault"),
         Status::WriteFault => eprintln!(rt; "write fault"),
         Status::OutOfMemory => eprintln!(rt; "out of memory"),
-    }
-}
-
-// The exit status of the process.
-fn exit_status(status: Status) -> u8
-    ensures { result ≡ exit_of status }
-{
-    match status {
-        Status::Done => 0,
-        Status::Usage => 2,
-        Status::BadScript { .. } => 3,
-        Status::ReadFault => 4,
-        Status::WriteFault => 5,
-        Status::OutOfMemory => 6,
     }
 }
