@@ -12,3 +12,7 @@ pub mod ScriptOperations
 pub mod RisingOperations
 pub mod BatchLemmas
 pub mod ReplayLemmas
+pub mod DeedLemmas
+pub mod FindingDeeds
+pub mod FindingRows
+pub mod FindingLemmas
