@@ -259,7 +259,7 @@ grouped actor os before pending (o ∷ rest) g ends =
     (ends_behind o rest (ends_batched false pending) (sym (ends_append false pending (o ∷ rest)) ∙ ends)))
 
 -- operations of which none is an accept or close are alone, each of them
-alone : (os some : List Operation) → ((o : Operation) → IsIn o os → is_batched o.event ≡ false) → ((o : Operation) → IsIn o some → is_batched o.event ≡ false)
+pub alone : (os some : List Operation) → ((o : Operation) → IsIn o os → is_batched o.event ≡ false) → ((o : Operation) → IsIn o some → is_batched o.event ≡ false)
     → flat_map (with_batch os) (filter (λ (p : Operation). not (is_batched p.event)) some) ≡ some
 alone os [] none isnt = refl
 alone os (o ∷ some) none isnt =
