@@ -1,10 +1,10 @@
 -- The order of a replay takes each actor's operations in their order: each operation that is no accept or close, with its batch
 -- before it, are all.
-use Rattle.std.proofs.Common.{◌≡◌, ◌⊎◌, inl, inr, ℕ, ◌<◌, Bool, true, false, not, ◌&&◌, if◌then◌else◌, List, [], ◌∷◌, ◌++◌, map, filter, refl, ap, sym, ◌∙◌, subst, append-nil, append_assoc}
-use Rattle.std.specs.Prelude.{⊤}
-use Rattle.std.specs.List.{AllByRecursion as ByRecursion, flat_map, list_any}
+use Rattle.std.proofs.Common.{◌≡◌, ◌⊎◌, inl, inr, ℕ, ◌<◌, Bool, true, false, not, ◌&&◌, if◌then◌else◌, List, [], ◌∷◌, ◌++◌, filter, refl, ap, sym, ◌∙◌, subst, append-nil, append_assoc}
+use Rattle.std.specs.List.{flat_map, list_any}
 use Rattle.std.specs.Cmp.{first_so, second_so}
 use Rattle.std.proofs.lemmas.List.Elements.{filter-append, recursion_from_All}
+use Rattle.std.proofs.lemmas.Bool.{both_ways}
 use Rattle.ev_types.specs.Events.{IsWorkerOf, MayMake}
 use Rattle.ev_types.specs.Scripts.{ScriptParts, IsScript}
 use Rattle.ev_types.specs.declared.events.Actor.{Actor}
@@ -13,8 +13,8 @@ use Rattle.ev_types.specs.declared.events.Event.{Event}
 use Rattle.ev_types.specs.declared.events.Event.TheVariants.{Connect, Disconnect, Response, Health as health, FetchTimeout, DrainTimeout, TtlExpired, Publish, Reap, Accept, Close, Settle}
 use Rattle.ev_model.specs.Runs.{is_batched}
 use Rattle.ev_model.specs.Operations.{Operation, actor_same, actor_decides, is_settle, is_earlier, is_settle_between, is_in_batch, with_batch, all_operations, operations_of, replay_operations}
-use Rattle.ev_model_laws.proofs.OperationLists.{IsIn, Pairs, at_in, each_in, in_front, in_back, in_parts, in_filter, filter_all, filter_none, filter_alike, filter_through, any_through, any_at, any_none, pairs_front, pairs_back, filter_filter}
-use Rattle.ev_model_laws.proofs.ScriptOperations.{IsAllowed, all_allowed, of_worker, made_by, worker_settles, ends_batched}
+use Rattle.ev_model_laws.proofs.OperationLists.{IsIn, at_in, in_front, in_back, in_parts, in_filter, filter_all, filter_none, filter_alike, filter_through, any_through, any_at, any_none, pairs_front, pairs_back, filter_filter}
+use Rattle.ev_model_laws.proofs.ScriptOperations.{IsAllowed, all_allowed, of_worker, made_by, worker_settles, ends_batched, ends_append}
 use Rattle.ev_model_laws.proofs.RisingOperations.{Earlier, IsRising, not_back, not_itself, operations_rise}
 
 third_fails : (a b c d : Bool) → c ≡ false → (a && b && c && d) ≡ false
@@ -54,12 +54,6 @@ batch_of_own os last =
     ap (λ b. is_batched o.event && actor_same o.actor last.actor && is_earlier o last && not b)
     (any_through (is_settle_between o last) (λ (p : Operation). actor_same p.actor last.actor) (λ p h. between_actor o last p h) os)))
 
--- an actor's operations are none of them accepts or closes, or all of them that or settles
-abbrev Batching : List Operation → Type 0
-Batching os =
-    ((o : Operation) → IsIn o os → is_batched o.event ≡ false)
-    ⊎ ((o : Operation) → IsIn o os → is_batched o.event ≡ false → is_settle o.event ≡ true)
-
 -- each accept or close has a settle behind it
 abbrev AreSettled : List Operation → Type 0
 AreSettled before =
@@ -75,7 +69,7 @@ record IsGrouped (actor : Actor) (os before pending rest : List Operation) : Typ
   settled : AreSettled before
   batched : (o : Operation) → IsIn o pending → is_batched o.event ≡ true
 
-settle_not_batched : (event : Event) → is_settle event ≡ true → is_batched event ≡ false
+pub settle_not_batched : (event : Event) → is_settle event ≡ true → is_batched event ≡ false
 settle_not_batched Connect h = refl
 settle_not_batched Disconnect h = refl
 settle_not_batched (Response response) h = refl
@@ -89,7 +83,7 @@ settle_not_batched (Accept ask) h = sym h
 settle_not_batched (Close connection) h = sym h
 settle_not_batched Settle h = refl
 
-false_if : (b : Bool) → (b ≡ true → ⊥) → b ≡ false
+pub false_if : (b : Bool) → (b ≡ true → ⊥) → b ≡ false
 false_if true h = absurd (h refl)
 false_if false h = refl
 
@@ -148,9 +142,7 @@ pending_in actor os before pending rest o g x is =
         first_so (is_settle y.event) (actor_same y.actor o.actor)
         (first_so (is_settle y.event && actor_same y.actor o.actor) (is_earlier x y)
         (first_so (is_settle y.event && actor_same y.actor o.actor && is_earlier x y) (is_earlier y o) h)) in
-        let isnt : is_batched y.event ≡ false = settle_not_batched y.event settle in
-        let batch : is_batched y.event ≡ true = g.batched y pends in
-        cc)
+        both_ways (is_batched y.event) (settle_not_batched y.event settle) (g.batched y pends))
     at_later y behind (inr later) =
         fourth_fails (is_settle y.event) (actor_same y.actor o.actor) (is_earlier x y) (is_earlier y o)
         (not_before o rest (pairs_back Earlier pending (o ∷ rest) behind) y later)
@@ -168,7 +160,6 @@ pending_in actor os before pending rest o g x is =
 batch_is : (actor : Actor) (os before pending rest : List Operation) (o : Operation) → IsGrouped actor os before pending (o ∷ rest)
     → with_batch os o ≡ pending ++ o ∷ []
 batch_is actor os before pending rest o g =
-    let p : Operation → Bool = is_in_batch os o in
     ap (λ batch. batch ++ o ∷ [])
     (ap (filter (is_in_batch os o)) (sym g.all)
     ∙ filter-append (is_in_batch os o) before (pending ++ o ∷ rest)
@@ -222,7 +213,7 @@ ended actor os before pending rest o g h = record {
       g.settling o (subst (IsIn o) g.all (in_back o before (pending ++ o ∷ rest) (in_back o pending (o ∷ rest) (inl refl)))) h,
       behind x pends,
     )
-    at_later x batch (inr (inl e)) = let isnt : is_batched x.event ≡ false = subst (λ (y : Operation). is_batched y.event ≡ false) e h in cc
+    at_later x batch (inr (inl e)) = absurd (both_ways (is_batched x.event) (subst (λ (y : Operation). is_batched y.event ≡ false) e h) batch)
     at_later x batch (inr (inr is)) = absurd is
 
     by_part : (x : Operation) → is_batched x.event ≡ true → IsIn x before ⊎ IsIn x (pending ++ o ∷ [])
@@ -253,10 +244,6 @@ no_pending actor os before (o ∷ pending) g ends = absurd (all_batched (is_batc
     all_batched batched [] is each h = cc
     all_batched batched (p ∷ ps) is each h = all_batched (is_batched p.event) ps (each p (inl refl)) (λ x there. each x (inr there)) h
 
-ends_append : (batched : Bool) (os others : List Operation) → ends_batched batched (os ++ others) ≡ ends_batched (ends_batched batched os) others
-ends_append batched [] others = refl
-ends_append batched (o ∷ os) others = ends_append (is_batched o.event) os others
-
 ends_behind : (o : Operation) (os : List Operation) (b : Bool) → ends_batched b (o ∷ os) ≡ false → ends_batched false os ≡ false
 ends_behind o [] b h = refl
 ends_behind o (p ∷ os) b h = h
@@ -272,7 +259,7 @@ grouped actor os before pending (o ∷ rest) g ends =
     (ends_behind o rest (ends_batched false pending) (sym (ends_append false pending (o ∷ rest)) ∙ ends)))
 
 -- operations of which none is an accept or close are alone, each of them
-alone : (os some : List Operation) → ((o : Operation) → IsIn o os → is_batched o.event ≡ false) → ((o : Operation) → IsIn o some → is_batched o.event ≡ false)
+pub alone : (os some : List Operation) → ((o : Operation) → IsIn o os → is_batched o.event ≡ false) → ((o : Operation) → IsIn o some → is_batched o.event ≡ false)
     → flat_map (with_batch os) (filter (λ (p : Operation). not (is_batched p.event)) some) ≡ some
 alone os [] none isnt = refl
 alone os (o ∷ some) none isnt =
@@ -385,7 +372,6 @@ made_flat actor os (last ∷ some) =
 pub replay_keeps : (script : ScriptParts) → IsScript script → (actor : Actor) → made_by actor (replay_operations script) ≡ operations_of script actor
 replay_keeps script kept actor =
     let os : List Operation = all_operations script in
-    let ended : Operation → Bool = λ (o : Operation). not (is_batched o.event) in
     made_flat actor os (filter (λ (o : Operation). not (is_batched o.event)) os)
     ∙ ap (flat_map (with_batch os))
     (filter_filter (λ (o : Operation). actor_same o.actor actor) (λ (o : Operation). not (is_batched o.event)) os

@@ -13,3 +13,7 @@ pub mod RisingOperations
 pub mod BatchLemmas
 pub mod ReplayLemmas
 pub mod AcknowledgeLemmas
+pub mod DeedLemmas
+pub mod FindingDeeds
+pub mod FindingRows
+pub mod FindingLemmas

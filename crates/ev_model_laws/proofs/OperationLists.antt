@@ -1,7 +1,8 @@
 -- What holds of each element of a list, and of each two of them, and what a filter keeps.
 use Rattle.std.proofs.Common.{◌≡◌, Bool, true, false, ◌&&◌, ◌||◌, ◌⊎◌, inl, inr, if◌then◌else◌, List, [], ◌∷◌, ◌++◌, map, filter, refl, ap, sym, ◌∙◌, subst}
 use Rattle.std.specs.Prelude.{⊤}
-use Rattle.std.specs.List.{AllByRecursion as ByRecursion, flat_map, list_any, list_all}
+use Rattle.std.proofs.lemmas.Bool.{or_right}
+use Rattle.std.specs.List.{AllByRecursion as ByRecursion, flat_map, list_any}
 
 -- x is one of the list
 abbrev pub IsIn : {X : Type 0} → X → List X → Type 0
@@ -50,21 +51,6 @@ in_filter_by p x y ys false h more is = let m : IsIn x ys × (p x ≡ true) = mo
 pub in_filter : {X : Type 0} (p : X → Bool) (x : X) (xs : List X) → IsIn x (filter p xs) → IsIn x xs × (p x ≡ true)
 in_filter p x [] is = absurd is
 in_filter p x (y ∷ ys) is = in_filter_by p x y ys (p y) refl (λ i. in_filter p x ys i) is
-
-kept_here : {X : Type 0} (x : X) (xs : List X) (b : Bool) → b ≡ true → IsIn x (if b then x ∷ xs else xs)
-kept_here x xs true h = inl refl
-kept_here x xs false h = cc
-
-kept_behind : {X : Type 0} (x y : X) (ys : List X) (b : Bool) → IsIn x ys → IsIn x (if b then y ∷ ys else ys)
-kept_behind x y ys true is = inr is
-kept_behind x y ys false is = is
-
--- what passes is kept
-pub kept_in : {X : Type 0} (p : X → Bool) (x : X) (xs : List X) → IsIn x xs → p x ≡ true → IsIn x (filter p xs)
-kept_in p x [] is h = absurd is
-kept_in p x (y ∷ ys) (inl e) h =
-    subst (λ z. IsIn z (if p y then y ∷ filter p ys else filter p ys)) e (kept_here y (filter p ys) (p y) (ap p e ∙ h))
-kept_in p x (y ∷ ys) (inr is) h = kept_behind x y (filter p ys) (p y) (kept_in p x ys is h)
 
 -- all pass, or none
 pub filter_all : {X : Type 0} (p : X → Bool) (xs : List X) → ((x : X) → IsIn x xs → p x ≡ true) → filter p xs ≡ xs
@@ -116,15 +102,11 @@ pub any_through : {X : Type 0} (p q : X → Bool) → ((x : X) → p x ≡ true 
 any_through p q so [] = refl
 any_through p q so (x ∷ xs) = any_through_by p x xs (filter q xs) (q x) (p x) refl (so x) (any_through p q so xs)
 
-pub or_true : (b c : Bool) → c ≡ true → (b || c) ≡ true
-or_true true c h = refl
-or_true false c h = h
-
 -- one passes
 pub any_at : {X : Type 0} (p : X → Bool) (x : X) (xs : List X) → IsIn x xs → p x ≡ true → list_any p xs ≡ true
 any_at p x [] is h = absurd is
 any_at p x (y ∷ ys) (inl e) h = ap (λ b. b || list_any p ys) (ap p e ∙ h)
-any_at p x (y ∷ ys) (inr is) h = or_true (p y) (list_any p ys) (any_at p x ys is h)
+any_at p x (y ∷ ys) (inr is) h = or_right (p y) (list_any p ys) (any_at p x ys is h)
 
 -- none passes
 pub any_none : {X : Type 0} (p : X → Bool) (xs : List X) → ((x : X) → IsIn x xs → p x ≡ false) → list_any p xs ≡ false

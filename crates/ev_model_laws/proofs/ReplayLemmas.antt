@@ -1,10 +1,10 @@
 -- Why a script has one replay, and why it holds each actor's operations. In the order of a replay an accept or close stands in
 -- a batch of its actor, which another operation ends.
-use Rattle.std.proofs.Common.{◌≡◌, ◌⊎◌, inl, inr, ℕ, Bool, true, false, not, List, [], ◌∷◌, ◌++◌, map, filter, refl, ap, sym, ◌∙◌, subst}
+use Rattle.std.proofs.Common.{◌≡◌, inl, inr, ℕ, Bool, true, false, not, List, [], ◌∷◌, ◌++◌, map, filter, refl, ap, sym, ◌∙◌, subst}
 use Rattle.std.specs.Prelude.{⊤}
 use Rattle.std.specs.List.{AllByRecursion as ByRecursion, flat_map}
 use Rattle.std.proofs.lemmas.List.Elements.{recursion_from_All}
-use Rattle.ev_types.specs.Scripts.{ScriptParts, IsScript}
+use Rattle.ev_types.specs.Scripts.{ScriptParts}
 use Rattle.ev_types.specs.declared.events.Actor.{Actor}
 use Rattle.ev_types.specs.declared.events.Answer.{Answer}
 use Rattle.ev_types.specs.declared.events.Entry.{Entry}
@@ -14,7 +14,7 @@ use Rattle.ev_model.specs.World.{World, opening}
 use Rattle.ev_model.specs.Step.{step}
 use Rattle.ev_model.specs.Runs.{RunsFrom, is_batched, GoesOnWith, IsUnbroken}
 use Rattle.ev_model.specs.Operations.{Operation, Deed, Fits, AreDone, actor_same, is_in_batch, with_batch, all_operations, operations_of, replay_operations, operation_of, entry_of, entries_of, journal_from, deeds_from, deeds_of}
-use Rattle.ev_model_laws.specs.OneReplay.{HasReplay, HasOneReplay, HoldsOperations}
+use Rattle.ev_model_laws.specs.OneReplay.{HasReplay, HasOneReplay, HoldsOperations, ReplayIsRunOf}
 use Rattle.ev_model_laws.proofs.OperationLists.{IsIn, at_in, each_in, in_filter, each_append, each_flat, map_filter}
 use Rattle.ev_model_laws.proofs.ScriptOperations.{IsAllowed, all_allowed, made_by}
 use Rattle.ev_model_laws.proofs.BatchLemmas.{batch_own, replay_keeps}
@@ -142,7 +142,7 @@ deeds_hold format script journal actor =
     ∙ ap (made_by actor) (all_deeds_hold format (opening script.workers script.node) journal)
 
 -- deeds are done where they are the operations
-done_whole : (rests : Bool) (deeds : List Deed) → AreDone rests (map (λ (d : Deed). d.operation) deeds) deeds
+pub done_whole : (rests : Bool) (deeds : List Deed) → AreDone rests (map (λ (d : Deed). d.operation) deeds) deeds
 done_whole rests [] = tt
 done_whole rests (deed ∷ deeds) = inl (refl, done_whole deed.rests deeds)
 
@@ -154,7 +154,10 @@ fits_whole Two script journal actor e =
     (done_whole true (deeds_of Two script journal actor))
 
 pub holds : HoldsOperations
-holds format script journal kept replay = record {
+holds format script journal kept replay actor = ap (made_by actor) replay.order ∙ replay_keeps script kept actor
+
+pub is_run_of : ReplayIsRunOf
+is_run_of format script journal kept replay = record {
   run = replay.run;
-  fits = λ actor. fits_whole format script journal actor (ap (made_by actor) replay.order ∙ replay_keeps script kept actor);
+  fits = λ actor. fits_whole format script journal actor (holds format script journal kept replay actor);
 }

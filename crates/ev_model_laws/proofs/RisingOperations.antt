@@ -1,19 +1,18 @@
 -- The operations of each actor of a script rise by line and step.
-use Rattle.std.proofs.Common.{◌≡◌, ◌≤◌, ◌<◌, ℕ, zero, suc, ◌+◌, ◌==◌, ◌⊎◌, inl, inr, Bool, true, false, ◌&&◌, ◌||◌, if◌then◌else◌, nat_lt, List, [], ◌∷◌, ◌++◌, map, filter, length, refl, ap, sym, ◌∙◌, subst, arith}
-use Rattle.std.specs.Prelude.{⊤}
-use Rattle.std.specs.List.{All, AllPairs, AllByRecursion as ByRecursion, flat_map, range_with_len}
+use Rattle.std.proofs.Common.{◌≡◌, ◌≤◌, ◌<◌, ℕ, zero, suc, ◌+◌, ◌==◌, Bool, true, false, ◌&&◌, ◌||◌, if◌then◌else◌, nat_lt, List, [], ◌∷◌, map, refl, ap, sym, ◌∙◌, subst, arith}
+use Rattle.std.specs.List.{AllPairs, AllByRecursion as ByRecursion, flat_map, range_with_len}
 use Rattle.std.proofs.lemmas.List.Elements.{recursion_from_All}
 use Rattle.std.proofs.lemmas.List.Kept.{AllPairs-from_increasing}
 use Rattle.std.proofs.lemmas.Bool.Decides.{nat_tests}
+use Rattle.std.proofs.lemmas.Bool.{or_right}
 use Rattle.ev_types.specs.Same.{numbers_decide}
 use Rattle.ev_types.specs.Scripts.{ScriptParts, IsScript}
 use Rattle.ev_types.specs.declared.events.Actor.{Actor}
-use Rattle.ev_types.specs.declared.events.Actor.TheVariants.{Stream, Health, Timer, Main, Worker}
+use Rattle.ev_types.specs.declared.events.Actor.TheVariants.{Worker}
 use Rattle.ev_types.specs.declared.events.Event.TheVariants.{Publish, Reap, Settle}
 use Rattle.ev_types.specs.declared.events.Line.{Line}
-use Rattle.ev_model.specs.Operations.{Operation, line_operation, step_behind, last_settle, actor_same, actor_decides, is_automatic, is_full_at, followers, line_operations, all_operations, operations_of, is_earlier}
-use Rattle.ev_model_laws.proofs.OperationLists.{IsIn, Pairs, at_in, each_in, in_parts, in_front, in_back, each_append, each_flat, pairs_append, pairs_filter, or_true}
-use Rattle.ev_model_laws.proofs.ScriptOperations.{made_by}
+use Rattle.ev_model.specs.Operations.{Operation, line_operation, step_behind, last_settle, actor_same, actor_decides, is_automatic, is_full_at, line_operations, all_operations, operations_of, is_earlier}
+use Rattle.ev_model_laws.proofs.OperationLists.{Pairs, at_in, each_in, each_append, pairs_append, pairs_filter}
 
 -- the first stands before the second
 abbrev pub Earlier : Operation → Operation → Type 0
@@ -30,7 +29,7 @@ earlier_line a b h = ap (λ t. t || ((a.at == b.at) && nat_lt a.step b.step)) (b
 
 earlier_step : (a b : Operation) → a.at ≡ b.at → a.step < b.step → is_earlier a b ≡ true
 earlier_step a b at h =
-    or_true (nat_lt a.at b.at) ((a.at == b.at) && nat_lt a.step b.step)
+    or_right (nat_lt a.at b.at) ((a.at == b.at) && nat_lt a.step b.step)
     (simp ((numbers_decide a.at b.at).1 at, below a.step b.step h) refl)
 
 -- before by number or, at one number, by step

@@ -1,5 +1,5 @@
 -- The operations of a script: each may be made by its actor, and those of each worker end with a settle.
-use Rattle.std.proofs.Common.{◌≡◌, ◌≤◌, ◌<◌, ℕ, zero, suc, ◌+◌, ◌==◌, ◌⊎◌, inl, inr, Bool, true, false, ◌&&◌, if◌then◌else◌, List, [], ◌∷◌, ◌++◌, map, filter, refl, ap, sym, ◌∙◌, subst, arith}
+use Rattle.std.proofs.Common.{◌≡◌, ◌≤◌, ◌<◌, ℕ, zero, suc, ◌+◌, ◌==◌, ◌⊎◌, inl, inr, Bool, true, false, ◌&&◌, if◌then◌else◌, List, [], ◌∷◌, ◌++◌, map, filter, refl, ap, ◌∙◌, subst, arith}
 use Rattle.std.specs.List.{All, AllByRecursion as ByRecursion, flat_map, range_with_len}
 use Rattle.std.specs.Cmp.{first_so, second_so}
 use Rattle.std.proofs.lemmas.List.Concat.{flat_map-cons}
@@ -108,7 +108,7 @@ abbrev pub ends_batched : Bool → List Operation → Bool
 ends_batched batched [] = batched
 ends_batched batched (o ∷ os) = ends_batched (is_batched o.event) os
 
-ends_append : (batched : Bool) (os others : List Operation) → ends_batched batched (os ++ others) ≡ ends_batched (ends_batched batched os) others
+pub ends_append : (batched : Bool) (os others : List Operation) → ends_batched batched (os ++ others) ≡ ends_batched (ends_batched batched os) others
 ends_append batched [] others = refl
 ends_append batched (o ∷ os) others = ends_append (is_batched o.event) os others
 
