@@ -5,3 +5,4 @@ pub mod RowLemmas
 pub mod VersionLemmas
 pub mod TextLemmas
 pub mod ResponseLemmas
+pub mod NumberLemmas

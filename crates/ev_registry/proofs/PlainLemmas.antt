@@ -17,15 +17,15 @@ use Rattle.ev_types.specs.declared.rows.KeptVersion.{KeptVersion}
 use Rattle.ev_types.specs.declared.rows.Live.{Live}
 use Rattle.ev_types.specs.declared.rows.Phase.{Phase}
 use Rattle.ev_types.specs.declared.rows.RowStatus.{RowStatus}
-use Rattle.ev_model.specs.World.{World, Arrived}
+use Rattle.ev_model.specs.World.{World, Arrived, HealthResult}
 use Rattle.ev_model.specs.Live.{live_of, lives_of}
 use Rattle.ev_model.specs.Versions.{versions_of}
 use Rattle.ev_model.specs.Watching.{Dependency, dependency_of, discovery_dependency, is_limited, is_by_name, is_watched, name_awaited, sorted_names, watched_of}
-use Rattle.ev_model.specs.Warming.{has_answer, has_all_results, is_checked, is_ready}
+use Rattle.ev_model.specs.Warming.{has_answer, has_all_results, assignment_by, is_checked, is_ready_by}
 use Rattle.ev_model.specs.Rows.{is_row_of, with_statuses}
 use Rattle.ev_model.specs.Phase.{is_clusters, phase_after}
-use Rattle.ev_model.specs.Tidy.{is_due, status_by, promoted_status, promoted, is_version_due, without_unwatched, is_result_due, without_old_results, with_phase, tidy}
-use Rattle.ev_model.specs.Requests.{clusters_request, listeners_request, names_request, watched_request, connect_requests, listeners_asked, other_than, watch_change, changes_asked, requests_of}
+use Rattle.ev_model.specs.Tidy.{is_due, has_successor, status_by, promoted_status, promoted, is_version_due, without_unwatched, is_result_due, without_old_results, with_phase, tidy}
+use Rattle.ev_model.specs.Requests.{Watched, all_watched, clusters_request, connect_requests, connect_requests_by, listeners_asked, changes_asked, has_left_clusters, requests_of}
 use Rattle.ev_registry.specs.Built.{is_static, is_built_content}
 use Rattle.ev_registry.specs.Plain.{IsPlain, is_plain_due, has_plain_successor, plain_status, plain_promoted, plain_requests}
 
@@ -59,35 +59,39 @@ built_unchecked (Assignment rows) h = absurd (false≢true h)
 built_unchecked (Listener listener) h = absurd (false≢true h)
 built_unchecked (Routes table) h = absurd (false≢true h)
 
-ready_by : (world : World) (row : GenRow) (d : Option Dependency) (checked : Bool) → d ≡ None → checked ≡ false
-    → (has_answer world (is_limited row.content) d && (not checked || has_all_results world row)) ≡ true
-ready_by world row d checked waits unchecked =
-    ap (λ (o : Option Dependency). has_answer world (is_limited row.content) o && (not checked || has_all_results world row)) waits
-    ∙ ap (λ b. not b || has_all_results world row) unchecked
+ready_by : (arrivals : List Arrived) (all_have : Bool) (row : GenRow) (d : Option Dependency) (checked : Bool) → d ≡ None → checked ≡ false
+    → (has_answer arrivals (is_limited row.content) d && (not checked || all_have)) ≡ true
+ready_by arrivals all_have row d checked waits unchecked =
+    ap (λ (o : Option Dependency). has_answer arrivals (is_limited row.content) o && (not checked || all_have)) waits
+    ∙ ap (λ b. not b || all_have) unchecked
 
--- what is built is ready
-ready_is : (world : World) (row : GenRow) → is_built_content row.content ≡ true → is_ready world row ≡ is_built_content row.content
-ready_is world row h =
-    ready_by world row (dependency_of row.content) (is_checked row.content) (built_waits row.content h) (built_unchecked row.content h) ∙ sym h
+-- what is built is ready, whatever came
+ready_is : (arrivals : List Arrived) (results : List HealthResult) (row : GenRow) → is_built_content row.content ≡ true
+    → is_ready_by arrivals results row ≡ is_built_content row.content
+ready_is arrivals results row h =
+    ready_by arrivals (has_all_results results row.number (assignment_by arrivals row.content)) row (dependency_of row.content) (is_checked row.content)
+    (built_waits row.content h) (built_unchecked row.content h) ∙ sym h
 
-due_is : (world : World) (row : GenRow) → is_built_content row.content ≡ true → is_due world row ≡ is_plain_due row
-due_is world row h = ap (λ ready. is_warming row.status && ready) (ready_is world row h)
+due_is : (arrivals : List Arrived) (results : List HealthResult) (row : GenRow) → is_built_content row.content ≡ true
+    → is_due arrivals results row ≡ is_plain_due row
+due_is arrivals results row h = ap (λ ready. is_warming row.status && ready) (ready_is arrivals results row h)
 
-successor_is : (world : World) (row : GenRow) (rows : List GenRow) → AreBuilt rows
-    → list_any (λ (other : GenRow). is_row_of row.kind row.name other && is_due world other) rows ≡ has_plain_successor rows row
-successor_is world row [] built = refl
-successor_is world row (other ∷ others) built =
-    λ i. (is_row_of row.kind row.name other && due_is world other built.0 i) || successor_is world row others built.1 i
+successor_is : (arrivals : List Arrived) (results : List HealthResult) (row : GenRow) (rows : List GenRow) → AreBuilt rows
+    → has_successor arrivals results rows row ≡ has_plain_successor rows row
+successor_is arrivals results row [] built = refl
+successor_is arrivals results row (other ∷ others) built =
+    λ i. (is_row_of row.kind row.name other && due_is arrivals results other built.0 i) || successor_is arrivals results row others built.1 i
 
-statuses_are : (world : World) (rows : List GenRow) → AreBuilt world.rows → AreBuilt rows
-    → with_statuses (promoted_status world) rows ≡ with_statuses (plain_status world.rows) rows
-statuses_are world [] all built = refl
-statuses_are world (row ∷ rows) all built =
-    λ i. record row { status = status_by (successor_is world row world.rows all i) (ready_is world row built.0 i) row.status }
-    ∷ statuses_are world rows all built.1 i
+statuses_are : (arrivals : List Arrived) (results : List HealthResult) (all rows : List GenRow) → AreBuilt all → AreBuilt rows
+    → with_statuses (promoted_status arrivals results all) rows ≡ with_statuses (plain_status all) rows
+statuses_are arrivals results all [] are built = refl
+statuses_are arrivals results all (row ∷ rows) are built =
+    λ i. record row { status = status_by (successor_is arrivals results row all are i) (ready_is arrivals results row built.0 i) row.status }
+    ∷ statuses_are arrivals results all rows are built.1 i
 
 promoted_is : (world : World) → IsPlain world → promoted world ≡ plain_promoted world
-promoted_is world plain = λ i. record world { rows = statuses_are world world.rows plain.rows plain.rows i }
+promoted_is world plain =
+    λ i. record world { rows = statuses_are world.arrivals world.results world.rows world.rows plain.rows plain.rows i }
 
 -- rows with other statuses stay built
 pub statuses_built : (status_of : GenRow → RowStatus) (rows : List GenRow) → AreBuilt rows → AreBuilt (with_statuses status_of rows)
@@ -115,11 +119,11 @@ unwatched_is world plain = λ i. record world {
 }
 
 results_are : (world : World) → world.results ≡ [] → without_old_results world ≡ world
-results_are world none = λ i. record world { results = nothing_goes (is_result_due world) world.results none i }
+results_are world none = λ i. record world { results = nothing_goes (is_result_due world.arrivals world.rows) world.results none i }
 
 promoted_plain : (world : World) → IsPlain world → IsPlain (promoted world)
 promoted_plain world plain = record {
-  rows = statuses_built (promoted_status world) world.rows plain.rows;
+  rows = statuses_built (promoted_status world.arrivals world.results world.rows) world.rows plain.rows;
   versions = plain.versions;
   arrivals = plain.arrivals;
   results = plain.results;
@@ -178,31 +182,26 @@ none_awaited kind (live ∷ lives) wait =
 none_watched : (world : World) (kind : Kind) → IsPlain world → watched_of world kind ≡ []
 none_watched world kind plain = ap sorted_names (none_awaited kind (lives_of world) (lives_wait world.rows plain.rows))
 
-none_changes : (kind : Kind) (before after : World) → IsPlain before → IsPlain after → watch_change kind before after ≡ []
-none_changes kind before after b a =
-    λ i. names_request kind (other_than (none_watched before kind b i) (none_watched after kind a i))
-    (other_than (none_watched after kind a i) (none_watched before kind b i)) []
+-- the same of both kinds
+none_at_all : (world : World) → IsPlain world → all_watched world ≡ record { endpoints = []; routes = [] }
+none_at_all world plain = λ i. record { endpoints = none_watched world Eds plain i; routes = none_watched world Rds plain i }
 
-changes_are : (before after : World) → IsPlain before → IsPlain after → changes_asked before after ≡ listeners_asked before after
-changes_are before after b a =
-    ap (λ (rs : List Request). rs ++ (listeners_asked before after ++ watch_change Rds before after)) (none_changes Eds before after b a)
-    ∙ ap (λ (rs : List Request). listeners_asked before after ++ rs) (none_changes Rds before after b a)
-    ∙ append-nil (listeners_asked before after)
+-- where nothing is watched, listeners alone may be asked for
+changes_are : (before after : World) (asked : Bool) → IsPlain before → IsPlain after
+    → changes_asked (all_watched before) (all_watched after) asked after.versions ≡ listeners_asked asked after.versions
+changes_are before after asked b a =
+    (λ i. changes_asked (none_at_all before b i) (none_at_all after a i) asked after.versions) ∙ append-nil (listeners_asked asked after.versions)
 
 -- what an event asks for that leads from a plain world to a plain world
 pub requests_are : (before after : World) (reply : Option Request) → IsPlain before → IsPlain after
     → plain_requests before after reply ≡ requests_of before after reply
 requests_are before after reply b a =
-    ap (λ (rs : List Request). option_to_list reply ++ (if after.stream then rs else [])) (sym (changes_are before after b a))
-
-none_asked : (world : World) (kind : Kind) → IsPlain world → watched_request kind world ≡ []
-none_asked world kind plain = ap (λ names. names_request kind names [] (versions_of kind world.versions)) (none_watched world kind plain)
+    ap (λ (rs : List Request). option_to_list reply ++ (if after.stream then rs else []))
+    (sym (changes_are before after (has_left_clusters before after) b a))
 
 -- what is asked for when a stream opens in a plain world
 pub connect_are : (world : World) → IsPlain world
-    → clusters_request world ∷ (if is_clusters world.phase then [] else listeners_request world ∷ []) ≡ connect_requests world
+    → clusters_request world.node world.versions ∷ listeners_asked (not (is_clusters world.phase)) world.versions ≡ connect_requests world
 connect_are world plain =
-    let listeners : List Request = if is_clusters world.phase then [] else listeners_request world ∷ [] in
-    sym (ap (λ (rs : List Request). clusters_request world ∷ (rs ++ (listeners ++ watched_request Rds world))) (none_asked world Eds plain)
-    ∙ ap (λ (rs : List Request). clusters_request world ∷ (listeners ++ rs)) (none_asked world Rds plain)
-    ∙ ap (λ (rs : List Request). clusters_request world ∷ rs) (append-nil listeners))
+    sym ((λ i. connect_requests_by world.node (none_at_all world plain i) (not (is_clusters world.phase)) world.versions)
+    ∙ ap (λ (rs : List Request). clusters_request world.node world.versions ∷ rs) (append-nil (listeners_asked (not (is_clusters world.phase)) world.versions)))

@@ -1,8 +1,10 @@
 -- Where a version goes.
-use Rattle.std.proofs.Common.{◌≡◌, ℕ, suc, ◌+◌, Bool, true, false, ◌||◌, List, [], ◌∷◌, ◌++◌, Option, Some, None, ap, sym, ◌∙◌, refl, arith, subst, IfSome, IfNone}
+use Rattle.std.proofs.Common.{◌≡◌, ℕ, suc, ◌+◌, ◌<◌, length, take, drop, get_or, set, if◌then◌else◌, Bool, true, false, ◌||◌, List, [], ◌∷◌, ◌++◌, Option, Some, None, ap, sym, ◌∙◌, refl, arith, subst, IfSome, IfNone}
 use Rattle.std.specs.List.{position_from}
+use Rattle.std.proofs.lemmas.List.Edits.{map_over_more}
+use Rattle.ev_types.specs.declared.contents.Kind.{Kind}
 use Rattle.ev_types.specs.declared.rows.KeptVersion.{KeptVersion}
-use Rattle.ev_model.specs.Versions.{is_version_of, is_before, with_version}
+use Rattle.ev_model.specs.Versions.{is_version_of, is_before, with_version, bounded_as, renewed}
 use Rattle.ev_registry.specs.Places.{GoesTo}
 
 abbrev stops : KeptVersion → KeptVersion → Bool
@@ -103,3 +105,20 @@ pub some_told : (new : KeptVersion) (versions : List KeptVersion) (found : Optio
     → IfSome found (GoesTo new versions)
 some_told new versions None is = tt
 some_told new versions (Some place) is = one_stops new versions place (sym is)
+
+bounded_is : (kept : KeptVersion) (b : Bool) → record kept { bounded = b || kept.bounded } ≡ (if b then record kept { bounded = true } else kept)
+bounded_is kept true = refl
+bounded_is kept false = refl
+
+-- one version more is renewed
+pub renewed_more : (kind : Kind) (name : List ℕ) (xs ys : List KeptVersion) (i : ℕ) (x : KeptVersion) (bounded : Bool)
+    → i < length xs
+    → ys ≡ renewed kind name (take i xs) ++ drop i xs
+    → x ≡ get_or ys i x
+    → bounded ≡ (is_version_of kind name x || x.bounded)
+    → set ys i (record (get_or ys i x) { bounded = bounded }) ≡ renewed kind name (take (i + 1) xs) ++ drop (i + 1) xs
+renewed_more kind name xs ys i x bounded within so_far is said =
+    ap (λ (kept : KeptVersion). set ys i (record kept { bounded = bounded })) (sym is)
+    ∙ ap (λ (b : Bool). set ys i (record x { bounded = b })) said
+    ∙ ap (set ys i) (bounded_is x (is_version_of kind name x))
+    ∙ map_over_more (bounded_as kind name) xs ys i x within so_far is

@@ -6,14 +6,14 @@ use Rattle.ev_types.specs.Statuses.{is_warming}
 use Rattle.ev_types.specs.declared.contents.Kind.TheVariants.{Cds}
 use Rattle.ev_types.specs.declared.contents.Request.{Request}
 use Rattle.ev_types.specs.declared.events.Verdict.{Verdict}
-use Rattle.ev_types.specs.declared.events.Verdict.TheVariants.{New, Same, Kept, Unasked, Refused}
+use Rattle.ev_types.specs.declared.events.Verdict.TheVariants.{New, Same, Kept, Unasked, Renewed, Refused}
 use Rattle.ev_types.specs.declared.rows.GenRow.{GenRow}
 use Rattle.ev_types.specs.declared.rows.KeptVersion.{KeptVersion}
 use Rattle.ev_types.specs.declared.rows.RowStatus.{RowStatus}
 use Rattle.ev_model.specs.World.{World}
 use Rattle.ev_model.specs.Rows.{is_row_of, with_statuses}
 use Rattle.ev_model.specs.Tidy.{status_by}
-use Rattle.ev_model.specs.Requests.{listeners_asked}
+use Rattle.ev_model.specs.Requests.{listeners_asked, has_left_clusters}
 use Rattle.ev_registry.specs.Built.{is_built_content}
 
 -- each generation is a cluster that waits for nothing, versions are kept of clusters alone, and there are no arrivals, health
@@ -25,12 +25,13 @@ pub record IsPlain (world : World) : Type 0 where
   pub results : world.results ≡ []
   pub opened : world.opened ≡ []
 
--- a verdict on a cluster: it is new, the same or refused
+-- a verdict on a cluster, or on a heartbeat of one: no value is kept
 abbrev pub IsOnCluster : Verdict → Type 0
 IsOnCluster New = ⊤
 IsOnCluster Same = ⊤
 IsOnCluster Kept = ⊥
-IsOnCluster Unasked = ⊥
+IsOnCluster Unasked = ⊤
+IsOnCluster Renewed = ⊤
 IsOnCluster (Refused rule) = ⊤
 
 -- the row warms and waits for nothing
@@ -51,4 +52,4 @@ plain_promoted world = record world { rows = with_statuses (plain_status world.r
 
 -- the requests of an event where nothing is watched: the reply, and all listeners
 abbrev pub plain_requests : World → World → Option Request → List Request
-plain_requests before after reply = option_to_list reply ++ (if after.stream then listeners_asked before after else [])
+plain_requests before after reply = option_to_list reply ++ (if after.stream then listeners_asked (has_left_clusters before after) after.versions else [])

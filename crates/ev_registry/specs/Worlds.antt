@@ -1,6 +1,6 @@
 -- What the registry's state stands for.
 use Rattle.std.specs.Prelude.{false, [], ◌∷◌, None}
-use Rattle.ev_model.specs.World.{World, empty_picture}
+use Rattle.ev_model.specs.World.{World, nothing_shown}
 use Rattle.ev_registry.specs.declared.state.State.{State}
 
 -- the world of this state: no event of this stage touches the other parts
@@ -11,7 +11,7 @@ world_of state = record {
   arrivals = [];
   results = [];
   versions = state.versions;
-  pictures = empty_picture ∷ [];
+  pictures = nothing_shown ∷ [];
   held = state.held;
   opened = [];
   expired = [];

@@ -1,7 +1,7 @@
-ghost use Rattle.std.specs.Prelude.{◌≡◌, ◌<◌, All, IfOk, OnOk, length};
+ghost use Rattle.std.specs.Prelude.{◌≡◌, ◌<◌, ◌≤◌, ◌+◌, All, IfOk, OnOk, length};
 ghost use Rattle.ev_types.specs.Items.{IsGood};
 ghost use Rattle.ev_types.specs.declared.contents.Kind.TheVariants.{Cds};
-ghost use Rattle.ev_model.specs.Rows.{with_removals, add_items, add_item, add_row, keep_version, with_first};
+ghost use Rattle.ev_model.specs.Rows.{with_removals, add_items, add_item, add_row, keep_version, renew, with_first};
 ghost use Rattle.ev_model.specs.Tidy.{tidy};
 ghost use Rattle.ev_model.specs.Connections.{settle};
 ghost use Rattle.ev_registry.specs.Plain.{IsPlain, IsOnCluster, plain_promoted};
@@ -20,7 +20,8 @@ use std::mem;
 impl State {
     /// Clusters that a response removes drain or are dropped, and their versions go.
     pub(crate) fn remove(&mut self, alloc: Global, response: &Response)
-        ensures { world_of self.new ≡ with_removals Cds response.now (world_of self.old) }
+        ensures world { world_of self.new ≡ with_removals Cds response.now (world_of self.old) }
+        ensures made { self.new.made ≡ self.old.made }
     {
         let mut rows = mem::replace(&mut self.rows, Seq::new(alloc)).into_vec();
         rows::remove(Kind::Cds, response, &mut rows);
@@ -39,6 +40,7 @@ impl State {
     ) -> Result<(), AllocError>
         requires one_each { length verdicts.now ≡ length items.now }
         requires on_clusters { All IsOnCluster verdicts.now }
+        requires numbered { self.old.made + length items.now ≤ u32.MAX }
         ensures { OnOk result (world_of self.new ≡ add_items Cds verdicts.now items.now (world_of self.old)) }
     {
         for (place, item) in items.iter().enumerate() {
@@ -49,24 +51,30 @@ impl State {
 
     // One resource comes in.
     fn add_item(&mut self, alloc: Global, verdict: Verdict, item: &Item) -> Result<(), AllocError>
-        requires { IsOnCluster verdict }
-        ensures { OnOk result (world_of self.new ≡ add_item Cds verdict item.now (world_of self.old)) }
+        requires on_cluster { IsOnCluster verdict }
+        requires numbered { self.old.made + 1 ≤ u32.MAX }
+        ensures world { OnOk result (world_of self.new ≡ add_item Cds verdict item.now (world_of self.old)) }
+        ensures made { OnOk result (self.new.made ≤ self.old.made + 1) }
     {
         match (verdict, &item.body) {
             (Verdict::New, Body::Good(content)) => self.add_row(alloc, item, content),
             (Verdict::Same, Body::Good(_)) => self.keep_version(alloc, item),
+            (Verdict::Renewed, _) => {
+                self.renew(alloc, item.name.as_str());
+                Ok(())
+            }
             _ => Ok(()),
         }
     }
 
-    // A new generation warms, and its version is kept. A counter at its end is want of memory.
+    // A new generation warms, and its version is kept.
     fn add_row(&mut self, alloc: Global, item: &Item, content: &Content) -> Result<(), AllocError>
-        requires { IsGood item.now.body }
-        ensures { OnOk result (world_of self.new ≡ add_row Cds item.now content.now (world_of self.old)) }
+        requires good { IsGood item.now.body }
+        requires numbered { self.old.made + 1 ≤ u32.MAX }
+        ensures world { OnOk result (world_of self.new ≡ add_row Cds item.now content.now (world_of self.old)) }
+        ensures made { OnOk result (self.new.made ≡ self.old.made + 1) }
     {
-        let Some(number) = self.made.checked_add(1) else {
-            return Err(AllocError);
-        };
+        let number = self.made + 1;
         let mut rows = mem::replace(&mut self.rows, Seq::new(alloc)).into_vec();
         rows::drop_warming(Kind::Cds, item.name.as_str(), &mut rows);
         rows.push(GenRow {
@@ -84,7 +92,8 @@ impl State {
     // The version of a resource is kept.
     fn keep_version(&mut self, alloc: Global, item: &Item) -> Result<(), AllocError>
         requires { IsGood item.now.body }
-        ensures { OnOk result (world_of self.new ≡ keep_version Cds item.now (world_of self.old)) }
+        ensures world { OnOk result (world_of self.new ≡ keep_version Cds item.now (world_of self.old)) }
+        ensures made { OnOk result (self.new.made ≡ self.old.made) }
     {
         let mut versions = mem::replace(&mut self.versions, Seq::new(alloc)).into_vec();
         versions::keep(
@@ -93,10 +102,21 @@ impl State {
                 kind: Kind::Cds,
                 name: item.resource_name(alloc)?,
                 version: item.version.copy(alloc)?,
+                bounded: item.ttl,
             },
         )?;
         self.versions = Seq::from_vec(versions);
         Ok(())
+    }
+
+    // The life of a cluster is bounded anew.
+    fn renew(&mut self, alloc: Global, name: &str)
+        ensures world { world_of self.new ≡ renew Cds name.now (world_of self.old) }
+        ensures made { self.new.made ≡ self.old.made }
+    {
+        let mut versions = mem::replace(&mut self.versions, Seq::new(alloc)).into_vec();
+        versions::renew(Kind::Cds, name, &mut versions);
+        self.versions = Seq::from_vec(versions);
     }
 
     /// The first response is noted by the names that it made generations for.
@@ -129,7 +149,7 @@ impl State {
     }
 
     /// A worker takes over the last picture. None of its connections is closed, since no drain timeout comes in this stage.
-    pub(crate) fn settled(&self, alloc: Global, worker: u32) -> Result<(State, Answer), AllocError>
+    pub(crate) fn settle(&self, alloc: Global, worker: u32) -> Result<(State, Answer), AllocError>
         requires { worker < length self.now.held }
         ensures { IfOk result (λ r. (world_of r.0, r.1) ≡ settle worker (world_of self.now)) }
     {

@@ -1,12 +1,13 @@
-ghost use Rattle.std.specs.Prelude.{◌≡◌, ◌≤◌, ◌+◌, [], ◌∷◌, ◌++◌, IfOk, OnErr};
+ghost use Rattle.std.specs.Prelude.{◌≡◌, ◌≤◌, ◌+◌, [], ◌∷◌, ◌++◌, IfOk, OnOk, OnErr};
 ghost use Rattle.ev_model.specs.World.{last_version};
 ghost use Rattle.ev_types.specs.Events.{MayMake};
+ghost use Rattle.ev_types.specs.Scripts.{items_in};
 ghost use Rattle.ev_model.specs.Runs.{IsRun};
 ghost use Rattle.ev_model.specs.Step.{step as machine_step};
 ghost use Rattle.ev_registry.specs.Built.{IsBuilt};
 
 use crate::state::{State, first_state};
-use ev_types::{Actor, Answer, Entry, Event, Text, TryCopy};
+use ev_types::{Actor, Answer, Entry, Event, Format, Text, TryCopy};
 use std::alloc::{AllocError, Global};
 use std::marker::Model;
 
@@ -14,6 +15,7 @@ use std::marker::Model;
 #[derive(Drop)]
 pub struct Registry {
     alloc: Global,
+    format: Format,
     workers: u32,
     node: Text,
     state: State,
@@ -21,27 +23,33 @@ pub struct Registry {
 }
 
 impl Model for Registry {
-    ghost use Rattle.ev_registry.specs.Registries.{RegistryParts, Stands};
+    ghost use Rattle.ev_registry.specs.Registries.{RegistryParts, StandsFor};
     ghost use Rattle.ev_registry.specs.Worlds.{world_of};
 
     ghost Value = { RegistryParts };
 
-    ghost view = { λ r. record { workers = r.workers; node = r.node; journal = r.journal.items } };
+    ghost view = { λ r. record { format = r.format; workers = r.workers; node = r.node; journal = r.journal.items } };
 
-    ghost invariant = { λ r. Stands (world_of r.state) record { workers = r.workers; node = r.node; journal = r.journal.items } };
+    ghost invariant = { λ r. StandsFor (world_of r.state) record { format = r.format; workers = r.workers; node = r.node; journal = r.journal.items } };
 }
 
 impl Registry {
     ghost use Rattle.ev_registry.specs.Registries.{world_now};
 
-    /// A registry in which nothing was done yet, for 1 to 16 workers.
-    pub fn new(alloc: Global, workers: u32, node: &Text) -> Result<Registry, AllocError>
+    /// A registry in which nothing was done yet, for 1 to 16 workers, by the rules of a format.
+    pub fn new(
+        alloc: Global,
+        workers: u32,
+        node: &Text,
+        format: Format,
+    ) -> Result<Registry, AllocError>
         requires some { 1 ≤ workers }
         requires few { workers ≤ 16 }
-        ensures empty { IfOk result (λ made. made ≡ record { workers = workers; node = node.now; journal = [] }) }
+        ensures empty { IfOk result (λ made. made ≡ record { format = format; workers = workers; node = node.now; journal = [] }) }
     {
         Ok(Registry {
             alloc,
+            format,
             workers,
             node: node.copy(alloc)?,
             state: first_state(alloc, workers, node)?,
@@ -49,8 +57,9 @@ impl Registry {
         })
     }
 
-    /// Makes one step of the machine and enters it in the journal. Without memory all stays as it was. So far it takes
-    /// connects, responses of clusters that wait for nothing, and settles.
+    /// Makes one step of the machine and enters it in the journal. Out of memory, all stays as it was. So far it takes
+    /// connects, responses of clusters that wait for nothing with heartbeats of such, and settles. The numbers of generations
+    /// have to suffice for an event's resources; at most one is drawn for each.
     pub fn apply(
         &mut self,
         actor: Actor,
@@ -60,11 +69,13 @@ impl Registry {
     ) -> Result<Answer, AllocError>
         requires allowed { MayMake self.old.workers actor event.now }
         requires built { IsBuilt event.now }
-        ensures answer { IfOk result (λ answer. answer ≡ (machine_step (world_now self.old) actor event.now).1) }
+        requires numbered { (world_now self.old).made + items_in event.now ≤ u32.MAX }
+        ensures answer { IfOk result (λ answer. answer ≡ (machine_step self.old.format (world_now self.old) actor event.now).1) }
         ensures entry { IfOk result (λ answer. self.new ≡ record self.old { journal = self.old.journal ++ record { actor = actor; at = at; step = step; event = event.now; answer = answer } ∷ [] }) }
+        ensures drawn { OnOk result ((world_now self.new).made ≤ (world_now self.old).made + items_in event.now) }
         ensures err { OnErr result (self.new ≡ self.old) }
     {
-        let (state, answer) = self.state.stepped(self.alloc, actor, event)?;
+        let (state, answer) = self.state.step(self.alloc, self.format, actor, event)?;
         let entry = Entry {
             actor,
             at,
@@ -80,7 +91,7 @@ impl Registry {
     /// The entries of what was done, in order.
     pub fn journal(&self) -> &[Entry]
         ensures entries { result.now ≡ self.now.journal }
-        ensures run { IsRun self.now.workers self.now.node self.now.journal }
+        ensures run { IsRun self.now.format self.now.workers self.now.node self.now.journal }
     {
         self.journal.as_slice()
     }

@@ -1,7 +1,7 @@
 ghost use Rattle.std.specs.Prelude.{◌≡◌};
 ghost use Rattle.std.specs.List.{list_all};
 ghost use Rattle.ev_types.specs.declared.contents.Kind.TheVariants.{Cds};
-ghost use Rattle.ev_model.specs.Phase.{phase_after, has_active, has_live, has_come, have_come};
+ghost use Rattle.ev_model.specs.Phase.{phase_after, has_active, has_live, has_come, all_have_come};
 ghost use Rattle.ev_registry.specs.Worlds.{world_of};
 
 use crate::rows::is_row_of;
@@ -26,9 +26,9 @@ pub(crate) fn phase_after(state: &State) -> Phase
     }
 }
 
-// Whether a first response of clusters came, and nothing is waited for under its names.
+// Whether a first response of clusters came, and each of its names has come.
 fn have_come(rows: &[GenRow], first: &Option<Seq<Text>>) -> bool
-    ensures { result ≡ have_come rows.now Cds first.now }
+    ensures { result ≡ all_have_come (has_come rows.now Cds) first.now }
 {
     match first {
         Some(names) => all_have_come(rows, names.as_slice()),
@@ -36,26 +36,29 @@ fn have_come(rows: &[GenRow], first: &Option<Seq<Text>>) -> bool
     }
 }
 
+// Whether each of these names has come.
 fn all_have_come(rows: &[GenRow], names: &[Text]) -> bool
     ensures { result ≡ list_all (has_come rows.now Cds) names.now }
 {
     names.iter().all(|name| has_come(rows, name.as_str()))
 }
 
-#[tactic(auto, unfolding(ev_model::specs::Phase::has_come))]
 // Whether nothing is waited for under the name of a cluster.
+#[tactic(auto, unfolding(ev_model::specs::Phase::has_come))]
 fn has_come(rows: &[GenRow], name: &str) -> bool
     ensures { result ≡ has_come rows.now Cds name.now }
 {
     has_active(rows, name) || !has_live(rows, name)
 }
 
+// Whether a generation of the name serves.
 fn has_active(rows: &[GenRow], name: &str) -> bool
     ensures { result ≡ has_active rows.now Cds name.now }
 {
     rows.iter().any(|row| is_row_of(Kind::Cds, name, row) && row.status.is_active())
 }
 
+// Whether a generation of the name warms or serves.
 fn has_live(rows: &[GenRow], name: &str) -> bool
     ensures { result ≡ has_live rows.now Cds name.now }
 {

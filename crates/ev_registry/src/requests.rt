@@ -50,8 +50,9 @@ fn is_clusters(phase: Phase) -> bool
     matches!(phase, Phase::Clusters)
 }
 
+// The first request of a stream: all clusters are asked for, and the node is named.
 fn clusters_request(alloc: Global, state: &State) -> Result<Request, AllocError>
-    ensures { IfOk result (λ request. request ≡ clusters_request (world_of state.now)) }
+    ensures { IfOk result (λ request. request ≡ clusters_request state.now.node state.now.versions) }
 {
     Ok(Request {
         kind: Kind::Cds,
@@ -64,8 +65,9 @@ fn clusters_request(alloc: Global, state: &State) -> Result<Request, AllocError>
     })
 }
 
+// All listeners are asked for.
 fn listeners_request(alloc: Global, state: &State) -> Result<Request, AllocError>
-    ensures { IfOk result (λ request. request ≡ listeners_request (world_of state.now)) }
+    ensures { IfOk result (λ request. request ≡ listeners_request state.now.versions) }
 {
     Ok(Request {
         kind: Kind::Lds,

@@ -7,33 +7,34 @@ ghost use Rattle.ev_model.specs.Tidy.{status_by};
 ghost use Rattle.ev_registry.specs.Built.{is_static, is_built_content};
 ghost use Rattle.ev_registry.specs.Plain.{is_plain_due, plain_status};
 
-use ev_rules::is_removed;
-use ev_types::{Content, Discovery, GenRow, Kind, Live, Lives, Response, RowStatus, Seq, TryCopy};
+use ev_rules::{LiveRow, is_removed};
+use ev_types::{Content, Discovery, GenRow, Kind, Response, RowStatus};
 use std::alloc::{AllocError, Global};
 
 /// The live rows, in order.
-pub(crate) fn lives_of(alloc: Global, rows: &[GenRow]) -> Result<Lives, AllocError>
-    ensures { IfOk result (λ lives. lives.rows ≡ map live_of (filter (λ row. is_live row.status) rows.now)) }
+pub(crate) fn lives_of<'a>(
+    alloc: Global,
+    rows: &'a [GenRow],
+) -> Result<Vec<LiveRow<'a>>, AllocError>
+    ensures { IfOk result (λ lives. lives.items ≡ map live_of (filter (λ row. is_live row.status) rows.now)) }
 {
     let mut lives = Vec::new(alloc);
     for row in rows {
-        push_live(alloc, row, &mut lives)?;
+        push_live(row, &mut lives)?;
     }
-    Ok(Lives {
-        rows: Seq::from_vec(lives),
-    })
+    Ok(lives)
 }
 
 // Puts what is seen of a row to the others, where it is live.
-fn push_live(alloc: Global, row: &GenRow, lives: &mut Vec<Live>) -> Result<(), AllocError>
+fn push_live<'a>(row: &'a GenRow, lives: &mut Vec<LiveRow<'a>>) -> Result<(), AllocError>
     ensures { OnOk result (lives.new.items ≡ lives.old.items ++ map live_of (filter (λ row. is_live row.status) (row.now ∷ []))) }
 {
     if row.status.is_live() {
-        lives.push(Live {
+        lives.push(LiveRow {
             kind: row.kind,
             number: row.number,
-            name: row.name.copy(alloc)?,
-            content: row.content.copy(alloc)?,
+            name: row.name.as_str(),
+            content: &row.content,
             warming: row.status.is_warming(),
         })?;
     }
@@ -50,6 +51,7 @@ pub(crate) fn remove(kind: Kind, response: &Response, rows: &mut Vec<GenRow>)
     }
 }
 
+// The status of a row after the removals of a response of this kind.
 fn status_left(kind: Kind, response: &Response, row: &GenRow) -> RowStatus
     ensures { result ≡ status_left kind response.now row.now }
 {
@@ -60,6 +62,7 @@ fn status_left(kind: Kind, response: &Response, row: &GenRow) -> RowStatus
     }
 }
 
+// The status of a row that is removed.
 fn removed_status(status: RowStatus) -> RowStatus
     ensures { result ≡ removed_status status }
 {
@@ -81,6 +84,7 @@ pub(crate) fn drop_warming(kind: Kind, name: &str, rows: &mut Vec<GenRow>)
     }
 }
 
+// The status of a row when a new one of the name comes.
 fn replaced_status(kind: Kind, name: &str, row: &GenRow) -> RowStatus
     ensures { result ≡ replaced_status kind name.now row.now }
 {
@@ -175,6 +179,7 @@ fn has_successor(due: &[&GenRow], row: &GenRow) -> bool
         .any(|other| is_row_of(row.kind, row.name.as_str(), other))
 }
 
+// Whether the row warms and waits for nothing.
 fn is_due(row: &GenRow) -> bool
     ensures { result ≡ is_plain_due row.now }
 {
@@ -186,8 +191,8 @@ fn is_ready(content: &Content) -> bool
     ensures { result ≡ is_built_content content.now }
 {
     match content {
-        Content::Cluster(cluster) => match cluster.discovery {
-            Discovery::Static(_) => !cluster.checked,
+        Content::Cluster(cluster) => match cluster.get().discovery {
+            Discovery::Static(_) => !cluster.get().checked,
             Discovery::Eds { .. } => false,
         },
         _ => false,

@@ -1,6 +1,6 @@
 ghost use Rattle.std.specs.Prelude.{◌≡◌, ◌++◌, ◌||◌, [], ◌∷◌, filter, IfOk, IfSome, IfNone, OnOk};
 ghost use Rattle.std.specs.List.{position_from};
-ghost use Rattle.ev_model.specs.Versions.{is_version_of, is_before, with_version, versions_of};
+ghost use Rattle.ev_model.specs.Versions.{is_version_of, is_before, with_version, renewed, versions_of};
 ghost use Rattle.ev_model.specs.Rows.{is_version_left};
 ghost use Rattle.ev_registry.specs.Places.{GoesTo};
 
@@ -38,6 +38,7 @@ fn place_of(versions: &[KeptVersion], new: &KeptVersion) -> Option<usize>
     first_stop(versions, new)
 }
 
+// The place of the first version at which a new one stops.
 fn first_stop(versions: &[KeptVersion], new: &KeptVersion) -> Option<usize>
     ensures { result ≡ position_from (λ kept. is_version_of new.now.kind new.now.name kept || is_before new.now.name kept.name) 0 versions.now }
 {
@@ -52,12 +53,14 @@ fn stops(new: &KeptVersion, kept: &KeptVersion) -> bool
         || is_before(new.name.as_str(), kept.name.as_str())
 }
 
+// Whether the version is that of this kind and name.
 fn is_version_of(kind: Kind, name: &str, kept: &KeptVersion) -> bool
     ensures { result ≡ is_version_of kind name.now kept.now }
 {
     kept.kind.is(kind) && kept.name.as_str() == name
 }
 
+// Whether the first text stands before the second in the order of their bytes.
 fn is_before(text: &str, other: &str) -> bool
     ensures { result ≡ is_before text.now other.now }
 {
@@ -69,6 +72,23 @@ pub(crate) fn remove(kind: Kind, response: &Response, versions: &mut Vec<KeptVer
     ensures { versions.new.items ≡ filter (is_version_left kind response.now) versions.old.items }
 {
     versions.retain(|kept| !(kept.kind.is(kind) && is_removed(response, kept.name.as_str())));
+}
+
+/// Bounds the life of a resource anew.
+#[tactic(auto, using(crate::proofs::VersionLemmas::renewed_more))]
+pub(crate) fn renew(kind: Kind, name: &str, versions: &mut Vec<KeptVersion>)
+    ensures { versions.new.items ≡ renewed kind name.now versions.old.items }
+{
+    for kept in versions.iter_mut() {
+        kept.bounded = is_bounded_after(kind, name, kept);
+    }
+}
+
+// Whether a resource's life is bounded once that of this kind and name is.
+fn is_bounded_after(kind: Kind, name: &str, kept: &KeptVersion) -> bool
+    ensures { result ≡ (is_version_of kind name.now kept.now || kept.now.bounded) }
+{
+    is_version_of(kind, name, kept) || kept.bounded
 }
 
 /// Each name of this kind with its version, sorted by name.

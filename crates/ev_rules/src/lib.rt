@@ -1,4 +1,4 @@
-//! The verdicts on the resources of a response, by the rules and the generations that are live.
+//! The verdicts on the resources of a response, by the rules, the generations that are live and the versions that are kept.
 #![tactic(auto)]
 
 mod judging;
@@ -6,4 +6,5 @@ mod lives;
 mod rules;
 
 pub use judging::verdicts;
+pub use lives::LiveRow;
 pub use rules::is_removed;
