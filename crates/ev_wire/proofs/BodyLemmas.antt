@@ -7,7 +7,7 @@ use denote.Ref.{Bor}
 use Rattle.serde_json.specs.Data.{Data}
 use Rattle.serde_json.specs.declared.value.Value.{Value}
 use Rattle.ev_types.specs.Texts.{IsName}
-use Rattle.ev_types.specs.Items.{IsOwnName, IsBodyOf, kind_of}
+use Rattle.ev_types.specs.Items.{IsOwnName, IsBeating, IsBodyOf, content_kind}
 use Rattle.ev_types.specs.declared.contents.Kind.{Kind}
 use Rattle.ev_types.specs.declared.contents.Kind.TheVariants.{Cds, Eds, Lds, Rds}
 use Rattle.ev_types.specs.declared.clusters.Cluster.{Cluster as ClusterParts}
@@ -15,21 +15,22 @@ use Rattle.ev_types.specs.declared.listeners.Listener.{Listener as ListenerParts
 use Rattle.ev_types.specs.declared.contents.Content.{Content}
 use Rattle.ev_types.specs.declared.contents.Content.TheVariants.{Cluster, Assignment, Listener, Routes}
 use Rattle.ev_types.specs.declared.contents.Body.{Body}
-use Rattle.ev_types.specs.declared.contents.Body.TheVariants.{Good, Bad}
+use Rattle.ev_types.specs.declared.contents.Body.TheVariants.{Good, Bad, Beat}
 use Rattle.ev_tree.specs.declared.outcome.Found.{Found}
 use Rattle.ev_tree.specs.declared.outcome.Found.TheVariants.{Absent, Wrong, Given}
-use Rattle.ev_tree.specs.Forms.{given_or, is_wrong, text_of, tree_of}
+use Rattle.ev_tree.specs.declared.span.Span.{Span}
+use Rattle.ev_tree.specs.Forms.{given_or, inside, is_absent, is_wrong, text_of, tree_of}
 use Rattle.ev_tree.specs.Rules.{least, judged, is_name}
 use Rattle.ev_cluster_json.specs.Clusters.{cluster_reading, cluster_of, least_rule, cluster_rules, name_of, breaks_v6, head_breaks_v6}
 use Rattle.ev_cluster_json.specs.Assignments.{assignment_reading}
 use Rattle.ev_route_json.specs.Tables.{table_reading}
 use Rattle.ev_listener_json.specs.Listeners.{listener_reading, listener_of, listener_rules, name_of as listener_name, breaks_v6 as listener_v6}
-use Rattle.ev_wire.specs.Bodies.{is_of_type, breaks_v2, breaks_v3, differs, name_field, body_of, body_with, content_of, content_with}
+use Rattle.ev_wire.specs.Bodies.{is_positive, is_heartbeat, is_of_type, breaks_v3, own_rules, differs, name_field, resource_of, body_of, body_with, content_of, content_with}
 
 -- no body is of no type
-pub no_body : (kind : Kind) (name : List ℕ) (body : Option (Bor Value)) → body ≡ None → Bad 1 ≡ body_of kind name (tree_of body)
-unfolding body_of is_of_type
-no_body kind name body e = let P : Option (Bor Value) → Type 0 = λ b. Bad 1 ≡ body_of kind name (tree_of b) in subst P (sym e) refl
+pub no_body : (kind : Kind) (name : List ℕ) (ttl : Found Span) (body : Option (Bor Value)) → body ≡ None → Bad 1 ≡ resource_of kind name ttl (tree_of body)
+unfolding resource_of is_of_type
+no_body kind name ttl body e = let P : Option (Bor Value) → Type 0 = λ b. Bad 1 ≡ resource_of kind name ttl (tree_of b) in subst P (sym e) refl
 
 -- ---- tests
 
@@ -48,9 +49,8 @@ not_false false h = cc
 same_bytes : (a b : List ℕ) → not (bytes_eq a b) ≡ false → a ≡ b
 same_bytes a b h = (bytes_eq-Decides a b).0 (not_false (bytes_eq a b) h)
 
-named : (name : List ℕ) → not (is_name name) ≡ false → IsName name
-named name h =
-    let is : is_name name ≡ true = not_false (is_name name) h in
+named : (name : List ℕ) → is_name name ≡ true → IsName name
+named name is =
     record {
       given = leb-true 1 (length name) (and_first (nat_le 1 (length name)) (nat_le (length name) 512) is);
       short = leb-true (length name) 512 (and_second (nat_le 1 (length name)) (nat_le (length name) 512) is);
@@ -85,7 +85,7 @@ content_with_ok content (Err n) c h = cc
 
 -- ---- good content is of its kind
 
-content_with-kind : {A : Type 0} (kind : Kind) (content : A → Content) → ((a : A) → kind_of (content a) ≡ kind) → (reading : Result A ℕ)
+content_with-kind : {A : Type 0} (kind : Kind) (content : A → Content) → ((a : A) → content_kind (content a) ≡ kind) → (reading : Result A ℕ)
     → (rule : Option ℕ) → IsBodyOf kind (body_with rule (content_with content reading))
 content_with-kind kind content each (Ok a) None = each a
 content_with-kind kind content each (Ok a) (Some rule) = tt
@@ -105,9 +105,11 @@ of_choice P true x y h k = h
 of_choice P false x y h k = k
 
 -- a good body has the content of its kind
-pub body_of-kind : (kind : Kind) (name : List ℕ) (body : Data) → IsBodyOf kind (body_of kind name body)
-unfolding body_of
-body_of-kind kind name body = of_choice (IsBodyOf kind) (not (is_of_type kind body)) (Bad 1) _ tt (content_of-kind kind body _)
+pub body_of-kind : (kind : Kind) (name : List ℕ) (ttl : Found Span) (resource : Found Data) → IsBodyOf kind (body_of kind name ttl resource)
+unfolding body_of resource_of
+body_of-kind kind name ttl resource =
+    of_choice (IsBodyOf kind) (is_heartbeat name ttl resource) Beat _ tt
+    (of_choice (IsBodyOf kind) (not (is_of_type kind (inside resource))) (Bad 1) _ tt (content_of-kind kind (inside resource) _))
 
 -- ---- the outer name of a good body is a name, and its own
 
@@ -180,16 +182,45 @@ body_with-own_name name None (Err n) own = tt
 body_with-own_name name (Some rule) (Ok c) own = tt
 body_with-own_name name (Some rule) (Err n) own = tt
 
-names_kept : (kind : Kind) (name : List ℕ) (body : Data) → least ((2, breaks_v2 name) ∷ (3, breaks_v3 kind name body) ∷ []) ≡ None
+names_kept : (kind : Kind) (name : List ℕ) (ttl : Found Span) (body : Data) → least (own_rules kind name ttl body) ≡ None
     → (c : Content) → content_of kind body ≡ Ok c → IsOwnName name (Good c)
 unfolding breaks_v3
-names_kept kind name body h c e =
-    let fair = unbroken ((2, breaks_v2 name) ∷ (3, breaks_v3 kind name body) ∷ []) h in
-    content_of-own_name kind name body (named name fair.0) fair.1.0 c e
+names_kept kind name ttl body h c e =
+    let fair = unbroken (own_rules kind name ttl body) h in
+    content_of-own_name kind name body (named name (not_false (is_name name) fair.0)) fair.1.0 c e
 
--- the outer name of a good body is a name, and the cluster's or listener's own
-pub body_of-own_name : (kind : Kind) (name : List ℕ) (body : Data) → IsOwnName name (body_of kind name body)
-unfolding body_of
-body_of-own_name kind name body =
-    of_choice (IsOwnName name) (not (is_of_type kind body)) (Bad 1) _ tt
-    (body_with-own_name name (least ((2, breaks_v2 name) ∷ (3, breaks_v3 kind name body) ∷ [])) (content_of kind body) (names_kept kind name body))
+-- ---- a heartbeat
+
+-- what holds of both branches of a choice, where the test is known in each
+of_test : (P : Body → Type 0) (b : Bool) (x y : Body) → (b ≡ true → P x) → P y → P (if b then x else y)
+of_test P true x y h k = h refl
+of_test P false x y h k = k
+
+heartbeat_named : (name : List ℕ) (ttl : Found Span) (resource : Found Data) → is_heartbeat name ttl resource ≡ true → IsName name
+heartbeat_named name ttl resource h = named name (and_second (is_absent resource && is_positive ttl) (is_name name) h)
+
+heartbeat_bounded : (name : List ℕ) (ttl : Found Span) (resource : Found Data) → is_heartbeat name ttl resource ≡ true → is_positive ttl ≡ true
+heartbeat_bounded name ttl resource h =
+    and_second (is_absent resource) (is_positive ttl) (and_first (is_absent resource && is_positive ttl) (is_name name) h)
+
+-- the outer name of a good body or a heartbeat is a name, and the cluster's or listener's own
+pub body_of-own_name : (kind : Kind) (name : List ℕ) (ttl : Found Span) (resource : Found Data) → IsOwnName name (body_of kind name ttl resource)
+unfolding body_of resource_of
+body_of-own_name kind name ttl resource =
+    of_test (IsOwnName name) (is_heartbeat name ttl resource) Beat _ (heartbeat_named name ttl resource)
+    (of_choice (IsOwnName name) (not (is_of_type kind (inside resource))) (Bad 1) _ tt
+    (body_with-own_name name (least (own_rules kind name ttl (inside resource))) (content_of kind (inside resource))
+    (names_kept kind name ttl (inside resource))))
+
+body_with-beating : (ttl : Bool) (rule : Option ℕ) (content : Result Content ℕ) → IsBeating ttl (body_with rule content)
+body_with-beating ttl None (Ok c) = tt
+body_with-beating ttl None (Err n) = tt
+body_with-beating ttl (Some rule) (Ok c) = tt
+body_with-beating ttl (Some rule) (Err n) = tt
+
+-- a heartbeat has a time to live
+pub body_of-beating : (kind : Kind) (name : List ℕ) (ttl : Found Span) (resource : Found Data) → IsBeating (is_positive ttl) (body_of kind name ttl resource)
+unfolding body_of resource_of
+body_of-beating kind name ttl resource =
+    of_test (IsBeating (is_positive ttl)) (is_heartbeat name ttl resource) Beat _ (heartbeat_bounded name ttl resource)
+    (of_choice (IsBeating (is_positive ttl)) (not (is_of_type kind (inside resource))) (Bad 1) _ tt (body_with-beating (is_positive ttl) _ _))

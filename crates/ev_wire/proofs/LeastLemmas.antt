@@ -8,14 +8,17 @@ use Rattle.ev_types.specs.declared.contents.Kind.TheVariants.{Cds, Eds, Lds, Rds
 use Rattle.ev_types.specs.declared.contents.Content.{Content}
 use Rattle.ev_types.specs.declared.contents.Content.TheVariants.{Cluster, Assignment, Listener, Routes}
 use Rattle.ev_types.specs.declared.contents.Body.{Body}
-use Rattle.ev_types.specs.declared.contents.Body.TheVariants.{Bad}
+use Rattle.ev_types.specs.declared.contents.Body.TheVariants.{Bad, Beat}
+use Rattle.ev_tree.specs.declared.outcome.Found.{Found}
+use Rattle.ev_tree.specs.declared.span.Span.{Span}
+use Rattle.ev_tree.specs.Forms.{inside}
 use Rattle.ev_tree.specs.Rules.{least, judged, IsBroken, IsLeast, AllAbove}
 use Rattle.ev_tree.proofs.Leasts.{least_is_least}
 use Rattle.ev_cluster_json.specs.Clusters.{cluster_rules, cluster_of}
 use Rattle.ev_cluster_json.specs.Assignments.{assignment_rules, rows_of}
 use Rattle.ev_route_json.specs.Tables.{table_rules, table_of}
 use Rattle.ev_listener_json.specs.Listeners.{listener_rules, listener_of}
-use Rattle.ev_wire.specs.Bodies.{breaks_v1, breaks_v2, breaks_v3, body_of, body_with, content_of, content_with, content_rules, form_rules, rule_in}
+use Rattle.ev_wire.specs.Bodies.{is_heartbeat, breaks_v1, own_rules, resource_of, body_of, body_with, content_of, content_with, content_rules, form_rules, rule_in}
 
 -- ---- a rule that is broken stands in one of two lists
 
@@ -58,32 +61,29 @@ lesser own others content value (Some k) (Some n) first second = (
       [ inl h ↦ omega (arith, min-le_left k n, first.1 m h) | inr h ↦ omega (arith, min-le_right k n, second.1 m h) ],
 )
 
-abbrev name_rules : Kind → List ℕ → Data → List (ℕ × Bool)
-name_rules kind name body = (2, breaks_v2 name) ∷ (3, breaks_v3 kind name body) ∷ []
-
-of_name_and_content : (kind : Kind) (name : List ℕ) (body : Data)
-    → IsLeast (name_rules kind name body ++ content_rules kind body) (rule_in (body_with (least (name_rules kind name body)) (content_of kind body)))
+of_own_and_content : (kind : Kind) (name : List ℕ) (ttl : Found Span) (body : Data)
+    → IsLeast (own_rules kind name ttl body ++ content_rules kind body) (rule_in (body_with (least (own_rules kind name ttl body)) (content_of kind body)))
 unfolding content_of
-of_name_and_content Cds name body =
-    lesser (name_rules Cds name body) (cluster_rules body) Cluster (cluster_of body) (least (name_rules Cds name body)) (least (cluster_rules body))
-    (least_is_least (name_rules Cds name body) (search rules)) (least_is_least (cluster_rules body) (search rules))
-of_name_and_content Eds name body =
-    lesser (name_rules Eds name body) (assignment_rules body) Assignment (rows_of body) (least (name_rules Eds name body)) (least (assignment_rules body))
-    (least_is_least (name_rules Eds name body) (search rules)) (least_is_least (assignment_rules body) (search rules))
-of_name_and_content Lds name body =
-    lesser (name_rules Lds name body) (listener_rules body) Listener (listener_of body) (least (name_rules Lds name body)) (least (listener_rules body))
-    (least_is_least (name_rules Lds name body) (search rules)) (least_is_least (listener_rules body) (search rules))
-of_name_and_content Rds name body =
-    lesser (name_rules Rds name body) (table_rules body) Routes (table_of body) (least (name_rules Rds name body)) (least (table_rules body))
-    (least_is_least (name_rules Rds name body) (search rules)) (least_is_least (table_rules body) (search rules))
+of_own_and_content Cds name ttl body =
+    lesser (own_rules Cds name ttl body) (cluster_rules body) Cluster (cluster_of body) (least (own_rules Cds name ttl body)) (least (cluster_rules body))
+    (least_is_least (own_rules Cds name ttl body) (search rules)) (least_is_least (cluster_rules body) (search rules))
+of_own_and_content Eds name ttl body =
+    lesser (own_rules Eds name ttl body) (assignment_rules body) Assignment (rows_of body) (least (own_rules Eds name ttl body)) (least (assignment_rules body))
+    (least_is_least (own_rules Eds name ttl body) (search rules)) (least_is_least (assignment_rules body) (search rules))
+of_own_and_content Lds name ttl body =
+    lesser (own_rules Lds name ttl body) (listener_rules body) Listener (listener_of body) (least (own_rules Lds name ttl body)) (least (listener_rules body))
+    (least_is_least (own_rules Lds name ttl body) (search rules)) (least_is_least (listener_rules body) (search rules))
+of_own_and_content Rds name ttl body =
+    lesser (own_rules Rds name ttl body) (table_rules body) Routes (table_of body) (least (own_rules Rds name ttl body)) (least (table_rules body))
+    (least_is_least (own_rules Rds name ttl body) (search rules)) (least_is_least (table_rules body) (search rules))
 
 -- ---- V1 before all others
 
-all_above_one : (kind : Kind) (name : List ℕ) (body : Data) → AllAbove 1 (name_rules kind name body ++ content_rules kind body)
-all_above_one Cds name body = search rules
-all_above_one Eds name body = search rules
-all_above_one Lds name body = search rules
-all_above_one Rds name body = search rules
+all_above_one : (kind : Kind) (name : List ℕ) (ttl : Found Span) (body : Data) → AllAbove 1 (own_rules kind name ttl body ++ content_rules kind body)
+all_above_one Cds name ttl body = search rules
+all_above_one Eds name ttl body = search rules
+all_above_one Lds name ttl body = search rules
+all_above_one Rds name ttl body = search rules
 
 above_broken : (n m : ℕ) (rules : List (ℕ × Bool)) → AllAbove n rules → IsBroken m rules → n ≤ m
 above_broken n m [] above broken = absurd broken
@@ -114,8 +114,21 @@ by_type : (b : Bool) (rules : List (ℕ × Bool)) (body : Body) → AllAbove 1 r
 by_type true rules body above others = first_broken rules above
 by_type false rules body above others = first_kept rules (rule_in body) others
 
--- the rule that refuses a body is the least that is broken, and a good one breaks none
-pub body_least : (kind : Kind) (name : List ℕ) (body : Data) → IsLeast (form_rules kind name body) (rule_in (body_of kind name body))
+resource_least : (kind : Kind) (name : List ℕ) (ttl : Found Span) (body : Data)
+    → IsLeast ((1, breaks_v1 kind body) ∷ own_rules kind name ttl body ++ content_rules kind body) (rule_in (resource_of kind name ttl body))
+unfolding resource_of
+resource_least kind name ttl body =
+    by_type (breaks_v1 kind body) (own_rules kind name ttl body ++ content_rules kind body) _ (all_above_one kind name ttl body)
+    (of_own_and_content kind name ttl body)
+
+by_heartbeat : (b : Bool) (rules : List (ℕ × Bool)) (body : Body) → IsLeast rules (rule_in body)
+    → IsLeast (if b then [] else rules) (rule_in (if b then Beat else body))
+by_heartbeat true rules body others = λ m broken. broken
+by_heartbeat false rules body others = others
+
+-- the rule that refuses an item is the least that is broken; a good one and a heartbeat break none
+pub body_least : (kind : Kind) (name : List ℕ) (ttl : Found Span) (resource : Found Data)
+    → IsLeast (form_rules kind name ttl resource) (rule_in (body_of kind name ttl resource))
 unfolding body_of
-body_least kind name body =
-    by_type (breaks_v1 kind body) (name_rules kind name body ++ content_rules kind body) _ (all_above_one kind name body) (of_name_and_content kind name body)
+body_least kind name ttl resource =
+    by_heartbeat (is_heartbeat name ttl resource) _ _ (resource_least kind name ttl (inside resource))

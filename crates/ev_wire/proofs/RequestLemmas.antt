@@ -8,7 +8,7 @@ use Rattle.serde_json.specs.Data.{Data, number, unsigned, string, array, object,
 use Rattle.serde_json.specs.View.{items_of}
 use Rattle.serde_json.specs.Written.{has_float, items_have_float, members_have_float}
 use Rattle.ev_types.specs.declared.contents.Request.{Request}
-use Rattle.ev_wire.specs.Requests.{request_tree, type_url, with_text, with_names, with_node, version_members, with_versions, with_error}
+use Rattle.ev_wire.specs.Requests.{request_tree, type_url, with_nonce, with_names, with_node, version_members, with_versions, with_error}
 
 neither : (a b : Bool) → a ≡ false → b ≡ false → (a || b) ≡ false
 neither a b h k = ap (λ c. c || b) h ∙ k
@@ -43,10 +43,11 @@ pub items_have_float-map : {A : Type 0} (f : A → Data) → ((a : A) → has_fl
 items_have_float-map f each [] = refl
 items_have_float-map f each (x ∷ xs) = neither _ _ (each x) (items_have_float-map f each xs)
 
-with_text-whole : (key : List ℕ) (text : Option (List ℕ)) (ms : Members)
-    → members_have_float ms ≡ false → members_have_float (with_text key text ms) ≡ false
-with_text-whole key None ms h = h
-with_text-whole key (Some text) ms h = members_have_float-put key (string text) ms refl h
+with_nonce-whole : (nonce : Option (List ℕ)) (ms : Members)
+    → members_have_float ms ≡ false → members_have_float (with_nonce nonce ms) ≡ false
+with_nonce-whole None ms h = h
+with_nonce-whole (Some []) ms h = h
+with_nonce-whole (Some (byte ∷ bytes)) ms h = members_have_float-put (codes "responseNonce") (string (byte ∷ bytes)) ms refl h
 
 with_names-whole : (key : List ℕ) (names : List (List ℕ)) (ms : Members)
     → members_have_float ms ≡ false → members_have_float (with_names key names ms) ≡ false
@@ -85,7 +86,7 @@ request_tree-whole request =
     with_error-whole request.error _ (with_versions-whole request.versions _ (with_node-whole request.node _
     (with_names-whole (codes "resourceNamesSubscribe") request.subscribe _
     (with_names-whole (codes "resourceNamesUnsubscribe") request.unsubscribe _
-    (with_text-whole (codes "responseNonce") request.nonce _
+    (with_nonce-whole request.nonce _
     (members_have_float-put (codes "typeUrl") (string (type_url request.kind)) no_members refl refl))))))
 
 -- the same of what is equal to a request's tree
@@ -97,3 +98,8 @@ pub versions_given : (versions : List (List ℕ × List ℕ)) (ms : Members) →
     → put (codes "initialResourceVersions") (object (version_members versions no_members)) ms ≡ with_versions versions ms
 versions_given [] ms h = absurd (h refl)
 versions_given (v ∷ vs) ms h = refl
+
+-- a nonce that isn't empty is a member
+pub nonce_given : (nonce : List ℕ) (ms : Members) → length nonce ≢ 0 → put (codes "responseNonce") (string nonce) ms ≡ with_nonce (Some nonce) ms
+nonce_given [] ms h = absurd (h refl)
+nonce_given (byte ∷ bytes) ms h = refl

@@ -1,5 +1,5 @@
 -- What is known of a response once its head, its lists or a resource of it was read.
-use Rattle.std.proofs.Common.{◌≡◌, ℕ, List, [], ◌∷◌, Bool, true, false, map, refl, not, codes, ◌&&◌, ◌||◌, ◌∙◌, sym, ap, subst, Option, Some, None, Result, Ok, Err}
+use Rattle.std.proofs.Common.{◌≡◌, ◌≤◌, ◌==◌, ℕ, zero, suc, arith, length, List, [], ◌∷◌, Bool, true, false, map, refl, not, codes, ◌&&◌, ◌||◌, ◌∙◌, sym, ap, subst, Option, Some, None, Result, Ok, Err}
 use Rattle.std.specs.List.{All, list_all}
 use Rattle.std.specs.Result.{IsErrAnd}
 use Rattle.std.proofs.lemmas.List.Elements.{All-nil, All-cons}
@@ -10,7 +10,7 @@ use Rattle.ev_tree.specs.Forms.{is_wrong, objects_of, texts_of}
 use Rattle.ev_wire.specs.declared.outcome.WireError.{WireError}
 use Rattle.ev_wire.specs.declared.outcome.WireError.TheVariants.{NotResponse, OutOfMemory}
 use Rattle.ev_wire.specs.declared.responses.Head.{Head}
-use Rattle.ev_wire.specs.Responses.{Reads, given_if, is_entry, entries_of, item_of, has_head, has_lists, has_lists_of, kind_of, nonce_of, removed_of, parts_of, response_of}
+use Rattle.ev_wire.specs.Responses.{Reads, given_if, is_entry, entries_of, item_of, has_head, has_lists, has_lists_of, response_kind, nonce_of, removed_of, parts_of, response_of}
 use Rattle.ev_wire.proofs.BodyLemmas.{body_of-kind}
 
 -- ---- values that are given under a test
@@ -52,7 +52,7 @@ given_if-none false x h = refl
 pub items-kind : (kind : Kind) (entries : List Data) → All (λ (item : ItemParts). IsBodyOf kind item.body) (map (item_of kind) entries)
 unfolding item_of
 items-kind kind [] = All-nil (λ (item : ItemParts). IsBodyOf kind item.body)
-items-kind kind (entry ∷ entries) = All-cons (λ (item : ItemParts). IsBodyOf kind item.body) _ _ (body_of-kind kind _ _) (items-kind kind entries)
+items-kind kind (entry ∷ entries) = All-cons (λ (item : ItemParts). IsBodyOf kind item.body) _ _ (body_of-kind kind _ _ _) (items-kind kind entries)
 
 -- ---- the lists
 
@@ -80,17 +80,33 @@ known_response kind nonce tree items removed h is gone =
 
 -- ---- the head
 
+some_byte : (n : ℕ) → not (n == 0) ≡ true → 1 ≤ n
+some_byte zero h = cc
+some_byte (suc n) h = omega arith
+
+second_of : (a b : Bool) → (a && b) ≡ true → b ≡ true
+second_of true b h = h
+second_of false b h = cc
+
+-- a head has a nonce of at least one byte
+pub head_answerable : (tree : Data) (head : Head) → has_head tree ≡ true → record { kind = response_kind tree; nonce = nonce_of tree } ≡ head
+    → 1 ≤ length head.nonce
+unfolding has_head
+head_answerable tree head h e =
+    let P : Head → Type 0 = λ head. 1 ≤ length head.nonce in
+    subst P e (some_byte (length (nonce_of tree)) (second_of _ (not (length (nonce_of tree) == 0)) h))
+
 -- a tree without a head is no response
 pub no_head : (tree : Data) → has_head tree ≡ false → response_of tree ≡ None
 unfolding response_of
-no_head tree h = ap (λ b. given_if (b && has_lists_of (kind_of tree) tree) (parts_of (kind_of tree) (nonce_of tree) tree)) h
+no_head tree h = ap (λ b. given_if (b && has_lists_of (response_kind tree) tree) (parts_of (response_kind tree) (nonce_of tree) tree)) h
 
 -- with the head known, the lists decide
-pub known_head : (tree : Data) (head : Head) → has_head tree ≡ true → record { kind = kind_of tree; nonce = nonce_of tree } ≡ head
+pub known_head : (tree : Data) (head : Head) → has_head tree ≡ true → record { kind = response_kind tree; nonce = nonce_of tree } ≡ head
     → response_of tree ≡ given_if (has_lists_of head.kind tree) (parts_of head.kind head.nonce tree)
 unfolding response_of
 known_head tree head h e =
-    ap (λ b. given_if (b && has_lists_of (kind_of tree) tree) (parts_of (kind_of tree) (nonce_of tree) tree)) h
+    ap (λ b. given_if (b && has_lists_of (response_kind tree) tree) (parts_of (response_kind tree) (nonce_of tree) tree)) h
     ∙ ap (λ (head : Head). given_if (has_lists_of head.kind tree) (parts_of head.kind head.nonce tree)) e
 
 abbrev untyped : List ℕ → List ItemParts → List (List ℕ) → ResponseParts

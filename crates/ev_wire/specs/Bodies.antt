@@ -1,5 +1,6 @@
--- Bodies of resources: the content, or the least form rule that is broken. Each rule is a fact by itself.
-use Rattle.std.specs.Prelude.{ℕ, ◌&&◌, List, [], ◌∷◌, Bool, false, not, min, if◌then◌else◌, Option, Some, None, Result, Ok, Err, codes}
+-- Bodies of the items of a response: the content, or the least form rule that is broken, or a heartbeat. Each rule is
+-- a fact by itself.
+use Rattle.std.specs.Prelude.{ℕ, ◌&&◌, List, [], ◌∷◌, ◌++◌, Bool, true, false, not, min, if◌then◌else◌, Option, Some, None, Result, Ok, Err, codes}
 use Rattle.std.specs.Str.{bytes_eq}
 use Rattle.serde_json.specs.Data.{Data}
 use Rattle.ev_types.specs.declared.contents.Kind.{Kind}
@@ -7,10 +8,12 @@ use Rattle.ev_types.specs.declared.contents.Kind.TheVariants.{Cds, Eds, Lds, Rds
 use Rattle.ev_types.specs.declared.contents.Content.{Content}
 use Rattle.ev_types.specs.declared.contents.Content.TheVariants.{Cluster, Assignment, Listener, Routes}
 use Rattle.ev_types.specs.declared.contents.Body.{Body}
-use Rattle.ev_types.specs.declared.contents.Body.TheVariants.{Good, Bad}
+use Rattle.ev_types.specs.declared.contents.Body.TheVariants.{Good, Bad, Beat}
 use Rattle.ev_tree.specs.declared.outcome.Found.{Found}
 use Rattle.ev_tree.specs.declared.outcome.Found.TheVariants.{Absent, Wrong, Given}
-use Rattle.ev_tree.specs.Forms.{is_object, given_or, text_of}
+use Rattle.ev_tree.specs.declared.span.Span.{Span}
+use Rattle.ev_tree.specs.declared.span.Span.TheVariants.{Negative, Zero, Positive}
+use Rattle.ev_tree.specs.Forms.{is_object, is_absent, is_wrong, given_or, inside, text_of}
 use Rattle.ev_tree.specs.Rules.{least, is_name}
 use Rattle.ev_cluster_json.specs.Clusters.{cluster_reading, cluster_rules}
 use Rattle.ev_cluster_json.specs.Assignments.{assignment_reading, assignment_rules}
@@ -18,11 +21,24 @@ use Rattle.ev_route_json.specs.Tables.{table_reading, table_rules}
 use Rattle.ev_listener_json.specs.Listeners.{listener_reading, listener_rules}
 use Rattle.ev_wire.specs.Requests.{type_url}
 
+-- ---- heartbeats
+
+-- a time to live is given, and is positive
+abbrev pub is_positive : Found Span → Bool
+is_positive (Given Positive) = true
+is_positive ttl = false
+
+-- a heartbeat: no body, a positive time to live, and a name of 1 to 512 bytes
+abbrev pub is_heartbeat : List ℕ → Found Span → Found Data → Bool
+is_heartbeat name ttl resource = is_absent resource && is_positive ttl && is_name name
+
+-- ---- the rules of an item that is no heartbeat
+
 -- an object whose `@type` is that of the kind
 unfoldable pub is_of_type : Kind → Data → Bool
 is_of_type kind body = is_object body && bytes_eq (given_or [] (text_of (codes "@type") body)) (type_url kind)
 
--- V1: the body isn't an object, as where it is absent, or its `@type` isn't the type of the response
+-- V1: the body is absent or isn't an object, or its `@type` isn't the type of the response
 abbrev pub breaks_v1 : Kind → Data → Bool
 breaks_v1 kind body = not (is_of_type kind body)
 
@@ -47,6 +63,17 @@ differs name (Given inner) = not (bytes_eq inner name)
 unfoldable pub breaks_v3 : Kind → List ℕ → Data → Bool
 breaks_v3 kind name body = differs name (text_of (name_field kind) body)
 
+-- V25: a time to live is given, and isn't positive
+abbrev pub is_not_positive : Found Span → Bool
+is_not_positive (Given Negative) = true
+is_not_positive (Given Zero) = true
+is_not_positive ttl = false
+
+-- the rules that an item breaks by its name and its time to live. V6: the time to live has a wrong form.
+abbrev pub own_rules : Kind → List ℕ → Found Span → Data → List (ℕ × Bool)
+own_rules kind name ttl body =
+    (2, breaks_v2 name) ∷ (3, breaks_v3 kind name body) ∷ (6, is_wrong ttl) ∷ (25, is_not_positive ttl) ∷ []
+
 -- what the body reads as, by the reader of its type
 abbrev pub content_with : {A : Type 0} → (A → Content) → Result A ℕ → Result Content ℕ
 content_with content (Ok value) = Ok (content value)
@@ -58,21 +85,26 @@ content_of Eds body = content_with Assignment (assignment_reading body)
 content_of Lds body = content_with Listener (listener_reading body)
 content_of Rds body = content_with Routes (table_reading body)
 
--- the content, where no rule is broken, and else the least of those that are: by the names, and by the content
+-- the content, where no rule is broken, and else the least of those that are: by the item itself, and by its content
 abbrev pub body_with : Option ℕ → Result Content ℕ → Body
 body_with None (Ok content) = Good content
 body_with None (Err rule) = Bad rule
 body_with (Some rule) (Ok content) = Bad rule
 body_with (Some rule) (Err other) = Bad (min rule other)
 
--- The body of a resource with this outer name. What isn't a resource of the type is looked at no further: no
--- rule is less than V1.
-unfoldable pub body_of : Kind → List ℕ → Data → Body
-body_of kind name body =
+-- The body of an item that is no heartbeat. What isn't a resource of the type is looked at no further: no rule is
+-- less than V1.
+unfoldable pub resource_of : Kind → List ℕ → Found Span → Data → Body
+resource_of kind name ttl body =
     if breaks_v1 kind body then Bad 1
-    else body_with (least ((2, breaks_v2 name) ∷ (3, breaks_v3 kind name body) ∷ [])) (content_of kind body)
+    else body_with (least (own_rules kind name ttl body)) (content_of kind body)
 
--- ---- all form rules, of which a body breaks the least
+-- the body of an item of this name and time to live
+unfoldable pub body_of : Kind → List ℕ → Found Span → Found Data → Body
+body_of kind name ttl resource =
+    if is_heartbeat name ttl resource then Beat else resource_of kind name ttl (inside resource)
+
+-- ---- all form rules, of which the least refuses
 
 -- the rules that a reader finds
 abbrev pub content_rules : Kind → Data → List (ℕ × Bool)
@@ -81,12 +113,15 @@ content_rules Eds body = assignment_rules body
 content_rules Lds body = listener_rules body
 content_rules Rds body = table_rules body
 
--- the rules that a resource with this outer name may break, and whether it does. V2 and V3 stand twice where a
--- reader finds them too: a name inside the resource is too long, or its own name is none.
-abbrev pub form_rules : Kind → List ℕ → Data → List (ℕ × Bool)
-form_rules kind name body = (1, breaks_v1 kind body) ∷ (2, breaks_v2 name) ∷ (3, breaks_v3 kind name body) ∷ content_rules kind body
+-- the rules that an item may break, and whether it does: a heartbeat breaks none. Those that a reader finds too, as V2
+-- for a name inside the resource, stand twice.
+abbrev pub form_rules : Kind → List ℕ → Found Span → Found Data → List (ℕ × Bool)
+form_rules kind name ttl resource =
+    if is_heartbeat name ttl resource then []
+    else (1, breaks_v1 kind (inside resource)) ∷ own_rules kind name ttl (inside resource) ++ content_rules kind (inside resource)
 
 -- the rule that refuses a body
 abbrev pub rule_in : Body → Option ℕ
 rule_in (Good content) = None
 rule_in (Bad rule) = Some rule
+rule_in Beat = None

@@ -15,10 +15,11 @@ type_url Eds = codes "type.googleapis.com/envoy.config.endpoint.v3.ClusterLoadAs
 type_url Lds = codes "type.googleapis.com/envoy.config.listener.v3.Listener"
 type_url Rds = codes "type.googleapis.com/envoy.config.route.v3.RouteConfiguration"
 
--- a text as a member, where there is one
-abbrev pub with_text : List ℕ → Option (List ℕ) → Members → Members
-with_text key None members = members
-with_text key (Some text) members = put key (string text) members
+-- the nonce of the response that is answered as a member, where there is one that isn't empty
+abbrev pub with_nonce : Option (List ℕ) → Members → Members
+with_nonce None members = members
+with_nonce (Some []) members = members
+with_nonce (Some (byte ∷ bytes)) members = put (codes "responseNonce") (string (byte ∷ bytes)) members
 
 -- names as a member, where there are any
 abbrev pub with_names : List ℕ → List (List ℕ) → Members → Members
@@ -55,7 +56,7 @@ request_tree request = object
     (with_node request.node
     (with_names (codes "resourceNamesSubscribe") request.subscribe
     (with_names (codes "resourceNamesUnsubscribe") request.unsubscribe
-    (with_text (codes "responseNonce") request.nonce
+    (with_nonce request.nonce
     (put (codes "typeUrl") (string (type_url request.kind)) no_members)))))))
 
 -- a request as text, without spaces

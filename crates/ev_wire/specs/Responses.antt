@@ -7,18 +7,25 @@ use Rattle.serde_json.specs.Data.{Data}
 use Rattle.ev_types.specs.declared.contents.Kind.{Kind}
 use Rattle.ev_types.specs.declared.contents.Kind.TheVariants.{Cds, Eds, Lds, Rds}
 use Rattle.ev_types.specs.Items.{ItemParts, ResponseParts}
-use Rattle.ev_tree.specs.Forms.{is_object, is_wrong, given_or, inside, listed, text_in, field_of, text_of, objects_of, texts_of}
+use Rattle.ev_tree.specs.declared.outcome.Found.{Found}
+use Rattle.ev_tree.specs.declared.span.Span.{Span}
+use Rattle.ev_tree.specs.Forms.{is_object, is_wrong, given_or, listed, text_in, field_of, text_of, duration_of, objects_of, texts_of}
 use Rattle.ev_wire.specs.declared.outcome.WireError.{WireError}
 use Rattle.ev_wire.specs.declared.outcome.WireError.TheVariants.{NotResponse, OutOfMemory}
 use Rattle.ev_wire.specs.Requests.{type_url}
-use Rattle.ev_wire.specs.Bodies.{body_of}
+use Rattle.ev_wire.specs.Bodies.{is_positive, body_of}
 
 -- ---- a resource of a response
 
 abbrev pub entry_name : Data → List ℕ
 entry_name entry = given_or [] (text_of (codes "name") entry)
 
--- its name and its version are texts, where they are given. Its body may be anything: rule V1 judges it.
+-- how long it lives
+unfoldable pub ttl_of : Data → Found Span
+ttl_of entry = duration_of (codes "ttl") entry
+
+-- Its name and its version are texts, where they are given. Its body and its time to live may be anything: rules judge
+-- them.
 unfoldable pub is_entry : Data → Bool
 is_entry entry = not (is_wrong (text_of (codes "name") entry)) && not (is_wrong (text_of (codes "version") entry))
 
@@ -26,7 +33,8 @@ unfoldable pub item_of : Kind → Data → ItemParts
 item_of kind entry = record {
   name = entry_name entry;
   version = given_or [] (text_of (codes "version") entry);
-  body = body_of kind (entry_name entry) (inside (field_of (codes "resource") entry));
+  ttl = is_positive (ttl_of entry);
+  body = body_of kind (entry_name entry) (ttl_of entry) (field_of (codes "resource") entry);
 }
 
 -- ---- the message
@@ -40,8 +48,8 @@ kind_with url =
     else if bytes_eq url (type_url Rds) then Some Rds
     else None
 
-unfoldable pub kind_of : Data → Option Kind
-kind_of tree = kind_with (given_or [] (text_of (codes "type_url") tree))
+unfoldable pub response_kind : Data → Option Kind
+response_kind tree = kind_with (given_or [] (text_of (codes "type_url") tree))
 
 unfoldable pub nonce_of : Data → List ℕ
 nonce_of tree = given_or [] (text_of (codes "nonce") tree)
@@ -72,7 +80,7 @@ has_lists_of None tree = true
 has_lists_of (Some kind) tree = has_lists tree
 
 abbrev pub is_response : Data → Bool
-is_response tree = has_head tree && has_lists_of (kind_of tree) tree
+is_response tree = has_head tree && has_lists_of (response_kind tree) tree
 
 -- the response of this type and nonce
 abbrev pub parts_of : Option Kind → List ℕ → Data → ResponseParts
@@ -90,7 +98,7 @@ given_if test value = if test then Some value else None
 
 -- the response that a tree is, or none where it isn't one
 unfoldable pub response_of : Data → Option ResponseParts
-response_of tree = given_if (is_response tree) (parts_of (kind_of tree) (nonce_of tree) tree)
+response_of tree = given_if (is_response tree) (parts_of (response_kind tree) (nonce_of tree) tree)
 
 -- ---- what a reader answers
 

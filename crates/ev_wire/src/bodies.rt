@@ -3,27 +3,69 @@ ghost use Rattle.serde_json.specs.Data.{Data};
 ghost use Rattle.serde_json.specs.View.{view};
 ghost use Rattle.ev_tree.specs.Forms.{found_map, tree_of};
 ghost use Rattle.ev_tree.specs.Rules.{Reads, IsLeast};
-ghost use Rattle.ev_wire.specs.Bodies.{is_of_type, breaks_v3, differs, content_of, body_with, body_of, form_rules, rule_in};
+ghost use Rattle.ev_tree.specs.declared.outcome.Found.{Found};
+ghost use Rattle.ev_tree.specs.declared.span.Span.{Span};
+ghost use Rattle.ev_wire.specs.Bodies.{is_positive, is_not_positive, is_heartbeat, is_of_type, breaks_v3, differs, content_of, body_with, resource_of, body_of, form_rules, rule_in};
 ghost use Rattle.ev_types.specs.declared.contents.Kind.{Kind};
 
 use crate::kinds::{name_field, type_url};
 use ev_cluster_json::{read_assignment, read_cluster};
 use ev_listener_json::read_listener;
 use ev_route_json::read_routes;
-use ev_tree::{Found, ReadError, is_name, member};
-use ev_types::{Body, Content, Kind};
+use ev_tree::{Found, ReadError, Span, is_name, member};
+use ev_types::{Body, Content, Kind, Shared};
 use serde_json::Value;
 use std::alloc::{AllocError, Global};
 
-/// The body of a resource of this kind and outer name: its content, or the least form rule that it breaks.
-#[tactic(auto, using(crate::proofs::BodyLemmas::no_body), unfolding(crate::specs::Bodies::body_of))]
+// The body of an item of this kind, outer name and time to live: its content, or the least form rule that the item
+// breaks, or a heartbeat.
+#[tactic(auto, unfolding(crate::specs::Bodies::body_of))]
 pub(crate) fn read_body(
     alloc: Global,
     kind: Kind,
     name: &str,
+    ttl: Found<Span>,
+    resource: Found<&Value>,
+) -> Result<Body, AllocError>
+    ensures { IfOk result (λ read. read ≡ body_of kind name.now ttl (found_map (λ v. view v.now) resource.entry)) }
+{
+    if is_heartbeat(name, ttl, resource) {
+        return Ok(Body::Beat);
+    }
+    read_resource(alloc, kind, name, ttl, member::inner(resource))
+}
+
+// Whether an item gives its time to live anew, and nothing else.
+fn is_heartbeat(name: &str, ttl: Found<Span>, resource: Found<&Value>) -> bool
+    ensures { result ≡ is_heartbeat name.now ttl (found_map (λ v. view v.now) resource.entry) }
+{
+    resource.is_absent() & is_positive(ttl) & is_name(name)
+}
+
+// Whether a time to live is given that is positive.
+pub(crate) fn is_positive(ttl: Found<Span>) -> bool
+    ensures { result ≡ is_positive ttl }
+{
+    matches!(ttl, Found::Given(Span::Positive))
+}
+
+// Whether a time to live is given that isn't positive.
+fn is_not_positive(ttl: Found<Span>) -> bool
+    ensures { result ≡ is_not_positive ttl }
+{
+    matches!(ttl, Found::Given(Span::Negative | Span::Zero))
+}
+
+// The body of an item that is no heartbeat.
+#[tactic(auto, using(crate::proofs::BodyLemmas::no_body), unfolding(crate::specs::Bodies::resource_of))]
+fn read_resource(
+    alloc: Global,
+    kind: Kind,
+    name: &str,
+    ttl: Found<Span>,
     body: Option<&Value>,
 ) -> Result<Body, AllocError>
-    ensures { IfOk result (λ read. read ≡ body_of kind name.now (tree_of body.entry)) }
+    ensures { IfOk result (λ read. read ≡ resource_of kind name.now ttl (tree_of body.entry)) }
 {
     let Some(body) = body else {
         return Ok(Body::Bad(1));
@@ -34,6 +76,8 @@ pub(crate) fn read_body(
     let broken = ev_tree::least(&[
         (2, !is_name(name)),
         (3, has_another_name(alloc, kind, name, body)?),
+        (6, ttl.is_wrong()),
+        (25, is_not_positive(ttl)),
     ]);
     match read_content(alloc, kind, body) {
         Ok(content) => Ok(body_with(broken, Ok(content))),
@@ -42,14 +86,15 @@ pub(crate) fn read_body(
     }
 }
 
-/// The rule by which a resource is refused is the least of all form rules that it breaks, and a good one
-/// breaks none: a law of the definitions.
+/// The rule by which an item is refused is the least of all form rules that it breaks; a good one and a heartbeat
+/// break none: a law of the definitions.
 #[tactic(auto, using(crate::proofs::LeastLemmas::body_least))]
 pub fn body_rule_is_least()
-    ensures { (kind : Kind) (name : List ℕ) (body : Data) → IsLeast (form_rules kind name body) (rule_in (body_of kind name body)) }
+    ensures { (kind : Kind) (name : List ℕ) (ttl : Found Span) (resource : Found Data)
+        → IsLeast (form_rules kind name ttl resource) (rule_in (body_of kind name ttl resource)) }
 {}
 
-/// Whether a body is an object whose `@type` is that of the kind.
+// Whether a body is an object whose `@type` is that of the kind.
 #[tactic(auto, unfolding(crate::specs::Bodies::is_of_type))]
 fn is_of_type(alloc: Global, kind: Kind, body: &Value) -> Result<bool, AllocError>
     ensures { IfOk result (λ is. is ≡ is_of_type kind (view body.now)) }
@@ -59,7 +104,7 @@ fn is_of_type(alloc: Global, kind: Kind, body: &Value) -> Result<bool, AllocErro
     Ok(body.is_object() & is_same)
 }
 
-/// Whether a body's own name is another one than this.
+// Whether a body's own name is another one than this.
 #[tactic(auto, unfolding(crate::specs::Bodies::breaks_v3))]
 fn has_another_name(alloc: Global, kind: Kind, name: &str, body: &Value) -> Result<bool, AllocError>
     ensures { IfOk result (λ has. has ≡ breaks_v3 kind name.now (view body.now)) }
@@ -68,6 +113,7 @@ fn has_another_name(alloc: Global, kind: Kind, name: &str, body: &Value) -> Resu
     Ok(differs(name, own))
 }
 
+// Whether another text than the name is found.
 fn differs(name: &str, own: Found<&str>) -> bool
     ensures { result ≡ differs name.now (found_map (λ s. s.now) own.entry) }
 {
@@ -78,20 +124,26 @@ fn differs(name: &str, own: Found<&str>) -> bool
     }
 }
 
-/// The content of a body, by the reader of its kind.
+// The content of a body, by the reader of its kind.
 #[tactic(auto, unfolding(crate::specs::Bodies::content_of))]
 fn read_content(alloc: Global, kind: Kind, body: &Value) -> Result<Content, ReadError>
     ensures { Reads result (content_of kind (view body.now)) }
 {
     match kind {
-        Kind::Cds => Ok(Content::Cluster(read_cluster(alloc, body)?)),
-        Kind::Eds => Ok(Content::Assignment(read_assignment(alloc, body)?)),
-        Kind::Lds => Ok(Content::Listener(read_listener(alloc, body)?)),
-        Kind::Rds => Ok(Content::Routes(read_routes(alloc, body)?)),
+        Kind::Cds => Ok(Content::Cluster(Shared::new(alloc, read_cluster(alloc, body)?)?)),
+        Kind::Eds => Ok(Content::Assignment(Shared::new(
+            alloc,
+            read_assignment(alloc, body)?,
+        )?)),
+        Kind::Lds => Ok(Content::Listener(Shared::new(
+            alloc,
+            read_listener(alloc, body)?,
+        )?)),
+        Kind::Rds => Ok(Content::Routes(Shared::new(alloc, read_routes(alloc, body)?)?)),
     }
 }
 
-/// A body of this content, unless a rule is broken: by its names, or by its content.
+// A body of this content, unless a rule is broken: by its names, or by its content.
 fn body_with(broken: Option<u8>, content: Result<Content, u8>) -> Body
     ensures { result ≡ body_with broken content }
 {

@@ -1,7 +1,7 @@
 ghost use Rattle.std.specs.Prelude.{◌≡◌, map, IfOk, OnOk};
 ghost use Rattle.serde_json.specs.Data.{string, array, object, no_members};
 ghost use Rattle.serde_json.specs.View.{view, members_view, items_of};
-ghost use Rattle.ev_wire.specs.Requests.{request_tree, request_text, with_text, with_names, with_node, with_versions, version_members, with_error};
+ghost use Rattle.ev_wire.specs.Requests.{request_tree, request_text, with_nonce, with_names, with_node, with_versions, version_members, with_error};
 
 use crate::kinds::type_url;
 use ev_types::{Name, Request, Seq, Text};
@@ -29,7 +29,7 @@ pub fn request_value(alloc: Global, request: &Request) -> Result<Value, AllocErr
         "typeUrl",
         json!(in alloc; type_url(request.kind))?,
     )?;
-    put_text(alloc, &mut members, "responseNonce", &request.nonce)?;
+    put_nonce(alloc, &mut members, &request.nonce)?;
     put_names(
         alloc,
         &mut members,
@@ -50,20 +50,21 @@ pub fn request_value(alloc: Global, request: &Request) -> Result<Value, AllocErr
 
 type Members = Map<String, Value>;
 
-fn put_text(
-    alloc: Global,
-    members: &mut Members,
-    key: &str,
-    text: &Option<Text>,
-) -> Result<(), AllocError>
-    ensures { OnOk result (members_view members.new.entries ≡ with_text key.now text.now (members_view members.old.entries)) }
+// Puts the nonce, where there is one that isn't empty.
+#[tactic(auto, using(crate::proofs::RequestLemmas::nonce_given))]
+fn put_nonce(alloc: Global, members: &mut Members, nonce: &Option<Text>) -> Result<(), AllocError>
+    ensures { OnOk result (members_view members.new.entries ≡ with_nonce nonce.now (members_view members.old.entries)) }
 {
-    if let Some(text) = text {
-        put(members, alloc, key, json!(in alloc; text.as_str())?)?;
+    if let Some(nonce) = nonce {
+        let nonce = nonce.as_str();
+        if nonce.len() != 0 {
+            put(members, alloc, "responseNonce", json!(in alloc; nonce)?)?;
+        }
     }
     Ok(())
 }
 
+// Puts names, where there are any.
 fn put_names(
     alloc: Global,
     members: &mut Members,
@@ -78,6 +79,7 @@ fn put_names(
     Ok(())
 }
 
+// Puts the node by its id, where one is given.
 fn put_node(alloc: Global, members: &mut Members, node: &Option<Text>) -> Result<(), AllocError>
     ensures { OnOk result (members_view members.new.entries ≡ with_node node.now (members_view members.old.entries)) }
 {
@@ -92,6 +94,7 @@ fn put_node(alloc: Global, members: &mut Members, node: &Option<Text>) -> Result
     Ok(())
 }
 
+// Puts the versions that are held, where there are any.
 #[tactic(auto, using(crate::proofs::RequestLemmas::versions_given))]
 fn put_versions(
     alloc: Global,
@@ -123,6 +126,7 @@ fn version_values(alloc: Global, versions: &[(Name, Text)]) -> Result<Value, All
     Ok(Value::Object(held))
 }
 
+// Puts the reason of a refusal, where there is one.
 fn put_error(alloc: Global, members: &mut Members, error: &Option<Text>) -> Result<(), AllocError>
     ensures { OnOk result (members_view members.new.entries ≡ with_error error.now (members_view members.old.entries)) }
 {
@@ -133,6 +137,7 @@ fn put_error(alloc: Global, members: &mut Members, error: &Option<Text>) -> Resu
     Ok(())
 }
 
+// An array of names.
 fn name_values(alloc: Global, names: &[Name]) -> Result<Value, AllocError>
     ensures { IfOk result (λ v. view v ≡ array (items_of (map string names.now))) }
 {

@@ -1,11 +1,11 @@
-ghost use Rattle.std.specs.Prelude.{◌≡◌, map, Some, IfOk};
+ghost use Rattle.std.specs.Prelude.{◌≡◌, ◌≤◌, length, map, Some, IfOk};
 ghost use Rattle.std.specs.List.{list_all};
 ghost use Rattle.serde_json.specs.View.{view};
-ghost use Rattle.ev_types.specs.Items.{IsOwnName};
+ghost use Rattle.ev_types.specs.Items.{IsOwnName, IsBeating};
 ghost use Rattle.ev_tree.specs.Forms.{text_in};
-ghost use Rattle.ev_wire.specs.Responses.{Reads, given_if, is_entry, item_of, has_head, kind_of, nonce_of, has_lists, parts_of, response_of};
+ghost use Rattle.ev_wire.specs.Responses.{Reads, given_if, is_entry, item_of, has_head, response_kind, nonce_of, has_lists, parts_of, response_of};
 
-use crate::bodies::read_body;
+use crate::bodies::{is_positive, read_body};
 use crate::kinds::kind_with;
 use crate::outcome::WireError;
 use ev_tree::member;
@@ -17,7 +17,8 @@ use std::alloc::{AllocError, Global};
 /// nonce, its resources and the names of removed ones. All other fields are passed over. Of a type that is none
 /// of the four the type and the nonce alone are read.
 ///
-/// A resource that breaks form rules stays in the response, with the least of them as its body.
+/// A resource that breaks form rules stays in the response, with the least of them as its body. A resource without a
+/// body whose `ttl` is positive is a heartbeat.
 ///
 /// # Errors
 /// `NotResponse` comes where the tree is no object, `nonce` is empty or one of the fields of the message itself
@@ -40,18 +41,18 @@ pub fn read_response(alloc: Global, value: &Value) -> Result<Response, WireError
     }
 }
 
-/// What a response of any type has.
+// What a response of any type has.
 #[derive(Drop)]
 struct Head {
     kind: Option<Kind>,
     nonce: Text,
 }
 
-/// The type and the nonce of a response, or none where they aren't those of one.
-#[tactic(auto, unfolding(crate::specs::Responses::has_head, crate::specs::Responses::kind_of, crate::specs::Responses::nonce_of))]
+// The type and the nonce of a response, or none where they aren't those of one.
+#[tactic(auto, unfolding(crate::specs::Responses::has_head, crate::specs::Responses::response_kind, crate::specs::Responses::nonce_of))]
 fn read_head(alloc: Global, value: &Value) -> Result<Option<Head>, AllocError>
     ensures { IfOk result (λ head. head
-        ≡ given_if (has_head (view value.now)) (record { kind = kind_of (view value.now); nonce = nonce_of (view value.now) })) }
+        ≡ given_if (has_head (view value.now)) (record { kind = response_kind (view value.now); nonce = nonce_of (view value.now) })) }
 {
     let url = member::text(alloc, Some(value), "type_url")?;
     let nonce = member::text(alloc, Some(value), "nonce")?;
@@ -65,9 +66,10 @@ fn read_head(alloc: Global, value: &Value) -> Result<Option<Head>, AllocError>
     }))
 }
 
-/// A response of a type that is read, with its lists.
+// A response of a type that is read, with its lists.
 #[tactic(auto, unfolding(crate::specs::Responses::has_lists))]
 fn read_lists(alloc: Global, kind: Kind, nonce: Text, value: &Value) -> Result<Response, WireError>
+    requires { 1 ≤ length nonce }
     ensures { Reads result (given_if (has_lists (view value.now)) (parts_of (Some kind) nonce (view value.now))) }
 {
     let resources = member::objects(alloc, Some(value), "resources")?;
@@ -85,7 +87,7 @@ fn read_lists(alloc: Global, kind: Kind, nonce: Text, value: &Value) -> Result<R
     })
 }
 
-/// The resources of a response, in order.
+// The resources of a response, in order.
 fn read_items(alloc: Global, kind: Kind, entries: &[Value]) -> Result<Seq<Item>, WireError>
     ensures { Reads result (given_if (list_all is_entry (map view entries.now)) (map (item_of kind) (map view entries.now))) }
 {
@@ -96,8 +98,8 @@ fn read_items(alloc: Global, kind: Kind, entries: &[Value]) -> Result<Seq<Item>,
     Ok(Seq::from_vec(items))
 }
 
-/// A resource of a response.
-#[tactic(auto, unfolding(crate::specs::Responses::is_entry, crate::specs::Responses::item_of))]
+// A resource of a response.
+#[tactic(auto, unfolding(crate::specs::Responses::is_entry, crate::specs::Responses::ttl_of, crate::specs::Responses::item_of))]
 fn read_item(alloc: Global, kind: Kind, entry: &Value) -> Result<Item, WireError>
     ensures { Reads result (given_if (is_entry (view entry.now)) (item_of kind (view entry.now))) }
 {
@@ -107,26 +109,36 @@ fn read_item(alloc: Global, kind: Kind, entry: &Value) -> Result<Item, WireError
         return Err(WireError::NotResponse);
     }
     let name = member::text_or_empty(name);
+    let ttl = member::duration(alloc, Some(entry), "ttl")?;
     let resource = member::field(alloc, Some(entry), "resource")?;
-    let body = read_body(alloc, kind, name, member::inner(resource))?;
+    let body = read_body(alloc, kind, name, ttl, resource)?;
     let version = member::text_or_empty(version);
-    Ok(item(alloc, name, version, body)?)
+    Ok(make_item(alloc, name, version, is_positive(ttl), body)?)
 }
 
-fn item(alloc: Global, name: &str, version: &str, body: Body) -> Result<Item, AllocError>
-    requires { IsOwnName name.now body }
-    ensures { IfOk result (λ item. item ≡ record { name = name.now; version = version.now; body = body }) }
+// The resource of these parts.
+fn make_item(
+    alloc: Global,
+    name: &str,
+    version: &str,
+    ttl: bool,
+    body: Body,
+) -> Result<Item, AllocError>
+    requires named { IsOwnName name.now body }
+    requires beating { IsBeating ttl body }
+    ensures { IfOk result (λ item. item ≡ record { name = name.now; version = version.now; ttl = ttl; body = body }) }
 {
     let name = Text::new(alloc, name)?;
     let version = Text::new(alloc, version)?;
     Ok(Item {
         name,
         version,
+        ttl,
         body,
     })
 }
 
-/// The texts of a list of texts, in order.
+// The texts of a list of texts, in order.
 fn read_texts(alloc: Global, values: &[Value]) -> Result<Seq<Text>, AllocError>
     ensures { IfOk result (λ texts. texts ≡ map text_in (map view values.now)) }
 {

@@ -5,8 +5,8 @@ use std::alloc::{AllocError, Global};
 use std::process::Abort;
 use std::test::Fail;
 
-/// A table of messages, each after what it reads as: `~` stands for `type.googleapis.com/envoy.config.`, and
-/// `^` for a text of 512 bytes.
+// A table of messages, each after what it reads as: `~` stands for `type.googleapis.com/envoy.config.`, and
+// `^` for a text of 512 bytes.
 const MESSAGES: &str = r#"[
   ["cds 7: ", {"typeUrl":"~cluster.v3.Cluster","nonce":"7"}],
   ["cds 7: ", {"type_url":"~cluster.v3.Cluster","nonce":"7","resources":[],"removed_resources":[]}],
@@ -49,14 +49,20 @@ const MESSAGES: &str = r#"[
   ["cds 7: a@=V6 a@=V6 a@=V7 a@=V6 a@=V8 ", {"typeUrl":"~cluster.v3.Cluster","nonce":"7","resources":[{"name":"a","resource":{"@type":"~cluster.v3.Cluster","name":7,"type":"EDS"}},{"name":"a","resource":{"@type":"~cluster.v3.Cluster","name":"a","type":[]}},{"name":"a","resource":{"@type":"~cluster.v3.Cluster","name":"a","type":2}},{"name":"a","resource":{"@type":"~cluster.v3.Cluster","name":"a","type":"3"}},{"name":"a","resource":{"@type":"~cluster.v3.Cluster","name":"a","type":"EDS"}}]}],
   ["cds 7: a@=cluster \"@\n=cluster ", {"typeUrl":"~cluster.v3.Cluster","nonce":"7","resources":[{"name":"b","name":"a","resource":{"@type":"~cluster.v3.Cluster","\u006eame":"a","load_assignment":{"endpoints":[{"lb_endpoints":[{"endpoint":{"address":{"socket_address":{"address":"10.0.0.1","port_value":"80"}}},"load_balancing_weight":"3"}]}]},"connect_timeout":"1.5s"}},{"name":"\"","version":"\n","resource":{"\u0040type":"~cluster.v3.Cluster","name":"\u0022","type":"STATIC"}}]}],
 
+  ["cds 7: a@v1=heartbeat,ttl b@v1=heartbeat,ttl ^@=heartbeat,ttl ", {"typeUrl":"~cluster.v3.Cluster","nonce":"7","resources":[{"name":"a","version":"v1","ttl":"30s"},{"name":"b","version":"v1","ttl":"0.000000001s","resource":null},{"name":"^","ttl":"1s"}]}],
+  ["rds 7: a@=heartbeat,ttl -a ", {"typeUrl":"~route.v3.RouteConfiguration","nonce":"7","resources":[{"name":"a","\u0074tl":"1.5s"}],"removedResources":["a"]}],
+  ["cds 7: a@=V1 b@=V1 c@=V1 d@=V1 e@=V1 @=V1,ttl ^x@=V1,ttl ", {"typeUrl":"~cluster.v3.Cluster","nonce":"7","resources":[{"name":"a"},{"name":"b","ttl":"0s"},{"name":"c","ttl":"-1s"},{"name":"d","ttl":30},{"name":"e","ttl":null,"TTL":"30s"},{"ttl":"30s"},{"name":"^x","ttl":"30s"}]}],
+  ["cds 7: a@=cluster,ttl b@=cluster c@=V25 d@=V25 e@=V6 f@=V6 ", {"typeUrl":"~cluster.v3.Cluster","nonce":"7","resources":[{"name":"a","ttl":"30s","resource":{"@type":"~cluster.v3.Cluster","name":"a"}},{"name":"b","ttl":null,"resource":{"@type":"~cluster.v3.Cluster","name":"b"}},{"name":"c","ttl":"0s","resource":{"@type":"~cluster.v3.Cluster","name":"c"}},{"name":"d","ttl":"-30s","resource":{"@type":"~cluster.v3.Cluster","name":"d"}},{"name":"e","ttl":"30","resource":{"@type":"~cluster.v3.Cluster","name":"e"}},{"name":"f","ttl":{"seconds":30},"resource":{"@type":"~cluster.v3.Cluster","name":"f"}}]}],
+  ["cds 7: a@=V1,ttl b@=V1 c@=V7 d@=V7,ttl e@=V6 f@=V3 g@=V3 @=V2 ", {"typeUrl":"~cluster.v3.Cluster","nonce":"7","resources":[{"name":"a","ttl":"30s","resource":7},{"name":"b","ttl":"0s","resource":{"name":"b"}},{"name":"c","ttl":"0s","resource":{"@type":"~cluster.v3.Cluster","name":"c","type":2}},{"name":"d","ttl":"1s","resource":{"@type":"~cluster.v3.Cluster","name":"d","type":2}},{"name":"e","ttl":"1m","resource":{"@type":"~cluster.v3.Cluster","name":"e","type":2}},{"name":"f","ttl":"0s","resource":{"@type":"~cluster.v3.Cluster","name":"F"}},{"name":"g","ttl":1,"resource":{"@type":"~cluster.v3.Cluster"}},{"ttl":"0s","resource":{"@type":"~cluster.v3.Cluster"}}]}],
+
   ["eds 7: a@1=assignment a@=assignment -b ", {"type_url":"~endpoint.v3.ClusterLoadAssignment","nonce":"7","resources":[{"name":"a","version":"1","resource":{"@type":"~endpoint.v3.ClusterLoadAssignment","cluster_name":"a"}},{"name":"a","resource":{"@type":"~endpoint.v3.ClusterLoadAssignment","clusterName":"a","endpoints":[]}}],"removed_resources":["b"]}],
   ["eds 7: a@=V1 @=V2 a@=V3 a@=V3 a@=V6 a@=V6 a@=V12 ", {"typeUrl":"~endpoint.v3.ClusterLoadAssignment","nonce":"7","resources":[{"name":"a","resource":{"@type":"~cluster.v3.Cluster","clusterName":"a"}},{"resource":{"@type":"~endpoint.v3.ClusterLoadAssignment"}},{"name":"a","resource":{"@type":"~endpoint.v3.ClusterLoadAssignment","name":"a"}},{"name":"a","resource":{"@type":"~endpoint.v3.ClusterLoadAssignment","clusterName":"b","endpoints":7}},{"name":"a","resource":{"@type":"~endpoint.v3.ClusterLoadAssignment","clusterName":7}},{"name":"a","resource":{"@type":"~endpoint.v3.ClusterLoadAssignment","clusterName":"a","cluster_name":"a"}},{"name":"a","resource":{"@type":"~endpoint.v3.ClusterLoadAssignment","clusterName":"a","endpoints":[{"lbEndpoints":[{}]}]}}]}],
   ["lds 7: l@=listener l@=V3 @=V2 l@=V6 l@=V14 l@=V2 l@=V1 ", {"typeUrl":"~listener.v3.Listener","nonce":"7","resources":[{"name":"l","resource":{"@type":"~listener.v3.Listener","name":"l","address":{"socket_address":{"address":"0.0.0.0","port_value":"80"}},"filter_chains":[{"filters":[{"typed_config":{"@type":"type.googleapis.com/envoy.extensions.filters.network.tcp_proxy.v3.TcpProxy","cluster":"a"}}]}]}},{"name":"l","resource":{"@type":"~listener.v3.Listener","name":"m"}},{"resource":{"@type":"~listener.v3.Listener","name":"l"}},{"name":"l","resource":{"@type":"~listener.v3.Listener","name":false}},{"name":"l","resource":{"@type":"~listener.v3.Listener","name":"l"}},{"name":"l","resource":{"@type":"~listener.v3.Listener","name":"m","filterChains":[{"filters":[{"typedConfig":{"@type":"type.googleapis.com/envoy.extensions.filters.network.http_connection_manager.v3.HttpConnectionManager","rds":{}}}]}]}},{"name":"l","resource":{"@type":"~cluster.v3.Cluster","name":"l"}}]}],
   ["rds 7: r@=routes r@=V3 ^x@=V2 r@=V6 r@=V19 ", {"typeUrl":"~route.v3.RouteConfiguration","nonce":"7","resources":[{"name":"r","resource":{"@type":"~route.v3.RouteConfiguration","name":"r","virtual_hosts":[{"name":"h","domains":["*"]}]}},{"name":"r","resource":{"@type":"~route.v3.RouteConfiguration","virtualHosts":[{}]}},{"name":"^x","resource":{"@type":"~route.v3.RouteConfiguration","name":"^x"}},{"name":"r","resource":{"@type":"~route.v3.RouteConfiguration","name":7,"virtualHosts":[{}]}},{"name":"r","resource":{"@type":"~route.v3.RouteConfiguration","name":"r","virtualHosts":[{}]}}]}]
 ]"#;
 
-/// The text of a table, with its abbreviations written out.
-fn written_out(alloc: Global, table: &str) -> Result<String, AllocError> {
+// The text of a table, with its abbreviations written out.
+fn write_out(alloc: Global, table: &str) -> Result<String, AllocError> {
     let mut text = String::new(alloc);
     for c in table.chars() {
         if c == '~' {
@@ -72,6 +78,7 @@ fn written_out(alloc: Global, table: &str) -> Result<String, AllocError> {
     Ok(text)
 }
 
+// The word of a kind in the table.
 fn kind_word(kind: Option<Kind>) -> &'static str {
     match kind {
         Some(Kind::Cds) => "cds ",
@@ -82,6 +89,7 @@ fn kind_word(kind: Option<Kind>) -> &'static str {
     }
 }
 
+// The word of a body in the table.
 fn body_word(alloc: Global, body: &Body) -> Result<String, AllocError> {
     match body {
         Body::Good(Content::Cluster(_)) => String::from_str(alloc, "cluster"),
@@ -89,23 +97,25 @@ fn body_word(alloc: Global, body: &Body) -> Result<String, AllocError> {
         Body::Good(Content::Listener(_)) => String::from_str(alloc, "listener"),
         Body::Good(Content::Routes(_)) => String::from_str(alloc, "routes"),
         Body::Bad(rule) => format!(in alloc; "V{rule}"),
+        Body::Beat => String::from_str(alloc, "heartbeat"),
     }
 }
 
-/// A response in a line: its kind, its nonce, `name@version=body` of each resource and `-name` of each removal.
-fn described(alloc: Global, response: &Response) -> Result<String, AllocError> {
+// A response in a line: its kind, its nonce, `name@version=body` of each resource, with `,ttl` where it has a time to
+// live, and `-name` of each removal.
+fn describe(alloc: Global, response: &Response) -> Result<String, AllocError> {
     let mut text = String::from_str(alloc, kind_word(response.kind))?;
     text.push_str(response.nonce.as_str())?;
     text.push_str(": ")?;
-    for item in response.items.as_slice() {
+    for item in response.items.iter() {
         text.push_str(item.name.as_str())?;
         text.push_str("@")?;
         text.push_str(item.version.as_str())?;
         text.push_str("=")?;
         text.push_str(body_word(alloc, &item.body)?.as_str())?;
-        text.push_str(" ")?;
+        text.push_str(if item.ttl { ",ttl " } else { " " })?;
     }
-    for name in response.removed.as_slice() {
+    for name in response.removed.iter() {
         text.push_str("-")?;
         text.push_str(name.as_str())?;
         text.push_str(" ")?;
@@ -113,10 +123,10 @@ fn described(alloc: Global, response: &Response) -> Result<String, AllocError> {
     Ok(text)
 }
 
-/// What a message reads as, in a line.
-fn told(alloc: Global, message: &Value) -> Result<String, AllocError> {
+// What a message reads as, in a line.
+fn tell(alloc: Global, message: &Value) -> Result<String, AllocError> {
     match read_response(alloc, message) {
-        Ok(response) => described(alloc, &response),
+        Ok(response) => describe(alloc, &response),
         Err(error) => format!(in alloc; "{error}"),
     }
 }
@@ -124,7 +134,7 @@ fn told(alloc: Global, message: &Value) -> Result<String, AllocError> {
 #[test]
 fn messages_read_as_told(rt: HostRuntime) -> Result<(), Fail> {
     let alloc = rt.alloc();
-    let text = written_out(alloc, MESSAGES)?;
+    let text = write_out(alloc, MESSAGES)?;
     let table = Value::from_str(alloc, text.as_str())?;
     let rows = table.as_array().ok_or("a table")?;
     assert!(rt; rows.len() > 40);
@@ -132,7 +142,7 @@ fn messages_read_as_told(rt: HostRuntime) -> Result<(), Fail> {
         let row = row.as_array().ok_or("a row")?;
         let want = row.first().ok_or("a text")?.as_str().ok_or("a text")?;
         let message = row.get(1).ok_or("a message")?;
-        let got = told(alloc, message)?;
+        let got = tell(alloc, message)?;
         assert_eq!(rt; got.as_str(), want, "{message}");
     }
     Ok(())
@@ -145,7 +155,7 @@ fn one_refused_of_two(rt: HostRuntime) -> Result<(), Fail> {
     let json =
         r#"{"typeUrl":"type.googleapis.com/envoy.config.cluster.v3.Cluster","nonce":"7","resources":[{"name":"a","version":"v1","resource":{"@type":"type.googleapis.com/envoy.config.cluster.v3.Cluster","name":"a","type":"STATIC","loadAssignment":{"clusterName":"a","endpoints":[{"lbEndpoints":[{"endpoint":{"address":{"socketAddress":{"address":"10.0.0.1","portValue":80}}}}]}]}}},{"name":"b","version":"v1","resource":{"@type":"type.googleapis.com/envoy.config.cluster.v3.Cluster","name":"b","type":"EDS"}}]}"#;
     let message = Value::from_str(alloc, json)?;
-    let got = told(alloc, &message)?;
+    let got = tell(alloc, &message)?;
     body_rule_is_least();
     assert_eq!(rt; got.as_str(), "cds 7: a@v1=cluster b@v1=V8 ");
     assert_eq!(rt;
@@ -155,6 +165,7 @@ fn one_refused_of_two(rt: HostRuntime) -> Result<(), Fail> {
     Ok(())
 }
 
+// Names of these texts.
 fn names(alloc: Global, texts: &[&str]) -> Result<Seq<Name>, Fail> {
     let mut names = Vec::new(alloc);
     for text in texts {
@@ -163,7 +174,7 @@ fn names(alloc: Global, texts: &[&str]) -> Result<Seq<Name>, Fail> {
     Ok(Seq::from_vec(names))
 }
 
-/// Asserts the text of a request, and that its tree is that of the text.
+// Asserts the text of a request, and that its tree is that of the text.
 fn assert_written(
     rt: &impl Abort,
     alloc: Global,
@@ -217,7 +228,7 @@ fn requests_byte_for_byte(rt: HostRuntime) -> Result<(), Fail> {
         &rt,
         alloc,
         &request,
-        r#"{"errorDetail":{"code":13,"message":"b: V8"},"initialResourceVersions":{"B":"2","z":""},"node":{"id":"a\"\\\n\u0001é/"},"resourceNamesSubscribe":["b","a","b"],"resourceNamesUnsubscribe":["c"],"responseNonce":"","typeUrl":"type.googleapis.com/envoy.config.listener.v3.Listener"}"#,
+        r#"{"errorDetail":{"code":13,"message":"b: V8"},"initialResourceVersions":{"B":"2","z":""},"node":{"id":"a\"\\\n\u0001é/"},"resourceNamesSubscribe":["b","a","b"],"resourceNamesUnsubscribe":["c"],"typeUrl":"type.googleapis.com/envoy.config.listener.v3.Listener"}"#,
     )?;
     Ok(())
 }

@@ -22,7 +22,7 @@ pub invariant_of-result : goal.invariant_of-result
 invariant_of-result c =
     let found = given_if-some _ _ c.in_ok-items.items c.in_ok-items.ensures in
     let P : List ItemParts → Type 0 = All (λ (item : ItemParts). IsBodyOf c.args.kind item.body) in
-    subst P found.1 (items-kind c.args.kind _)
+    record { typed = subst P found.1 (items-kind c.args.kind _); answerable = c.requires }
 
 pub returns : goal.returns
 unfolding entries_of removed_of

@@ -3,7 +3,7 @@ use Rattle.std.proofs.Common.{◌∙◌, sym, ap, Option}
 use Rattle.serde_json.specs.View.{view}
 use Rattle.ev_types.specs.declared.contents.Kind.{Kind}
 use Rattle.ev_wire.specs.Responses.{has_lists_of, parts_of, given_if, response_of}
-use Rattle.ev_wire.proofs.ResponseLemmas.{reads_same, given_if-some, given_if-none, no_head, known_head, unread_response}
+use Rattle.ev_wire.proofs.ResponseLemmas.{reads_same, given_if-some, given_if-none, no_head, head_answerable, known_head, unread_response}
 use Rattle.ev_wire.proofs.responses.read_response.Goals as goal
 
 pub returns-in_default : goal.returns-in_default
@@ -17,6 +17,19 @@ returns-in-Some-kind c =
     (known_head tree c.in-Some.head found.0 found.1
     ∙ ap (λ (kind : Option Kind). given_if (has_lists_of kind tree) (parts_of kind c.in-Some.head.nonce tree)) c.in-Some-kind.is)
     c.read_lists.ensures
+
+pub read_lists-requires : goal.read_lists-requires
+read_lists-requires c =
+    let found = given_if-some _ _ c.in-Some.head (sym c.in_ok-head.ensures ∙ c.in-Some.is) in
+    head_answerable (view c.args.value.now) c.in-Some.head found.0 found.1
+
+pub invariant_of-result : goal.invariant_of-result
+invariant_of-result c =
+    let found = given_if-some _ _ c.in-Some.head (sym c.in_ok-head.ensures ∙ c.in-Some.is) in
+    record {
+      typed = (c.new.ensures.empty, c.new-in-None.ensures.empty);
+      answerable = head_answerable (view c.args.value.now) c.in-Some.head found.0 found.1;
+    }
 
 pub returns-in-None : goal.returns-in-None
 returns-in-None c =
