@@ -11,9 +11,10 @@ use Rattle.ev_io.specs.declared.found.Found.{Found}
 use Rattle.ev_io.specs.declared.found.Found.TheVariants as found
 use Rattle.ev_io.specs.Outside.{Takes}
 use Rattle.ev_io.specs.Found.{IsOpen, IsLine, Finds}
+use Rattle.ev_io.specs.Lines.{lines_of}
 use Rattle.ev_io.specs.LinesState.{LinesState, HasTaken, Grows}
 use Rattle.ev_io.specs.ReadLine.{IsUnfinished, Means, ReadsLine}
-use Rattle.ev_io.proofs.ReadLemmas.{unfinished, taken_more, retold, line_given, gives_line, reaches_end, too_large, too_many, too_long}
+use Rattle.ev_io.proofs.ReadLemmas.{unfinished, taken_more, no_length, lines_kept, retold, line_given, gives_line, reaches_end, too_large, too_many, too_long}
 
 -- what is to be shown of an answer, where `mid` is the state once it is known what stands next
 pub record IsStep (old mid new : LinesState) (before after : List ℕ) (answer : Result LineEnd LineFault) : Type 0 where
@@ -35,8 +36,13 @@ reads_by a d source now old mid new before after answer (more, grows) untouched 
         let going : ¬ (IsTrue old.ended) = going_on n below untouched in
         let before_it : HasTaken (record old { taken = old.taken + n; pending = old.pending ++ take n more }) (bytes ++ take n more) = taken_more old (record old { taken = old.taken + n; pending = old.pending ++ take n more }) bytes (take n more) h refl (omega (arith, length-take n more)) refl (inr going) in
         inr (n, below, short, unfinished (record old { taken = old.taken + n; pending = old.pending ++ take n more }) (bytes ++ take n more) before_it (going, quiet))
+    nothing_more : IsTrue old.ended → ((now ≡ source) × (mid ≡ old)) ⊎ Finds old.taken old.given old.pending old.ended None → more ≡ []
+    nothing_more ended (inl (_, same)) = no_length more (omega (arith, ap (λ (s : LinesState). length s.pending) same, ap length grows.pending, length-append old.pending more))
+    nothing_more ended (inr (going, _)) = absurd (going ended)
+    kept : (bytes : List ℕ) → HasTaken old bytes → take old.given (lines_of (bytes ++ more)) ≡ take old.given (lines_of bytes)
+    kept bytes h = lines_kept old bytes more h (λ ended. nothing_more ended untouched)
     reads : (bytes : List ℕ) → HasTaken old bytes → HasTaken new (bytes ++ more) × Means old new (bytes ++ more) before after answer → ReadsLine old new bytes more before after answer
-    reads bytes h (taken, means) = record { taken = taken; means = means; needed = piece bytes h grows.needed }
+    reads bytes h (taken, means) = record { taken = taken; kept = kept bytes h; means = means; needed = piece bytes h grows.needed }
 
 -- a line was given
 pub step_line : (old mid new : LinesState) (before after : List ℕ) (next : Found) (n : ℕ) → next ≡ found.Line n → mid.told ≡ None → Finds mid.taken mid.given mid.pending mid.ended (Some next) → new ≡ record mid { given = mid.given + 1; pending = drop (n + 1) mid.pending } → after ≡ take n mid.pending → IsStep old mid new before after (Ok Line)

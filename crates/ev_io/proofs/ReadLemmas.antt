@@ -1,7 +1,7 @@
 -- What stands next among the pending bytes, said of all bytes taken.
 use Rattle.std.proofs.Common.{◌≡◌, ◌≢◌, ℕ, suc, ◌+◌, ◌-◌, ◌<◌, ◌≤◌, ◌⊎◌, inl, inr, Bool, IsTrue, List, [], ◌∷◌, ◌++◌, length, take, drop, get_or, Option, None, Some, refl, sym, ap, subst, ◌∙◌, append_assoc, length-append, length-take, add-one, arith}
 use Rattle.std.proofs.lemmas.List.{append-nil, take-append-drop, take_all, drop_all, drop-drop}
-use Rattle.std.proofs.Math.Seq.{take-append-add, drop-append-add, drop-append_seam, take-length}
+use Rattle.std.proofs.Math.Seq.{take-append-add, drop-append-add, drop-append_seam, take-append_seam, take-length}
 use Rattle.ev_io.specs.declared.limits.TheConstants.{MAX_LINE_BYTES, MAX_LINES, MAX_INPUT_BYTES, MAX_PIECE_BYTES}
 use Rattle.ev_io.specs.declared.faults.LineFault.{LineFault}
 use Rattle.ev_io.specs.declared.faults.LineFault.TheVariants.{TooLong, TooMany, TooLarge}
@@ -214,3 +214,36 @@ too_long mid bytes h long =
       (closed_front mid bytes h (omega (arith, long.here)))
       long.here (λ k below. long.none k (omega arith)) (omega arith) (λ _. long.many) (omega (arith, places, long.small))
       (λ feeds. ((λ large. absurd (omega (arith, places, long.small, large))), (λ many. absurd (omega (arith, feeds, long.many, many))), long_at_limit h.front mid.pending long.none))
+
+-- nothing was taken
+pub nothing_taken : (state : LinesState) → state.taken ≡ 0 → state.given ≡ 0 → state.pending ≡ [] → HasTaken state []
+nothing_taken state taken given pending = record {
+  front = [];
+  parts = sym pending;
+  count = taken;
+  lines = given;
+  closed = inl (λ k e. absurd (omega arith));
+  sound = λ place below. absurd (omega arith);
+}
+
+-- what has no length is empty
+pub no_length : (xs : List ℕ) → length xs ≡ 0 → xs ≡ []
+no_length [] e = refl
+no_length (x ∷ xs) e = absurd (omega arith)
+
+-- the lines given stay, where nothing is taken after the end
+pub lines_kept : (old : LinesState) (bytes more : List ℕ) → HasTaken old bytes → (IsTrue old.ended → more ≡ []) → take old.given (lines_of (bytes ++ more)) ≡ take old.given (lines_of bytes)
+lines_kept old bytes more h last = by_end h.closed
+  where
+    front_lines : (rest : List ℕ) → IsClosed h.front → take old.given (lines_of (h.front ++ rest)) ≡ lines_of h.front
+    front_lines rest closed =
+        ap (λ (xs : List (List ℕ)). take old.given xs) (lines_of-append h.front rest closed)
+        ∙ ap (λ (k : ℕ). take k (lines_of h.front ++ lines_of rest)) h.lines
+        ∙ take-append_seam (lines_of h.front) (lines_of rest)
+    by_end : IsClosed h.front ⊎ (IsTrue old.ended × (old.pending ≡ [])) → take old.given (lines_of (bytes ++ more)) ≡ take old.given (lines_of bytes)
+    by_end (inl closed) =
+        ap (λ (xs : List ℕ). take old.given (lines_of (xs ++ more))) h.parts
+        ∙ ap (λ (xs : List ℕ). take old.given (lines_of xs)) (append_assoc h.front old.pending more)
+        ∙ front_lines (old.pending ++ more) closed
+        ∙ sym (ap (λ (xs : List ℕ). take old.given (lines_of xs)) h.parts ∙ front_lines old.pending closed)
+    by_end (inr (ended, _)) = ap (λ (xs : List ℕ). take old.given (lines_of xs)) (ap (λ (xs : List ℕ). bytes ++ xs) (last ended) ∙ append-nil bytes)
