@@ -85,7 +85,11 @@ impl Lines {
     /// `TooLong`, `TooMany` and `TooLarge` where the first fault of the bytes taken stands in the
     /// next line, and `Failed` where a read failed before: each call from then on answers the same.
     /// `OutOfMemory` where there is no memory: the next call goes on with the bytes taken.
-    pub fn read_line<S: Source>(&mut self, source: &mut S, out: &mut Vec<u8>) -> Result<LineEnd, LineFault>
+    pub fn read_line<S: Source>(
+        &mut self,
+        source: &mut S,
+        out: &mut Vec<u8>,
+    ) -> Result<LineEnd, LineFault>
         // What the answer means, whatever bytes were taken before, and what is taken and held at most.
         ensures reads { self.old.told ≡ None → (more : List ℕ) × Takes (S.left source.old) (S.left source.new) more × ((bytes : List ℕ) → HasTaken self.old bytes → ReadsLine self.old self.new bytes more out.old.items out.new.items result) }
         ensures at_end { IsTrue self.new.ended → IsTrue self.old.ended ⊎ IsAtEnd (S.left source.new) }
