@@ -1,5 +1,5 @@
 -- What each answer of a call for the next line means.
-use Rattle.std.proofs.Common.{◌≡◌, ℕ, ◌+◌, ◌-◌, ◌<◌, ◌≤◌, ◌⊎◌, inl, inr, Bool, IsTrue, List, [], ◌++◌, length, take, drop, Option, None, Some, Result, Ok, Err, refl, sym, ap, subst, ◌∙◌, length-append, length-take, arith}
+use Rattle.std.proofs.Common.{◌≡◌, ℕ, ◌+◌, ◌<◌, ◌≤◌, ◌⊎◌, inl, inr, IsTrue, List, [], ◌++◌, length, take, drop, Option, None, Some, Result, Ok, Err, refl, sym, ap, subst, ◌∙◌, length-append, length-take, arith}
 use Rattle.std.specs.Result.{IfErr}
 use Rattle.std.proofs.lemmas.Result.{IfErr-at_err}
 use Rattle.ev_io.specs.declared.limits.TheConstants.{MAX_PIECE_BYTES}
@@ -11,9 +11,10 @@ use Rattle.ev_io.specs.declared.found.Found.{Found}
 use Rattle.ev_io.specs.declared.found.Found.TheVariants as found
 use Rattle.ev_io.specs.Outside.{Takes}
 use Rattle.ev_io.specs.Found.{IsOpen, IsLine, Finds}
+use Rattle.ev_io.specs.Lines.{lines_of}
 use Rattle.ev_io.specs.LinesState.{LinesState, HasTaken, Grows}
 use Rattle.ev_io.specs.ReadLine.{IsUnfinished, Means, ReadsLine}
-use Rattle.ev_io.proofs.ReadLemmas.{unfinished, taken_more, retold, line_given, gives_line, reaches_end, too_large, too_many, too_long}
+use Rattle.ev_io.proofs.ReadLemmas.{unfinished, taken_more, no_length, lines_kept, retold, line_given, gives_line, reaches_end, too_large, too_many, too_long}
 
 -- what is to be shown of an answer, where `mid` is the state once it is known what stands next
 pub record IsStep (old mid new : LinesState) (before after : List ℕ) (answer : Result LineEnd LineFault) : Type 0 where
@@ -26,29 +27,39 @@ reads_by a d source now old mid new before after answer (more, grows) untouched 
     mid_taken : (bytes : List ℕ) → HasTaken old bytes → ((now ≡ source) × (mid ≡ old)) ⊎ Finds old.taken old.given old.pending old.ended None → HasTaken mid (bytes ++ more)
     mid_taken bytes h (inl (_, same)) = taken_more old mid bytes more h grows.pending grows.taken grows.given (inl same)
     mid_taken bytes h (inr (going, _)) = taken_more old mid bytes more h grows.pending grows.taken grows.given (inr going)
+
     going_on : (n : ℕ) → n < length more → ((now ≡ source) × (mid ≡ old)) ⊎ Finds old.taken old.given old.pending old.ended None → ¬ (IsTrue old.ended)
     going_on n below (inl (_, same)) = absurd (omega (arith, ap (λ (s : LinesState). length s.pending) same, ap length grows.pending, length-append old.pending more))
     going_on n below (inr (going, _)) = going
+
     piece : (bytes : List ℕ) → HasTaken old bytes → (more ≡ []) ⊎ ((n : ℕ) × (n < length more) × (length more ≤ n + MAX_PIECE_BYTES) × IsOpen (old.taken + n) old.given (old.pending ++ take n more)) → (more ≡ []) ⊎ ((n : ℕ) × (n < length more) × (length more ≤ n + MAX_PIECE_BYTES) × IsUnfinished old.given old.ended (bytes ++ take n more))
     piece bytes h (inl none) = inl none
     piece bytes h (inr (n, below, short, quiet)) =
         let going : ¬ (IsTrue old.ended) = going_on n below untouched in
         let before_it : HasTaken (record old { taken = old.taken + n; pending = old.pending ++ take n more }) (bytes ++ take n more) = taken_more old (record old { taken = old.taken + n; pending = old.pending ++ take n more }) bytes (take n more) h refl (omega (arith, length-take n more)) refl (inr going) in
         inr (n, below, short, unfinished (record old { taken = old.taken + n; pending = old.pending ++ take n more }) (bytes ++ take n more) before_it (going, quiet))
+
+    nothing_more : IsTrue old.ended → ((now ≡ source) × (mid ≡ old)) ⊎ Finds old.taken old.given old.pending old.ended None → more ≡ []
+    nothing_more ended (inl (_, same)) = no_length more (omega (arith, ap (λ (s : LinesState). length s.pending) same, ap length grows.pending, length-append old.pending more))
+    nothing_more ended (inr (going, _)) = absurd (going ended)
+
+    kept : (bytes : List ℕ) → HasTaken old bytes → take old.given (lines_of (bytes ++ more)) ≡ take old.given (lines_of bytes)
+    kept bytes h = lines_kept old bytes more h (λ ended. nothing_more ended untouched)
+
     reads : (bytes : List ℕ) → HasTaken old bytes → HasTaken new (bytes ++ more) × Means old new (bytes ++ more) before after answer → ReadsLine old new bytes more before after answer
-    reads bytes h (taken, means) = record { taken = taken; means = means; needed = piece bytes h grows.needed }
+    reads bytes h (taken, means) = record { taken = taken; kept = kept bytes h; means = means; needed = piece bytes h grows.needed }
 
 -- a line was given
 pub step_line : (old mid new : LinesState) (before after : List ℕ) (next : Found) (n : ℕ) → next ≡ found.Line n → mid.told ≡ None → Finds mid.taken mid.given mid.pending mid.ended (Some next) → new ≡ record mid { given = mid.given + 1; pending = drop (n + 1) mid.pending } → after ≡ take n mid.pending → IsStep old mid new before after (Ok Line)
 step_line old mid new before after next n is untold finds same text =
     let line : IsLine mid.taken mid.given mid.pending mid.ended n = subst (λ (f : Found). Finds mid.taken mid.given mid.pending mid.ended (Some f)) is finds in
     record {
-  means = λ all given h. (
-    line_given mid new all n h line same,
-    subst (λ (xs : List ℕ). Means old new all before xs (Ok Line)) (sym text)
-      (subst (λ (s : LinesState). Means old s all before (take n mid.pending) (Ok Line)) (sym same) (gives_line old mid all n h line given untold)),
-  );
-}
+      means = λ all given h. (
+        line_given mid new all n h line same,
+        subst (λ (xs : List ℕ). Means old new all before xs (Ok Line)) (sym text)
+            (subst (λ (s : LinesState). Means old s all before (take n mid.pending) (Ok Line)) (sym same) (gives_line old mid all n h line given untold)),
+      );
+    }
 
 -- there was no memory for it
 pub step_no_memory : (old mid new : LinesState) (before after : List ℕ) → mid.told ≡ None → new ≡ mid → after ≡ before → IsStep old mid new before after (Err OutOfMemory)
@@ -101,9 +112,11 @@ step_stopped {R} {Q} old mid before stopped fault answer answered was causes fai
     when_failed : fault ≡ Failed → IsStep old mid mid before before (Err fault)
     when_failed e = subst (λ (f : LineFault). IsStep old mid mid before before (Err f)) (sym e)
         (let h = failed (was ∙ ap Err e) in step_failed old mid before before h.0 h.2 refl)
+
     when_lacking : fault ≡ OutOfMemory → IsStep old mid mid before before (Err fault)
     when_lacking e = subst (λ (f : LineFault). IsStep old mid mid before before (Err f)) (sym e)
         (let h = lacking (was ∙ ap Err e) in step_no_memory old mid mid before before h.0 refl refl)
+
     by_cause : (fault ≡ Failed) ⊎ (fault ≡ OutOfMemory) → IsStep old mid mid before before (Err fault)
     by_cause (inl e) = when_failed e
     by_cause (inr e) = when_lacking e

@@ -1,11 +1,11 @@
 -- Faults in bytes of which the first are the lines given, `front`, and the others pending.
-use Rattle.std.proofs.Common.{◌≡◌, ◌≢◌, ℕ, ◌+◌, ◌-◌, ◌<◌, ◌≤◌, List, [], ◌++◌, length, take, drop, get_or, refl, sym, ap, subst, ◌∙◌, ◌⊎◌, inl, inr, arith, length-append}
+use Rattle.std.proofs.Common.{◌≡◌, ℕ, ◌+◌, ◌-◌, ◌<◌, ◌≤◌, List, ◌++◌, length, take, get_or, sym, ap, subst, ◌∙◌, ◌⊎◌, inl, inr, arith}
 use Rattle.std.proofs.lemmas.List.{get_or_append_left, get_or-append-add, take-append-le}
-use Rattle.std.proofs.Math.Seq.{take-append-add, take-length}
+use Rattle.std.proofs.Math.Seq.{take-append-add}
 use Rattle.std.proofs.lemmas.Bool.{cases_lt}
 use Rattle.ev_io.specs.declared.limits.TheConstants.{MAX_LINE_BYTES, MAX_LINES, MAX_INPUT_BYTES}
 use Rattle.ev_io.specs.Lines.{lines_of, feeds_in, HasNoFeed, IsClosed}
-use Rattle.ev_io.specs.LineFaults.{IsTooLarge, IsTooMany, IsTooLong, HasNoFault, IsSoundUpTo}
+use Rattle.ev_io.specs.LineFaults.{IsTooLong, HasNoFault, IsSoundUpTo}
 use Rattle.ev_io.proofs.LineLemmas.{feeds_in-append, feeds_in-none, feeds_in-closed}
 
 -- further bytes make no fault before them
@@ -16,7 +16,7 @@ sound-append bytes more n within sound = λ place below. here place below (sound
     here place below (small, few, short) = (
       small,
       (λ many. few (subst (λ (xs : List ℕ). MAX_LINES ≤ feeds_in xs) (take-append-le place bytes more (omega arith)) many)),
-      (λ long. short (long.0, (λ k low high feed. long.1 k low high (get_or_append_left bytes more 0 k (omega arith) ∙ feed))))
+      (λ long. short (long.0, (λ k low high feed. long.1 k low high (get_or_append_left bytes more 0 k (omega arith) ∙ feed)))),
     )
 
 -- the line feeds before a pending byte of the next line
@@ -49,8 +49,8 @@ pub long_at_limit : (front pending : List ℕ) → HasNoFeed pending (MAX_LINE_B
 long_at_limit front pending none = (
   omega arith,
   (λ k low high feed.
-    let place : length front + (k - length front) ≡ k = omega arith in
-    none (k - length front) (omega arith) (sym (get_or-append-add front pending (k - length front) 0) ∙ ap (λ (i : ℕ). get_or (front ++ pending) i 0) place ∙ feed)),
+      let place : length front + (k - length front) ≡ k = omega arith in
+      none (k - length front) (omega arith) (sym (get_or-append-add front pending (k - length front) 0) ∙ ap (λ (i : ℕ). get_or (front ++ pending) i 0) place ∙ feed)),
 )
 
 -- a pending byte of the next line without a fault
@@ -70,7 +70,7 @@ sound_further front pending n closed sound none short few small = λ place below
     here place below (inr late) =
         let same : length front + (place - length front) ≡ place = omega arith in
         subst (λ (i : ℕ). HasNoFault (front ++ pending) i) same
-          (sound_at front pending (place - length front) closed (λ k l. none k (omega arith)) (few (omega arith)) (omega arith) (short_within front pending (place - length front) closed (omega arith)))
+        (sound_at front pending (place - length front) closed (λ k l. none k (omega arith)) (few (omega arith)) (omega arith) (short_within front pending (place - length front) closed (omega arith)))
 
 -- and in the line feed behind them
 pub sound_with_feed : (front pending : List ℕ) (n : ℕ) → IsClosed front → IsSoundUpTo (front ++ pending) (length front) → HasNoFeed pending n → get_or pending n 0 ≡ 10 → n ≤ MAX_LINE_BYTES → length (lines_of front) < MAX_LINES → length front + n < MAX_INPUT_BYTES → IsSoundUpTo (front ++ pending) (length front + n + 1)
@@ -81,4 +81,4 @@ sound_with_feed front pending n closed sound none feed short few small = λ plac
     here place below (inr late) =
         let same : length front + n ≡ place = omega arith in
         subst (λ (i : ℕ). HasNoFault (front ++ pending) i) same
-          (sound_at front pending n closed none few small (short_at_feed front pending n feed))
+        (sound_at front pending n closed none few small (short_at_feed front pending n feed))

@@ -27,10 +27,14 @@ grows_both a b d old now new (more, first) (further, then) = (
     both needed (inr (n, below, piece, quiet)) =
         let pending : now.pending ++ take n further ≡ old.pending ++ take (length more + n) (more ++ further) = ap (λ (xs : List ℕ). xs ++ take n further) first.pending ∙ append_assoc old.pending more (take n further) ∙ ap (λ (xs : List ℕ). old.pending ++ xs) (sym (take-append-add more further n)) in
         let count : now.taken + n ≡ old.taken + (length more + n) = omega (arith, first.taken) in
-        inr (length more + n, omega (arith, length-append more further), omega (arith, length-append more further),
+        inr (
+          length more + n,
+          omega (arith, length-append more further),
+          omega (arith, length-append more further),
           subst (λ (xs : List ℕ). IsOpen (old.taken + (length more + n)) old.given xs) pending
-            (subst (λ (k : ℕ). IsOpen k old.given (now.pending ++ take n further)) count
-              (subst (λ (k : ℕ). IsOpen (now.taken + n) k (now.pending ++ take n further)) first.given quiet)))
+              (subst (λ (k : ℕ). IsOpen k old.given (now.pending ++ take n further)) count
+              (subst (λ (k : ℕ). IsOpen (now.taken + n) k (now.pending ++ take n further)) first.given quiet)),
+        )
 
 -- nothing was taken yet
 pub grows_not : (a : Option (List ℕ)) (old : LinesState) → (more : List ℕ) × Grows a a old old more

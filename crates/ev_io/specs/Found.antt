@@ -1,9 +1,8 @@
 -- What stands next in the bytes that were taken and aren't given yet, `pending`. Of all bytes
 -- `taken` were taken, and `given` lines were given.
-use Rattle.std.specs.Prelude.{◌≡◌, ◌≢◌, ℕ, ◌+◌, ◌-◌, ◌<◌, ◌≤◌, ◌⊎◌, Bool, IsTrue, List, [], length, slice_index, Option, None, Some}
+use Rattle.std.specs.Prelude.{◌≡◌, ℕ, ◌+◌, ◌-◌, ◌<◌, ◌≤◌, ◌⊎◌, Bool, IsTrue, List, [], length, slice_index, Option, None, Some}
 use Rattle.ev_io.specs.declared.limits.TheConstants.{MAX_LINE_BYTES, MAX_LINES, MAX_INPUT_BYTES}
-use Rattle.ev_io.specs.declared.faults.LineFault.{LineFault}
-use Rattle.ev_io.specs.declared.faults.LineFault.TheVariants.{TooLong, TooMany, TooLarge, Failed, OutOfMemory}
+use Rattle.ev_io.specs.declared.faults.LineFault.TheVariants.{TooLong, TooMany, TooLarge}
 use Rattle.ev_io.specs.declared.found.Found.{Found}
 use Rattle.ev_io.specs.declared.found.Found.TheVariants as found
 use Rattle.ev_io.specs.Lines.{HasNoFeed}

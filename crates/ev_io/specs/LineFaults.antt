@@ -1,5 +1,5 @@
 -- Which fault of lines stands at which byte of an input. Bytes are counted from 0.
-use Rattle.std.specs.Prelude.{◌≡◌, ◌≢◌, ℕ, ◌+◌, ◌<◌, ◌≤◌, List, length, take, slice_index}
+use Rattle.std.specs.Prelude.{◌≢◌, ℕ, ◌+◌, ◌<◌, ◌≤◌, List, length, take, slice_index}
 use Rattle.ev_io.specs.declared.limits.TheConstants.{MAX_LINE_BYTES, MAX_LINES, MAX_INPUT_BYTES}
 use Rattle.ev_io.specs.declared.faults.LineFault.{LineFault}
 use Rattle.ev_io.specs.declared.faults.LineFault.TheVariants.{TooLong, TooMany, TooLarge, Failed, OutOfMemory}

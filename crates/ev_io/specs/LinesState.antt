@@ -1,6 +1,6 @@
 -- What contracts see of a reader of lines.
 use Rattle.std.specs.Prelude.{◌≡◌, ℕ, ◌+◌, ◌<◌, ◌≤◌, ◌⊎◌, Bool, IsTrue, List, [], ◌++◌, length, take, Option}
-use Rattle.ev_io.specs.declared.limits.TheConstants.{MAX_INPUT_BYTES, MAX_PIECE_BYTES}
+use Rattle.ev_io.specs.declared.limits.TheConstants.{MAX_LINE_BYTES, MAX_INPUT_BYTES, MAX_PIECE_BYTES}
 use Rattle.ev_io.specs.declared.faults.LineFault.{LineFault}
 use Rattle.ev_io.specs.Lines.{lines_of, HasNoFeed, IsClosed}
 use Rattle.ev_io.specs.LineFaults.{IsSoundUpTo}
@@ -26,6 +26,12 @@ pub record HasTaken (state : LinesState) (bytes : List ℕ) : Type 0 where
   pub closed : IsClosed front ⊎ (IsTrue state.ended × (state.pending ≡ []))
   pub sound : IsSoundUpTo bytes (length front)
 
+-- a reader takes at most one byte more than an input may have, and holds at most the longest line
+-- and a piece of the source
+pub record IsWithin (state : LinesState) : Type 0 where
+  pub taken : state.taken ≤ MAX_INPUT_BYTES + 1
+  pub pending : length state.pending ≤ MAX_LINE_BYTES + MAX_PIECE_BYTES
+
 -- what the fields of a reader keep: how many bytes are before the pending ones, how many of these
 -- were searched, how many bytes were taken, the buffer, and what a read puts its bytes into
 pub record IsKept (behind seen count : ℕ) (buffer piece pending : List ℕ) : Type 0 where
@@ -34,6 +40,7 @@ pub record IsKept (behind seen count : ℕ) (buffer piece pending : List ℕ) : 
   pub none : HasNoFeed pending seen
   pub part : length pending ≤ count
   pub at_most : count ≤ MAX_INPUT_BYTES + 1
+  pub short : length pending ≤ MAX_LINE_BYTES + MAX_PIECE_BYTES
   pub given : count ≤ MAX_INPUT_BYTES + length pending
   pub room : length piece ≡ MAX_PIECE_BYTES
 

@@ -58,8 +58,9 @@ Means old new all before after (Err Failed) = FailsToRead old new all × (after 
 Means old new all before after (Err OutOfMemory) = LacksMemory old new × (after ≡ before)
 
 -- a call that was made when `bytes` were taken took `more`: none, or before the last piece of them
--- the bytes were unfinished
+-- the bytes were unfinished. The lines given before stay those of all bytes.
 pub record ReadsLine (old new : LinesState) (bytes more before after : List ℕ) (answer : Result LineEnd LineFault) : Type 0 where
   pub taken : HasTaken new (bytes ++ more)
+  pub kept : take old.given (lines_of (bytes ++ more)) ≡ take old.given (lines_of bytes)
   pub means : Means old new (bytes ++ more) before after answer
   pub needed : (more ≡ []) ⊎ ((n : ℕ) × (n < length more) × (length more ≤ n + MAX_PIECE_BYTES) × IsUnfinished old.given old.ended (bytes ++ take n more))

@@ -37,7 +37,11 @@ pub(crate) fn find_next(
     }
     let room = MAX_INPUT_BYTES - (taken - pending.len());
     if given >= MAX_LINES {
-        let fault = if room == 0 { LineFault::TooLarge } else { LineFault::TooMany };
+        let fault = if room == 0 {
+            LineFault::TooLarge
+        } else {
+            LineFault::TooMany
+        };
         return Some(Found::Fault(fault));
     }
     let length = line_length(pending, searched);

@@ -22,4 +22,6 @@ pub use outside::{Failed, Sink, Source, write_all};
 pub use standard::{StdSink, StdSource};
 
 #[cfg(test)]
+mod line_tests;
+#[cfg(test)]
 mod tests;

@@ -4,7 +4,7 @@ ghost use Rattle.ev_io.specs.declared.limits.TheConstants.{MAX_INPUT_BYTES, MAX_
 ghost use Rattle.ev_io.specs.Outside.{Rose, Takes};
 ghost use Rattle.ev_io.specs.Found.{Finds, IsLine, IsOpen};
 ghost use Rattle.ev_io.specs.declared.faults.LineFault.{LineFault};
-ghost use Rattle.ev_io.specs.LinesState.{HasTaken, Grows};
+ghost use Rattle.ev_io.specs.LinesState.{HasTaken, IsWithin, Grows};
 ghost use Rattle.ev_io.specs.ReadLine.{IsUnfinished, ReadsLine};
 
 use super::faults::{LineEnd, LineFault};
@@ -48,9 +48,14 @@ impl Model for Lines {
 }
 
 impl Lines {
-    /// A reader at an input's first byte.
+    /// A reader at an input's first byte. It is used with one source, which each call gets.
+    ///
+    /// # Errors
+    /// `AllocError` where there is no memory for a piece of the source.
+    #[tactic(auto, using(crate::proofs::ReadLemmas::nothing_taken))]
     pub fn new(alloc: Global) -> Result<Lines, AllocError>
-        ensures { IfOk result (λ lines. lines ≡ record { taken = 0; given = 0; pending = []; ended = false; told = None }) }
+        ensures opens { IfOk result (λ lines. lines ≡ record { taken = 0; given = 0; pending = []; ended = false; told = None }) }
+        ensures taken { IfOk result (λ lines. HasTaken lines []) }
     {
         Ok(Lines {
             buffer: Vec::new(alloc),
@@ -80,11 +85,15 @@ impl Lines {
     /// `TooLong`, `TooMany` and `TooLarge` where the first fault of the bytes taken stands in the
     /// next line, and `Failed` where a read failed before: each call from then on answers the same.
     /// `OutOfMemory` where there is no memory: the next call goes on with the bytes taken.
-    pub fn read_line<S: Source>(&mut self, source: &mut S, out: &mut Vec<u8>) -> Result<LineEnd, LineFault>
-        // What the answer means, whatever bytes were taken before.
+    pub fn read_line<S: Source>(
+        &mut self,
+        source: &mut S,
+        out: &mut Vec<u8>,
+    ) -> Result<LineEnd, LineFault>
+        // What the answer means, whatever bytes were taken before, and what is taken and held at most.
         ensures reads { self.old.told ≡ None → (more : List ℕ) × Takes (S.left source.old) (S.left source.new) more × ((bytes : List ℕ) → HasTaken self.old bytes → ReadsLine self.old self.new bytes more out.old.items out.new.items result) }
         ensures at_end { IsTrue self.new.ended → IsTrue self.old.ended ⊎ IsAtEnd (S.left source.new) }
-        ensures at_most { self.new.taken ≤ MAX_INPUT_BYTES + 1 }
+        ensures at_most { IsWithin self.new }
 
         // A fault is told ever after.
         ensures again { (fault : LineFault) → self.old.told ≡ Some fault → (result ≡ Err fault) × (self.new ≡ self.old) × (source.new ≡ source.old) × (out.new.items ≡ out.old.items) }
@@ -113,9 +122,9 @@ impl Lines {
 
     // What stands next in the bytes taken.
     #[tactic(auto, using(std::proofs::lemmas::List::take_rest))]
-    fn next(&self) -> Option<Found>
+    fn look(&self) -> Option<Found>
         ensures found { Finds self.now.taken self.now.given self.now.pending self.now.ended result }
-        ensures at_most { self.now.taken ≤ MAX_INPUT_BYTES + 1 }
+        ensures at_most { IsWithin self.now }
     {
         find_next(
             &self.buffer[self.start..],
@@ -156,12 +165,12 @@ impl Lines {
         ensures causes { IfErr result (λ fault. (fault ≡ LineFault.Failed) ⊎ (fault ≡ LineFault.OutOfMemory)) }
         ensures untouched { ((source.new ≡ source.old) × (self.new ≡ self.old)) ⊎ Finds self.old.taken self.old.given self.old.pending self.old.ended None }
         ensures at_end { IsTrue self.new.ended → IsTrue self.old.ended ⊎ IsAtEnd (S.left source.new) }
-        ensures at_most { self.new.taken ≤ MAX_INPUT_BYTES + 1 }
+        ensures at_most { IsWithin self.new }
         ensures same_count { OnOk result (S.faults source.new ≡ S.faults source.old) }
         ensures count { S.faults source.old ≤ S.faults source.new }
     {
         'pieces: loop {
-            if let Some(found) = self.next() {
+            if let Some(found) = self.look() {
                 return Ok(found);
             }
             self.take_piece(source)?;
@@ -176,7 +185,7 @@ impl Lines {
         ensures told { OnOk result (self.new.told ≡ None) }
         ensures progress { OnOk result (IsTrue self.new.ended ⊎ (self.old.taken < self.new.taken)) }
         ensures at_end { IsTrue self.new.ended → IsAtEnd (S.left source.new) }
-        ensures at_most { self.new.taken ≤ MAX_INPUT_BYTES + 1 }
+        ensures at_most { IsWithin self.new }
         ensures failed { result ≡ Err LineFault.Failed → (self.new ≡ record self.old { told = Some LineFault.Failed }) × Rose (S.faults source.old) (S.faults source.new) }
         ensures no_memory { result ≡ Err LineFault.OutOfMemory → (self.new ≡ self.old) × (source.new ≡ source.old) }
         ensures causes { IfErr result (λ fault. (fault ≡ LineFault.Failed) ⊎ (fault ≡ LineFault.OutOfMemory)) }
