@@ -108,10 +108,14 @@ def refuse_lone_surrogates(text):
 def words_of(error, text):
     if not text.strip(' \t\r\n'):
         return 'the line is empty' if not text else 'the line has nothing but blanks'
+    if text.startswith('\ufeff'):
+        return 'a byte order mark stands before the JSON'
     if error.pos >= len(text.rstrip(' \t\r\n')):
         return 'the text ends before its JSON does'
     if error.msg == 'Extra data':
         return 'something stands behind the end of the JSON'
+    if error.msg == 'Expecting value':
+        return f'no JSON value begins at {text[error.pos:error.pos + 12]!r}'
     return error.msg[:1].lower() + error.msg[1:]
 
 
@@ -121,7 +125,7 @@ def likely_causes(text):
     if not body:
         return ['an empty line is a line: take it out. A file that ends with two line feeds has one at its end']
     if body.startswith('\ufeff'):
-        return ['a byte order mark (BOM) stands at the begin: save the file as UTF-8 without BOM']
+        return ['the file was saved with a BOM: save it as UTF-8 without one']
     if body.startswith(('#', '//', '/*', ';', '--')):
         return ['a comment: JSON has none, take the line out']
     if body in ('{', '[', '}', ']', '},', '],') or body.endswith(('{', '[', ',')) or re.match(r'"[^"]*"\s*:', body):

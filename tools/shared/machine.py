@@ -5,6 +5,7 @@ serves, what each warming one waits for, what drains. Where its reckoning and th
 proved: the definitions in docs/DEFINITIONS.md and the program decide.
 """
 from .resources import WORD
+from .shown import quoted, shown
 
 EMPTY = ()
 
@@ -31,7 +32,7 @@ class Row:
         return self.content.get('limited', True)
 
     def words(self):
-        return f'{WORD[self.kind]} {self.name!r} (generation {self.number})'
+        return f'{WORD[self.kind]} {quoted(self.name)} (generation {self.number})'
 
 
 class Machine:
@@ -68,10 +69,10 @@ class Machine:
         """What a warming generation still waits for, in words; empty where it is ready."""
         found, name = [], row.depends()
         if name and name not in self.told and not (name in self.timed and row.limited()):
-            found.append(f'{"endpoints" if name[0] == "eds" else "routes"} {name[1]!r}')
+            found.append(f'{"endpoints" if name[0] == "eds" else "routes"} {quoted(name[1])}')
         if row.kind == 'cds' and row.content.get('checked'):
             missing = sorted({host for host, *_ in self.assignment(row) if (row.number, host) not in self.results}, key=str)
-            found += [f'a health result of {address}:{port}' for address, port in missing[:8]]
+            found += [f'a health result of {shown(address)}:{port}' for address, port in missing[:8]]
             if len(missing) > 8:
                 found.append(f'and of {len(missing) - 8} hosts more')
         return found

@@ -28,24 +28,22 @@ def today(kind):
 
 def header(reading):
     if not AUTO and reading.has_auto:
-        yield 'the header\'s member auto is not built yet'
+        yield 'the header\'s member auto'
 
 
 def line(op, response):
     """Why a good line is not taken yet, in words."""
     if op not in BUILT_OPERATIONS:
-        yield f'the operation {op} is not built yet'
+        yield f'the operation {op}'
     if response is None:
         return
     if response.kind not in BUILT_TYPES:
         names = {'eds': 'endpoints', 'lds': 'listeners', 'rds': 'routes', None: 'a type that isn\'t read'}
-        yield f'a response of {names[response.kind]} is not built yet'
+        yield f'responses of {names[response.kind]}'
         return
-    for item in response.items:
-        content = item.content
-        if WAITING_CLUSTERS or response.kind != 'cds' or not content:
-            continue
-        if 'eds' in content:
-            yield f'cluster {item.name!r} has the type EDS: clusters that wait for endpoints are not built yet'
-        elif content['checked']:
-            yield f'cluster {item.name!r} has health checks: clusters that wait for their results are not built yet'
+    contents = [item.content for item in response.items if item.content]
+    if not WAITING_CLUSTERS and response.kind == 'cds':
+        if any('eds' in content for content in contents):
+            yield 'clusters of type EDS, which wait for endpoints'
+        if any('rows' in content and content['checked'] for content in contents):
+            yield 'clusters with health checks, which wait for results'

@@ -132,11 +132,14 @@ def read_header(reading, tree):
     return None
 
 
+JOURNAL_HINT = ['this is a journal and no script: replay takes the script']
+
+
 def header_hints(tree):
     if isinstance(tree, dict) and 'op' in tree:
         return ['the first line is the header: put {"workers":1} before this line']
     if isinstance(tree, dict) and 'format' in tree:
-        return ['this is a journal and no script: replay takes the script']
+        return JOURNAL_HINT
     if isinstance(tree, list):
         return ['one array of all lines: jq -c .[] FILE writes a line for each']
     return []
@@ -254,7 +257,7 @@ def unexpected(name, known, op=None):
 
 def close_match(word, known):
     folded = {name.lower(): name for name in known}
-    found = difflib.get_close_matches(word.lower().replace('_', '')[:100], folded, 1)
+    found = difflib.get_close_matches(word.lower().replace('_', '')[:100], folded, 1, 0.55)
     return f'; did you mean {folded[found[0]]}?' if found else ''
 
 
