@@ -185,7 +185,7 @@ class Machine:
                 self.next += 1
                 made.append(item.name)
             elif verdict == 'kept':
-                self.values[key] = item.content
+                self.values[key] = EMPTY if item.content is None else item.content
                 self.told.add(key)
             elif verdict[0] == 'V' and kind in ('eds', 'rds') and key in self.watched():
                 self.told.add(key)

@@ -48,6 +48,9 @@ def run(main):
     except OSError as error:
         print(f'{name}: {error}', file=sys.stderr)
         status = 4
+    except Exception as error:
+        print(f'{name}: this tool has a mistake: {type(error).__name__}: {shown(error, 200)}. Please report the input', file=sys.stderr)
+        status = 7
     sys.exit(status)
 
 
