@@ -25,6 +25,7 @@ class Item:
     def __init__(self, name, version):
         self.name, self.version = name, version
         self.content, self.beat, self.ttl, self.broken, self.least = None, False, False, [], None
+        self.read = None  # the content as far as it was read, whatever is broken
 
 
 class Response:
@@ -84,7 +85,7 @@ def read_item(kind, url, resource, name, version, path):
             member = 'clusterName' if kind == 'eds' else 'name'
             words = f'is {quoted(inner)}' if inner else 'is missing or empty'
             reader.breaks(3, f'{where}.{member}', f'{words}, and the outer name is {quoted(name)}')
-    item.broken, item.least = reader.broken, reader.least()
+    item.broken, item.least, item.read = reader.broken, reader.least(), item.content
     if item.least:
         item.content = None
     return item
