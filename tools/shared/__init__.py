@@ -1,0 +1,1 @@
+"""What tools/why, tools/explain and tools/check share. No part of warmgate's program, and nothing here is proved."""
