@@ -12,9 +12,6 @@ BUILT_TYPES = {'cds'}
 # Whether clusters that wait are taken: those of type EDS, and those with health checks.
 WAITING_CLUSTERS = False
 
-# Whether the member `ttl` of a resource is read. Today it is passed over, in any form, and a resource without a body is V1.
-TIME_TO_LIVE = False
-
 # Whether the header's member `auto` is taken.
 AUTO = False
 
@@ -44,19 +41,9 @@ def line(op, response):
         names = {'eds': 'endpoints', 'lds': 'listeners', 'rds': 'routes', None: 'a type that isn\'t read'}
         yield f'responses of {names[response.kind]}'
         return
-    contents = [item.read for item in response.items if item.read and not broken_today(item)]
+    contents = [item.read for item in response.items if item.read and not item.broken]
     if not WAITING_CLUSTERS and response.kind == 'cds':
         if any('eds' in content for content in contents):
             yield 'clusters of type EDS, which wait for endpoints'
         if any('rows' in content and content['checked'] for content in contents):
             yield 'clusters with health checks, which wait for results'
-
-
-def broken_today(item):
-    return [path for _, path, _ in item.broken if TIME_TO_LIVE or not path.endswith('].ttl')]
-
-
-def note(message):
-    """What today's program passes over, though the format has it."""
-    if not TIME_TO_LIVE and any(resource.get('ttl') is not None for resource in message.get('resources') or []):
-        yield 'ttl is not built yet: today\'s program passes it over'
