@@ -1,11 +1,9 @@
 ghost use Rattle.std.specs.Prelude.{◌≡◌};
 ghost use Rattle.ev_tree.specs.Scalars.{is_seconds, all_zeros, seconds_span, whole_span, fraction_span, signed_span, span_of, span_at};
 
+use crate::limits::{MAX_FRACTION_DIGITS, MAX_SECONDS, MAX_SECONDS_DIGITS};
 use crate::numbers::is_numeral;
 use crate::span::Span;
-
-/// The most whole seconds of a duration: ten thousand years, as protobuf's `Duration` has it.
-const MOST_SECONDS: u64 = 315_576_000_000;
 
 /// Where the duration lies that a text writes: an optional minus, 1 to 12 digits of whole seconds,
 /// optionally a point and 1 to 9 digits, and `s`.
@@ -51,7 +49,7 @@ fn whole_span(minus: bool, whole: &str) -> Option<Span>
 fn fraction_span(minus: bool, whole: &str, fraction: &str) -> Option<Span>
     ensures { result ≡ fraction_span minus whole.now fraction.now }
 {
-    if is_seconds(whole) && is_numeral(fraction, 9) {
+    if is_seconds(whole) && is_numeral(fraction, MAX_FRACTION_DIGITS) {
         Some(span_at(minus, is_zeros(whole) && is_zeros(fraction)))
     } else {
         None
@@ -73,11 +71,11 @@ fn span_at(minus: bool, zeros: bool) -> Span
 fn is_seconds(whole: &str) -> bool
     ensures { result ≡ is_seconds whole.now }
 {
-    if !is_numeral(whole, 12) {
+    if !is_numeral(whole, MAX_SECONDS_DIGITS) {
         return false;
     }
     match whole.parse::<u64>() {
-        Ok(seconds) => seconds <= MOST_SECONDS,
+        Ok(seconds) => seconds <= MAX_SECONDS,
         Err(_) => false,
     }
 }

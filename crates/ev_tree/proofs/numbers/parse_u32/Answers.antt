@@ -1,6 +1,6 @@
 use Rattle.ev_tree.proofs.Numerals.{u32_text_parsed}
 use Rattle.std.proofs.Common.{sym, ◌∙◌}
-use Rattle.ev_tree.proofs.numbers.parsed_u32.Goals as goal
+use Rattle.ev_tree.proofs.numbers.parse_u32.Goals as goal
 
 pub returns-then-is_numeral : goal.returns-then-is_numeral
 returns-then-is_numeral c =
