@@ -1,6 +1,6 @@
 -- The form rules that a body, or a part of one, breaks, and the least of them. Each rule is a fact about the
 -- tree by itself; the crates of the resources have them.
-use Rattle.std.specs.Prelude.{ℕ, ◌||◌, List, [], ◌∷◌, Bool, true, false, if◌then◌else◌, Option}
+use Rattle.std.specs.Prelude.{ℕ, ◌||◌, List, [], ◌∷◌, Bool, false, if◌then◌else◌, Option}
 use Rattle.std.specs.List.{list_any}
 use Rattle.ev_tree.specs.declared.broken.BrokenRules.{BrokenRules}
 use Rattle.ev_tree.specs.Rules.{least}

@@ -2,31 +2,14 @@
 use Rattle.std.specs.Prelude.{◌||◌, Bool, true, false, not, codes}
 use Rattle.serde_json.specs.Data.{Data}
 use Rattle.ev_tree.specs.declared.broken.BrokenRules.{BrokenRules}
-use Rattle.ev_tree.specs.declared.outcome.Found.{Found}
-use Rattle.ev_tree.specs.declared.outcome.Found.TheVariants.{Absent, Wrong, Given}
-use Rattle.ev_tree.specs.declared.span.Span.{Span}
-use Rattle.ev_tree.specs.declared.span.Span.TheVariants.{Negative, Zero, Positive}
 use Rattle.ev_tree.specs.Forms.{is_wrong, is_given, field_of, object_of, duration_of}
+use Rattle.ev_tree.specs.Spans.{is_negative, is_zero}
 use Rattle.ev_tree.specs.Broken.{none_broken}
 
 -- exactly one of two
 abbrev pub one_of : Bool → Bool → Bool
 one_of true second = not second
 one_of false second = second
-
-abbrev pub is_negative : Found Span → Bool
-is_negative Absent = false
-is_negative Wrong = false
-is_negative (Given Negative) = true
-is_negative (Given Zero) = false
-is_negative (Given Positive) = false
-
-abbrev pub is_zero : Found Span → Bool
-is_zero Absent = false
-is_zero Wrong = false
-is_zero (Given Negative) = false
-is_zero (Given Zero) = true
-is_zero (Given Positive) = false
 
 -- a source that the profile lacks is given, in any form
 abbrev pub has_other_source : Data → Bool

@@ -52,6 +52,7 @@ pub fn socket_address(
     })
 }
 
+// Whether a port is given that is one.
 fn is_port(port: Found<u32>) -> bool
     ensures { result ≡ is_port port }
 {
@@ -61,6 +62,7 @@ fn is_port(port: Found<u32>) -> bool
     }
 }
 
+// The port, or 0 where none is given that is one.
 fn port_or_none(port: Found<u32>) -> u16
     ensures { result ≡ port_or_none port }
 {

@@ -14,6 +14,7 @@ pub fn span(text: &str) -> Option<Span>
     signed_span(text.strip_suffix('s')?)
 }
 
+// Of the seconds, behind a minus or not.
 #[tactic(auto, unfolding(crate::specs::Scalars::signed_span))]
 fn signed_span(text: &str) -> Option<Span>
     ensures { result ≡ signed_span text.now }
@@ -24,6 +25,7 @@ fn signed_span(text: &str) -> Option<Span>
     }
 }
 
+// Of the seconds without a sign, with a point or without.
 #[tactic(auto, unfolding(crate::specs::Scalars::seconds_span))]
 fn seconds_span(minus: bool, text: &str) -> Option<Span>
     ensures { result ≡ seconds_span minus text.now }
@@ -34,6 +36,7 @@ fn seconds_span(minus: bool, text: &str) -> Option<Span>
     }
 }
 
+// Of whole seconds.
 #[tactic(auto, unfolding(crate::specs::Scalars::whole_span))]
 fn whole_span(minus: bool, whole: &str) -> Option<Span>
     ensures { result ≡ whole_span minus whole.now }
@@ -45,6 +48,7 @@ fn whole_span(minus: bool, whole: &str) -> Option<Span>
     }
 }
 
+// Of whole seconds and a fraction.
 #[tactic(auto, unfolding(crate::specs::Scalars::fraction_span))]
 fn fraction_span(minus: bool, whole: &str, fraction: &str) -> Option<Span>
     ensures { result ≡ fraction_span minus whole.now fraction.now }
@@ -56,6 +60,7 @@ fn fraction_span(minus: bool, whole: &str, fraction: &str) -> Option<Span>
     }
 }
 
+// Where a duration lies of this sign whose digits are all zeros or not.
 fn span_at(minus: bool, zeros: bool) -> Span
     ensures { result ≡ span_at minus zeros }
 {
@@ -68,6 +73,7 @@ fn span_at(minus: bool, zeros: bool) -> Span
     }
 }
 
+// Whether a text writes whole seconds that a duration may have.
 fn is_seconds(whole: &str) -> bool
     ensures { result ≡ is_seconds whole.now }
 {
@@ -80,6 +86,7 @@ fn is_seconds(whole: &str) -> bool
     }
 }
 
+// Whether all digits are 0.
 fn is_zeros(digits: &str) -> bool
     ensures { result ≡ all_zeros digits.now }
 {

@@ -33,5 +33,5 @@ pub use outcome::{Found, ReadError};
 pub use readers::{boolean, duration, enumeration, field, list, number32, object, text};
 pub use rules::{first_is_least, is_name, least};
 pub use sources::{ConfigSource, config_source};
-pub use span::Span;
+pub use span::{Span, is_not_positive};
 pub use tables::EnumTable;

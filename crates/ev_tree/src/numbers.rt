@@ -14,6 +14,7 @@ pub fn is_numeral(text: &str, longest: usize) -> bool
     !text.is_empty() && text.len() <= longest && are_digits(text.as_bytes())
 }
 
+// Whether each byte is a digit.
 fn are_digits(bytes: &[u8]) -> bool
     ensures { result ≡ list_all is_ascii_digit bytes.now }
 {

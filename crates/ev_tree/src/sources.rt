@@ -1,11 +1,10 @@
 ghost use Rattle.std.specs.Prelude.{◌≡◌, IfOk};
 ghost use Rattle.ev_tree.specs.Forms.{tree_of};
-ghost use Rattle.ev_tree.specs.Sources.{one_of, is_negative, is_zero, source_broken, source_is_limited};
+ghost use Rattle.ev_tree.specs.Sources.{one_of, source_broken, source_is_limited};
 
 use crate::broken::BrokenRules;
 use crate::member;
-use crate::outcome::Found;
-use crate::span::Span;
+use crate::span::{is_negative, is_zero};
 use serde_json::Value;
 use std::alloc::{AllocError, Global};
 
@@ -47,18 +46,7 @@ pub fn config_source(alloc: Global, source: Option<&Value>) -> Result<ConfigSour
     })
 }
 
-fn is_negative(timeout: Found<Span>) -> bool
-    ensures { result ≡ is_negative timeout }
-{
-    matches!(timeout, Found::Given(Span::Negative))
-}
-
-fn is_zero(timeout: Found<Span>) -> bool
-    ensures { result ≡ is_zero timeout }
-{
-    matches!(timeout, Found::Given(Span::Zero))
-}
-
+// Exactly one of two.
 fn is_one(first: bool, second: bool) -> bool
     ensures { result ≡ one_of first second }
 {

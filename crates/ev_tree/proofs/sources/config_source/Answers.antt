@@ -1,5 +1,6 @@
 use Rattle.std.proofs.Common.{◌∙◌, ap}
-use Rattle.ev_tree.specs.Sources.{source_broken, one_of, is_negative}
+use Rattle.ev_tree.specs.Sources.{source_broken, one_of}
+use Rattle.ev_tree.specs.Spans.{is_negative}
 use Rattle.ev_tree.specs.Forms.{is_wrong}
 use Rattle.ev_tree.proofs.Outcomes.{or_same, not_same}
 use Rattle.ev_tree.proofs.sources.config_source.Goals as goal

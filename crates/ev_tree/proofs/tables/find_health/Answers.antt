@@ -1,7 +1,7 @@
 use Rattle.std.proofs.Common.{codes}
 use Rattle.ev_tree.specs.Scalars.{named_in}
 use Rattle.ev_tree.proofs.Names.{bytes_eq_apart}
-use Rattle.ev_tree.proofs.tables.health_named.Goals as goal
+use Rattle.ev_tree.proofs.tables.find_health.Goals as goal
 
 pub returns-in_default : goal.returns-in_default
 unfolding named_in
