@@ -1,8 +1,8 @@
 use Rattle.std.proofs.Common.{◌∙◌, ap, [], length, nat_eq}
 use Rattle.ev_tree.specs.Forms.{is_wrong, given_or}
 use Rattle.ev_tree.proofs.Outcomes.{or_same}
-use Rattle.ev_route_json.specs.Targets.{entry_of, entry_breaks_v6, entry_breaks_v22, entry_breaks_v23}
-use Rattle.ev_route_json.proofs.targets.look_entry.Goals as goal
+use Rattle.ev_route_json.specs.Targets.{entry_of, entry_broken}
+use Rattle.ev_route_json.proofs.targets.inspect_entry.Goals as goal
 
 pub returns-clause-value : goal.returns-clause-value
 unfolding entry_of
@@ -12,7 +12,7 @@ returns-clause-value c = λ i. record {
 }
 
 pub returns-clause-broken : goal.returns-clause-broken
-unfolding entry_breaks_v6 entry_breaks_v22 entry_breaks_v23
+unfolding entry_broken
 returns-clause-broken c = λ i. record (c.none.ensures i) {
   v6 = or_same (or_same
       (c.is_wrong.ensures ∙ c.in_ok-name.ensures.wrong)

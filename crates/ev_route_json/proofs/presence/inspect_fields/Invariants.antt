@@ -1,7 +1,7 @@
 use Rattle.std.proofs.Common.{◌≡◌, map, take}
 use Rattle.ev_tree.specs.Forms.{tree_of}
 use Rattle.ev_route_json.specs.Presence.{any_given, any_doubled, any_filled}
-use Rattle.ev_route_json.proofs.presence.look_for.Given as goal
+use Rattle.ev_route_json.proofs.presence.inspect_fields.Given as goal
 
 abbrev pub invariant-loop-name : goal.invariant-loop-name
 invariant-loop-name l =
