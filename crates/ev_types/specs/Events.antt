@@ -4,9 +4,9 @@ use Rattle.std.specs.Bool.{Decides}
 use Rattle.ev_types.specs.declared.events.Actor.{Actor}
 use Rattle.ev_types.specs.declared.events.Actor.TheVariants.{Stream, Health as health, Timer, Main, Worker}
 use Rattle.ev_types.specs.declared.events.Event.{Event}
-use Rattle.ev_types.specs.declared.events.Event.TheVariants.{Connect, Disconnect, Response, Health, FetchTimeout, DrainTimeout, Publish, Reap, Accept, Close, Settle}
+use Rattle.ev_types.specs.declared.events.Event.TheVariants.{Connect, Disconnect, Response, Health, FetchTimeout, DrainTimeout, TtlExpired, Publish, Reap, Accept, Close, Settle}
 use Rattle.ev_types.specs.declared.events.Op.{Op}
-use Rattle.ev_types.specs.declared.events.Op.TheVariants.{Connect as word_connect, Disconnect as word_disconnect, Response as word_response, Health as word_health, FetchTimeout as word_fetch_timeout, DrainTimeout as word_drain_timeout, Publish as word_publish, Reap as word_reap, Accept as word_accept, Close as word_close, Settle as word_settle}
+use Rattle.ev_types.specs.declared.events.Op.TheVariants.{Connect as word_connect, Disconnect as word_disconnect, Response as word_response, Health as word_health, FetchTimeout as word_fetch_timeout, DrainTimeout as word_drain_timeout, TtlExpired as word_ttl_expired, Publish as word_publish, Reap as word_reap, Accept as word_accept, Close as word_close, Settle as word_settle}
 
 -- the word of an event
 abbrev pub op_of : Event → Op
@@ -16,6 +16,7 @@ op_of (Response response) = word_response
 op_of (Health cluster host healthy) = word_health
 op_of (FetchTimeout timeout) = word_fetch_timeout
 op_of (DrainTimeout listener) = word_drain_timeout
+op_of (TtlExpired kind name) = word_ttl_expired
 op_of Publish = word_publish
 op_of Reap = word_reap
 op_of (Accept ask) = word_accept
@@ -30,6 +31,7 @@ op_same word_response word_response = true
 op_same word_health word_health = true
 op_same word_fetch_timeout word_fetch_timeout = true
 op_same word_drain_timeout word_drain_timeout = true
+op_same word_ttl_expired word_ttl_expired = true
 op_same word_publish word_publish = true
 op_same word_reap word_reap = true
 op_same word_accept word_accept = true
@@ -45,6 +47,7 @@ op_decides word_response word_response = (λ h. refl, λ e. refl)
 op_decides word_health word_health = (λ h. refl, λ e. refl)
 op_decides word_fetch_timeout word_fetch_timeout = (λ h. refl, λ e. refl)
 op_decides word_drain_timeout word_drain_timeout = (λ h. refl, λ e. refl)
+op_decides word_ttl_expired word_ttl_expired = (λ h. refl, λ e. refl)
 op_decides word_publish word_publish = (λ h. refl, λ e. refl)
 op_decides word_reap word_reap = (λ h. refl, λ e. refl)
 op_decides word_accept word_accept = (λ h. refl, λ e. refl)
@@ -100,6 +103,7 @@ MayMake workers actor (Response response) = IsStream actor
 MayMake workers actor (Health cluster host healthy) = IsHealth actor
 MayMake workers actor (FetchTimeout timeout) = IsTimer actor
 MayMake workers actor (DrainTimeout listener) = IsTimer actor
+MayMake workers actor (TtlExpired kind name) = IsTimer actor
 MayMake workers actor Publish = IsMainSide actor
 MayMake workers actor Reap = IsMainSide actor
 MayMake workers actor (Accept ask) = IsWorkerOf workers actor

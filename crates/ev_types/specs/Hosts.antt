@@ -8,7 +8,3 @@ pub record HostRowParts : Type 0 where
   pub weight : ℕ
   pub priority : ℕ
   pub usable : Bool
-
--- an assignment has fewer rows than this
-abbrev pub row_limit : ℕ
-row_limit = 4294967295

@@ -6,7 +6,7 @@ use Rattle.std.proofs.Common.{ap}
 use lib.Pointwise.{pointwise, pointwise_decides}
 use Rattle.ev_types.specs.declared.contents.Request.{Request}
 use Rattle.ev_types.specs.declared.events.Verdict.{Verdict}
-use Rattle.ev_types.specs.declared.events.Verdict.TheVariants.{New, Same, Kept, Unasked, Refused}
+use Rattle.ev_types.specs.declared.events.Verdict.TheVariants.{New, Same, Kept, Unasked, Renewed, Refused}
 use Rattle.ev_types.specs.declared.events.Answer.{Answer}
 use Rattle.ev_types.specs.declared.events.Answer.TheVariants.{Ignored, Done, Moved, Replied, Version, Unchanged, Reaped, InUse, NoListener, NoRoute, Redirect, NoCluster, NoEndpoint, Local, Served, NotOpen, Settled}
 use Rattle.ev_types.specs.Kinds.{kind_same, kind_decides}
@@ -16,9 +16,8 @@ use Rattle.ev_types.specs.SameHosts.{host_same, host_decides}
 -- both have the same text, or neither has one
 abbrev pub told_same : Option (List ℕ) → Option (List ℕ) → Bool
 told_same None None = true
-told_same None (Some b) = false
-told_same (Some a) None = false
 told_same (Some a) (Some b) = bytes_eq a b
+told_same a b = false
 
 -- the same name with the same version
 abbrev pub named_same : List ℕ × List ℕ → List ℕ × List ℕ → Bool
@@ -36,6 +35,7 @@ verdict_same New New = true
 verdict_same Same Same = true
 verdict_same Kept Kept = true
 verdict_same Unasked Unasked = true
+verdict_same Renewed Renewed = true
 verdict_same (Refused a) (Refused b) = a == b
 verdict_same a b = false
 
@@ -62,9 +62,8 @@ answer_same a b = false
 
 pub told_decides : (a b : Option (List ℕ)) → Decides (told_same a b) (a ≡ b)
 told_decides None None = (λ h. refl, λ e. refl)
-told_decides None (Some b) = (λ h. cc, λ e. cc)
-told_decides (Some a) None = (λ h. cc, λ e. cc)
 told_decides (Some a) (Some b) = decides_as (bytes_decide a b) (λ e. ap Some e) (λ e. cc)
+told_decides a b = (λ h. cc, λ e. cc)
 
 pub named_decides : (a b : List ℕ × List ℕ) → Decides (named_same a b) (a ≡ b)
 named_decides a b = decides_as (both_decide (bytes_decide a.0 b.0) (bytes_decide a.1 b.1)) (λ p. λ i. (p.0 i, p.1 i)) (λ e. (ap (λ (c : List ℕ × List ℕ). c.0) e, ap (λ (c : List ℕ × List ℕ). c.1) e))
@@ -105,6 +104,7 @@ verdict_decides New New = (λ h. refl, λ e. refl)
 verdict_decides Same Same = (λ h. refl, λ e. refl)
 verdict_decides Kept Kept = (λ h. refl, λ e. refl)
 verdict_decides Unasked Unasked = (λ h. refl, λ e. refl)
+verdict_decides Renewed Renewed = (λ h. refl, λ e. refl)
 verdict_decides (Refused a) (Refused b) = decides_as (numbers_decide a b) (λ e. ap Refused e) (λ e. cc)
 verdict_decides a b = (λ h. cc, λ e. cc)
 

@@ -12,9 +12,8 @@ use Rattle.ev_types.specs.SameHosts.{rows_same, rows_decide}
 -- the same assignment, or the same service under the same kind of time limit
 abbrev pub discovery_same : Discovery → Discovery → Bool
 discovery_same (Static a) (Static b) = rows_same a b
-discovery_same (Static a) (Eds service limited) = false
-discovery_same (Eds service limited) (Static b) = false
 discovery_same (Eds service limited) (Eds service' limited') = bytes_eq service service' && bool_same limited limited'
+discovery_same a b = false
 
 -- the same name, discovery and health checking
 abbrev pub cluster_same : Cluster → Cluster → Bool
@@ -22,10 +21,9 @@ cluster_same a b = bytes_eq a.name b.name && discovery_same a.discovery b.discov
 
 pub discovery_decides : (a b : Discovery) → Decides (discovery_same a b) (a ≡ b)
 discovery_decides (Static a) (Static b) = decides_as (rows_decide a b) (λ e. ap Static e) (λ e. cc)
-discovery_decides (Static a) (Eds service limited) = (λ h. cc, λ e. cc)
-discovery_decides (Eds service limited) (Static b) = (λ h. cc, λ e. cc)
 discovery_decides (Eds service limited) (Eds service' limited') =
     decides_as (both_decide (bytes_decide service service') (bool_decides limited limited')) (λ (p, q). λ i. Eds (p i) (q i)) (λ e. (cc, cc))
+discovery_decides a b = (λ h. cc, λ e. cc)
 
 pub cluster_decides : (a b : Cluster) → Decides (cluster_same a b) (a ≡ b)
 cluster_decides a b = decides_as

@@ -13,36 +13,14 @@ use Rattle.ev_types.specs.SameRoutes.{route_table_same, route_table_decides}
 -- the same resource of the same type
 abbrev pub content_same : Content → Content → Bool
 content_same (Cluster a) (Cluster b) = cluster_same a b
-content_same (Cluster a) (Assignment b) = false
-content_same (Cluster a) (Listener b) = false
-content_same (Cluster a) (Routes b) = false
-content_same (Assignment a) (Cluster b) = false
 content_same (Assignment a) (Assignment b) = rows_same a b
-content_same (Assignment a) (Listener b) = false
-content_same (Assignment a) (Routes b) = false
-content_same (Listener a) (Cluster b) = false
-content_same (Listener a) (Assignment b) = false
 content_same (Listener a) (Listener b) = listener_same a b
-content_same (Listener a) (Routes b) = false
-content_same (Routes a) (Cluster b) = false
-content_same (Routes a) (Assignment b) = false
-content_same (Routes a) (Listener b) = false
 content_same (Routes a) (Routes b) = route_table_same a b
+content_same a b = false
 
 pub content_decides : (a b : Content) → Decides (content_same a b) (a ≡ b)
 content_decides (Cluster a) (Cluster b) = decides_as (cluster_decides a b) (λ e. ap Cluster e) (λ e. cc)
-content_decides (Cluster a) (Assignment b) = (λ h. cc, λ e. cc)
-content_decides (Cluster a) (Listener b) = (λ h. cc, λ e. cc)
-content_decides (Cluster a) (Routes b) = (λ h. cc, λ e. cc)
-content_decides (Assignment a) (Cluster b) = (λ h. cc, λ e. cc)
 content_decides (Assignment a) (Assignment b) = decides_as (rows_decide a b) (λ e. ap Assignment e) (λ e. cc)
-content_decides (Assignment a) (Listener b) = (λ h. cc, λ e. cc)
-content_decides (Assignment a) (Routes b) = (λ h. cc, λ e. cc)
-content_decides (Listener a) (Cluster b) = (λ h. cc, λ e. cc)
-content_decides (Listener a) (Assignment b) = (λ h. cc, λ e. cc)
 content_decides (Listener a) (Listener b) = decides_as (listener_decides a b) (λ e. ap Listener e) (λ e. cc)
-content_decides (Listener a) (Routes b) = (λ h. cc, λ e. cc)
-content_decides (Routes a) (Cluster b) = (λ h. cc, λ e. cc)
-content_decides (Routes a) (Assignment b) = (λ h. cc, λ e. cc)
-content_decides (Routes a) (Listener b) = (λ h. cc, λ e. cc)
 content_decides (Routes a) (Routes b) = decides_as (route_table_decides a b) (λ e. ap Routes e) (λ e. cc)
+content_decides a b = (λ h. cc, λ e. cc)

@@ -1,6 +1,7 @@
 -- When hosts and their rows are equal.
-use Rattle.std.specs.Prelude.{Bool, ◌≡◌, ◌&&◌, ◌==◌, List}
+use Rattle.std.specs.Prelude.{Bool, ◌≡◌, ◌&&◌, ◌==◌, ◌++◌, List}
 use Rattle.std.specs.Bool.{Decides}
+use Rattle.std.specs.Hash as fed
 use Rattle.std.specs.Str.{bytes_eq}
 use Rattle.std.proofs.Common.{ap}
 use lib.Pointwise.{pointwise, pointwise_decides}
@@ -11,6 +12,10 @@ use Rattle.ev_types.specs.Same.{bool_same, bool_decides, both_decide, decides_as
 -- the same address and port
 abbrev pub host_same : Host → Host → Bool
 host_same a b = bytes_eq a.address b.address && (a.port == b.port)
+
+-- what a hasher is fed of a host
+abbrev pub host_hash_input : Host → fed.HashWrites
+host_hash_input host = fed.str host.address ++ fed.u16 host.port
 
 -- the same host, weight, priority and use
 abbrev pub host_row_same : HostRowParts → HostRowParts → Bool

@@ -13,14 +13,9 @@ use Rattle.ev_types.specs.SameRoutes.{route_table_same, route_table_decides, tar
 -- the same routes, the same name under the same kind of time limit, or the same target
 abbrev pub serve_same : Serve → Serve → Bool
 serve_same (Rds name limited) (Rds name' limited') = bytes_eq name name' && bool_same limited limited'
-serve_same (Rds name limited) (Inline b) = false
-serve_same (Rds name limited) (Tcp b) = false
-serve_same (Inline a) (Rds name limited) = false
 serve_same (Inline a) (Inline b) = route_table_same a b
-serve_same (Inline a) (Tcp b) = false
-serve_same (Tcp a) (Rds name limited) = false
-serve_same (Tcp a) (Inline b) = false
 serve_same (Tcp a) (Tcp b) = target_same a b
+serve_same a b = false
 
 -- the same name, address and service
 abbrev pub listener_same : Listener → Listener → Bool
@@ -29,14 +24,9 @@ listener_same a b = bytes_eq a.name b.name && host_same a.address b.address && s
 pub serve_decides : (a b : Serve) → Decides (serve_same a b) (a ≡ b)
 serve_decides (Rds name limited) (Rds name' limited') =
     decides_as (both_decide (bytes_decide name name') (bool_decides limited limited')) (λ (p, q). λ i. Rds (p i) (q i)) (λ e. (cc, cc))
-serve_decides (Rds name limited) (Inline b) = (λ h. cc, λ e. cc)
-serve_decides (Rds name limited) (Tcp b) = (λ h. cc, λ e. cc)
-serve_decides (Inline a) (Rds name limited) = (λ h. cc, λ e. cc)
 serve_decides (Inline a) (Inline b) = decides_as (route_table_decides a b) (λ e. ap Inline e) (λ e. cc)
-serve_decides (Inline a) (Tcp b) = (λ h. cc, λ e. cc)
-serve_decides (Tcp a) (Rds name limited) = (λ h. cc, λ e. cc)
-serve_decides (Tcp a) (Inline b) = (λ h. cc, λ e. cc)
 serve_decides (Tcp a) (Tcp b) = decides_as (target_decides a b) (λ e. ap Tcp e) (λ e. cc)
+serve_decides a b = (λ h. cc, λ e. cc)
 
 pub listener_decides : (a b : Listener) → Decides (listener_same a b) (a ≡ b)
 listener_decides a b = decides_as

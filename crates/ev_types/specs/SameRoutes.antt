@@ -27,33 +27,22 @@ weighted_clusters_same a b = pointwise weighted_cluster_same a b
 -- the same cluster, or the same weighted clusters
 abbrev pub target_same : Target → Target → Bool
 target_same (One a) (One b) = bytes_eq a b
-target_same (One a) (Weighted b) = false
-target_same (Weighted a) (One b) = false
 target_same (Weighted a) (Weighted b) = weighted_clusters_same a b
+target_same a b = false
 
 -- the same kind of action, with the same target or status
 abbrev pub action_same : Action → Action → Bool
 action_same (Forward a) (Forward b) = target_same a b
-action_same (Forward a) Redirect = false
-action_same (Forward a) (Local b) = false
-action_same Redirect (Forward b) = false
 action_same Redirect Redirect = true
-action_same Redirect (Local b) = false
-action_same (Local a) (Forward b) = false
-action_same (Local a) Redirect = false
 action_same (Local a) (Local b) = a == b
+action_same a b = false
 
 -- the same kind of match of the same text
 abbrev pub path_match_same : PathMatch → PathMatch → Bool
 path_match_same (Prefix a) (Prefix b) = bytes_eq a b
-path_match_same (Prefix a) (Path b) = false
-path_match_same (Prefix a) (Separated b) = false
-path_match_same (Path a) (Prefix b) = false
 path_match_same (Path a) (Path b) = bytes_eq a b
-path_match_same (Path a) (Separated b) = false
-path_match_same (Separated a) (Prefix b) = false
-path_match_same (Separated a) (Path b) = false
 path_match_same (Separated a) (Separated b) = bytes_eq a b
+path_match_same a b = false
 
 -- the same match and action
 abbrev pub route_same : Route → Route → Bool
@@ -77,31 +66,20 @@ weighted_clusters_decide = pointwise_decides weighted_cluster_decides
 
 pub target_decides : (a b : Target) → Decides (target_same a b) (a ≡ b)
 target_decides (One a) (One b) = decides_as (bytes_decide a b) (λ e. ap One e) (λ e. cc)
-target_decides (One a) (Weighted b) = (λ h. cc, λ e. cc)
-target_decides (Weighted a) (One b) = (λ h. cc, λ e. cc)
 target_decides (Weighted a) (Weighted b) = decides_as (weighted_clusters_decide a b) (λ e. ap Weighted e) (λ e. cc)
+target_decides a b = (λ h. cc, λ e. cc)
 
 pub action_decides : (a b : Action) → Decides (action_same a b) (a ≡ b)
 action_decides (Forward a) (Forward b) = decides_as (target_decides a b) (λ e. ap Forward e) (λ e. cc)
-action_decides (Forward a) Redirect = (λ h. cc, λ e. cc)
-action_decides (Forward a) (Local b) = (λ h. cc, λ e. cc)
-action_decides Redirect (Forward b) = (λ h. cc, λ e. cc)
 action_decides Redirect Redirect = (λ h. refl, λ e. refl)
-action_decides Redirect (Local b) = (λ h. cc, λ e. cc)
-action_decides (Local a) (Forward b) = (λ h. cc, λ e. cc)
-action_decides (Local a) Redirect = (λ h. cc, λ e. cc)
 action_decides (Local a) (Local b) = decides_as (numbers_decide a b) (λ e. ap Local e) (λ e. cc)
+action_decides a b = (λ h. cc, λ e. cc)
 
 pub path_match_decides : (a b : PathMatch) → Decides (path_match_same a b) (a ≡ b)
 path_match_decides (Prefix a) (Prefix b) = decides_as (bytes_decide a b) (λ e. ap Prefix e) (λ e. cc)
-path_match_decides (Prefix a) (Path b) = (λ h. cc, λ e. cc)
-path_match_decides (Prefix a) (Separated b) = (λ h. cc, λ e. cc)
-path_match_decides (Path a) (Prefix b) = (λ h. cc, λ e. cc)
 path_match_decides (Path a) (Path b) = decides_as (bytes_decide a b) (λ e. ap Path e) (λ e. cc)
-path_match_decides (Path a) (Separated b) = (λ h. cc, λ e. cc)
-path_match_decides (Separated a) (Prefix b) = (λ h. cc, λ e. cc)
-path_match_decides (Separated a) (Path b) = (λ h. cc, λ e. cc)
 path_match_decides (Separated a) (Separated b) = decides_as (bytes_decide a b) (λ e. ap Separated e) (λ e. cc)
+path_match_decides a b = (λ h. cc, λ e. cc)
 
 pub route_decides : (a b : Route) → Decides (route_same a b) (a ≡ b)
 route_decides a b = decides_as (both_decide (path_match_decides a.path b.path) (action_decides a.action b.action))

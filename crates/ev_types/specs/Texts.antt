@@ -1,11 +1,8 @@
 -- Texts and names, as lists of bytes.
 use Rattle.std.specs.Prelude.{ℕ, ◌≤◌, List, length}
-
--- the greatest length of a name in bytes
-abbrev pub max_name_length : ℕ
-max_name_length = 512
+use Rattle.ev_types.specs.declared.limits.TheConstants.{MAX_NAME_LENGTH}
 
 -- a name has 1 to 512 bytes
 pub record IsName (bytes : List ℕ) : Type 0 where
   pub given : 1 ≤ length bytes
-  pub short : length bytes ≤ max_name_length
+  pub short : length bytes ≤ MAX_NAME_LENGTH

@@ -1,9 +1,11 @@
-use crate::{Assignment, Cluster, Listener, Name, NameError, RouteTable, Seq, Text, TryCopy};
+use crate::{
+    Assignment, Cluster, Listener, Name, NameError, RouteTable, Seq, Shared, Text, TryCopy,
+};
 use std::alloc::{AllocError, Global};
 use std::marker::Model;
 
 /// The four types of resource, named by the services that bring them.
-#[derive(Clone, Copy, Debug, PartialEq, Eq)]
+#[derive(Clone, Copy, Debug, Hash)]
 pub enum Kind {
     /// Clusters.
     Cds,
@@ -33,13 +35,33 @@ impl Kind {
     }
 }
 
-/// What a resource of one of the four types says.
+impl PartialEq for Kind {
+    ghost use Rattle.std.specs.Cmp.{decided, partial_equiv_from_equiv};
+    ghost use Rattle.ev_types.specs.Kinds.{kind_same, kind_decides};
+
+    ghost eq = { kind_same };
+
+    ghost laws = { partial_equiv_from_equiv (decided kind_same kind_decides) };
+
+    fn eq(&self, other: &Kind) -> bool {
+        self.is(*other)
+    }
+}
+
+impl Eq for Kind {
+    ghost use Rattle.std.specs.Cmp.{decided};
+    ghost use Rattle.ev_types.specs.Kinds.{kind_same, kind_decides};
+
+    ghost laws = { decided kind_same kind_decides };
+}
+
+/// What a resource of one of the four types says. It is shared: a copy takes no memory.
 #[derive(Drop)]
 pub enum Content {
-    Cluster(Cluster),
-    Assignment(Assignment),
-    Listener(Listener),
-    Routes(RouteTable),
+    Cluster(Shared<Cluster>),
+    Assignment(Shared<Assignment>),
+    Listener(Shared<Listener>),
+    Routes(Shared<RouteTable>),
 }
 
 impl TryCopy for Content {
@@ -79,11 +101,16 @@ impl Eq for Content {
     ghost laws = { decided content_same content_decides };
 }
 
-/// The body of a resource: its content, or the least form rule that it breaks.
+/// The body of a resource: its content, or the least form rule that it breaks, or a heartbeat: no body at all, beside a
+/// time to live that is given anew.
 #[derive(Drop)]
 pub enum Body {
+    /// What the resource says.
     Good(Content),
+    /// The number of the least rule that the resource breaks.
     Bad(u8),
+    /// No body: the time to live of what is held is given anew.
+    Beat,
 }
 
 impl TryCopy for Body {
@@ -91,36 +118,40 @@ impl TryCopy for Body {
         match self {
             Body::Good(content) => Ok(Body::Good(content.copy(alloc)?)),
             Body::Bad(rule) => Ok(Body::Bad(*rule)),
+            Body::Beat => Ok(Body::Beat),
         }
     }
 }
 
 /// A resource of a response, with its outer name and its version as they came.
-/// Where the body is good, the name has 1 to 512 bytes and is the cluster's or listener's own.
+/// Where the body is good or a heartbeat, the name has 1 to 512 bytes; a good body of a cluster or listener has it as its own.
+/// A heartbeat has a time to live.
 #[derive(Drop)]
 pub struct Item {
     pub name: Text,
     pub version: Text,
+    /// Whether a time to live is given that is positive.
+    pub ttl: bool,
     pub body: Body,
 }
 
 impl Model for Item {
-    ghost use Rattle.ev_types.specs.Items.{ItemParts, IsOwnName};
+    ghost use Rattle.ev_types.specs.Items.{ItemParts, IsItem};
 
     ghost Value = { ItemParts };
 
-    ghost view = { λ i. record { name = i.name; version = i.version; body = i.body } };
+    ghost view = { λ i. record { name = i.name; version = i.version; ttl = i.ttl; body = i.body } };
 
-    ghost invariant = { λ i. IsOwnName i.name i.body };
+    ghost invariant = { λ i. IsItem record { name = i.name; version = i.version; ttl = i.ttl; body = i.body } };
 }
 
 impl Item {
     ghost use Rattle.std.specs.Prelude.{◌≡◌, IfOk};
-    ghost use Rattle.ev_types.specs.Items.{IsGood};
+    ghost use Rattle.ev_types.specs.Items.{IsNamed};
 
-    /// The outer name of a resource with a good body, as the name that it is.
+    /// The outer name of a resource whose body is good or a heartbeat, as the name that it is.
     pub fn resource_name(&self, alloc: Global) -> Result<Name, AllocError>
-        requires { IsGood self.now.body }
+        requires { IsNamed self.now.body }
         ensures { IfOk result (λ name. name ≡ self.now.name) }
     {
         let _ = &self.body;
@@ -137,13 +168,14 @@ impl TryCopy for Item {
         Ok(Item {
             name: self.name.copy(alloc)?,
             version: self.version.copy(alloc)?,
+            ttl: self.ttl,
             body: self.body.copy(alloc)?,
         })
     }
 }
 
 /// A response of the incremental protocol. Where its type is none of the four, both lists are empty;
-/// a good body has the content of its type.
+/// a good body has the content of its type. Its nonce has at least one byte.
 #[derive(Drop)]
 pub struct Response {
     /// The type, or `None` for one that isn't read.

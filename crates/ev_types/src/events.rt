@@ -1,4 +1,4 @@
-use crate::{FetchTimeout, Gen, Host, Name, Request, Response, Seq, Text, TryCopy};
+use crate::{FetchTimeout, Gen, Host, Kind, Name, Request, Response, Seq, Text, TryCopy};
 use std::alloc::{AllocError, Global};
 use std::marker::Model;
 
@@ -63,6 +63,11 @@ pub enum Event {
     FetchTimeout(FetchTimeout),
     /// The drain timeout of a listener's old generations came.
     DrainTimeout(Name),
+    /// The time to live of a resource came to its end.
+    TtlExpired {
+        kind: Kind,
+        name: Name,
+    },
     /// A new picture is published for the workers, where it changed.
     Publish,
     /// Generations that nothing holds any more are destroyed.
@@ -90,6 +95,7 @@ impl Event {
             Event::Health { .. } => Op::Health,
             Event::FetchTimeout(_) => Op::FetchTimeout,
             Event::DrainTimeout(_) => Op::DrainTimeout,
+            Event::TtlExpired { .. } => Op::TtlExpired,
             Event::Publish => Op::Publish,
             Event::Reap => Op::Reap,
             Event::Accept(_) => Op::Accept,
@@ -116,6 +122,10 @@ impl TryCopy for Event {
             }),
             Event::FetchTimeout(timeout) => Ok(Event::FetchTimeout(timeout.copy(alloc)?)),
             Event::DrainTimeout(listener) => Ok(Event::DrainTimeout(listener.copy(alloc)?)),
+            Event::TtlExpired { kind, name } => Ok(Event::TtlExpired {
+                kind: *kind,
+                name: name.copy(alloc)?,
+            }),
             Event::Publish => Ok(Event::Publish),
             Event::Reap => Ok(Event::Reap),
             Event::Accept(ask) => Ok(Event::Accept(ask.copy(alloc)?)),
@@ -134,6 +144,7 @@ pub enum Op {
     Health,
     FetchTimeout,
     DrainTimeout,
+    TtlExpired,
     Publish,
     Reap,
     Accept,
@@ -152,6 +163,8 @@ pub enum Verdict {
     Kept,
     /// No one asked for it.
     Unasked,
+    /// Its life is bounded anew: a heartbeat of the version that is kept.
+    Renewed,
     /// It breaks this rule.
     Refused(u8),
 }
@@ -304,9 +317,9 @@ impl TryCopy for Line {
     }
 }
 
-/// A script. It has 1 to 16 workers, a node of 1 to 512 bytes, and its lines' numbers rise from 2 at least to `count`
-/// at most, which is below 2^32 - 1; each line has an actor that its event allows, and its responses have fewer than
-/// 2^32 - 1 resources together.
+/// A script. It has 1 to `MAX_WORKERS` workers, a node of 1 to 512 bytes, and its lines' numbers rise from 2 at least to `count`
+/// at most, which is below `LINE_LIMIT`; each line has an actor that its event allows, and its responses have fewer than
+/// `ITEM_LIMIT` resources together.
 #[derive(Drop)]
 pub struct Script {
     pub workers: u32,

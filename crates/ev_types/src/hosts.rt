@@ -1,7 +1,8 @@
 ghost use Rattle.std.specs.Prelude.{◌≡◌, IfOk};
 
-use crate::{Name, Seq, TryCopy};
+use crate::{Name, ROW_LIMIT, Seq, TryCopy};
 use std::alloc::{AllocError, Global};
+use std::hash::{Hash, Hasher};
 use std::marker::Model;
 
 /// Where a host listens: an address, which is a text, and a port.
@@ -38,6 +39,20 @@ impl Eq for Host {
     ghost use Rattle.ev_types.specs.SameHosts.{host_same, host_decides};
 
     ghost laws = { decided host_same host_decides };
+}
+
+impl Hash for Host {
+    ghost use Rattle.std.proofs.Common.{ap};
+    ghost use Rattle.ev_types.specs.SameHosts.{host_hash_input, host_decides};
+
+    ghost hash_input = { host_hash_input };
+
+    ghost respects_eq = { λ a b same. ap host_hash_input ((host_decides a b).0 same) };
+
+    fn hash<H: Hasher>(&self, state: &mut H) {
+        self.address.hash(state);
+        self.port.hash(state);
+    }
 }
 
 /// One host of an assignment. Its weight is at least 1; the lower a priority, the earlier it is chosen.
@@ -95,7 +110,7 @@ impl Eq for HostRow {
     ghost laws = { decided host_row_same host_row_decides };
 }
 
-/// The hosts of a cluster, in order, a repeated one too. There are fewer than 2^32 - 1.
+/// The hosts of a cluster, in order, a repeated one too. There are fewer than `ROW_LIMIT`.
 #[derive(Drop)]
 pub struct Assignment {
     rows: Seq<HostRow>,
@@ -103,17 +118,15 @@ pub struct Assignment {
 
 impl Model for Assignment {
     ghost use Rattle.std.specs.Prelude.{List, length, ◌<◌};
-    ghost use Rattle.ev_types.specs.Hosts.{HostRowParts, row_limit};
+    ghost use Rattle.ev_types.specs.Hosts.{HostRowParts};
+    ghost use Rattle.ev_types.specs.declared.limits.TheConstants.{ROW_LIMIT};
 
     ghost Value = { List HostRowParts };
 
     ghost view = { λ a. a.rows };
 
-    ghost invariant = { λ a. length a.rows < row_limit };
+    ghost invariant = { λ a. length a.rows < ROW_LIMIT };
 }
-
-/// An assignment has fewer rows than this.
-pub const ROW_LIMIT: usize = 4_294_967_295;
 
 impl Assignment {
     ghost use Rattle.std.specs.Prelude.{◌≡◌, ◌<◌, length};

@@ -23,6 +23,15 @@ impl TryCopy for Row {
     }
 }
 
+/// Which rules a journal follows, as its first line says.
+#[derive(Clone, Copy, Debug, PartialEq, Eq)]
+pub enum Format {
+    /// Format 1: a draining listener may be destroyed before its drain timeout, and no settle is left out.
+    One,
+    /// Format 2: a draining listener waits for its drain timeout, and settles of idle workers may be left out.
+    Two,
+}
+
 /// What is found of a journal that is held against its script.
 #[derive(Clone, Copy, Debug, PartialEq, Eq)]
 pub enum Finding {

@@ -1,4 +1,4 @@
-use crate::{Host, Name, RouteTable, Target, TryCopy};
+use crate::{Host, Name, RouteTable, Shared, Target, TryCopy};
 use std::alloc::{AllocError, Global};
 
 /// What a listener serves.
@@ -11,8 +11,8 @@ pub enum Serve {
         /// Whether the wait for them ends at the initial fetch timeout.
         limited: bool,
     },
-    /// Routes that stand in the listener itself.
-    Inline(RouteTable),
+    /// Routes that stand in the listener itself. They are shared.
+    Inline(Shared<RouteTable>),
     /// A TCP proxy to this target.
     Tcp(Target),
 }

@@ -1,8 +1,13 @@
-ghost use Rattle.std.specs.Prelude.{◌≡◌, ◌↔◌, ◌<◌, List, [], ◌∷◌, ◌++◌, length, slice_set, IsTrue, OnOk, OnErr};
+ghost use Rattle.std.specs.Prelude.{◌≡◌, ◌↔◌, ◌<◌, ◌≤◌, ◌^◌, List, [], ◌∷◌, ◌++◌, length, slice_set, insert, take, IsTrue, IsOk, OnOk, OnErr, IfOk, IfErr};
+ghost use Rattle.std.specs.List.Retain.{IsFiltered};
+ghost use Rattle.std.specs.Fn.{CalledAt};
+ghost use Rattle.std.specs.Slice.Iter.{iter_rest};
+ghost use Rattle.std.specs.Iterator.Adapters.{IterYieldsInOrder, IterYieldsInReverse};
 
-use crate::TryCopy;
+use crate::{Reserved, TryCopy};
 use std::alloc::{AllocError, Global};
 use std::marker::Model;
+use std::slice::Iter;
 
 /// A list, seen by contracts as its elements in order. It is a `Vec` whose room isn't looked at.
 #[derive(Drop)]
@@ -47,6 +52,17 @@ impl<T> Seq<T> {
         self.items.as_slice()
     }
 
+    /// Goes over the elements in order, or from the back.
+    pub fn iter(&self) -> Iter<'_, T>
+        ensures rest { iter_rest result ≡ self.now }
+        ensures count { length (iter_rest result) ≡ length self.now }
+        ensures bound { length (iter_rest result) < 2 ^ 64 }
+        ensures runs { IterYieldsInOrder T }
+        ensures runs_back { IterYieldsInReverse T }
+    {
+        self.items.as_slice().iter()
+    }
+
     /// How many elements there are.
     pub fn len(&self) -> usize
         ensures count { result ≡ length self.now }
@@ -80,6 +96,50 @@ impl<T> Seq<T> {
     {
         self.items.push(item)?;
         Ok(())
+    }
+
+    /// Puts an element before the one at a place, or at the end. Without memory the list stays as it was.
+    pub fn insert(&mut self, place: usize, item: T) -> Result<(), AllocError>
+    where
+        T: Drop,
+        requires { place ≤ length self.old }
+        ensures ok { OnOk result (self.new ≡ insert self.old place item) }
+        ensures err { OnErr result (self.new ≡ self.old) }
+    {
+        self.items.insert(place, item)?;
+        Ok(())
+    }
+
+    /// Keeps the elements that the test is true of, in order.
+    pub fn retain<F: FnMut(&T) -> bool>(&mut self, test: F)
+    where
+        T: Drop,
+        requires { F.IsAlwaysCallable test }
+        ensures filtered { IsFiltered (CalledAt F.FnMut) test self.old self.new }
+    {
+        self.items.retain(test);
+    }
+
+    /// Keeps the first elements, so many as `count`, or all where there are fewer.
+    pub fn truncate(&mut self, count: usize)
+    where
+        T: Drop,
+        ensures { self.new ≡ take count self.old }
+    {
+        self.items.truncate(count);
+    }
+
+    /// Makes room for `additional` more elements. The list comes back where there is no memory for it.
+    pub fn reserve(self, additional: usize) -> Result<Reserved<T>, Seq<T>>
+        ensures elements { IfOk result (λ reserved. reserved.0 ≡ self) }
+        ensures room { IfOk result (λ reserved. additional ≤ reserved.1) }
+        ensures err { IfErr result (λ list. list ≡ self) }
+    {
+        let mut items = self.items;
+        match items.reserve(additional) {
+            Ok(_) => Ok(Reserved::from_vec(items)),
+            Err(_) => Err(Seq { items }),
+        }
     }
 }
 

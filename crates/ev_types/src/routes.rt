@@ -38,7 +38,7 @@ impl Eq for WeightedCluster {
     ghost laws = { decided weighted_cluster_same weighted_cluster_decides };
 }
 
-/// The clusters of a weighted target, in order. Their weights sum to 1 to 2^32 - 1.
+/// The clusters of a weighted target, in order. Their weights sum to 1 to `MAX_WEIGHT_SUM`.
 #[derive(Drop)]
 pub struct WeightedClusters {
     clusters: Seq<WeightedCluster>,

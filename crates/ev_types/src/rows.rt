@@ -3,7 +3,7 @@ use std::alloc::{AllocError, Global};
 use std::marker::Model;
 
 /// The number of a generation, from 1. Numbers are drawn from one counter for clusters and listeners.
-#[derive(Clone, Copy, Debug, PartialEq, Eq, PartialOrd, Ord)]
+#[derive(Clone, Copy, Debug, PartialEq, Eq, PartialOrd, Ord, Hash)]
 pub struct Gen {
     number: u32,
 }
@@ -49,7 +49,7 @@ impl TryCopy for Gen {
 /// Where a generation stands.
 #[derive(Clone, Copy, Debug, PartialEq, Eq)]
 pub enum RowStatus {
-    /// It waits for what it depends on.
+    /// It waits for what it depends on and, as a checked cluster, for a first result of each of its hosts.
     Warming,
     /// It serves.
     Active,
@@ -115,7 +115,7 @@ pub struct Live {
     pub number: Gen,
     pub name: Name,
     pub content: Content,
-    /// Whether it still waits for what it depends on.
+    /// Whether it still warms.
     pub warming: bool,
 }
 
@@ -151,6 +151,8 @@ pub struct KeptVersion {
     pub kind: Kind,
     pub name: Name,
     pub version: Text,
+    /// Whether the resource's life is bounded: it came with a time to live that has not ended.
+    pub bounded: bool,
 }
 
 impl TryCopy for KeptVersion {
@@ -159,6 +161,7 @@ impl TryCopy for KeptVersion {
             kind: self.kind,
             name: self.name.copy(alloc)?,
             version: self.version.copy(alloc)?,
+            bounded: self.bounded,
         })
     }
 }

@@ -2,8 +2,9 @@ ghost use Rattle.std.specs.Prelude.{◌≡◌, ℕ, ◌↔◌, ◌<◌, ◌⊎�
 ghost use Rattle.std.specs.String.{string_bytes};
 ghost use Rattle.ev_types.specs.Texts.{IsName};
 
-use crate::TryCopy;
+use crate::{MAX_NAME_LENGTH, TryCopy};
 use std::alloc::{AllocError, Global};
+use std::hash::{Hash, Hasher};
 use std::marker::Model;
 
 /// Text of any length, seen as its bytes.
@@ -65,15 +66,12 @@ impl Model for Name {
     ghost invariant = { λ n. IsName (string_bytes n.text) };
 }
 
-/// The greatest length of a name, in bytes.
-pub const MAX_NAME_LENGTH: usize = 512;
-
 impl Name {
     /// The name with these bytes. `Length` comes exactly where there are none or more than 512.
     pub fn new(alloc: Global, text: &str) -> Result<Name, NameError>
         ensures bytes { IfOk result (λ name. name ≡ text.now) }
         ensures named { IfOk result (λ _. IsName text.now) }
-        ensures length { IsErrOf result NameError.Length ↔ ((length text.now ≡ 0) ⊎ (512 < length text.now)) }
+        ensures length { IsErrOf result NameError.Length ↔ ((length text.now ≡ 0) ⊎ (MAX_NAME_LENGTH < length text.now)) }
     {
         if text.is_empty() || text.len() > MAX_NAME_LENGTH {
             return Err(NameError::Length);
@@ -120,6 +118,20 @@ impl Eq for Name {
     ghost use Rattle.std.proofs.Common.{rules};
 
     ghost laws = { Prim.search (comparing, rules) };
+}
+
+impl Hash for Name {
+    ghost use Rattle.std.specs.Cmp.Rules.{hashing};
+    ghost use Rattle.std.specs.Hash as fed;
+    ghost use Rattle.std.proofs.Common.{rules};
+
+    ghost hash_input = { fed.str };
+
+    ghost respects_eq = { Prim.search (hashing, rules) };
+
+    fn hash<H: Hasher>(&self, state: &mut H) {
+        self.as_str().hash(state);
+    }
 }
 
 impl PartialEq for Text {
