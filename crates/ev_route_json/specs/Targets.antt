@@ -8,7 +8,7 @@ use Rattle.ev_types.specs.declared.routes.WeightedCluster.{WeightedCluster}
 use Rattle.ev_types.specs.declared.routes.Target.{Target}
 use Rattle.ev_types.specs.declared.routes.Target.TheVariants.{One, Weighted}
 use Rattle.ev_tree.specs.declared.broken.BrokenRules.{BrokenRules}
-use Rattle.ev_tree.specs.declared.limits.TheConstants.{MAX_WEIGHT_SUM}
+use Rattle.ev_types.specs.declared.limits.TheConstants.{MAX_WEIGHT_SUM}
 use Rattle.ev_tree.specs.declared.outcome.Found.{Found}
 use Rattle.ev_tree.specs.declared.outcome.Found.TheVariants.{Absent, Wrong, Given}
 use Rattle.ev_tree.specs.Forms.{is_wrong, is_given, given_or, inside, listed, field_of, text_of, number_of, object_of, objects_of}

@@ -3,9 +3,10 @@ ghost use Rattle.serde_json.specs.View.{view};
 ghost use Rattle.ev_route_json.specs.Routes.{action_of, action_with, action_broken, is_status, status_or_none, route_of, route_broken};
 
 use crate::matches::inspect_match;
+use crate::parts::Inspect;
 use crate::presence::exactly_one;
 use crate::targets::inspect_target;
-use ev_tree::{BrokenRules, Inspect, Inspection, member};
+use ev_tree::{BrokenRules, Inspection, member};
 use ev_types::{Action, Route, Target};
 use serde_json::Value;
 use std::alloc::{AllocError, Global};

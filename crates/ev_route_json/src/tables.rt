@@ -4,7 +4,8 @@ ghost use Rattle.ev_tree.specs.Forms.{tree_of, text_in};
 ghost use Rattle.ev_route_json.specs.Tables.{virtual_host_of, virtual_host_broken, table_of, table_broken};
 
 use crate::domains::repeats_domain;
-use ev_tree::{BrokenRules, Inspect, Inspection, inspect_all, member};
+use crate::parts::{Inspect, inspect_all};
+use ev_tree::{BrokenRules, Inspection, member};
 use ev_types::{Route, RouteTable, Seq, Text, VirtualHost};
 use serde_json::Value;
 use std::alloc::{AllocError, Global};

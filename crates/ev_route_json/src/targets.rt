@@ -3,9 +3,10 @@ ghost use Rattle.serde_json.specs.View.{view};
 ghost use Rattle.ev_tree.specs.Forms.{tree_of, found_map};
 ghost use Rattle.ev_route_json.specs.Targets.{entry_of, entry_broken, target_of, target_with, target_broken, has_weight, is_empty_text};
 
+use crate::parts::{Inspect, inspect_all};
 use crate::presence::{exactly_one, inspect_fields};
-use ev_tree::{BrokenRules, Found, Inspect, Inspection, MAX_WEIGHT_SUM, inspect_all, member};
-use ev_types::{Seq, Target, Text, WeightedCluster, WeightedClusters};
+use ev_tree::{BrokenRules, Found, Inspection, member};
+use ev_types::{MAX_WEIGHT_SUM, Seq, Target, Text, WeightedCluster, WeightedClusters};
 use serde_json::Value;
 use std::alloc::{AllocError, Global};
 

@@ -24,10 +24,9 @@ mod tests;
 
 pub use addresses::{SocketAddress, socket_address};
 pub use broken::{BrokenRules, least_is_least};
-pub use inspections::{Inspect, Inspection, inspect_all};
+pub use inspections::Inspection;
 pub use limits::{
     MAX_FRACTION_DIGITS, MAX_NAME_BYTES, MAX_PORT, MAX_SECONDS, MAX_SECONDS_DIGITS, MAX_U32_DIGITS,
-    MAX_WEIGHT_SUM,
 };
 pub use outcome::{Found, ReadError};
 pub use readers::{boolean, duration, enumeration, field, list, number32, object, text};

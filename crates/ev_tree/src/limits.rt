@@ -6,9 +6,6 @@ pub const MAX_NAME_BYTES: usize = 512;
 /// The greatest port.
 pub const MAX_PORT: u32 = 65_535;
 
-/// The greatest sum of weights that a pick can be taken of.
-pub const MAX_WEIGHT_SUM: u64 = 4_294_967_295;
-
 /// The most digits of a string that writes a u32.
 pub const MAX_U32_DIGITS: usize = 10;
 

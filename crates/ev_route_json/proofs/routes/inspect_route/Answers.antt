@@ -17,5 +17,6 @@ returns-clause-broken c =
     let matched = c.inner.ensures ∙ ap inside c.in_ok-matched.ensures.value in
     let path = c.in_ok-path.ensures.broken ∙ ap match_broken matched in
     let action = c.in_ok-action.ensures.broken in
-    let own = λ i. record (c.none.ensures i) { v6 = (c.is_wrong.ensures ∙ c.in_ok-matched.ensures.wrong) i } in
-    c.or-2.ensures ∙ (λ i. either_broken (path i) ((c.or.ensures ∙ (λ j. either_broken (action j) (own j))) i))
+    c.or-2.ensures ∙ (λ i. either_broken (path i) ((c.or.ensures ∙ (λ j. either_broken (action j) (record (c.none.ensures j) {
+      v6 = (c.is_wrong.ensures ∙ c.in_ok-matched.ensures.wrong) j;
+    }))) i))

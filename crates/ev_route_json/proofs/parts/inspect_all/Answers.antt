@@ -1,6 +1,6 @@
 use Rattle.serde_json.specs.View.{view}
 use Rattle.ev_tree.proofs.Unions.{made_more, broken_more, broken_all}
-use Rattle.ev_tree.proofs.inspections.inspect_all.Goals as goal
+use Rattle.ev_route_json.proofs.parts.inspect_all.Goals as goal
 
 pub loop-tree-preserved : goal.loop-tree-preserved
 loop-tree-preserved g c = record {

@@ -1,7 +1,7 @@
 use Rattle.std.proofs.Common.{◌≡◌, map, take}
 use Rattle.serde_json.specs.View.{view}
 use Rattle.ev_tree.specs.Broken.{any_broken}
-use Rattle.ev_tree.proofs.inspections.inspect_all.Given as goal
+use Rattle.ev_route_json.proofs.parts.inspect_all.Given as goal
 
 abbrev pub invariant-loop-tree : goal.invariant-loop-tree
 invariant-loop-tree g l =
