@@ -9,7 +9,7 @@ ghost use Rattle.ev_listener_json.specs.Listeners.{listener_reading, listener_br
 
 use crate::chains::inspect_chains;
 use ev_tree::{BrokenRules, EnumTable, Found, ReadError, is_name, member, socket_address};
-use ev_types::{Host, Listener, Name, NameError, RouteTable, Seq, Serve};
+use ev_types::{Host, Listener, Name, NameError, RouteTable, Seq, Serve, Shared};
 use serde_json::Value;
 use std::alloc::{AllocError, Global};
 
@@ -83,7 +83,7 @@ fn inspect_listener(alloc: Global, value: &Value) -> Result<ListenerParts<'_>, A
         name: text,
         address: address.address,
         port: address.port,
-        serve: serve_or_none(alloc, below.value),
+        serve: serve_or_none(alloc, below.value)?,
     })
 }
 
@@ -102,14 +102,17 @@ fn is_udp(protocol: Found<u32>) -> bool
 }
 
 // What is served: a table with no hosts where nothing is.
-fn serve_or_none(alloc: Global, serve: Option<Serve>) -> Serve
-    ensures { result ≡ unwrap_or serve (Inline (record { hosts = [] })) }
+fn serve_or_none(alloc: Global, serve: Option<Serve>) -> Result<Serve, AllocError>
+    ensures { IfOk result (λ served. served ≡ unwrap_or serve (Inline (record { hosts = [] }))) }
 {
     match serve {
-        Some(serve) => serve,
-        None => Serve::Inline(RouteTable {
-            hosts: Seq::new(alloc),
-        }),
+        Some(serve) => Ok(serve),
+        None => {
+            let table = RouteTable {
+                hosts: Seq::new(alloc),
+            };
+            Ok(Serve::Inline(Shared::new(alloc, table)?))
+        }
     }
 }
 

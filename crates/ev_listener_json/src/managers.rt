@@ -4,7 +4,7 @@ ghost use Rattle.ev_listener_json.specs.Managers.{manager_broken, manager_serve,
 
 use ev_route_json::{exactly_one, inspect_table};
 use ev_tree::{BrokenRules, Inspection, config_source, is_name, member};
-use ev_types::{Name, NameError, RouteTable, Serve};
+use ev_types::{Name, NameError, RouteTable, Serve, Shared};
 use serde_json::Value;
 use std::alloc::{AllocError, Global};
 
@@ -52,11 +52,11 @@ fn make_serve(
     ensures { IfOk result (λ serve. serve ≡ serve_with asks name.now limited table) }
 {
     if !asks {
-        return Ok(Serve::Inline(table));
+        return Ok(Serve::Inline(Shared::new(alloc, table)?));
     }
     match Name::new(alloc, name) {
         Ok(name) => Ok(Serve::Rds { name, limited }),
-        Err(NameError::Length) => Ok(Serve::Inline(table)),
+        Err(NameError::Length) => Ok(Serve::Inline(Shared::new(alloc, table)?)),
         Err(NameError::OutOfMemory) => Err(AllocError),
     }
 }

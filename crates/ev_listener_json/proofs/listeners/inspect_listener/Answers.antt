@@ -38,7 +38,7 @@ pub returns-clause-serve : goal.returns-clause-serve
 unfolding chains_of serve_of
 returns-clause-serve c =
     let chains = c.elements-elements.ensures ∙ ap listed c.in_ok-chains.ensures.value in
-    c.serve_or_none.ensures ∙ ap (λ s. unwrap_or s (Inline (record { hosts = [] }))) (c.in_ok-below.ensures.value ∙ ap (λ ts. first_of (map chain_serve ts)) chains)
+    c.in_ok-serve_or_none.ensures ∙ ap (λ s. unwrap_or s (Inline (record { hosts = [] }))) (c.in_ok-below.ensures.value ∙ ap (λ ts. first_of (map chain_serve ts)) chains)
 
 pub returns-clause-name : goal.returns-clause-name
 unfolding name_of
