@@ -10,46 +10,46 @@ use Rattle.ev_types.specs.declared.contents.Kind.{Kind}
 use Rattle.ev_types.specs.declared.contents.Kind.TheVariants.{Cds, Eds, Lds, Rds}
 use Rattle.ev_types.specs.declared.contents.Content.{Content}
 use Rattle.ev_types.specs.declared.contents.Body.{Body}
-use Rattle.ev_types.specs.declared.contents.Body.TheVariants.{Good, Bad}
+use Rattle.ev_types.specs.declared.contents.Body.TheVariants.{Good, Bad, Beat}
 use Rattle.ev_types.specs.declared.hosts.Host.{Host}
 use Rattle.ev_types.specs.declared.rows.GenRow.{GenRow}
-use Rattle.ev_types.specs.declared.events.Ask.{Ask}
 use Rattle.ev_types.specs.declared.events.Verdict.{Verdict}
-use Rattle.ev_types.specs.declared.events.Verdict.TheVariants.{New, Same, Kept, Unasked, Refused}
+use Rattle.ev_types.specs.declared.events.Verdict.TheVariants.{New, Same, Kept, Unasked, Renewed, Refused}
 use Rattle.ev_types.specs.declared.events.Actor.{Actor}
 use Rattle.ev_types.specs.declared.events.Actor.TheVariants.{Stream, Health as health_checker, Timer, Main, Worker}
 use Rattle.ev_types.specs.declared.events.Event.{Event}
-use Rattle.ev_types.specs.declared.events.Event.TheVariants.{Connect, Disconnect, Response, Health, FetchTimeout, DrainTimeout, Publish, Reap, Accept, Close, Settle}
+use Rattle.ev_types.specs.declared.events.Event.TheVariants.{Connect, Disconnect, Response, Health, FetchTimeout, DrainTimeout, TtlExpired, Publish, Reap, Accept, Close, Settle}
 use Rattle.ev_types.specs.declared.events.Answer.{Answer}
 use Rattle.ev_types.specs.declared.events.Entry.{Entry}
-use Rattle.ev_model.specs.World.{World}
+use Rattle.ev_types.specs.declared.journals.Format.{Format}
+use Rattle.ev_model.specs.World.{World, last_version}
 use Rattle.ev_model.specs.Live.{lives_of}
 use Rattle.ev_model.specs.Watching.{is_watched}
 use Rattle.ev_model.specs.Phase.{is_clusters}
 use Rattle.ev_model.specs.Verdicts.{verdicts_of}
 use Rattle.ev_model.specs.Rows.{with_removals, with_content, add_row, keep_value, keep_version, told_of_refusal, refuse, add_item, add_items, made_names, with_first}
-use Rattle.ev_model.specs.Picture.{picture_of, picture_same}
-use Rattle.ev_model.specs.Dead.{last_picture}
-use Rattle.ev_model.specs.Signals.{health_of, rows_meant, name_timeout_of, is_awaited, fetch_timeout, expire, unexpired}
-use Rattle.ev_model.specs.Connections.{accept, close, is_open}
+use Rattle.ev_model.specs.Versions.{is_bounded}
+use Rattle.ev_model.specs.Picture.{shown_of, shown_same}
+use Rattle.ev_model.specs.Dead.{shown_at}
+use Rattle.ev_model.specs.Signals.{health_of, rows_meant, name_timeout_of, is_awaited, fetch_timeout, expire, unexpired, with_end}
 use Rattle.ev_model.specs.Step.{step, respond_by, answered}
 use Rattle.ev_model.specs.Runs.{world_after, RunsFrom, is_batched, IsUnbroken}
 
 -- the world after one entry more
-pub world_after-more : (world : World) (entries : List Entry) (entry : Entry)
-    → world_after world (entries ++ entry ∷ []) ≡ (step (world_after world entries) entry.actor entry.event).0
-world_after-more world [] entry = refl
-world_after-more world (first ∷ entries) entry = world_after-more (step world first.actor first.event).0 entries entry
+pub world_after-more : (format : Format) (world : World) (entries : List Entry) (entry : Entry)
+    → world_after format world (entries ++ entry ∷ []) ≡ (step format (world_after format world entries) entry.actor entry.event).0
+world_after-more format world [] entry = refl
+world_after-more format world (first ∷ entries) entry = world_after-more format (step format world first.actor first.event).0 entries entry
 
 -- a run goes on with an entry that is answered as the machine answers it
-pub RunsFrom-more : (workers : ℕ) (world : World) (entries : List Entry) (entry : Entry)
-    → RunsFrom workers world entries
+pub RunsFrom-more : (format : Format) (workers : ℕ) (world : World) (entries : List Entry) (entry : Entry)
+    → RunsFrom format workers world entries
     → MayMake workers entry.actor entry.event
-    → entry.answer ≡ (step (world_after world entries) entry.actor entry.event).1
-    → RunsFrom workers world (entries ++ entry ∷ [])
-RunsFrom-more workers world [] entry run may answered = (may, answered, tt)
-RunsFrom-more workers world (first ∷ entries) entry run may answered =
-    (run.0, run.1, RunsFrom-more workers (step world first.actor first.event).0 entries entry run.2 may answered)
+    → entry.answer ≡ (step format (world_after format world entries) entry.actor entry.event).1
+    → RunsFrom format workers world (entries ++ entry ∷ [])
+RunsFrom-more format workers world [] entry run may answered = (may, answered, tt)
+RunsFrom-more format workers world (first ∷ entries) entry run may answered =
+    (run.0, run.1, RunsFrom-more format workers (step format world first.actor first.event).0 entries entry run.2 may answered)
 
 -- a journal with no accept or close stays unbroken with one entry more that is none
 pub IsUnbroken-more : (entries : List Entry) (entry : Entry)
@@ -88,12 +88,14 @@ content-held : (change : Content → World → World) (body : Body) (world : Wor
     → (with_content change body world).held ≡ world.held
 content-held change (Good content) world keeps = keeps content
 content-held change (Bad rule) world keeps = refl
+content-held change Beat world keeps = refl
 
 item-held : (kind : Kind) (verdict : Verdict) (item : ItemParts) (world : World) → (add_item kind verdict item world).held ≡ world.held
 item-held kind New item world = content-held (add_row kind item) item.body world (λ content. refl)
 item-held kind Same item world = content-held (λ content. keep_version kind item) item.body world (λ content. refl)
 item-held kind Kept item world = content-held (keep_value kind item) item.body world (λ content. refl)
 item-held kind Unasked item world = refl
+item-held kind Renewed item world = refl
 item-held kind (Refused rule) item world = refuse-held kind item.name world
 
 items-held : (kind : Kind) (verdicts : List Verdict) (items : List ItemParts) (world : World) → (add_items kind verdicts items world).held ≡ world.held
@@ -117,7 +119,7 @@ answered-held kind response verdicts world =
 
 by-held : (kind : Option Kind) (response : ResponseParts) (world : World) → (respond_by kind response world).0.held ≡ world.held
 by-held None response world = refl
-by-held (Some kind) response world = answered-held kind response (verdicts_of (lives_of world) response) world
+by-held (Some kind) response world = answered-held kind response (verdicts_of (lives_of world) world.versions response) world
 
 health-held : (host : Host) (healthy : Bool) (rows : List GenRow) (world : World) → (health_of host healthy rows world).0.held ≡ world.held
 health-held host healthy [] world = refl
@@ -125,7 +127,7 @@ health-held host healthy (row ∷ rows) world = refl
 
 name-held : (kind : Kind) (name : Option (List ℕ)) (world : World) → (name_timeout_of kind name world).0.held ≡ world.held
 name-held kind None world = refl
-name-held kind (Some name) world = if-held (is_awaited world kind name) _ _ world refl refl
+name-held kind (Some name) world = if-held (is_awaited world.arrivals world.rows kind name) _ _ world refl refl
 
 timeout-held : (kind : Kind) (name : Option (List ℕ)) (world : World) → (fetch_timeout kind name world).0.held ≡ world.held
 timeout-held Cds name world = if-held (is_some world.first_clusters || world.late_clusters) _ _ world refl refl
@@ -138,26 +140,28 @@ expire-held : (numbers : List ℕ) (world : World) → (expire numbers world).0.
 expire-held [] world = refl
 expire-held (number ∷ numbers) world = refl
 
-accept-held : (ask : Ask) (worker : ℕ) (world : World) → (accept ask worker world).0.held ≡ world.held
-accept-held ask worker world = if-held (is_open world worker ask.conn) _ _ world refl refl
-
-close-held : (connection worker : ℕ) (world : World) → (close connection worker world).0.held ≡ world.held
-close-held connection worker world = if-held (is_open world worker connection) _ _ world refl refl
+end-held : (kind : Kind) (name : List ℕ) (world : World) → (with_end kind name world).held ≡ world.held
+end-held Cds name world = refl
+end-held Eds name world = refl
+end-held Lds name world = refl
+end-held Rds name world = refl
 
 -- no event changes how many workers there are
-pub length-held : (world : World) (actor : Actor) (event : Event) → length (step world actor event).0.held ≡ length world.held
-length-held world actor Connect = ap length (if-held world.stream _ _ world refl refl)
-length-held world actor Disconnect = ap length (if-held world.stream _ _ world refl refl)
-length-held world actor (Response response) = ap length (if-held world.stream _ _ world (by-held response.kind response world) refl)
-length-held world actor (Health cluster host healthy) = ap length (health-held host healthy (rows_meant world cluster host) world)
-length-held world actor (FetchTimeout timeout) = ap length (timeout-held timeout.kind timeout.name world)
-length-held world actor (DrainTimeout listener) = ap length (expire-held (unexpired world listener) world)
-length-held world actor Publish = ap length (if-held (picture_same (picture_of world) (last_picture world)) _ _ world refl refl)
-length-held world actor Reap = refl
-length-held world (Worker worker) (Accept ask) = ap length (accept-held ask worker world)
-length-held world (Worker worker) (Close connection) = ap length (close-held connection worker world)
-length-held world (Worker worker) Settle = length-set world.held worker _
-length-held world Stream event = refl
-length-held world health_checker event = refl
-length-held world Timer event = refl
-length-held world Main event = refl
+pub length-held : (format : Format) (world : World) (actor : Actor) (event : Event) → length (step format world actor event).0.held ≡ length world.held
+length-held format world actor Connect = ap length (if-held world.stream _ _ world refl refl)
+length-held format world actor Disconnect = ap length (if-held world.stream _ _ world refl refl)
+length-held format world actor (Response response) = ap length (if-held world.stream _ _ world (by-held response.kind response world) refl)
+length-held format world actor (Health cluster host healthy) = ap length (health-held host healthy (rows_meant world.arrivals cluster host world.rows) world)
+length-held format world actor (FetchTimeout timeout) = ap length (timeout-held timeout.kind timeout.name world)
+length-held format world actor (DrainTimeout listener) = ap length (expire-held (unexpired world.expired listener world.rows) world)
+length-held format world actor (TtlExpired kind name) =
+    ap length (if-held (is_bounded world.versions kind name) _ _ world (end-held kind name _) refl)
+length-held format world actor Publish = ap length (if-held (shown_same (shown_of world) (shown_at world (last_version world))) _ _ world refl refl)
+length-held format world actor Reap = refl
+length-held format world (Worker worker) (Accept ask) = refl
+length-held format world (Worker worker) (Close connection) = refl
+length-held format world (Worker worker) Settle = length-set world.held worker _
+length-held format world Stream event = refl
+length-held format world health_checker event = refl
+length-held format world Timer event = refl
+length-held format world Main event = refl

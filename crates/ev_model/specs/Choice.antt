@@ -1,8 +1,8 @@
 -- Where a connection goes, chosen in a picture by eight rules, of which the first that applies decides. Source: the Envoy v3
 -- API on virtual hosts, routes and weighted clusters, and on priorities and weights of hosts; the pick number is this
 -- project's own, for Envoy's load balancing policies.
-use Rattle.std.specs.Prelude.{ℕ, ◌-◌, ◌+◌, ◌/◌, ◌%◌, min, Bool, not, ◌&&◌, ◌||◌, ◌==◌, nat_lt, nat_le, if◌then◌else◌, List, [], ◌∷◌, ◌++◌, filter, find, map, take, drop, length, take_while, Option, Some, None, sum_by, codes, option_map, slice_get}
-use Rattle.std.specs.List.{flat_map}
+use Rattle.std.specs.Prelude.{ℕ, ◌-◌, ◌+◌, ◌/◌, ◌%◌, min, Bool, not, ◌&&◌, ◌||◌, ◌==◌, nat_lt, nat_le, if◌then◌else◌, List, [], ◌∷◌, ◌++◌, filter, find, map, take, drop, length, take_while, Option, Some, None, codes, option_map, slice_get}
+use Rattle.std.specs.List.{flat_map, range_with_len, sum}
 use Rattle.std.specs.Option.{option_or}
 use Rattle.std.specs.Str.{bytes_eq, str_to_ascii_lowercase}
 use Rattle.ev_types.specs.Hosts.{HostRowParts}
@@ -114,10 +114,9 @@ is_path_taken path (Separated front) = bytes_eq (without_query path) front || be
 abbrev pub route_for : VirtualHost → List ℕ → Option Route
 route_for h path = find (λ (r : Route). is_path_taken path r.path) h.routes
 
--- the place of the first whose running sum of weights is above n
+-- the first place where the weights up to it, and its own, sum to more than n
 abbrev pub place_above : ℕ → List ℕ → Option ℕ
-place_above n [] = None
-place_above n (weight ∷ weights) = if nat_lt n weight then Some 0 else option_map (λ place. place + 1) (place_above (n - weight) weights)
+place_above n weights = find (λ place. nat_lt n (sum (take (place + 1) weights))) (range_with_len 0 (length weights))
 
 -- what the weights of a target sum to; that of a single cluster is 1
 abbrev pub target_weight : Target → ℕ
@@ -134,7 +133,7 @@ abbrev pub name_at : List WeightedCluster → Option ℕ → List ℕ
 name_at clusters None = []
 name_at clusters (Some place) = name_in (slice_get clusters place)
 
--- 6. the name of the cluster that a pick takes: of weighted ones the first whose running sum is above the pick modulo the sum
+-- 6. the name of the cluster that a pick takes: of weighted ones the first where the sum of the first weights is above the pick modulo the sum
 abbrev pub target_name : Target → ℕ → List ℕ
 target_name (One name) pick = name
 target_name (Weighted clusters) pick = name_at clusters (place_above (pick % weight_sum clusters) (map (λ (c : WeightedCluster). c.weight) clusters))
@@ -157,15 +156,11 @@ weight_at priority h = if h.priority == priority then h.weight else 0
 abbrev pub counted_weights : List HostRowParts → List ℕ
 counted_weights hosts = map (weight_at (lowest_priority hosts)) hosts
 
--- the sum of these weights
-abbrev pub total : List ℕ → ℕ
-total weights = sum_by (λ (weight : ℕ). weight) weights
-
--- 8. the place of the host that a pick takes: the first of the lowest priority whose running sum is above the pick modulo the
--- sum; there is none where there is no host
+-- 8. the place of the host that a pick takes: the first of the lowest priority where the sum of the first weights is above the
+-- pick modulo the whole sum; there is none where there is no host
 abbrev pub host_place : List HostRowParts → ℕ → Option ℕ
 host_place [] pick = None
-host_place (h ∷ hs) pick = place_above (pick % total (counted_weights (h ∷ hs))) (counted_weights (h ∷ hs))
+host_place (h ∷ hs) pick = place_above (pick % sum (counted_weights (h ∷ hs))) (counted_weights (h ∷ hs))
 
 -- rule 8 at a cluster
 abbrev pub served_at : ℕ → ℕ → Option ℕ → Choice
@@ -179,7 +174,7 @@ choice_in listener (Some cluster) pick = served_at listener cluster.number (host
 
 -- rules 6 to 8: a weighted target takes the pick modulo its sum, and its hosts the pick divided by it
 abbrev pub forwarded : Picture → ℕ → ℕ → Target → Choice
-forwarded picture pick listener target = choice_in listener (cluster_named picture.clusters (target_name target pick)) (pick / target_weight target)
+forwarded picture pick listener target = choice_in listener (cluster_named picture.shown.clusters (target_name target pick)) (pick / target_weight target)
 
 -- rules 5 to 8: a direct response and a redirect are answered at once
 abbrev pub acted : Picture → ℕ → ℕ → Action → Choice
@@ -209,4 +204,4 @@ by_listener picture ask (Some listener) = by_routing picture ask listener.number
 
 -- where a connection goes
 abbrev pub choice_of : Picture → Ask → Choice
-choice_of picture ask = by_listener picture ask (listener_at picture.listeners ask.address)
+choice_of picture ask = by_listener picture ask (listener_at picture.shown.listeners ask.address)

@@ -1,6 +1,6 @@
 -- What an entry of a journal tells by itself. This project's own.
-use Rattle.std.specs.Prelude.{ℕ, zero, suc, ◌++◌, Bool, true, false, ◌&&◌, ◌||◌, ◌==◌, if◌then◌else◌, List, [], ◌∷◌, filter_map, Option, Some, None, unwrap_or, slice_get, option_map, option_and_then}
-use Rattle.std.specs.List.{flat_map, last_or}
+use Rattle.std.specs.Prelude.{ℕ, zero, suc, Bool, true, false, ◌&&◌, ◌||◌, ◌==◌, if◌then◌else◌, List, [], ◌∷◌, filter_map, Option, Some, None, unwrap_or, slice_get, option_map, option_and_then}
+use Rattle.std.specs.List.{flat_map, last_or, list_any, zip}
 use Rattle.std.specs.Str.{bytes_eq}
 use Rattle.ev_types.specs.Items.{ItemParts, ResponseParts}
 use Rattle.ev_types.specs.Kinds.{kind_same}
@@ -15,11 +15,11 @@ use Rattle.ev_types.specs.declared.events.Event.TheVariants.{Response, FetchTime
 use Rattle.ev_types.specs.declared.events.Answer.{Answer}
 use Rattle.ev_types.specs.declared.events.Answer.TheVariants.{Done, Moved, Replied, Version, Reaped, NoRoute, Redirect, NoCluster, NoEndpoint, Local, Served, Settled}
 use Rattle.ev_types.specs.declared.events.Verdict.{Verdict}
-use Rattle.ev_types.specs.declared.events.Verdict.TheVariants.{New, Same, Kept, Unasked, Refused}
+use Rattle.ev_types.specs.declared.events.Verdict.TheVariants.{New, Same, Kept, Unasked, Renewed, Refused}
 use Rattle.ev_types.specs.declared.events.Entry.{Entry}
 use Rattle.ev_model.specs.Watching.{Dependency, dependency_of, is_limited}
 use Rattle.ev_model.specs.Verdicts.{is_removed}
-use Rattle.ev_model.specs.Signals.{has_number}
+use Rattle.ev_model.specs.Picture.{has_number}
 use Rattle.ev_model.specs.Operations.{actor_same}
 
 -- a generation as its resource made it
@@ -35,9 +35,8 @@ made_by kind verdict name body = []
 
 -- what resources of this kind made, with these verdicts
 abbrev pub made_with : Kind → List Verdict → List ItemParts → List MadeRow
-made_with kind [] items = []
-made_with kind (verdict ∷ verdicts) [] = []
-made_with kind (verdict ∷ verdicts) (item ∷ items) = made_by kind verdict item.name item.body ++ made_with kind verdicts items
+made_with kind verdicts items =
+    flat_map (λ (judged : Verdict × ItemParts). made_by kind judged.0 judged.1.name judged.1.body) (zip verdicts items)
 
 -- what a response made
 abbrev pub made_in_response : Option Kind → ResponseParts → List Verdict → List MadeRow
@@ -79,12 +78,11 @@ is_word_on name (Refused rule) item = bytes_eq item.name name
 is_word_on name New item = false
 is_word_on name Same item = false
 is_word_on name Unasked item = false
+is_word_on name Renewed item = false
 
 -- one of these resources was
 abbrev pub has_word_on : List ℕ → List Verdict → List ItemParts → Bool
-has_word_on name [] items = false
-has_word_on name (verdict ∷ verdicts) [] = false
-has_word_on name (verdict ∷ verdicts) (item ∷ items) = is_word_on name verdict item || has_word_on name verdicts items
+has_word_on name verdicts items = list_any (λ (judged : Verdict × ItemParts). is_word_on name judged.0 judged.1) (zip verdicts items)
 
 -- the response is of this kind
 abbrev pub is_response_of : Kind → ResponseParts → Bool

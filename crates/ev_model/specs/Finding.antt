@@ -1,71 +1,110 @@
--- What is found of a journal that is held against its script. This project's own.
-use Rattle.std.specs.Prelude.{ℕ, ◌+◌, Bool, false, not, ◌&&◌, ◌||◌, ◌==◌, if◌then◌else◌, List, [], ◌∷◌, ◌++◌, length, Option, Some, None, option_and_then, slice_get}
+-- What is found of a journal that is held against its script, by the rules of its format. This project's own.
+use Rattle.std.specs.Prelude.{ℕ, ◌+◌, Bool, true, false, not, ◌&&◌, ◌||◌, ◌==◌, nat_lt, if◌then◌else◌, List, filter, filter_map, find, take, length, Option, Some, None, option_map, option_and_then, slice_get, unwrap_or}
+use Rattle.std.specs.List.{list_any, list_all, last_or, prefix_len, range_with_len}
 use Rattle.ev_types.specs.Events.{op_of, op_same}
 use Rattle.ev_types.specs.SameAnswers.{answer_same}
 use Rattle.ev_types.specs.Scripts.{ScriptParts}
 use Rattle.ev_types.specs.declared.events.Actor.{Actor}
 use Rattle.ev_types.specs.declared.events.Entry.{Entry}
+use Rattle.ev_types.specs.declared.journals.Format.{Format}
+use Rattle.ev_types.specs.declared.journals.Format.TheVariants.{One, Two}
 use Rattle.ev_types.specs.declared.journals.Row.{Row}
 use Rattle.ev_types.specs.declared.journals.Finding.{Finding}
 use Rattle.ev_types.specs.declared.journals.Finding.TheVariants.{Legal, IllegalAt, NotTheScript}
-use Rattle.ev_model.specs.World.{World, opening}
+use Rattle.ev_model.specs.World.{opening}
 use Rattle.ev_model.specs.Step.{step}
-use Rattle.ev_model.specs.Runs.{is_batched}
-use Rattle.ev_model.specs.Operations.{Operation, actor_same, all_operations, operations_of, entries_of, entry_of}
+use Rattle.ev_model.specs.Runs.{world_after, is_batched}
+use Rattle.ev_model.specs.Operations.{Operation, Deed, actor_same, is_settle, is_earlier, all_operations, operations_of, entries_of, entry_of, deeds_of}
 
--- the next operation of an actor behind these entries
-abbrev pub next_operation : ScriptParts → List Entry → Actor → Option Operation
-next_operation script journal actor = slice_get (operations_of script actor) (length (entries_of journal actor))
+-- the row that is written for an entry: it has the event's word, and not the event
+abbrev pub row_of : Entry → Row
+row_of entry = record { actor = entry.actor; at = entry.at; step = entry.step; op = op_of entry.event; answer = entry.answer }
 
 -- the row tells of this operation
 abbrev pub tells_of : Row → Operation → Bool
 tells_of row o = (row.at == o.at) && (row.step == o.step) && op_same row.op (op_of o.event)
 
--- the entry that a row is, where it tells of its actor's next operation
-abbrev pub entry_told : Row → Operation → Option Entry
-entry_told row o = if tells_of row o then Some (entry_of o row.answer) else None
+-- the operation of the script that a row tells of
+abbrev pub operation_told : ScriptParts → Row → Option Operation
+operation_told script row = find (tells_of row) (operations_of script row.actor)
 
--- the entry that a row is, behind these entries
-abbrev pub entry_for : ScriptParts → List Entry → Row → Option Entry
-entry_for script journal row = option_and_then (entry_told row) (next_operation script journal row.actor)
+-- the entry that a row is, where the script has its operation
+abbrev pub entry_told : ScriptParts → Row → Option Entry
+entry_told script row = option_map (λ o. entry_of o row.answer) (operation_told script row)
 
--- the journal, or what is made of one entry more where there is one
-abbrev pub going_on : List Entry → (Entry → List Entry) → Option Entry → List Entry
-going_on journal more None = journal
-going_on journal more (Some entry) = more entry
+-- the journal that rows give with their script
+abbrev pub journal_told : ScriptParts → List Row → List Entry
+journal_told script rows = filter_map (entry_told script) rows
 
--- the journal that rows give with their script, behind these entries: up to the first row that isn't its actor's next operation
-abbrev pub journal_of : ScriptParts → List Entry → List Row → List Entry
-journal_of script journal [] = journal
-journal_of script journal (row ∷ rows) =
-    going_on journal (λ entry. journal_of script (journal ++ entry ∷ []) rows) (entry_for script journal row)
+-- the operations of an actor that stand behind all of its entries
+abbrev pub operations_left : ScriptParts → List Entry → Actor → List Operation
+operations_left script journal actor =
+    filter (λ o. list_all (λ done. is_earlier done o) (entries_of journal actor)) (operations_of script actor)
+
+-- the actor rests behind its last deed; before the first it rests
+abbrev pub rests_by : Option Deed → Bool
+rests_by None = true
+rests_by (Some deed) = deed.rests
+
+-- the actor rests behind the journal
+abbrev pub is_resting : Format → ScriptParts → List Entry → Actor → Bool
+is_resting format script journal actor = rests_by (last_or None (deeds_of format script journal actor))
+
+-- how many of these operations may be left out: in format 2, while the actor rests, the settles that come next
+abbrev pub may_pass : Format → Bool → List Operation → ℕ
+may_pass One resting os = 0
+may_pass Two resting os = if resting then prefix_len (λ (o : Operation). is_settle o.event) os else 0
+
+-- how many operations of an actor may be left out behind the journal
+abbrev pub passed : Format → ScriptParts → List Entry → Actor → ℕ
+passed format script journal actor = may_pass format (is_resting format script journal actor) (operations_left script journal actor)
+
+-- the operations of an actor that may come next behind the journal: the first one left, and each behind those that may be left out
+abbrev pub next_operations : Format → ScriptParts → List Entry → Actor → List Operation
+next_operations format script journal actor = take (passed format script journal actor + 1) (operations_left script journal actor)
+
+-- an operation of the actor is left that may not be left out
+abbrev pub is_unfinished : Format → ScriptParts → List Entry → Actor → Bool
+is_unfinished format script journal actor = nat_lt (passed format script journal actor) (length (operations_left script journal actor))
+
+-- the row isn't the script's: it tells of no operation of its actor that may come next
+abbrev pub is_stray : Format → ScriptParts → List Entry → Row → Bool
+is_stray format script journal row = not (list_any (tells_of row) (next_operations format script journal row.actor))
 
 -- the entry breaks into the batch of the one before it
 abbrev pub breaks_batch : Option Entry → Entry → Bool
 breaks_batch None entry = false
 breaks_batch (Some before) entry = is_batched before.event && not (actor_same entry.actor before.actor)
 
--- the entry isn't answered as the machine answers it in this world, or breaks into a batch
-abbrev pub is_illegal : World → Option Entry → Entry → Bool
-is_illegal world before entry = not (answer_same entry.answer (step world entry.actor entry.event).1) || breaks_batch before entry
+-- behind the journal the entry isn't answered as the machine answers it, or breaks into a batch
+abbrev pub is_wrong : Format → ScriptParts → List Entry → Entry → Bool
+is_wrong format script journal entry =
+    not (answer_same entry.answer (step format (world_after format (opening script.workers script.node) journal) entry.actor entry.event).1)
+    || breaks_batch (last_or None journal) entry
 
--- the number of the first illegal entry, where n stand before these
-abbrev pub first_illegal : ℕ → World → Option Entry → List Entry → Option ℕ
-first_illegal n world before [] = None
-first_illegal n world before (entry ∷ entries) =
-    if is_illegal world before entry then Some (n + 1) else first_illegal (n + 1) (step world entry.actor entry.event).0 (Some entry) entries
+-- the row is an illegal entry behind the journal
+abbrev pub is_illegal : Format → ScriptParts → List Entry → Row → Bool
+is_illegal format script journal row = unwrap_or (option_map (is_wrong format script journal) (entry_told script row)) false
 
--- each row is an entry of the journal, and each operation of the script stands there
-abbrev pub is_whole : ScriptParts → List Row → List Entry → Bool
-is_whole script rows journal = (length journal == length rows) && (length journal == length (all_operations script))
+-- what is found of the row of this number behind the journal, if anything
+abbrev pub row_finding : Format → ScriptParts → List Entry → ℕ → Row → Option Finding
+row_finding format script journal number row =
+    if is_stray format script journal row then Some (NotTheScript number)
+    else (if is_illegal format script journal row then Some (IllegalAt number) else None)
 
--- the finding, by the first illegal entry of the journal that the rows give
-abbrev pub finding_by : ScriptParts → List Row → List Entry → Option ℕ → Finding
-finding_by script rows journal None = if is_whole script rows journal then Legal else NotTheScript (length journal + 1)
-finding_by script rows journal (Some number) = IllegalAt number
+-- what is found at a place of the rows, counted from 0: the journal is that of the rows before it
+abbrev pub finding_at : Format → ScriptParts → List Row → ℕ → Option Finding
+finding_at format script rows place =
+    option_and_then (row_finding format script (journal_told script (take place rows)) (place + 1)) (slice_get rows place)
 
--- what is found of a journal: the first row decides that isn't its actor's next operation, is missing, or is illegal
-abbrev pub finding_of : ScriptParts → List Row → Finding
-finding_of script rows =
-    let journal = journal_of script [] rows in
-    finding_by script rows journal (first_illegal 0 (opening script.workers script.node) None journal)
+-- what is found behind the last row: an operation is missing there, or nothing is wrong
+abbrev pub end_finding : Format → ScriptParts → List Row → Finding
+end_finding format script rows =
+    if list_any (λ (o : Operation). is_unfinished format script (journal_told script rows) o.actor) (all_operations script)
+    then NotTheScript (length rows + 1)
+    else Legal
+
+-- what is found of a journal: what is found at the first place where there is anything, or behind the last row
+abbrev pub finding_of : Format → ScriptParts → List Row → Finding
+finding_of format script rows =
+    unwrap_or (slice_get (filter_map (finding_at format script rows) (range_with_len 0 (length rows))) 0) (end_finding format script rows)

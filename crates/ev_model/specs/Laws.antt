@@ -1,5 +1,5 @@
 -- What holds of every journal that is a run, so that operators may rely on it. This project's own; each law speaks of the
--- journal and the worlds that it leads through.
+-- journal, by the rules of its format, and the worlds that it leads through.
 use Rattle.std.specs.Prelude.{ℕ, ◌≡◌, ◌<◌, ◌≤◌, ◌+◌, ◌⊎◌, false, IsTrue, List, filter, take, drop, Contains, Option, Some, None, slice_get, ⊤}
 use Rattle.std.specs.List.{list_any}
 use Rattle.std.specs.List.Sorted.{IsStrictlyIncreasing}
@@ -9,35 +9,38 @@ use Rattle.ev_types.specs.declared.contents.Kind.TheVariants.{Cds, Eds, Lds, Rds
 use Rattle.ev_types.specs.declared.contents.Request.{Request}
 use Rattle.ev_types.specs.declared.events.Actor.{Actor}
 use Rattle.ev_types.specs.declared.events.Actor.TheVariants.{Worker}
-use Rattle.ev_types.specs.declared.events.Event.TheVariants.{Response}
-use Rattle.ev_types.specs.declared.events.Answer.TheVariants.{Replied}
+use Rattle.ev_types.specs.declared.events.Event.TheVariants.{Response, DrainTimeout, Publish, Reap}
+use Rattle.ev_types.specs.declared.events.Answer.TheVariants.{Done, Replied}
+use Rattle.ev_types.specs.declared.journals.Format.{Format}
+use Rattle.ev_types.specs.declared.journals.Format.TheVariants.{Two}
 use Rattle.ev_types.specs.declared.events.Verdict.{Verdict}
 use Rattle.ev_types.specs.declared.events.Verdict.TheVariants.{Refused}
 use Rattle.ev_types.specs.declared.events.Entry.{Entry}
 use Rattle.ev_types.specs.declared.rows.GenRow.{GenRow}
 use Rattle.ev_types.specs.declared.rows.KeptVersion.{KeptVersion}
-use Rattle.ev_types.specs.declared.rows.RowStatus.TheVariants.{Active}
-use Rattle.ev_model.specs.World.{World}
+use Rattle.ev_types.specs.declared.rows.RowStatus.{RowStatus}
+use Rattle.ev_types.specs.declared.rows.RowStatus.TheVariants.{Active, Draining}
+use Rattle.ev_model.specs.declared.pictures.Shown.{Shown}
+use Rattle.ev_model.specs.World.{World, last_version}
 use Rattle.ev_model.specs.Live.{lives_of}
 use Rattle.ev_model.specs.Versions.{is_version_of}
 use Rattle.ev_model.specs.Watching.{Dependency, dependency_of, is_watched}
 use Rattle.ev_model.specs.Warming.{is_ready, value_of}
 use Rattle.ev_model.specs.Rows.{is_row_of}
-use Rattle.ev_model.specs.Picture.{is_shown}
-use Rattle.ev_model.specs.Dead.{picture_at, last_picture}
-use Rattle.ev_model.specs.Signals.{has_number}
-use Rattle.ev_model.specs.Runs.{world_at}
+use Rattle.ev_model.specs.Picture.{has_number, is_shown}
+use Rattle.ev_model.specs.Runs.{world_at, IsRun}
 use Rattle.ev_model.specs.Entries.{MadeRow, made_of, names_row, has_arrived_for, is_accept, version_settled_by, last_settled, version_published, numbers_reaped, connection_of, closes}
 
--- a journal, with the workers and the node of its machine
+-- a journal, with its format, and the workers and the node of its machine
 pub record Told : Type 0 where
+  pub format : Format
   pub workers : ℕ
   pub node : List ℕ
   pub journal : List Entry
 
 -- the world after the first k entries
 abbrev pub world_told : Told → ℕ → World
-world_told told k = world_at told.workers told.node told.journal k
+world_told told k = world_at told.format told.workers told.node told.journal k
 
 -- the entry stands at place k, from 0
 abbrev pub IsEntryAt : Told → ℕ → Entry → Type 0
@@ -75,6 +78,7 @@ pub record WasWarm (told : Told) (number version k : ℕ) : Type 0 where
   pub earlier : place < k
   pub entry : Entry
   pub there : IsEntryAt told place entry
+  pub publication : entry.event ≡ Publish
   pub published : version_published entry.answer ≡ Some version
   pub warmed : HadWarmed told number place
 
@@ -119,20 +123,27 @@ abbrev pub IsClosedBefore : Told → ℕ → ℕ → Type 0
 IsClosedBefore told number k =
     (j : ℕ) (actor : Actor) (connection : ℕ) → j < k → Opened told j actor number connection → IsClosedBetween told j k actor connection
 
+-- the picture of this version was published, and doesn't show the generation
+pub record IsHidden (world : World) (version number : ℕ) : Type 0 where
+  pub shown : Shown
+  pub there : slice_get world.pictures version ≡ Some shown
+  pub hidden : is_shown number shown ≡ false
+
 -- no picture that a worker has settled on last shows the generation, and neither does the last picture
 pub record IsUnseen (told : Told) (number k : ℕ) : Type 0 where
-  pub held : (worker : ℕ) → worker < told.workers → is_shown number (picture_at (world_told told k) (last_settled (take k told.journal) (Worker worker))) ≡ false
-  pub last : is_shown number (last_picture (world_told told k)) ≡ false
+  pub held : (worker : ℕ) → worker < told.workers → IsHidden (world_told told k) (last_settled (take k told.journal) (Worker worker)) number
+  pub last : IsHidden (world_told told k) (last_version (world_told told k)) number
 
 -- a generation is destroyed only when no connection is open on it and no worker's snapshot holds it
 pub record IsUnused (told : Told) (number k : ℕ) : Type 0 where
   pub closed : IsClosedBefore told number k
   pub unseen : IsUnseen told number k
 
--- the entry at place k destroys the generation
+-- the entry at place k is a reaping that destroys the generation
 pub record Reaps (told : Told) (k number : ℕ) : Type 0 where
   pub entry : Entry
   pub there : IsEntryAt told k entry
+  pub reaping : entry.event ≡ Reap
   pub names : IsTrue (has_number number (numbers_reaped entry.answer))
 
 -- what a reaping names is unused
@@ -143,7 +154,7 @@ Unused told = (k number : ℕ) → Reaps told k number → IsUnused told number 
 pub record IsGone (told : Told) (number k : ℕ) (entry : Entry) : Type 0 where
   pub reaped : has_number number (numbers_reaped entry.answer) ≡ false
   pub accepted : names_row number entry.answer ≡ false
-  pub published : (version : ℕ) → version_published entry.answer ≡ Some version → is_shown number (picture_at (world_told told (k + 1)) version) ≡ false
+  pub published : (version : ℕ) → version_published entry.answer ≡ Some version → IsHidden (world_told told (k + 1)) version number
 
 -- a generation is destroyed once: a reaping names each once, and no later entry has it
 pub record Once (told : Told) : Type 0 where
@@ -197,10 +208,48 @@ Stays told =
     → IsReplied told k kind response verdicts → IsRefusedAt response verdicts place item
     → Keeps (world_told told k) (world_told told (k + 1)) kind item.name
 
--- all five
+-- after the first k entries the generation is one of this kind, name and status
+pub record StandsAt (told : Told) (k number : ℕ) (kind : Kind) (name : List ℕ) (status : RowStatus) : Type 0 where
+  pub row : GenRow
+  pub among : Contains (world_told told k).rows row
+  pub numbered : row.number ≡ number
+  pub of_kind : row.kind ≡ kind
+  pub named : row.name ≡ name
+  pub stands : row.status ≡ status
+
+-- between the places j and k stands a drain timeout of the name that was done
+pub record DrainsBetween (told : Told) (j k : ℕ) (name : List ℕ) : Type 0 where
+  pub place : ℕ
+  pub from : j ≤ place
+  pub before : place < k
+  pub entry : Entry
+  pub there : IsEntryAt told place entry
+  pub event : entry.event ≡ DrainTimeout name
+  pub done : entry.answer ≡ Done
+
+-- the listener's drain timeout came before place k, when it was draining already
+pub record HasWaited (told : Told) (number : ℕ) (name : List ℕ) (k : ℕ) : Type 0 where
+  pub place : ℕ
+  pub draining : StandsAt told place number Lds name Draining
+  pub drained : DrainsBetween told place k name
+
+-- in format 2 a listener that has served is destroyed only when its drain timeout has come
+abbrev pub Waited : Told → Type 0
+Waited told =
+    (j k number : ℕ) (name : List ℕ) → told.format ≡ Two → j ≤ k → StandsAt told j number Lds name Active → Reaps told k number
+    → HasWaited told number name k
+
+-- all six
 pub record Laws (told : Told) : Type 0 where
   pub warmed : Warmed told
   pub forward : Forward told
   pub unused : Unused told
   pub once : Once told
   pub stays : Stays told
+  pub waited : Waited told
+
+-- every run has the laws
+abbrev pub RunsHaveLaws : Type 0
+RunsHaveLaws =
+    (format : Format) (workers : ℕ) (node : List ℕ) (journal : List Entry) → IsRun format workers node journal
+    → Laws record { format = format; workers = workers; node = node; journal = journal }

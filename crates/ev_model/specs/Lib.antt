@@ -1,3 +1,4 @@
+pub mod Sorted
 pub mod World
 pub mod Live
 pub mod Versions

@@ -1,18 +1,21 @@
--- Which operations a script holds for each actor, and in which order a replay takes them. This project's own.
-use Rattle.std.specs.Prelude.{ℕ, ◌≡◌, ◌+◌, ◌%◌, Bool, true, false, not, ◌&&◌, ◌==◌, nat_lt, nat_le, if◌then◌else◌, List, [], ◌∷◌, ◌++◌, map, filter, length, refl}
+-- Which operations a script holds for each actor, in which order a replay takes them, and when a journal holds them. This
+-- project's own.
+use Rattle.std.specs.Prelude.{ℕ, ◌≡◌, ◌+◌, ◌%◌, Bool, true, false, not, ◌&&◌, ◌||◌, ◌==◌, IsTrue, ◌⊎◌, ⊤, nat_lt, nat_le, if◌then◌else◌, List, [], ◌∷◌, ◌++◌, map, filter, length, refl}
 use Rattle.std.specs.Bool.{Decides}
 use Rattle.std.specs.List.{range_with_len, list_any, flat_map}
 use Rattle.std.proofs.Common.{ap}
 use Rattle.ev_types.specs.Same.{decides_as, numbers_decide}
 use Rattle.ev_types.specs.Scripts.{ScriptParts}
+use Rattle.ev_types.specs.declared.journals.Format.{Format}
+use Rattle.ev_types.specs.declared.journals.Format.TheVariants.{One, Two}
 use Rattle.ev_types.specs.declared.events.Actor.{Actor}
 use Rattle.ev_types.specs.declared.events.Actor.TheVariants.{Stream, Health, Timer, Main, Worker}
 use Rattle.ev_types.specs.declared.events.Event.{Event}
-use Rattle.ev_types.specs.declared.events.Event.TheVariants.{Connect, Disconnect, Response, Health as health, FetchTimeout, DrainTimeout, Publish, Reap, Accept, Close, Settle}
+use Rattle.ev_types.specs.declared.events.Event.TheVariants.{Connect, Disconnect, Response, Health as health, FetchTimeout, DrainTimeout, TtlExpired, Publish, Reap, Accept, Close, Settle}
 use Rattle.ev_types.specs.declared.events.Answer.{Answer}
 use Rattle.ev_types.specs.declared.events.Entry.{Entry}
 use Rattle.ev_types.specs.declared.events.Line.{Line}
-use Rattle.ev_model.specs.World.{World, opening}
+use Rattle.ev_model.specs.World.{World, OpenMember, opening}
 use Rattle.ev_model.specs.Step.{step}
 use Rattle.ev_model.specs.Runs.{IsRun, is_batched}
 
@@ -69,6 +72,7 @@ is_settle (Response response) = false
 is_settle (health cluster host healthy) = false
 is_settle (FetchTimeout timeout) = false
 is_settle (DrainTimeout listener) = false
+is_settle (TtlExpired kind name) = false
 is_settle Publish = false
 is_settle Reap = false
 is_settle (Accept ask) = false
@@ -112,19 +116,27 @@ all_operations script = flat_map (line_operations script) script.lines ++ map (l
 abbrev pub operations_of : ScriptParts → Actor → List Operation
 operations_of script actor = filter (λ (o : Operation). actor_same o.actor actor) (all_operations script)
 
--- an operation goes directly before the next one of the same actor
-abbrev pub put_before_next : Operation → List Operation → List Operation
-put_before_next o [] = o ∷ []
-put_before_next o (next ∷ os) = if actor_same next.actor o.actor then o ∷ next ∷ os else next ∷ put_before_next o os
+-- the first operation stands before the second, by line and step
+abbrev pub is_earlier : Operation → Operation → Bool
+is_earlier a b = nat_lt a.at b.at || ((a.at == b.at) && nat_lt a.step b.step)
 
--- the operations with each worker's accepts and closes directly before its next settle
-abbrev pub with_batches : List Operation → List Operation
-with_batches [] = []
-with_batches (o ∷ os) = if is_batched o.event then put_before_next o (with_batches os) else o ∷ with_batches os
+-- a settle of the same actor stands between the two
+abbrev pub is_settle_between : Operation → Operation → Operation → Bool
+is_settle_between first last o = is_settle o.event && actor_same o.actor last.actor && is_earlier first o && is_earlier o last
 
--- the operations in the order of a replay
+-- an accept or close of the same actor before it, with no settle of the actor's between
+abbrev pub is_in_batch : List Operation → Operation → Operation → Bool
+is_in_batch os last o =
+    is_batched o.event && actor_same o.actor last.actor && is_earlier o last && not (list_any (is_settle_between o last) os)
+
+-- an operation that is no accept or close, with its batch before it: a worker's accepts and closes since the settle before
+abbrev pub with_batch : List Operation → Operation → List Operation
+with_batch os last = filter (is_in_batch os last) os ++ last ∷ []
+
+-- the operations in the order of a replay: each that is no accept or close, in order, and its batch before it
 abbrev pub replay_operations : ScriptParts → List Operation
-replay_operations script = with_batches (all_operations script)
+replay_operations script =
+    let os = all_operations script in flat_map (with_batch os) (filter (λ (o : Operation). not (is_batched o.event)) os)
 
 -- what an entry did
 abbrev pub operation_of : Entry → Operation
@@ -139,15 +151,65 @@ abbrev pub entry_of : Operation → Answer → Entry
 entry_of o answer = record { actor = o.actor; at = o.at; step = o.step; event = o.event; answer = answer }
 
 -- the journal of these operations, one after another, from this world on
-abbrev pub journal_from : World → List Operation → List Entry
-journal_from world [] = []
-journal_from world (o ∷ os) = entry_of o (step world o.actor o.event).1 ∷ journal_from (step world o.actor o.event).0 os
+abbrev pub journal_from : Format → World → List Operation → List Entry
+journal_from format world [] = []
+journal_from format world (o ∷ os) =
+    entry_of o (step format world o.actor o.event).1 ∷ journal_from format (step format world o.actor o.event).0 os
 
 -- the journal of a replay
-abbrev pub replay_order : ScriptParts → List Entry
-replay_order script = journal_from (opening script.workers script.node) (replay_operations script)
+abbrev pub replay_order : Format → ScriptParts → List Entry
+replay_order format script = journal_from format (opening script.workers script.node) (replay_operations script)
 
 -- the journal is a run of the machine which holds every operation of the script, in the order of a replay
-pub record IsReplay (script : ScriptParts) (journal : List Entry) : Type 0 where
-  pub run : IsRun script.workers script.node journal
+pub record IsReplay (format : Format) (script : ScriptParts) (journal : List Entry) : Type 0 where
+  pub run : IsRun format script.workers script.node journal
   pub order : map operation_of journal ≡ replay_operations script
+
+-- the connection is this actor's
+abbrev pub is_held_by : Actor → OpenMember → Bool
+is_held_by Stream member = false
+is_held_by Health member = false
+is_held_by Timer member = false
+is_held_by Main member = false
+is_held_by (Worker worker) member = member.worker == worker
+
+-- an actor rests behind an operation of its own that leads to this world: it has settled, and has no connection open
+abbrev pub rests_behind : World → Operation → Bool
+rests_behind world o = is_settle o.event && not (list_any (is_held_by o.actor) world.opened)
+
+-- an operation that an actor has done, and whether the actor rests behind it
+pub record Deed : Type 0 where
+  pub operation : Operation
+  pub rests : Bool
+
+-- the deeds that a journal holds, from this world on
+abbrev pub deeds_from : Format → World → List Entry → List Deed
+deeds_from format world [] = []
+deeds_from format world (entry ∷ entries) =
+    let after = (step format world entry.actor entry.event).0 in
+    record { operation = operation_of entry; rests = rests_behind after (operation_of entry) } ∷ deeds_from format after entries
+
+-- the deeds of an actor in a journal, in order
+abbrev pub deeds_of : Format → ScriptParts → List Entry → Actor → List Deed
+deeds_of format script journal actor =
+    filter (λ (d : Deed). actor_same d.operation.actor actor) (deeds_from format (opening script.workers script.node) journal)
+
+-- The deeds are these operations, in order, but for settles that are left out while the actor rests.
+abbrev pub AreDone : Bool → List Operation → List Deed → Type 0
+AreDone rests [] [] = ⊤
+AreDone rests [] (deed ∷ deeds) = ⊥
+AreDone rests (o ∷ os) [] = IsTrue (is_settle o.event && rests) × AreDone rests os []
+AreDone rests (o ∷ os) (deed ∷ deeds) =
+    ((deed.operation ≡ o) × AreDone deed.rests os deeds)
+    ⊎ (IsTrue (is_settle o.event && rests) × AreDone rests os (deed ∷ deeds))
+
+-- The journal holds the actor's operations of the script, in order. In format 2 settles may be left out while the actor rests:
+-- from the start, or from a settle behind which it has no connection open.
+abbrev pub Fits : Format → ScriptParts → List Entry → Actor → Type 0
+Fits One script journal actor = entries_of journal actor ≡ operations_of script actor
+Fits Two script journal actor = AreDone true (operations_of script actor) (deeds_of Two script journal actor)
+
+-- the journal is a run of the machine, and holds each actor's operations of the script
+pub record IsRunOf (format : Format) (script : ScriptParts) (journal : List Entry) : Type 0 where
+  pub run : IsRun format script.workers script.node journal
+  pub fits : (actor : Actor) → Fits format script journal actor

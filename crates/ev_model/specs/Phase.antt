@@ -23,32 +23,36 @@ has_live rows kind name = list_any (λ (row : GenRow). is_row_of kind name row &
 unfoldable pub has_come : List GenRow → Kind → List ℕ → Bool
 has_come rows kind name = has_active rows kind name || not (has_live rows kind name)
 
--- a first response came, and nothing is waited for under its names
-abbrev pub have_come : List GenRow → Kind → Option (List (List ℕ)) → Bool
-have_come rows kind None = false
-have_come rows kind (Some names) = list_all (has_come rows kind) names
+-- a first response came, and each of its names has come
+abbrev pub all_have_come : (List ℕ → Bool) → Option (List (List ℕ)) → Bool
+all_have_come comes None = false
+all_have_come comes (Some names) = list_all comes names
+
+-- the first of a kind have come or timed out: by whether they are late, which names have come, and the first names
+abbrev pub have_come : Bool → (List ℕ → Bool) → Option (List (List ℕ)) → Bool
+have_come late comes first = late || all_have_come comes first
 
 -- the first clusters have come, or timed out
 abbrev pub clusters_have_come : World → Bool
-clusters_have_come world = world.late_clusters || have_come world.rows Cds world.first_clusters
+clusters_have_come world = have_come world.late_clusters (has_come world.rows Cds) world.first_clusters
 
 -- the first listeners have come, or timed out
 abbrev pub listeners_have_come : World → Bool
-listeners_have_come world = world.late_listeners || have_come world.rows Lds world.first_listeners
+listeners_have_come world = have_come world.late_listeners (has_come world.rows Lds) world.first_listeners
 
--- the phase of a world in which listeners are asked for: they serve once the first have come, or timed out
-abbrev pub listeners_phase : World → Phase
-listeners_phase world = if listeners_have_come world then Serving else Listeners
+-- once listeners are asked for, they serve where the first have come
+abbrev pub listeners_phase : Bool → Phase
+listeners_phase listeners_come = if listeners_come then Serving else Listeners
 
--- the phase that a world in this phase moves on to, or this one; it may be the next but one
-abbrev pub phase_from : Phase → World → Phase
-phase_from Clusters world = if clusters_have_come world then listeners_phase world else Clusters
-phase_from Listeners world = listeners_phase world
-phase_from Serving world = Serving
+-- the phase that follows, by whether the first clusters and the first listeners have come: this one, the next or the next but one
+abbrev pub phase_from : Bool → Bool → Phase → Phase
+phase_from clusters_come listeners_come Clusters = if clusters_come then listeners_phase listeners_come else Clusters
+phase_from clusters_come listeners_come Listeners = listeners_phase listeners_come
+phase_from clusters_come listeners_come Serving = Serving
 
 -- the phase that the world moves on to: it never goes back
 abbrev pub phase_after : World → Phase
-phase_after world = phase_from world.phase world
+phase_after world = phase_from (clusters_have_come world) (listeners_have_come world) world.phase
 
 -- the first clusters are awaited
 abbrev pub is_clusters : Phase → Bool

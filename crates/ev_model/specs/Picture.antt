@@ -1,5 +1,6 @@
--- What workers may serve. This project's own, for Envoy's snapshots of clusters and listeners on its worker threads.
-use Rattle.std.specs.Prelude.{ℕ, ◌≡◌, Bool, false, ◌&&◌, ◌||◌, ◌==◌, if◌then◌else◌, List, [], ◌∷◌, filter, map, Option, Some, None}
+-- What workers may serve: a picture shows it, and has a version. This project's own, for Envoy's snapshots of clusters and
+-- listeners on its worker threads.
+use Rattle.std.specs.Prelude.{ℕ, ◌≡◌, Bool, false, ◌&&◌, ◌==◌, if◌then◌else◌, List, [], ◌∷◌, ◌++◌, filter, map, length, Option, Some, None}
 use Rattle.std.specs.List.{list_any, flat_map}
 use Rattle.std.specs.Str.{bytes_eq}
 use Rattle.std.specs.Bool.{Decides}
@@ -19,33 +20,33 @@ use Rattle.ev_types.specs.declared.listeners.Serve.TheVariants.{Rds as by_rds, I
 use Rattle.ev_types.specs.declared.routes.RouteTable.{RouteTable}
 use Rattle.ev_types.specs.declared.rows.GenRow.{GenRow}
 use Rattle.ev_model.specs.declared.pictures.Picture.{Picture}
+use Rattle.ev_model.specs.declared.pictures.Shown.{Shown}
 use Rattle.ev_model.specs.declared.pictures.Routing.{Routing}
 use Rattle.ev_model.specs.declared.pictures.Routing.TheVariants.{Table, Tcp}
 use Rattle.ev_model.specs.declared.pictures.ServedCluster.{ServedCluster}
 use Rattle.ev_model.specs.declared.pictures.ServedListener.{ServedListener}
-use Rattle.ev_model.specs.World.{World}
+use Rattle.ev_model.specs.World.{World, Arrived, HealthResult}
+use Rattle.ev_model.specs.Sorted.{sorted_by}
 use Rattle.ev_model.specs.Versions.{is_before}
-use Rattle.ev_model.specs.Warming.{value_of, assignment_of, is_eligible}
+use Rattle.ev_model.specs.Warming.{value_by, assignment_by, is_eligible_by}
 use Rattle.ev_model.specs.Phase.{is_serving}
-
--- a row goes before the first whose name is greater
-abbrev pub with_row : GenRow → List GenRow → List GenRow
-with_row row [] = row ∷ []
-with_row row (other ∷ others) = if is_before row.name other.name then row ∷ other ∷ others else other ∷ with_row row others
 
 -- the rows in the order of their names
 abbrev pub by_name : List GenRow → List GenRow
-by_name [] = []
-by_name (row ∷ rows) = with_row row (by_name rows)
+by_name rows = sorted_by (λ (row other : GenRow). is_before row.name other.name) rows
 
 -- the active rows of this kind, in the order of their names
-abbrev pub active_rows : World → Kind → List GenRow
-active_rows world kind = by_name (filter (λ (row : GenRow). kind_same row.kind kind && is_active row.status) world.rows)
+abbrev pub active_rows : List GenRow → Kind → List GenRow
+active_rows rows kind = by_name (filter (λ (row : GenRow). kind_same row.kind kind && is_active row.status) rows)
 
 -- an active cluster, with the hosts that may be chosen in the order of its assignment
-abbrev pub served_cluster : World → GenRow → ServedCluster
-served_cluster world row =
-    record { number = row.number; name = row.name; hosts = filter (is_eligible world row) (assignment_of world row) }
+abbrev pub served_cluster : List Arrived → List HealthResult → GenRow → ServedCluster
+served_cluster arrivals results row =
+    record { number = row.number; name = row.name; hosts = filter (is_eligible_by results row) (assignment_by arrivals row.content) }
+
+-- the active clusters, in the order of their names
+abbrev pub served_clusters : List Arrived → List HealthResult → List GenRow → List ServedCluster
+served_clusters arrivals results rows = map (served_cluster arrivals results) (active_rows rows Cds)
 
 -- the routes of a value; without one there are none
 abbrev pub table_in : Option Content → RouteTable
@@ -56,29 +57,33 @@ table_in (Some (a_listener listener)) = record { hosts = [] }
 table_in (Some (routes table)) = table
 
 -- where a listener's connections go: by the routes that are its name's value, by its own, or to its target
-abbrev pub routing_of : World → Serve → Routing
-routing_of world (by_rds name limited) = Table (table_in (value_of world Rds name))
-routing_of world (Inline table) = Table table
-routing_of world (by_tcp target) = Tcp target
+abbrev pub routing_of : List Arrived → Serve → Routing
+routing_of arrivals (by_rds name limited) = Table (table_in (value_by arrivals Rds name))
+routing_of arrivals (Inline table) = Table table
+routing_of arrivals (by_tcp target) = Tcp target
 
 -- an active listener; what is no listener isn't shown
-abbrev pub served_listener : World → GenRow → Content → List ServedListener
-served_listener world row (a_cluster cluster) = []
-served_listener world row (an_assignment rows) = []
-served_listener world row (a_listener listener) =
-    record { number = row.number; name = row.name; address = listener.address; routing = routing_of world listener.serve } ∷ []
-served_listener world row (routes table) = []
+abbrev pub served_listener : List Arrived → GenRow → Content → List ServedListener
+served_listener arrivals row (a_cluster cluster) = []
+served_listener arrivals row (an_assignment rows) = []
+served_listener arrivals row (a_listener listener) =
+    record { number = row.number; name = row.name; address = listener.address; routing = routing_of arrivals listener.serve } ∷ []
+served_listener arrivals row (routes table) = []
 
 -- the active listeners, in the order of their names
-abbrev pub served_listeners : World → List ServedListener
-served_listeners world = flat_map (λ (row : GenRow). served_listener world row row.content) (active_rows world Lds)
+abbrev pub served_listeners : List Arrived → List GenRow → List ServedListener
+served_listeners arrivals rows = flat_map (λ (row : GenRow). served_listener arrivals row row.content) (active_rows rows Lds)
 
 -- what workers may serve now: each active cluster and, once listeners serve, each active listener
-abbrev pub picture_of : World → Picture
-picture_of world = record {
-  clusters = map (served_cluster world) (active_rows world Cds);
-  listeners = if is_serving world.phase then served_listeners world else [];
+abbrev pub shown_of : World → Shown
+shown_of world = record {
+  clusters = served_clusters world.arrivals world.results world.rows;
+  listeners = if is_serving world.phase then served_listeners world.arrivals world.rows else [];
 }
+
+-- the picture that a publication makes now: it has the next version
+abbrev pub picture_of : World → Picture
+picture_of world = record { version = length world.pictures; shown = shown_of world }
 
 -- the same generation of the same cluster, with the same hosts
 abbrev pub served_cluster_same : ServedCluster → ServedCluster → Bool
@@ -96,13 +101,20 @@ abbrev pub served_listener_same : ServedListener → ServedListener → Bool
 served_listener_same a b = (a.number == b.number) && bytes_eq a.name b.name && host_same a.address b.address && routing_same a.routing b.routing
 
 -- the same clusters and the same listeners
-abbrev pub picture_same : Picture → Picture → Bool
-picture_same a b = pointwise served_cluster_same a.clusters b.clusters && pointwise served_listener_same a.listeners b.listeners
+abbrev pub shown_same : Shown → Shown → Bool
+shown_same a b = pointwise served_cluster_same a.clusters b.clusters && pointwise served_listener_same a.listeners b.listeners
+
+-- the numbers of the generations that are shown
+abbrev pub numbers_shown : Shown → List ℕ
+numbers_shown shown = map (λ (c : ServedCluster). c.number) shown.clusters ++ map (λ (l : ServedListener). l.number) shown.listeners
+
+-- the number stands among these
+abbrev pub has_number : ℕ → List ℕ → Bool
+has_number number numbers = list_any (λ n. n == number) numbers
 
 -- the generation of this number is shown
-abbrev pub is_shown : ℕ → Picture → Bool
-is_shown number picture =
-    list_any (λ (c : ServedCluster). c.number == number) picture.clusters || list_any (λ (l : ServedListener). l.number == number) picture.listeners
+abbrev pub is_shown : ℕ → Shown → Bool
+is_shown number shown = has_number number (numbers_shown shown)
 
 pub served_cluster_decides : (a b : ServedCluster) → Decides (served_cluster_same a b) (a ≡ b)
 served_cluster_decides a b = decides_as
@@ -122,9 +134,9 @@ served_listener_decides a b = decides_as
     (λ p. λ i. record { number = p.0.0.0 i; name = p.0.0.1 i; address = p.0.1 i; routing = p.1 i })
     (λ e. (((ap (λ (l : ServedListener). l.number) e, ap (λ (l : ServedListener). l.name) e), ap (λ (l : ServedListener). l.address) e), ap (λ (l : ServedListener). l.routing) e))
 
--- the test holds of equal pictures alone
-pub picture_decides : (a b : Picture) → Decides (picture_same a b) (a ≡ b)
-picture_decides a b = decides_as
+-- the test holds of what is equal alone
+pub shown_decides : (a b : Shown) → Decides (shown_same a b) (a ≡ b)
+shown_decides a b = decides_as
     (both_decide (pointwise_decides served_cluster_decides a.clusters b.clusters) (pointwise_decides served_listener_decides a.listeners b.listeners))
     (λ (p, q). λ i. record { clusters = p i; listeners = q i })
-    (λ e. (ap (λ (c : Picture). c.clusters) e, ap (λ (c : Picture). c.listeners) e))
+    (λ e. (ap (λ (c : Shown). c.clusters) e, ap (λ (c : Shown). c.listeners) e))

@@ -1,14 +1,16 @@
 -- What is asked of the control plane. Source: the xDS transport protocol, incremental variant: a stream's first request of a
 -- type names the whole subscription and the versions that are held, an empty first one of clusters or listeners asks for all
 -- of them, later ones name what is watched newly and no longer, and a reply carries the nonce of its response, and an error
--- where it refuses. Two whole worlds are compared.
-use Rattle.std.specs.Prelude.{ℕ, Bool, not, ◌&&◌, if◌then◌else◌, List, [], ◌∷◌, ◌++◌, filter, Option, Some, None, codes, decimal, option_to_list}
+-- where it refuses. The inner words look at names and versions alone; those of an event compare two whole worlds.
+use Rattle.std.specs.Prelude.{ℕ, Bool, not, ◌&&◌, if◌then◌else◌, List, [], ◌∷◌, ◌++◌, filter, filter_map, Option, Some, None, codes, decimal, option_to_list}
+use Rattle.std.specs.List.{zip}
 use Rattle.ev_types.specs.Items.{ItemParts, ResponseParts}
 use Rattle.ev_types.specs.declared.contents.Kind.{Kind}
 use Rattle.ev_types.specs.declared.contents.Kind.TheVariants.{Cds, Eds, Lds, Rds}
 use Rattle.ev_types.specs.declared.contents.Request.{Request}
+use Rattle.ev_types.specs.declared.rows.KeptVersion.{KeptVersion}
 use Rattle.ev_types.specs.declared.events.Verdict.{Verdict}
-use Rattle.ev_types.specs.declared.events.Verdict.TheVariants.{New, Same, Kept, Unasked, Refused}
+use Rattle.ev_types.specs.declared.events.Verdict.TheVariants.{New, Same, Kept, Unasked, Renewed, Refused}
 use Rattle.ev_model.specs.World.{World}
 use Rattle.ev_model.specs.Verdicts.{is_among}
 use Rattle.ev_model.specs.Versions.{versions_of}
@@ -16,25 +18,25 @@ use Rattle.ev_model.specs.Watching.{watched_of}
 use Rattle.ev_model.specs.Phase.{is_clusters}
 
 -- the first request of a stream: all clusters are asked for, and the node is named
-abbrev pub clusters_request : World → Request
-clusters_request world = record {
+abbrev pub clusters_request : List ℕ → List KeptVersion → Request
+clusters_request node versions = record {
   kind = Cds;
-  node = Some world.node;
+  node = Some node;
   subscribe = [];
   unsubscribe = [];
-  versions = versions_of Cds world.versions;
+  versions = versions_of Cds versions;
   nonce = None;
   error = None;
 }
 
 -- all listeners are asked for
-abbrev pub listeners_request : World → Request
-listeners_request world = record {
+abbrev pub listeners_request : List KeptVersion → Request
+listeners_request versions = record {
   kind = Lds;
   node = None;
   subscribe = [];
   unsubscribe = [];
-  versions = versions_of Lds world.versions;
+  versions = versions_of Lds versions;
   nonce = None;
   error = None;
 }
@@ -52,31 +54,52 @@ names_request kind subscribe unsubscribe versions = record {
   error = None;
 } ∷ []
 
--- all watched names of this kind are asked for, where there are some
-abbrev pub watched_request : Kind → World → List Request
-watched_request kind world = names_request kind (watched_of world kind) [] (versions_of kind world.versions)
+-- the names that are watched: those of endpoints and those of routes
+pub record Watched : Type 0 where
+  pub endpoints : List (List ℕ)
+  pub routes : List (List ℕ)
 
--- what is asked for when a stream opens: clusters, watched endpoints, listeners once the first phase is left, watched routes
+-- the names that are watched in a world
+abbrev pub all_watched : World → Watched
+all_watched world = record { endpoints = watched_of world Eds; routes = watched_of world Rds }
+
+-- all of these names of a kind are asked for, where there are some
+abbrev pub whole_request : Kind → List (List ℕ) → List KeptVersion → List Request
+whole_request kind names versions = names_request kind names [] (versions_of kind versions)
+
+-- all listeners are asked for, where they are to be
+abbrev pub listeners_asked : Bool → List KeptVersion → List Request
+listeners_asked asked versions = if asked then listeners_request versions ∷ [] else []
+
+-- what is asked for when a stream opens, by the node, the watched names, whether listeners are asked for, and the versions that
+-- are kept: clusters, watched endpoints, listeners, watched routes
+abbrev pub connect_requests_by : List ℕ → Watched → Bool → List KeptVersion → List Request
+connect_requests_by node watched asked versions =
+    (clusters_request node versions ∷ [])
+    ++ (whole_request Eds watched.endpoints versions
+    ++ (listeners_asked asked versions
+    ++ whole_request Rds watched.routes versions))
+
+-- what is asked for when a stream opens: listeners only once the first phase is left
 abbrev pub connect_requests : World → List Request
-connect_requests world =
-    (clusters_request world ∷ [])
-    ++ (watched_request Eds world
-    ++ ((if is_clusters world.phase then [] else listeners_request world ∷ [])
-    ++ watched_request Rds world))
+connect_requests world = connect_requests_by world.node (all_watched world) (not (is_clusters world.phase)) world.versions
 
 -- what is said of one refused resource: its outer name, as it came, and the rule
 abbrev pub refusal_text : List ℕ → ℕ → List ℕ
 refusal_text name rule = name ++ (codes ": V" ++ decimal rule)
 
+-- what is said of a resource with its verdict, where it is refused
+abbrev pub refusal_of : Verdict → List ℕ → Option (List ℕ)
+refusal_of New name = None
+refusal_of Same name = None
+refusal_of Kept name = None
+refusal_of Unasked name = None
+refusal_of Renewed name = None
+refusal_of (Refused rule) name = Some (refusal_text name rule)
+
 -- what is said of the refused resources, in order
 abbrev pub refusals : List Verdict → List ItemParts → List (List ℕ)
-refusals [] items = []
-refusals (verdict ∷ verdicts) [] = []
-refusals (Refused rule ∷ verdicts) (item ∷ items) = refusal_text item.name rule ∷ refusals verdicts items
-refusals (New ∷ verdicts) (item ∷ items) = refusals verdicts items
-refusals (Same ∷ verdicts) (item ∷ items) = refusals verdicts items
-refusals (Kept ∷ verdicts) (item ∷ items) = refusals verdicts items
-refusals (Unasked ∷ verdicts) (item ∷ items) = refusals verdicts items
+refusals verdicts items = filter_map (λ (judged : Verdict × ItemParts). refusal_of judged.0 judged.1.name) (zip verdicts items)
 
 -- the texts with a semicolon and a space between them
 abbrev pub joined : List (List ℕ) → List ℕ
@@ -101,27 +124,29 @@ reply_of kind response verdicts = record {
   error = message_of (refusals verdicts response.items);
 }
 
--- the event has left the phase in which clusters are awaited
-abbrev pub has_left_clusters : World → World → Bool
-has_left_clusters before after = is_clusters before.phase && not (is_clusters after.phase)
-
--- all listeners are asked for at the event that has left the phase in which clusters are awaited
-abbrev pub listeners_asked : World → World → List Request
-listeners_asked before after = if has_left_clusters before after then listeners_request after ∷ [] else []
-
 -- those names that aren't among the others
 abbrev pub other_than : List (List ℕ) → List (List ℕ) → List (List ℕ)
 other_than others names = filter (λ name. not (is_among name others)) names
 
--- the names of this kind that are watched newly are asked for, and those no longer watched are given up
-abbrev pub watch_change : Kind → World → World → List Request
-watch_change kind before after =
-    names_request kind (other_than (watched_of before kind) (watched_of after kind)) (other_than (watched_of after kind) (watched_of before kind)) []
+-- of a kind the names that are watched newly are asked for, and those no longer watched are given up
+abbrev pub watch_change : Kind → List (List ℕ) → List (List ℕ) → List Request
+watch_change kind before after = names_request kind (other_than before after) (other_than after before) []
 
--- what an event that led from one world to the next asks for: endpoints, listeners, routes
-abbrev pub changes_asked : World → World → List Request
-changes_asked before after = watch_change Eds before after ++ (listeners_asked before after ++ watch_change Rds before after)
+-- what a change of the watched names asks for: endpoints, listeners where they are to be asked for, routes
+abbrev pub changes_asked : Watched → Watched → Bool → List KeptVersion → List Request
+changes_asked before after asked versions =
+    watch_change Eds before.endpoints after.endpoints ++ (listeners_asked asked versions ++ watch_change Rds before.routes after.routes)
 
--- the requests of an event: the reply first, where there is one
+-- the requests of an event, by whether a stream is open behind it: the reply first, where there is one
+abbrev pub requests_by : Bool → Watched → Watched → Bool → List KeptVersion → Option Request → List Request
+requests_by stream before after asked versions reply =
+    option_to_list reply ++ (if stream then changes_asked before after asked versions else [])
+
+-- the event has left the phase in which clusters are awaited
+abbrev pub has_left_clusters : World → World → Bool
+has_left_clusters before after = is_clusters before.phase && not (is_clusters after.phase)
+
+-- the requests of an event that led from one world to the next: listeners are asked for where it has left the first phase
 abbrev pub requests_of : World → World → Option Request → List Request
-requests_of before after reply = option_to_list reply ++ (if after.stream then changes_asked before after else [])
+requests_of before after reply =
+    requests_by after.stream (all_watched before) (all_watched after) (has_left_clusters before after) after.versions reply

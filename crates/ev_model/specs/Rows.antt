@@ -1,16 +1,17 @@
 -- What a response does to generations, arrivals and versions: removals first, then its resources in order. Source: the xDS
 -- transport protocol, incremental variant; that an update is a whole new generation which warms is Envoy's cluster manager
--- warming.
+-- warming; a time to live bounds a resource's life, and a heartbeat renews it.
 use Rattle.std.specs.Prelude.{ℕ, Bool, true, false, not, ◌&&◌, ◌+◌, if◌then◌else◌, List, [], ◌∷◌, ◌++◌, filter, map, Option, Some, None}
+use Rattle.std.specs.List.{fold, zip}
 use Rattle.std.specs.Str.{bytes_eq}
 use Rattle.ev_types.specs.Items.{ItemParts, ResponseParts}
 use Rattle.ev_types.specs.declared.contents.Kind.{Kind}
 use Rattle.ev_types.specs.declared.contents.Kind.TheVariants.{Cds, Eds, Lds, Rds}
 use Rattle.ev_types.specs.declared.contents.Body.{Body}
-use Rattle.ev_types.specs.declared.contents.Body.TheVariants.{Good, Bad}
+use Rattle.ev_types.specs.declared.contents.Body.TheVariants.{Good, Bad, Beat}
 use Rattle.ev_types.specs.declared.contents.Content.{Content}
 use Rattle.ev_types.specs.declared.events.Verdict.{Verdict}
-use Rattle.ev_types.specs.declared.events.Verdict.TheVariants.{New, Same, Kept, Unasked, Refused}
+use Rattle.ev_types.specs.declared.events.Verdict.TheVariants.{New, Same, Kept, Unasked, Renewed, Refused}
 use Rattle.ev_types.specs.declared.rows.RowStatus.{RowStatus}
 use Rattle.ev_types.specs.declared.rows.RowStatus.TheVariants.{Warming, Active, Draining, Dropped}
 use Rattle.ev_types.specs.declared.rows.GenRow.{GenRow}
@@ -23,7 +24,7 @@ use Rattle.ev_model.specs.Watching.{is_watched}
 use Rattle.ev_types.specs.Kinds.{kind_same}
 use Rattle.ev_types.specs.Statuses.{is_warming}
 use Rattle.ev_model.specs.Verdicts.{is_removed}
-use Rattle.ev_model.specs.Versions.{with_version}
+use Rattle.ev_model.specs.Versions.{with_version, renewed}
 
 -- the row is of this kind and name
 abbrev pub is_row_of : Kind → List ℕ → GenRow → Bool
@@ -44,9 +45,17 @@ with_statuses status_of rows = map (λ (row : GenRow). record row { status = sta
 abbrev pub status_left : Kind → ResponseParts → GenRow → RowStatus
 status_left kind response row = if kind_same row.kind kind && is_removed response row.name then removed_status row.status else row.status
 
+-- the rows after the removals of a response of this kind
+abbrev pub rows_left : Kind → ResponseParts → List GenRow → List GenRow
+rows_left kind response rows = with_statuses (status_left kind response) rows
+
 -- the version stays after the removals of a response of this kind
 abbrev pub is_version_left : Kind → ResponseParts → KeptVersion → Bool
 is_version_left kind response kept = not (kind_same kept.kind kind && is_removed response kept.name)
+
+-- the versions after the removals of a response of this kind
+abbrev pub versions_left : Kind → ResponseParts → List KeptVersion → List KeptVersion
+versions_left kind response versions = filter (is_version_left kind response) versions
 
 -- something more came for a name of this kind
 abbrev pub arrived : Kind → Arrival → List ℕ → Arrived
@@ -55,8 +64,8 @@ arrived kind arrival name = record { kind = kind; name = name; arrival = arrival
 -- clusters or listeners that a response of this kind removes drain or are dropped, and their versions go
 abbrev pub without_rows : Kind → ResponseParts → World → World
 without_rows kind response world = record world {
-  rows = with_statuses (status_left kind response) world.rows;
-  versions = filter (is_version_left kind response) world.versions;
+  rows = rows_left kind response world.rows;
+  versions = versions_left kind response world.versions;
 }
 
 -- the removed names of a response of this kind that are watched
@@ -68,7 +77,7 @@ absent_names kind response world =
 abbrev pub with_absences : Kind → ResponseParts → World → World
 with_absences kind response world = record world {
   arrivals = world.arrivals ++ map (arrived kind Absent) (absent_names kind response world);
-  versions = filter (is_version_left kind response) world.versions;
+  versions = versions_left kind response world.versions;
 }
 
 -- the world after the removals of a response of this kind
@@ -86,15 +95,22 @@ replaced_status kind name row = if is_row_of kind name row && is_warming row.sta
 abbrev pub new_row : Kind → ℕ → List ℕ → Content → GenRow
 new_row kind made name content = record { kind = kind; number = made + 1; name = name; content = content; status = Warming }
 
+-- these rows with a new one; the one that warms under its name is dropped
+abbrev pub rows_with_new : Kind → ℕ → List ℕ → Content → List GenRow → List GenRow
+rows_with_new kind made name content rows = with_statuses (replaced_status kind name) rows ++ new_row kind made name content ∷ []
+
+-- what is kept of a resource: its version, and whether its life is bounded
+abbrev pub version_in : Kind → ItemParts → KeptVersion
+version_in kind item = record { kind = kind; name = item.name; version = item.version; bounded = item.ttl }
+
 -- the version of a resource is kept
 abbrev pub keep_version : Kind → ItemParts → World → World
-keep_version kind item world =
-    record world { versions = with_version (record { kind = kind; name = item.name; version = item.version }) world.versions }
+keep_version kind item world = record world { versions = with_version (version_in kind item) world.versions }
 
 -- a new generation warms, and its version is kept
 abbrev pub add_row : Kind → ItemParts → Content → World → World
 add_row kind item content world = keep_version kind item (record world {
-  rows = with_statuses (replaced_status kind item.name) world.rows ++ new_row kind world.made item.name content ∷ [];
+  rows = rows_with_new kind world.made item.name content world.rows;
   made = world.made + 1;
 })
 
@@ -107,6 +123,7 @@ keep_value kind item content world =
 abbrev pub with_content : (Content → World → World) → Body → World → World
 with_content change (Good content) world = change content world
 with_content change (Bad rule) world = world
+with_content change Beat world = world
 
 -- a watched name whose resource was refused is told of
 abbrev pub told_of_refusal : Kind → List ℕ → World → World
@@ -120,19 +137,22 @@ refuse Eds name world = told_of_refusal Eds name world
 refuse Lds name world = world
 refuse Rds name world = told_of_refusal Rds name world
 
+-- the life of a resource is bounded anew, by a heartbeat
+abbrev pub renew : Kind → List ℕ → World → World
+renew kind name world = record world { versions = renewed kind name world.versions }
+
 -- the world after a resource with its verdict
 abbrev pub add_item : Kind → Verdict → ItemParts → World → World
 add_item kind New item world = with_content (add_row kind item) item.body world
 add_item kind Same item world = with_content (λ content. keep_version kind item) item.body world
 add_item kind Kept item world = with_content (keep_value kind item) item.body world
 add_item kind Unasked item world = world
+add_item kind Renewed item world = renew kind item.name world
 add_item kind (Refused rule) item world = refuse kind item.name world
 
 -- the world after these resources with their verdicts, in order
 abbrev pub add_items : Kind → List Verdict → List ItemParts → World → World
-add_items kind [] items world = world
-add_items kind (verdict ∷ verdicts) [] world = world
-add_items kind (verdict ∷ verdicts) (item ∷ items) world = add_items kind verdicts items (add_item kind verdict item world)
+add_items kind verdicts items world = fold (λ (w : World) (judged : Verdict × ItemParts). add_item kind judged.0 judged.1 w) world (zip verdicts items)
 
 -- a generation is made
 abbrev pub is_new : Verdict → Bool
@@ -140,14 +160,13 @@ is_new New = true
 is_new Same = false
 is_new Kept = false
 is_new Unasked = false
+is_new Renewed = false
 is_new (Refused rule) = false
 
 -- the names of the resources that made a generation
 abbrev pub made_names : List Verdict → List ItemParts → List (List ℕ)
-made_names [] items = []
-made_names (verdict ∷ verdicts) [] = []
-made_names (verdict ∷ verdicts) (item ∷ items) =
-    if is_new verdict then item.name ∷ made_names verdicts items else made_names verdicts items
+made_names verdicts items =
+    map (λ (judged : Verdict × ItemParts). judged.1.name) (filter (λ (judged : Verdict × ItemParts). is_new judged.0) (zip verdicts items))
 
 -- what was noted stays
 abbrev pub noted_once : Option (List (List ℕ)) → List (List ℕ) → Option (List (List ℕ))

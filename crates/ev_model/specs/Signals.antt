@@ -1,6 +1,6 @@
 -- What health results and timers do. Source: cluster manager warming (a checked cluster waits for a first result of each host;
--- initial fetch timeouts) and draining of Envoy's documentation.
-use Rattle.std.specs.Prelude.{ℕ, Bool, true, false, not, ◌&&◌, ◌||◌, ◌==◌, if◌then◌else◌, List, [], ◌∷◌, ◌++◌, filter, map, Option, Some, None, is_some}
+-- initial fetch timeouts) and draining of Envoy's documentation; the end of a time to live, of the xDS transport protocol.
+use Rattle.std.specs.Prelude.{ℕ, Bool, true, false, not, ◌&&◌, ◌||◌, if◌then◌else◌, List, [], ◌∷◌, ◌++◌, filter, map, Option, Some, None, is_some}
 use Rattle.std.specs.List.{list_any}
 use Rattle.ev_types.specs.Statuses.{is_live}
 use Rattle.ev_types.specs.declared.hosts.Host.{Host}
@@ -8,15 +8,19 @@ use Rattle.ev_types.specs.declared.contents.Kind.{Kind}
 use Rattle.ev_types.specs.declared.contents.Kind.TheVariants.{Cds, Eds, Lds, Rds}
 use Rattle.ev_types.specs.declared.events.Answer.{Answer}
 use Rattle.ev_types.specs.declared.events.Answer.TheVariants.{Ignored, Done, Moved}
-use Rattle.ev_types.specs.declared.rows.Arrival.TheVariants.{TimedOut}
+use Rattle.ev_types.specs.declared.contents.Content.{Content}
+use Rattle.ev_types.specs.declared.contents.Content.TheVariants.{Assignment as an_assignment, Routes as routes}
+use Rattle.ev_types.specs.declared.rows.Arrival.TheVariants.{Value, TimedOut}
 use Rattle.ev_types.specs.declared.rows.RowStatus.{RowStatus}
 use Rattle.ev_types.specs.declared.rows.RowStatus.TheVariants.{Warming, Active, Draining, Dropped}
 use Rattle.ev_types.specs.declared.rows.GenRow.{GenRow}
-use Rattle.ev_model.specs.World.{World, HealthResult}
+use Rattle.ev_model.specs.World.{World, Arrived, HealthResult}
+use Rattle.ev_model.specs.Versions.{is_bounded, without_version}
 use Rattle.ev_model.specs.Watching.{dependency_of, is_dependency, is_limited}
-use Rattle.ev_model.specs.Warming.{is_checked, assignment_of, is_told, is_timed}
+use Rattle.ev_model.specs.Warming.{is_checked, assignment_by, is_told_by, is_timed_by}
 use Rattle.ev_model.specs.Phase.{is_clusters}
-use Rattle.ev_model.specs.Rows.{is_row_of, arrived}
+use Rattle.ev_model.specs.Rows.{is_row_of, arrived, removed_status, with_statuses}
+use Rattle.ev_model.specs.Picture.{has_number}
 use Rattle.ev_model.specs.Tidy.{tidy, has_host}
 use Rattle.ev_model.specs.Requests.{requests_of}
 
@@ -25,13 +29,13 @@ abbrev pub moved : World → World → World × Answer
 moved before after = (tidy after, Moved (requests_of before (tidy after) None))
 
 -- a live checked cluster of this name that has the host now
-abbrev pub is_meant : World → List ℕ → Host → GenRow → Bool
-is_meant world name host row =
-    is_row_of Cds name row && is_live row.status && is_checked row.content && has_host host (assignment_of world row)
+abbrev pub is_meant : List Arrived → List ℕ → Host → GenRow → Bool
+is_meant arrivals name host row =
+    is_row_of Cds name row && is_live row.status && is_checked row.content && has_host host (assignment_by arrivals row.content)
 
--- the clusters that a result is for
-abbrev pub rows_meant : World → List ℕ → Host → List GenRow
-rows_meant world name host = filter (is_meant world name host) world.rows
+-- those of these rows that a result is for
+abbrev pub rows_meant : List Arrived → List ℕ → Host → List GenRow → List GenRow
+rows_meant arrivals name host rows = filter (is_meant arrivals name host) rows
 
 -- a row gets the result
 abbrev pub result_for : Host → Bool → GenRow → HealthResult
@@ -48,20 +52,21 @@ health_of host healthy (row ∷ rows) world = moved world (with_results host hea
 
 -- a health result of a cluster's host
 abbrev pub health : List ℕ → Host → Bool → World → World × Answer
-health name host healthy world = health_of host healthy (rows_meant world name host) world
+health name host healthy world = health_of host healthy (rows_meant world.arrivals name host world.rows) world
 
 -- a live row whose wait is limited depends on the name
 abbrev pub is_waiting : Kind → List ℕ → GenRow → Bool
 is_waiting kind name row = is_live row.status && is_limited row.content && is_dependency kind name (dependency_of row.content)
 
 -- the name is awaited within a limit: a row waits for it, and it was neither told of nor timed out
-abbrev pub is_awaited : World → Kind → List ℕ → Bool
-is_awaited world kind name = list_any (is_waiting kind name) world.rows && not (is_told world kind name || is_timed world kind name)
+abbrev pub is_awaited : List Arrived → List GenRow → Kind → List ℕ → Bool
+is_awaited arrivals rows kind name =
+    list_any (is_waiting kind name) rows && not (is_told_by arrivals kind name || is_timed_by arrivals kind name)
 
 -- the fetch timeout of a name of endpoints or routes
 abbrev pub name_timeout : Kind → List ℕ → World → World × Answer
 name_timeout kind name world =
-    if is_awaited world kind name
+    if is_awaited world.arrivals world.rows kind name
     then moved world (record world { arrivals = world.arrivals ++ arrived kind TimedOut name ∷ [] })
     else (world, Ignored)
 
@@ -96,17 +101,13 @@ is_draining Active = false
 is_draining Draining = true
 is_draining Dropped = false
 
--- the number stands among these
-abbrev pub has_number : ℕ → List ℕ → Bool
-has_number number numbers = list_any (λ n. n == number) numbers
+-- a draining listener of this name whose number isn't among the expired ones: its drain timeout hasn't come
+abbrev pub is_unexpired : List ℕ → List ℕ → GenRow → Bool
+is_unexpired expired name row = is_row_of Lds name row && is_draining row.status && not (has_number row.number expired)
 
--- a draining listener of this name whose drain timeout hasn't come
-abbrev pub is_unexpired : World → List ℕ → GenRow → Bool
-is_unexpired world name row = is_row_of Lds name row && is_draining row.status && not (has_number row.number world.expired)
-
--- the numbers of those listeners
-abbrev pub unexpired : World → List ℕ → List ℕ
-unexpired world name = map (λ (row : GenRow). row.number) (filter (is_unexpired world name) world.rows)
+-- the numbers of those of these rows
+abbrev pub unexpired : List ℕ → List ℕ → List GenRow → List ℕ
+unexpired expired name rows = map (λ (row : GenRow). row.number) (filter (is_unexpired expired name) rows)
 
 -- the drain timeout, for the listeners of these numbers; where there are none, nothing is done
 abbrev pub expire : List ℕ → World → World × Answer
@@ -115,4 +116,36 @@ expire (number ∷ numbers) world = (tidy (record world { expired = world.expire
 
 -- the drain timeout of a listener's old generations
 abbrev pub drain_timeout : List ℕ → World → World × Answer
-drain_timeout name world = expire (unexpired world name) world
+drain_timeout name world = expire (unexpired world.expired name world.rows) world
+
+-- the status of a row once the resource of this kind and name has come to its end: as if it were removed
+abbrev pub ended_status : Kind → List ℕ → GenRow → RowStatus
+ended_status kind name row = if is_row_of kind name row then removed_status row.status else row.status
+
+-- these rows once the resource has come to its end
+abbrev pub rows_ended : Kind → List ℕ → List GenRow → List GenRow
+rows_ended kind name rows = with_statuses (ended_status kind name) rows
+
+-- an assignment without hosts
+abbrev pub no_hosts : Content
+no_hosts = an_assignment []
+
+-- a table without routes
+abbrev pub no_routes : Content
+no_routes = routes (record { hosts = [] })
+
+-- a resource has come to its end: a cluster or listener goes as if it were removed, and endpoints or routes become none
+abbrev pub with_end : Kind → List ℕ → World → World
+with_end Cds name world = record world { rows = rows_ended Cds name world.rows }
+with_end Eds name world = record world { arrivals = world.arrivals ++ arrived Eds (Value no_hosts) name ∷ [] }
+with_end Lds name world = record world { rows = rows_ended Lds name world.rows }
+with_end Rds name world = record world { arrivals = world.arrivals ++ arrived Rds (Value no_routes) name ∷ [] }
+
+-- the version of the resource goes, and with it the mark that its life is bounded
+abbrev pub forget_version : Kind → List ℕ → World → World
+forget_version kind name world = record world { versions = without_version kind name world.versions }
+
+-- the end of a time to live; where the resource's life isn't bounded, nothing is done
+abbrev pub ttl_expired : Kind → List ℕ → World → World × Answer
+ttl_expired kind name world =
+    if is_bounded world.versions kind name then moved world (with_end kind name (forget_version kind name world)) else (world, Ignored)

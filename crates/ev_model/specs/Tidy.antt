@@ -15,17 +15,18 @@ use Rattle.ev_types.specs.declared.rows.Live.{Live}
 use Rattle.ev_model.specs.World.{World, Arrived, HealthResult}
 use Rattle.ev_model.specs.Live.{lives_of}
 use Rattle.ev_model.specs.Watching.{is_watched, is_by_name}
-use Rattle.ev_model.specs.Warming.{is_ready, assignment_of}
+use Rattle.ev_model.specs.Warming.{is_ready_by, assignment_by}
 use Rattle.ev_model.specs.Rows.{is_row_of, with_statuses}
 use Rattle.ev_model.specs.Phase.{phase_after}
 
--- the row warms and is ready
-abbrev pub is_due : World → GenRow → Bool
-is_due world row = is_warming row.status && is_ready world row
+-- the row warms and is ready, by what came and the results
+abbrev pub is_due : List Arrived → List HealthResult → GenRow → Bool
+is_due arrivals results row = is_warming row.status && is_ready_by arrivals results row
 
--- a row of the same kind and name is due
-abbrev pub has_successor : World → GenRow → Bool
-has_successor world row = list_any (λ (other : GenRow). is_row_of row.kind row.name other && is_due world other) world.rows
+-- of these rows one of the same kind and name is due
+abbrev pub has_successor : List Arrived → List HealthResult → List GenRow → GenRow → Bool
+has_successor arrivals results rows row =
+    list_any (λ (other : GenRow). is_row_of row.kind row.name other && is_due arrivals results other) rows
 
 -- a row that warms and is ready serves, and one that served before it drains
 abbrev pub status_by : Bool → Bool → RowStatus → RowStatus
@@ -34,22 +35,31 @@ status_by succeeded ready Active = if succeeded then Draining else Active
 status_by succeeded ready Draining = Draining
 status_by succeeded ready Dropped = Dropped
 
--- the status of a row once all rows that are due serve
-abbrev pub promoted_status : World → GenRow → RowStatus
-promoted_status world row = status_by (has_successor world row) (is_ready world row) row.status
+-- the status of a row once all of these rows that are due serve
+abbrev pub promoted_status : List Arrived → List HealthResult → List GenRow → GenRow → RowStatus
+promoted_status arrivals results rows row =
+    status_by (has_successor arrivals results rows row) (is_ready_by arrivals results row) row.status
+
+-- these rows once all that are due serve
+abbrev pub promoted_rows : List Arrived → List HealthResult → List GenRow → List GenRow
+promoted_rows arrivals results rows = with_statuses (promoted_status arrivals results rows) rows
 
 -- first: each warming row that is ready serves, and its active predecessor drains
 abbrev pub promoted : World → World
-promoted world = record world { rows = with_statuses (promoted_status world) world.rows }
+promoted world = record world { rows = promoted_rows world.arrivals world.results world.rows }
 
--- the version is that of a cluster or listener, or of a watched name
+-- what came for names that these live rows watch
+abbrev pub arrivals_watched : List Live → List Arrived → List Arrived
+arrivals_watched lives arrivals = filter (λ (a : Arrived). is_watched lives a.kind a.name) arrivals
+
+-- the version is that of a cluster or listener, or of a name that these live rows watch
 abbrev pub is_version_due : List Live → KeptVersion → Bool
 is_version_due lives kept = not (is_by_name kept.kind) || is_watched lives kept.kind kept.name
 
 -- second: values, marks and versions of endpoints and routes go whose name isn't watched any more
 abbrev pub without_unwatched : World → World
 without_unwatched world = record world {
-  arrivals = filter (λ (a : Arrived). is_watched (lives_of world) a.kind a.name) world.arrivals;
+  arrivals = arrivals_watched (lives_of world) world.arrivals;
   versions = filter (is_version_due (lives_of world)) world.versions;
 }
 
@@ -57,14 +67,14 @@ without_unwatched world = record world {
 abbrev pub has_host : Host → List HostRowParts → Bool
 has_host host rows = list_any (λ (h : HostRowParts). host_same h.host host) rows
 
--- the result is of a live row, and of a host that is in its assignment now
-abbrev pub is_result_due : World → HealthResult → Bool
-is_result_due world result =
-    list_any (λ (row : GenRow). is_live row.status && (row.number == result.number) && has_host result.host (assignment_of world row)) world.rows
+-- the result is of one of these rows, a live one, and of a host that is in its assignment now
+abbrev pub is_result_due : List Arrived → List GenRow → HealthResult → Bool
+is_result_due arrivals rows result =
+    list_any (λ (row : GenRow). is_live row.status && (row.number == result.number) && has_host result.host (assignment_by arrivals row.content)) rows
 
 -- third: results go of rows that aren't live, and of hosts that aren't in the row's assignment now
 abbrev pub without_old_results : World → World
-without_old_results world = record world { results = filter (is_result_due world) world.results }
+without_old_results world = record world { results = filter (is_result_due world.arrivals world.rows) world.results }
 
 -- fourth and fifth: where the first clusters have come, listeners are awaited; and where those have come, they serve
 abbrev pub with_phase : World → World

@@ -1,6 +1,7 @@
 -- What is said of each resource of a response. This project's profile: removals come before additions, a resource is refused
--- by the lowest rule that it breaks, and an address that is taken is looked at only where no other rule applies.
-use Rattle.std.specs.Prelude.{ℕ, Bool, true, false, not, ◌&&◌, ◌+◌, nat_le, if◌then◌else◌, List, [], ◌∷◌, ◌++◌, filter, length, Option, Some, None}
+-- by the lowest rule that it breaks, and an address that is taken is looked at only where no other rule applies. A heartbeat
+-- renews the version that is kept; of another version it is stale, and refused where anybody would hear it.
+use Rattle.std.specs.Prelude.{ℕ, Bool, true, false, not, ◌&&◌, ◌||◌, ◌+◌, nat_le, if◌then◌else◌, List, [], ◌∷◌, ◌++◌, filter, length, Option, Some, None}
 use Rattle.std.specs.List.{list_any}
 use Rattle.std.specs.Str.{bytes_eq}
 use Rattle.ev_types.specs.Items.{ItemParts, ResponseParts}
@@ -10,15 +11,17 @@ use Rattle.ev_types.specs.declared.hosts.Host.{Host}
 use Rattle.ev_types.specs.declared.contents.Kind.{Kind}
 use Rattle.ev_types.specs.declared.contents.Kind.TheVariants.{Cds, Eds, Lds, Rds}
 use Rattle.ev_types.specs.declared.contents.Body.{Body}
-use Rattle.ev_types.specs.declared.contents.Body.TheVariants.{Good, Bad}
+use Rattle.ev_types.specs.declared.contents.Body.TheVariants.{Good, Bad, Beat}
 use Rattle.ev_types.specs.declared.contents.Content.{Content}
 use Rattle.ev_types.specs.declared.contents.Content.TheVariants.{Cluster as a_cluster, Assignment as an_assignment, Listener as a_listener, Routes as routes}
 use Rattle.ev_types.specs.declared.events.Verdict.{Verdict}
-use Rattle.ev_types.specs.declared.events.Verdict.TheVariants.{New, Same, Kept, Unasked, Refused}
+use Rattle.ev_types.specs.declared.events.Verdict.TheVariants.{New, Same, Kept, Unasked, Renewed, Refused}
 use Rattle.ev_types.specs.declared.rows.Live.{Live}
+use Rattle.ev_types.specs.declared.rows.KeptVersion.{KeptVersion}
 use Rattle.ev_types.specs.Kinds.{kind_same}
 use Rattle.ev_model.specs.Live.{is_named, latest, newest_of}
-use Rattle.ev_model.specs.Watching.{is_watched}
+use Rattle.ev_model.specs.Versions.{is_kept}
+use Rattle.ev_model.specs.Watching.{is_by_name, is_watched}
 
 -- the items of this name
 abbrev pub items_named : List ℕ → List ItemParts → List ItemParts
@@ -36,6 +39,17 @@ is_removed response name = is_among name response.removed && (not (nat_le 1 (len
 abbrev pub lives_left : Kind → ResponseParts → List Live → List Live
 lives_left kind response lives = filter (λ (live : Live). not (kind_same live.kind kind && is_removed response live.name)) lives
 
+-- somebody hears a resource of this kind and name: of clusters and listeners all, of endpoints and routes those that are watched
+abbrev pub is_heard : Kind → List Live → List ℕ → Bool
+is_heard kind lives name = not (is_by_name kind) || is_watched lives kind name
+
+-- 1: it is a stale heartbeat: its version isn't the one that is kept, and somebody hears it
+abbrev pub stale_rule : Kind → List Live → List KeptVersion → ItemParts → Body → Option ℕ
+stale_rule kind lives versions item (Good content) = None
+stale_rule kind lives versions item (Bad rule) = None
+stale_rule kind lives versions item Beat =
+    if not (is_kept versions kind item.name item.version) && is_heard kind lives item.name then Some 1 else None
+
 -- 4: the name stands twice in the response
 abbrev pub twice_rule : ResponseParts → ItemParts → Option ℕ
 twice_rule response item = if nat_le 2 (length (items_named item.name response.items)) then Some 4 else None
@@ -48,6 +62,7 @@ removed_rule response item = if is_among item.name response.removed then Some 5 
 abbrev pub form_rule : Body → Option ℕ
 form_rule (Good content) = None
 form_rule (Bad rule) = Some rule
+form_rule Beat = None
 
 -- the lesser of two rules, where there are any
 abbrev pub lesser : Option ℕ → Option ℕ → Option ℕ
@@ -56,15 +71,17 @@ lesser (Some rule) None = Some rule
 lesser (Some rule) (Some other) = if nat_le rule other then Some rule else Some other
 
 -- the least rule that the resource breaks, the addresses that are taken left aside
-abbrev pub rule_of : ResponseParts → ItemParts → Option ℕ
-rule_of response item = lesser (twice_rule response item) (lesser (removed_rule response item) (form_rule item.body))
+abbrev pub rule_of : Kind → ResponseParts → List Live → List KeptVersion → ItemParts → Option ℕ
+rule_of kind response lives versions item =
+    lesser (stale_rule kind lives versions item item.body)
+    (lesser (twice_rule response item) (lesser (removed_rule response item) (form_rule item.body)))
 
 -- a content's listening address
-abbrev pub address_of : Content → Option Host
-address_of (a_cluster cluster) = None
-address_of (an_assignment rows) = None
-address_of (a_listener listener) = Some listener.address
-address_of (routes table) = None
+abbrev pub listening_address : Content → Option Host
+listening_address (a_cluster cluster) = None
+listening_address (an_assignment rows) = None
+listening_address (a_listener listener) = Some listener.address
+listening_address (routes table) = None
 
 -- both have an address, and it is the same
 abbrev pub shares_address : Option Host → Option Host → Bool
@@ -75,7 +92,7 @@ shares_address (Some address) (Some other) = host_same address other
 -- a live row of another name has the address of the content
 abbrev pub is_taken : List Live → List ℕ → Content → Bool
 is_taken lives name content =
-    list_any (λ (live : Live). shares_address (address_of live.content) (address_of content) && not (bytes_eq live.name name)) lives
+    list_any (λ (live : Live). shares_address (listening_address live.content) (listening_address content) && not (bytes_eq live.name name)) lives
 
 -- same where the newest generation's content is equal, new otherwise
 abbrev pub against : Option Live → Content → Verdict
@@ -89,19 +106,24 @@ good_verdict Lds lives name content = if is_taken lives name content then Refuse
 good_verdict Eds lives name content = if is_watched lives Eds name then Kept else Unasked
 good_verdict Rds lives name content = if is_watched lives Rds name then Kept else Unasked
 
+-- the verdict on a heartbeat that isn't refused: one of the version that is kept renews it, and any other was asked for by no one
+abbrev pub beat_verdict : Kind → List KeptVersion → ItemParts → Verdict
+beat_verdict kind versions item = if is_kept versions kind item.name item.version then Renewed else Unasked
+
 -- the verdict on a resource that breaks no rule, or no rule but the one of its body
-abbrev pub body_verdict : Kind → List Live → List ℕ → Body → Verdict
-body_verdict kind lives name (Good content) = good_verdict kind lives name content
-body_verdict kind lives name (Bad rule) = Refused rule
+abbrev pub body_verdict : Kind → List Live → List KeptVersion → ItemParts → Body → Verdict
+body_verdict kind lives versions item (Good content) = good_verdict kind lives item.name content
+body_verdict kind lives versions item (Bad rule) = Refused rule
+body_verdict kind lives versions item Beat = beat_verdict kind versions item
 
 -- the verdict on a resource, by the rule that it breaks
-abbrev pub verdict_by : Option ℕ → Kind → List Live → ItemParts → Verdict
-verdict_by (Some rule) kind lives item = Refused rule
-verdict_by None kind lives item = body_verdict kind lives item.name item.body
+abbrev pub verdict_by : Option ℕ → Kind → List Live → List KeptVersion → ItemParts → Verdict
+verdict_by (Some rule) kind lives versions item = Refused rule
+verdict_by None kind lives versions item = body_verdict kind lives versions item item.body
 
--- the verdict on a resource of a response, over these live rows
-abbrev pub verdict_of : Kind → ResponseParts → List Live → ItemParts → Verdict
-verdict_of kind response lives item = verdict_by (rule_of response item) kind lives item
+-- the verdict on a resource of a response, over these live rows and the versions that are kept
+abbrev pub verdict_of : Kind → ResponseParts → List Live → List KeptVersion → ItemParts → Verdict
+verdict_of kind response lives versions item = verdict_by (rule_of kind response lives versions item) kind lives versions item
 
 -- a number above those of these rows
 abbrev pub number_after : Option Live → ℕ
@@ -118,27 +140,29 @@ with_new kind name content lives =
 abbrev pub lives_after : Kind → Verdict → List ℕ → Body → List Live → List Live
 lives_after kind New name (Good content) lives = with_new kind name content lives
 lives_after kind New name (Bad rule) lives = lives
+lives_after kind New name Beat lives = lives
 lives_after kind Same name body lives = lives
 lives_after kind Kept name body lives = lives
 lives_after kind Unasked name body lives = lives
+lives_after kind Renewed name body lives = lives
 lives_after kind (Refused rule) name body lives = lives
 
 -- the verdicts on these items of a response, one after another
-abbrev pub verdicts_from : Kind → ResponseParts → List Live → List ItemParts → List Verdict
-verdicts_from kind response lives [] = []
-verdicts_from kind response lives (item ∷ items) =
-    let verdict = verdict_of kind response lives item in
-    verdict ∷ verdicts_from kind response (lives_after kind verdict item.name item.body lives) items
+abbrev pub verdicts_from : Kind → ResponseParts → List KeptVersion → List Live → List ItemParts → List Verdict
+verdicts_from kind response versions lives [] = []
+verdicts_from kind response versions lives (item ∷ items) =
+    let verdict = verdict_of kind response lives versions item in
+    verdict ∷ verdicts_from kind response versions (lives_after kind verdict item.name item.body lives) items
 
 -- the verdicts on a response whose type is one of the four
-abbrev pub verdicts_for : Kind → List Live → ResponseParts → List Verdict
-verdicts_for kind lives response = verdicts_from kind response (lives_left kind response lives) response.items
+abbrev pub verdicts_for : Kind → List Live → List KeptVersion → ResponseParts → List Verdict
+verdicts_for kind lives versions response = verdicts_from kind response versions (lives_left kind response lives) response.items
 
 -- the verdicts on a response; there are none where its type isn't read
-abbrev pub verdicts_by : Option Kind → List Live → ResponseParts → List Verdict
-verdicts_by None lives response = []
-verdicts_by (Some kind) lives response = verdicts_for kind lives response
+abbrev pub verdicts_by : Option Kind → List Live → List KeptVersion → ResponseParts → List Verdict
+verdicts_by None lives versions response = []
+verdicts_by (Some kind) lives versions response = verdicts_for kind lives versions response
 
--- the verdicts on a response, over the live rows before it
-abbrev pub verdicts_of : List Live → ResponseParts → List Verdict
-verdicts_of lives response = verdicts_by response.kind lives response
+-- the verdicts on a response, over the live rows and the versions before it
+abbrev pub verdicts_of : List Live → List KeptVersion → ResponseParts → List Verdict
+verdicts_of lives versions response = verdicts_by response.kind lives versions response

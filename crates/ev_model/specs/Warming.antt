@@ -1,6 +1,7 @@
 -- What a generation waits for, and which hosts may be chosen. Source: cluster manager warming of Envoy's documentation: a
 -- cluster waits for its endpoints and, where it is health checked, for a first result of each host; a listener waits for its
--- routes; a wait ends with a response, a refusal, a notice of absence, or the initial fetch timeout.
+-- routes; a wait ends with a response, a refusal, a notice of absence, or the initial fetch timeout. Each word looks at what
+-- came and at the health results; the same word of a world takes that world's.
 use Rattle.std.specs.Prelude.{ℕ, Bool, true, false, not, ◌&&◌, ◌||◌, ◌==◌, List, [], filter, filter_map, map, Option, Some, None, unwrap_or}
 use Rattle.std.specs.List.{list_any, list_all, last_or}
 use Rattle.std.specs.Str.{bytes_eq}
@@ -21,9 +22,9 @@ use Rattle.ev_model.specs.World.{World, Arrived, HealthResult}
 use Rattle.ev_model.specs.Watching.{Dependency, dependency_of, is_limited}
 
 -- what came for a name of this kind, in order of coming
-abbrev pub came_for : World → Kind → List ℕ → List Arrival
-came_for world kind name =
-    map (λ (a : Arrived). a.arrival) (filter (λ (a : Arrived). kind_same a.kind kind && bytes_eq a.name name) world.arrivals)
+abbrev pub came_for : List Arrived → Kind → List ℕ → List Arrival
+came_for arrivals kind name =
+    map (λ (a : Arrived). a.arrival) (filter (λ (a : Arrived). kind_same a.kind kind && bytes_eq a.name name) arrivals)
 
 -- the resource that came, where it was one
 abbrev pub content_in : Arrival → Option Content
@@ -32,9 +33,13 @@ content_in Absent = None
 content_in Bad = None
 content_in TimedOut = None
 
--- the value of a name: its last resource
+-- the value of a name by what came: its last resource
+abbrev pub value_by : List Arrived → Kind → List ℕ → Option Content
+value_by arrivals kind name = last_or None (filter_map content_in (came_for arrivals kind name))
+
+-- the value of a name
 abbrev pub value_of : World → Kind → List ℕ → Option Content
-value_of world kind name = last_or None (filter_map content_in (came_for world kind name))
+value_of world kind name = value_by world.arrivals kind name
 
 -- the control plane has spoken: by a resource, a notice of absence, or one that was refused
 abbrev pub is_word : Arrival → Bool
@@ -50,22 +55,34 @@ is_timeout Absent = false
 is_timeout Bad = false
 is_timeout TimedOut = true
 
+-- the name was told of, by what came
+abbrev pub is_told_by : List Arrived → Kind → List ℕ → Bool
+is_told_by arrivals kind name = list_any is_word (came_for arrivals kind name)
+
+-- the wait for the name timed out, by what came
+abbrev pub is_timed_by : List Arrived → Kind → List ℕ → Bool
+is_timed_by arrivals kind name = list_any is_timeout (came_for arrivals kind name)
+
 -- the name was told of
 abbrev pub is_told : World → Kind → List ℕ → Bool
-is_told world kind name = list_any is_word (came_for world kind name)
+is_told world kind name = is_told_by world.arrivals kind name
 
 -- the wait for the name timed out
 abbrev pub is_timed : World → Kind → List ℕ → Bool
-is_timed world kind name = list_any is_timeout (came_for world kind name)
+is_timed world kind name = is_timed_by world.arrivals kind name
 
 -- what is depended on was told of, or timed out where the wait is limited
-abbrev pub has_answer : World → Bool → Option Dependency → Bool
-has_answer world limited None = true
-has_answer world limited (Some d) = is_told world d.kind d.name || (is_timed world d.kind d.name && limited)
+abbrev pub has_answer : List Arrived → Bool → Option Dependency → Bool
+has_answer arrivals limited None = true
+has_answer arrivals limited (Some d) = is_told_by arrivals d.kind d.name || (is_timed_by arrivals d.kind d.name && limited)
 
--- a row is answered where it has no dependency, or that was told of, or it timed out and the row is limited
+-- a generation of this content is answered: it has no dependency, or that was told of, or it timed out and the wait is limited
+abbrev pub is_answered_by : List Arrived → Content → Bool
+is_answered_by arrivals content = has_answer arrivals (is_limited content) (dependency_of content)
+
+-- the row is answered
 abbrev pub is_answered : World → GenRow → Bool
-is_answered world row = has_answer world (is_limited row.content) (dependency_of row.content)
+is_answered world row = is_answered_by world.arrivals row.content
 
 -- the hosts of a value
 abbrev pub rows_in : Option Content → List HostRowParts
@@ -76,20 +93,20 @@ rows_in (Some (a_listener listener)) = []
 rows_in (Some (routes table)) = []
 
 -- the hosts that stand in a cluster, or the value of its service, or none
-abbrev pub discovered : World → Discovery → List HostRowParts
-discovered world (Static rows) = rows
-discovered world (by_eds service limited) = rows_in (value_of world Eds service)
+abbrev pub discovered : List Arrived → Discovery → List HostRowParts
+discovered arrivals (Static rows) = rows
+discovered arrivals (by_eds service limited) = rows_in (value_by arrivals Eds service)
 
--- the hosts of a content
-abbrev pub hosts_of : World → Content → List HostRowParts
-hosts_of world (a_cluster cluster) = discovered world cluster.discovery
-hosts_of world (an_assignment rows) = []
-hosts_of world (a_listener listener) = []
-hosts_of world (routes table) = []
+-- the assignment of a content, by what came
+abbrev pub assignment_by : List Arrived → Content → List HostRowParts
+assignment_by arrivals (a_cluster cluster) = discovered arrivals cluster.discovery
+assignment_by arrivals (an_assignment rows) = []
+assignment_by arrivals (a_listener listener) = []
+assignment_by arrivals (routes table) = []
 
 -- the assignment of a row now
 abbrev pub assignment_of : World → GenRow → List HostRowParts
-assignment_of world row = hosts_of world row.content
+assignment_of world row = assignment_by world.arrivals row.content
 
 -- a cluster whose hosts are health checked
 abbrev pub is_checked : Content → Bool
@@ -103,22 +120,32 @@ abbrev pub is_result_of : ℕ → Host → HealthResult → Bool
 is_result_of number host result = (result.number == number) && host_same result.host host
 
 -- the row of this number has a result of the host
-abbrev pub has_result : World → ℕ → Host → Bool
-has_result world number host = list_any (is_result_of number host) world.results
+abbrev pub has_result : List HealthResult → ℕ → Host → Bool
+has_result results number host = list_any (is_result_of number host) results
 
--- each host of the row's assignment has a result for this row
-abbrev pub has_all_results : World → GenRow → Bool
-has_all_results world row = list_all (λ (h : HostRowParts). has_result world row.number h.host) (assignment_of world row)
+-- each of these hosts has a result for the row of this number
+abbrev pub has_all_results : List HealthResult → ℕ → List HostRowParts → Bool
+has_all_results results number hosts = list_all (λ (h : HostRowParts). has_result results number h.host) hosts
 
 -- a row is ready where it is answered and, as a checked cluster, has a result of each host
+abbrev pub is_ready_by : List Arrived → List HealthResult → GenRow → Bool
+is_ready_by arrivals results row =
+    is_answered_by arrivals row.content
+    && (not (is_checked row.content) || has_all_results results row.number (assignment_by arrivals row.content))
+
+-- the row is ready
 abbrev pub is_ready : World → GenRow → Bool
-is_ready world row = is_answered world row && (not (is_checked row.content) || has_all_results world row)
+is_ready world row = is_ready_by world.arrivals world.results row
 
 -- the last result of the host for the row of this number says that it is healthy
-abbrev pub is_healthy : World → ℕ → Host → Bool
-is_healthy world number host =
-    unwrap_or (last_or None (map (λ (r : HealthResult). r.healthy) (filter (is_result_of number host) world.results))) false
+abbrev pub is_healthy : List HealthResult → ℕ → Host → Bool
+is_healthy results number host =
+    unwrap_or (last_or None (map (λ (r : HealthResult). r.healthy) (filter (is_result_of number host) results))) false
 
 -- a host may be chosen where it is usable and, in a checked cluster, healthy
+abbrev pub is_eligible_by : List HealthResult → GenRow → HostRowParts → Bool
+is_eligible_by results row h = h.usable && (not (is_checked row.content) || is_healthy results row.number h.host)
+
+-- the host may be chosen for the row
 abbrev pub is_eligible : World → GenRow → HostRowParts → Bool
-is_eligible world row h = h.usable && (not (is_checked row.content) || is_healthy world row.number h.host)
+is_eligible world row h = is_eligible_by world.results row h

@@ -1,7 +1,7 @@
 -- What a generation depends on, and which names are watched for it. Source: cluster manager warming and listener discovery
 -- of Envoy's documentation: an EDS cluster waits for its endpoints, and a listener with RDS for its routes.
 use Rattle.std.specs.Prelude.{ℕ, Bool, true, false, ◌&&◌, if◌then◌else◌, List, [], ◌∷◌, Option, Some, None}
-use Rattle.std.specs.List.{list_any, flat_map}
+use Rattle.std.specs.List.{list_any, flat_map, dedup}
 use Rattle.std.specs.Str.{bytes_eq}
 use Rattle.ev_types.specs.declared.contents.Kind.{Kind}
 use Rattle.ev_types.specs.declared.contents.Kind.TheVariants.{Cds, Eds, Lds, Rds}
@@ -15,6 +15,7 @@ use Rattle.ev_types.specs.declared.rows.Live.{Live}
 use Rattle.ev_types.specs.Kinds.{kind_same}
 use Rattle.ev_model.specs.World.{World}
 use Rattle.ev_model.specs.Live.{lives_of}
+use Rattle.ev_model.specs.Sorted.{sorted_by}
 use Rattle.ev_model.specs.Versions.{is_before}
 
 -- a resource of another type that a generation waits for, by kind and name
@@ -79,18 +80,14 @@ abbrev pub name_awaited : Kind → Option Dependency → List (List ℕ)
 name_awaited kind None = []
 name_awaited kind (Some dependency) = if kind_same dependency.kind kind then dependency.name ∷ [] else []
 
--- a name goes before the first that is greater, and isn't put twice
-abbrev pub with_name : List ℕ → List (List ℕ) → List (List ℕ)
-with_name name [] = name ∷ []
-with_name name (other ∷ others) =
-    if bytes_eq name other then other ∷ others
-    else (if is_before name other then name ∷ other ∷ others else other ∷ with_name name others)
-
 -- the names in the order of their bytes, each once
 abbrev pub sorted_names : List (List ℕ) → List (List ℕ)
-sorted_names [] = []
-sorted_names (name ∷ names) = with_name name (sorted_names names)
+sorted_names names = dedup bytes_eq (sorted_by is_before names)
 
--- the names of this kind that live rows depend on, sorted and without repeats
+-- the names of this kind that these live rows depend on, sorted and without repeats
+abbrev pub watched_by : List Live → Kind → List (List ℕ)
+watched_by lives kind = sorted_names (flat_map (λ (live : Live). name_awaited kind (dependency_of live.content)) lives)
+
+-- the names of this kind that live rows depend on
 abbrev pub watched_of : World → Kind → List (List ℕ)
-watched_of world kind = sorted_names (flat_map (λ (live : Live). name_awaited kind (dependency_of live.content)) (lives_of world))
+watched_of world kind = watched_by (lives_of world) kind

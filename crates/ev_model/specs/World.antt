@@ -8,7 +8,7 @@ use Rattle.ev_types.specs.declared.rows.Arrival.{Arrival}
 use Rattle.ev_types.specs.declared.rows.KeptVersion.{KeptVersion}
 use Rattle.ev_types.specs.declared.rows.Phase.{Phase}
 use Rattle.ev_types.specs.declared.rows.Phase.TheVariants.{Clusters}
-use Rattle.ev_model.specs.declared.pictures.Picture.{Picture}
+use Rattle.ev_model.specs.declared.pictures.Shown.{Shown}
 
 -- something came for a name of this kind
 pub record Arrived : Type 0 where
@@ -29,9 +29,9 @@ pub record OpenMember : Type 0 where
   pub listener : ℕ
   pub cluster : Option ℕ
 
--- the picture that is held before the first is published
-abbrev pub empty_picture : Picture
-empty_picture = record { clusters = []; listeners = [] }
+-- what the picture shows that is held before the first is published
+abbrev pub nothing_shown : Shown
+nothing_shown = record { clusters = []; listeners = [] }
 
 -- what the managers know
 pub record World : Type 0 where
@@ -43,10 +43,10 @@ pub record World : Type 0 where
   pub arrivals : List Arrived
   -- health results; the last of a number and host counts
   pub results : List HealthResult
-  -- one version for each kind and name that has one, sorted by name
+  -- one version for each kind and name that has one, sorted by name; each says whether the resource's life is bounded
   pub versions : List KeptVersion
-  -- all published pictures; the place is the version, and the first one is empty
-  pub pictures : List Picture
+  -- what all published pictures show; the place is the version, and the first one is empty
+  pub pictures : List Shown
   -- the version that each worker holds
   pub held : List ℕ
   -- the connections that are open
@@ -73,7 +73,7 @@ opening workers node = record {
   arrivals = [];
   results = [];
   versions = [];
-  pictures = empty_picture ∷ [];
+  pictures = nothing_shown ∷ [];
   held = replicate workers 0;
   opened = [];
   expired = [];

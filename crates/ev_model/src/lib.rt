@@ -8,4 +8,4 @@
 
 mod pictures;
 
-pub use pictures::{Choice, Picture, Routing, ServedCluster, ServedListener};
+pub use pictures::{Choice, Picture, Routing, ServedCluster, ServedListener, Shown};

@@ -1,4 +1,4 @@
-use ev_types::{Assignment, Gen, Host, Name, RouteTable, Seq, Target, TryCopy};
+use ev_types::{Assignment, Gen, Host, Name, RouteTable, Seq, Shared, Target, TryCopy};
 use std::alloc::{AllocError, Global};
 
 /// An active cluster as workers see it, with the hosts that may be chosen, in the order of its assignment.
@@ -42,8 +42,8 @@ impl Eq for ServedCluster {
 /// Where a listener's connections go.
 #[derive(Drop)]
 pub enum Routing {
-    /// By routes.
-    Table(RouteTable),
+    /// By routes, which are shared with the resource that brought them.
+    Table(Shared<RouteTable>),
     /// By a TCP proxy to this target.
     Tcp(Target),
 }
@@ -124,40 +124,57 @@ impl Eq for ServedListener {
     ghost laws = { decided served_listener_same served_listener_decides };
 }
 
-/// What workers may serve: clusters and listeners, both sorted by name. It has no listeners before the phase is Serving.
+/// What a picture shows, which is what workers may serve: clusters and listeners, both sorted by name. It has no listeners
+/// before the phase is Serving.
 #[derive(Drop)]
-pub struct Picture {
+pub struct Shown {
     pub clusters: Seq<ServedCluster>,
     pub listeners: Seq<ServedListener>,
 }
 
-impl TryCopy for Picture {
-    fn copy(&self, alloc: Global) -> Result<Picture, AllocError> {
-        Ok(Picture {
+impl TryCopy for Shown {
+    fn copy(&self, alloc: Global) -> Result<Shown, AllocError> {
+        Ok(Shown {
             clusters: self.clusters.copy(alloc)?,
             listeners: self.listeners.copy(alloc)?,
         })
     }
 }
 
-impl PartialEq for Picture {
+impl PartialEq for Shown {
     ghost use Rattle.std.specs.Cmp.{decided, partial_equiv_from_equiv};
-    ghost use Rattle.ev_model.specs.Picture.{picture_same, picture_decides};
+    ghost use Rattle.ev_model.specs.Picture.{shown_same, shown_decides};
 
-    ghost eq = { picture_same };
+    ghost eq = { shown_same };
 
-    ghost laws = { partial_equiv_from_equiv (decided picture_same picture_decides) };
+    ghost laws = { partial_equiv_from_equiv (decided shown_same shown_decides) };
 
-    fn eq(&self, other: &Picture) -> bool {
+    fn eq(&self, other: &Shown) -> bool {
         self.clusters == other.clusters && self.listeners == other.listeners
     }
 }
 
-impl Eq for Picture {
+impl Eq for Shown {
     ghost use Rattle.std.specs.Cmp.{decided};
-    ghost use Rattle.ev_model.specs.Picture.{picture_same, picture_decides};
+    ghost use Rattle.ev_model.specs.Picture.{shown_same, shown_decides};
 
-    ghost laws = { decided picture_same picture_decides };
+    ghost laws = { decided shown_same shown_decides };
+}
+
+/// A published picture: its version, counted from 0, and what it shows. Picture 0 shows nothing.
+#[derive(Drop)]
+pub struct Picture {
+    pub version: u64,
+    pub shown: Shown,
+}
+
+impl TryCopy for Picture {
+    fn copy(&self, alloc: Global) -> Result<Picture, AllocError> {
+        Ok(Picture {
+            version: self.version,
+            shown: self.shown.copy(alloc)?,
+        })
+    }
 }
 
 /// Where a connection goes, as it is chosen in a picture.
