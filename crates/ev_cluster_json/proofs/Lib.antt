@@ -1,4 +1,3 @@
 pub mod Gained
 pub mod RowsMade
-pub mod Leasts
 pub mod ClusterMade

@@ -4,8 +4,9 @@ use Rattle.std.specs.List.{list_any, flat_map}
 use Rattle.std.proofs.lemmas.Bool.Decides.{nat_tests}
 use Rattle.serde_json.specs.Data.{Data}
 use Rattle.ev_tree.specs.Rules.{is_name}
-use Rattle.ev_tree.specs.Addresses.{address_of, port_of, address_breaks_v12}
-use Rattle.ev_cluster_json.specs.Assignments.{endpoint_of, weight_of, is_usable, row_of, hosts_of, groups_of, priority_of, group_rows, rows_of, host_breaks_v12, host_breaks_v13, group_breaks_v12, group_breaks_v13, assignment_breaks_v12, assignment_breaks_v13}
+use Rattle.ev_tree.specs.Addresses.{address_text_of, port_of, address_broken}
+use Rattle.ev_cluster_json.specs.declared.groups.TheConstants.{MAX_PRIORITY}
+use Rattle.ev_cluster_json.specs.Assignments.{endpoint_of, weight_of, is_usable, row_of, hosts_of, groups_of, priority_of, group_rows, rows_of, host_broken, group_broken, assignment_broken}
 use Rattle.ev_cluster_json.specs.Made.{row_with, made_row, host_rows, rank_of, made_group, made_rows}
 
 pub left_false : (a b : Bool) → (a || b) ≡ false → a ≡ false
@@ -21,43 +22,42 @@ not_false true e = refl
 not_false false e = absurd (true≢false e)
 
 -- an address that V12 lets pass is a name
-pub address_is_name : (tree : Data) → address_breaks_v12 tree ≡ false → is_name (address_of tree) ≡ true
-unfolding address_breaks_v12
-address_is_name tree e = not_false (is_name (address_of tree)) (left_false _ _ e)
+pub address_is_name : (tree : Data) → (address_broken tree).v12 ≡ false → is_name (address_text_of tree) ≡ true
+unfolding address_broken
+address_is_name tree e = not_false (is_name (address_text_of tree)) (left_false _ _ e)
 
 row_with_known : (address : List ℕ) (port weight priority : ℕ) (usable : Bool) → is_name address ≡ true → (weight == 0) ≡ false
     → row_with address port weight priority usable ≡ Some (record { host = record { address = address; port = port }; weight = weight; priority = priority; usable = usable })
 row_with_known address port weight priority usable named heavy = rw (heavy, named)
 
 -- a host with an address and a weight has its row made
-host_rows_known : (priority : ℕ) (host : Data) → host_breaks_v12 host ≡ false → host_breaks_v13 host ≡ false → host_rows priority host ≡ row_of priority host ∷ []
-unfolding host_breaks_v12 host_breaks_v13 made_row row_of
+host_rows_known : (priority : ℕ) (host : Data) → (host_broken host).v12 ≡ false → (host_broken host).v13 ≡ false → host_rows priority host ≡ row_of priority host ∷ []
+unfolding host_broken made_row row_of
 host_rows_known priority host addressed heavy =
-    ap option_to_list (row_with_known (address_of (endpoint_of host)) (port_of (endpoint_of host)) (weight_of host) priority (is_usable host) (address_is_name (endpoint_of host) addressed) heavy)
+    ap option_to_list (row_with_known (address_text_of (endpoint_of host)) (port_of (endpoint_of host)) (weight_of host) priority (is_usable host) (address_is_name (endpoint_of host) (left_false _ _ addressed)) (right_false _ _ heavy))
 
-hosts_known : (priority : ℕ) (hosts : List Data) → list_any host_breaks_v12 hosts ≡ false → list_any host_breaks_v13 hosts ≡ false → flat_map (host_rows priority) hosts ≡ map (row_of priority) hosts
+hosts_known : (priority : ℕ) (hosts : List Data) → list_any (λ h. (host_broken h).v12) hosts ≡ false → list_any (λ h. (host_broken h).v13) hosts ≡ false → flat_map (host_rows priority) hosts ≡ map (row_of priority) hosts
 hosts_known priority [] addressed heavy = refl
 hosts_known priority (host ∷ hosts) addressed heavy =
     ap (λ rows. rows ++ flat_map (host_rows priority) hosts) (host_rows_known priority host (left_false _ _ addressed) (left_false _ _ heavy))
     ∙ ap (λ rows. row_of priority host ∷ rows) (hosts_known priority hosts (right_false _ _ addressed) (right_false _ _ heavy))
 
-rank_known : (priority : ℕ) → nat_lt 128 priority ≡ false → rank_of priority ≡ priority
+rank_known : (priority : ℕ) → nat_lt MAX_PRIORITY priority ≡ false → rank_of priority ≡ priority
 rank_known priority e = grind (arith, nat_tests)
 
-group_known : (group : Data) → group_breaks_v12 group ≡ false → group_breaks_v13 group ≡ false → made_group group ≡ group_rows group
-unfolding group_breaks_v12 group_breaks_v13 made_group group_rows
+group_known : (group : Data) → (group_broken group).v12 ≡ false → (group_broken group).v13 ≡ false → made_group group ≡ group_rows group
+unfolding group_broken made_group group_rows
 group_known group addressed weighed =
-    let first = left_false _ _ weighed in
-    let rank = rank_known (priority_of group) (right_false _ _ first) in
-    ap (λ p. flat_map (host_rows p) (hosts_of group)) rank ∙ hosts_known (priority_of group) (hosts_of group) addressed (left_false _ _ first)
+    let rank = rank_known (priority_of group) (left_false _ _ (right_false _ _ weighed)) in
+    ap (λ p. flat_map (host_rows p) (hosts_of group)) rank ∙ hosts_known (priority_of group) (hosts_of group) (left_false _ _ addressed) (left_false _ _ weighed)
 
-groups_known : (groups : List Data) → list_any group_breaks_v12 groups ≡ false → list_any group_breaks_v13 groups ≡ false → flat_map made_group groups ≡ flat_map group_rows groups
+groups_known : (groups : List Data) → list_any (λ g. (group_broken g).v12) groups ≡ false → list_any (λ g. (group_broken g).v13) groups ≡ false → flat_map made_group groups ≡ flat_map group_rows groups
 groups_known [] addressed weighed = refl
 groups_known (group ∷ groups) addressed weighed =
     ap (λ rows. rows ++ flat_map made_group groups) (group_known group (left_false _ _ addressed) (left_false _ _ weighed))
     ∙ ap (λ rows. group_rows group ++ rows) (groups_known groups (right_false _ _ addressed) (right_false _ _ weighed))
 
 -- the rows that are made of an assignment that breaks neither V12 nor V13
-pub rows_made : (tree : Data) → assignment_breaks_v12 tree ≡ false → assignment_breaks_v13 tree ≡ false → made_rows tree ≡ rows_of tree
-unfolding assignment_breaks_v12 assignment_breaks_v13 made_rows rows_of
+pub rows_made : (tree : Data) → (assignment_broken tree).v12 ≡ false → (assignment_broken tree).v13 ≡ false → made_rows tree ≡ rows_of tree
+unfolding assignment_broken made_rows rows_of
 rows_made tree addressed weighed = groups_known (groups_of tree) addressed weighed

@@ -2,4 +2,3 @@ pub mod Assignments
 pub mod Clusters
 pub mod Made
 pub mod Tallies
-pub mod RulesRead

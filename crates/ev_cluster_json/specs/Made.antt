@@ -6,8 +6,9 @@ use Rattle.ev_types.specs.Hosts.{HostRowParts}
 use Rattle.ev_types.specs.declared.clusters.Cluster.{Cluster}
 use Rattle.ev_types.specs.declared.clusters.Discovery.{Discovery}
 use Rattle.ev_types.specs.declared.clusters.Discovery.TheVariants.{Static, Eds}
-use Rattle.ev_tree.specs.Addresses.{address_of, port_of}
+use Rattle.ev_tree.specs.Addresses.{address_text_of, port_of}
 use Rattle.ev_tree.specs.Rules.{is_name}
+use Rattle.ev_cluster_json.specs.declared.groups.TheConstants.{MAX_PRIORITY}
 use Rattle.ev_cluster_json.specs.Assignments.{endpoint_of, weight_of, is_usable, priority_of, hosts_of, groups_of}
 
 -- the name that a text is, if it is one
@@ -22,15 +23,15 @@ row_with address port weight priority usable =
 
 -- the row that is made of a host
 unfoldable pub made_row : ℕ → Data → Option HostRowParts
-made_row priority host = row_with (address_of (endpoint_of host)) (port_of (endpoint_of host)) (weight_of host) priority (is_usable host)
+made_row priority host = row_with (address_text_of (endpoint_of host)) (port_of (endpoint_of host)) (weight_of host) priority (is_usable host)
 
 -- that row, or none, as a list
 abbrev pub host_rows : ℕ → Data → List HostRowParts
 host_rows priority host = option_to_list (made_row priority host)
 
--- a priority, or 0 where it is over 128
+-- a priority, or 0 where it is too great
 abbrev pub rank_of : ℕ → ℕ
-rank_of priority = if nat_le priority 128 then priority else 0
+rank_of priority = if nat_le priority MAX_PRIORITY then priority else 0
 
 -- the rows that are made of a group of hosts, and of all groups
 unfoldable pub made_group : Data → List HostRowParts

@@ -1,11 +1,12 @@
 ghost use Rattle.std.specs.Prelude.{◌≡◌, IfOk};
 ghost use Rattle.serde_json.specs.Data.{Data};
 ghost use Rattle.serde_json.specs.View.{view};
-ghost use Rattle.ev_tree.specs.Rules.{Reads, IsLeast, least};
-ghost use Rattle.ev_cluster_json.specs.Assignments.{assignment_reading, assignment_rules};
+ghost use Rattle.ev_tree.specs.Rules.{ReadsAs, IsLeast};
+ghost use Rattle.ev_tree.specs.Broken.{rules_of, least_of};
+ghost use Rattle.ev_cluster_json.specs.Assignments.{assignment_reading, assignment_broken};
 
-use crate::groups::read_tally;
-use ev_tree::{ReadError, least};
+use crate::groups::inspect_assignment;
+use ev_tree::ReadError;
 use ev_types::{Assignment, HostRow, ROW_LIMIT, Seq};
 use serde_json::Value;
 use std::alloc::{AllocError, Global};
@@ -16,29 +17,24 @@ use std::alloc::{AllocError, Global};
 /// `Rule` has the least form rule that it breaks: V6, V12 or V13. `OutOfMemory` comes without memory, and
 /// for 2^32 - 1 hosts or more.
 pub fn read_assignment(alloc: Global, value: &Value) -> Result<Assignment, ReadError>
-    ensures { Reads result (assignment_reading (view value.now)) }
+    ensures { ReadsAs result (assignment_reading (view value.now)) }
 {
-    let tally = read_tally(alloc, Some(value))?;
-    let rules = [
-        (6, tally.breaks_v6),
-        (12, tally.breaks_v12),
-        (13, tally.breaks_v13),
-    ];
-    if let Some(rule) = least(&rules) {
+    let tally = inspect_assignment(alloc, Some(value))?;
+    if let Some(rule) = tally.broken.least() {
         return Err(ReadError::Rule(rule));
     }
-    let assignment = assignment(tally.rows)?;
+    let assignment = make_assignment(tally.rows)?;
     Ok(assignment)
 }
 
 /// The rule by which an assignment is refused is the least of all that it breaks, and where there is none,
 /// it breaks none: a law of the definitions.
 pub fn assignment_rule_is_least()
-    ensures { (tree : Data) → IsLeast (assignment_rules tree) (least (assignment_rules tree)) }
+    ensures { (tree : Data) → IsLeast (rules_of (assignment_broken tree)) (least_of (assignment_broken tree)) }
 {}
 
 /// The assignment of these rows, if there are few enough.
-pub fn assignment(rows: Vec<HostRow>) -> Result<Assignment, AllocError>
+pub fn make_assignment(rows: Vec<HostRow>) -> Result<Assignment, AllocError>
     ensures { IfOk result (λ assignment. assignment ≡ rows.items) }
 {
     if rows.len() >= ROW_LIMIT {

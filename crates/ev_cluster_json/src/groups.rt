@@ -1,40 +1,38 @@
-ghost use Rattle.std.specs.Prelude.{◌≡◌, ◌++◌, ◌-◌, ◌^◌, [], ◌==◌, map, min, option_to_list, IfOk, OnOk};
-ghost use Rattle.std.specs.List.{list_any, flat_map, sum_by};
+ghost use Rattle.std.specs.Prelude.{◌≡◌, ◌++◌, ◌-◌, ◌^◌, map, min, option_to_list, IfOk, OnOk};
+ghost use Rattle.std.specs.List.{flat_map, sum_by};
 ghost use Rattle.serde_json.specs.View.{view};
 ghost use Rattle.ev_tree.specs.Forms.{tree_of};
-ghost use Rattle.ev_cluster_json.specs.Assignments.{weight_of, host_breaks_v6, host_breaks_v12, host_breaks_v13, group_breaks_v6, group_breaks_v12, group_breaks_v13, assignment_breaks_v6, assignment_breaks_v12, assignment_breaks_v13};
+ghost use Rattle.ev_tree.specs.Broken.{any_broken};
+ghost use Rattle.ev_cluster_json.specs.Assignments.{weight_of, host_broken, group_broken, assignment_broken};
 ghost use Rattle.ev_cluster_json.specs.Made.{host_rows, rank_of, made_group, made_rows};
 ghost use Rattle.ev_cluster_json.specs.Tallies.{Gains};
 
-use crate::hosts::{HostReading, read_host};
+use crate::hosts::{HostParts, inspect_host};
 use crate::tally::Tally;
-use ev_tree::member;
-use ev_types::HostRow;
+use ev_tree::{BrokenRules, member};
+use ev_types::{HostRow, MAX_WEIGHT_SUM};
 use serde_json::Value;
 use std::alloc::{AllocError, Global};
 
 /// The greatest priority.
-const LAST_PRIORITY: u32 = 128;
+pub const MAX_PRIORITY: u32 = 128;
 
 /// Adds a host to the tally, and gives its weight.
 pub fn add_host(tally: &mut Tally, alloc: Global, host: &Value, rank: u8) -> Result<u32, AllocError>
     ensures weight { IfOk result (λ weight. weight ≡ weight_of (view host.now)) }
-    ensures gains { OnOk result (Gains tally.old tally.new (host_breaks_v6 (view host.now)) (host_breaks_v12 (view host.now))
-        (host_breaks_v13 (view host.now)) (host_rows rank (view host.now))) }
+    ensures gains { OnOk result (Gains tally.old tally.new (host_broken (view host.now)) (host_rows rank (view host.now))) }
 {
-    let HostReading {
+    let HostParts {
         row,
         weight,
-        breaks_v6,
-        breaks_v12,
-    } = read_host(alloc, host, rank)?;
+        broken,
+    } = inspect_host(alloc, host, rank)?;
     push_row(&mut tally.rows, row)?;
-    tally.breaks_v6 |= breaks_v6;
-    tally.breaks_v12 |= breaks_v12;
-    tally.breaks_v13 |= weight == 0;
+    tally.broken = tally.broken.or(broken);
     Ok(weight)
 }
 
+// Appends a row, if there is one.
 fn push_row(rows: &mut Vec<HostRow>, row: Option<HostRow>) -> Result<(), AllocError>
     ensures { OnOk result (rows.new.items ≡ rows.old.items ++ option_to_list row) }
 {
@@ -52,8 +50,7 @@ pub fn add_hosts(
     rank: u8,
 ) -> Result<u64, AllocError>
     ensures weight { IfOk result (λ sum. sum ≡ min (sum_by weight_of (map view hosts.now)) (2 ^ 64 - 1)) }
-    ensures gains { OnOk result (Gains tally.old tally.new (list_any host_breaks_v6 (map view hosts.now))
-        (list_any host_breaks_v12 (map view hosts.now)) (list_any host_breaks_v13 (map view hosts.now))
+    ensures gains { OnOk result (Gains tally.old tally.new (any_broken host_broken (map view hosts.now))
         (flat_map (host_rows rank) (map view hosts.now))) }
 {
     let mut sum = 0u64;
@@ -64,10 +61,11 @@ pub fn add_hosts(
     Ok(sum)
 }
 
-fn rank(priority: u32) -> u8
+// A priority, or 0 where it is too great.
+fn clamp_priority(priority: u32) -> u8
     ensures { result ≡ rank_of priority }
 {
-    if priority <= LAST_PRIORITY {
+    if priority <= MAX_PRIORITY {
         priority as u8
     } else {
         0
@@ -76,23 +74,24 @@ fn rank(priority: u32) -> u8
 
 /// Adds a group of hosts to the tally: an element of `endpoints`.
 pub fn add_group(tally: &mut Tally, alloc: Global, group: &Value) -> Result<(), AllocError>
-    ensures { OnOk result (Gains tally.old tally.new (group_breaks_v6 (view group.now)) (group_breaks_v12 (view group.now))
-        (group_breaks_v13 (view group.now)) (made_group (view group.now))) }
+    ensures { OnOk result (Gains tally.old tally.new (group_broken (view group.now)) (made_group (view group.now))) }
 {
     let priority = member::number32(alloc, Some(group), "priority")?;
     let hosts = member::objects(alloc, Some(group), "lb_endpoints")?;
     let number = priority.given_or(0);
-    tally.breaks_v6 |= priority.is_wrong() | hosts.is_wrong();
-    let sum = add_hosts(tally, alloc, member::elements(hosts), rank(number))?;
-    tally.breaks_v13 |= number > LAST_PRIORITY;
-    tally.breaks_v13 |= sum > u64::from(u32::MAX);
+    let sum = add_hosts(tally, alloc, member::elements(hosts), clamp_priority(number))?;
+    let own = BrokenRules {
+        v6: priority.is_wrong() | hosts.is_wrong(),
+        v13: (number > MAX_PRIORITY) | (sum > MAX_WEIGHT_SUM),
+        ..BrokenRules::none()
+    };
+    tally.broken = tally.broken.or(own);
     Ok(())
 }
 
 /// Adds groups of hosts to the tally.
 pub fn add_groups(tally: &mut Tally, alloc: Global, groups: &[Value]) -> Result<(), AllocError>
-    ensures { OnOk result (Gains tally.old tally.new (list_any group_breaks_v6 (map view groups.now))
-        (list_any group_breaks_v12 (map view groups.now)) (list_any group_breaks_v13 (map view groups.now))
+    ensures { OnOk result (Gains tally.old tally.new (any_broken group_broken (map view groups.now))
         (flat_map made_group (map view groups.now))) }
 {
     for group in groups {
@@ -101,20 +100,19 @@ pub fn add_groups(tally: &mut Tally, alloc: Global, groups: &[Value]) -> Result<
     Ok(())
 }
 
-/// What is read of an assignment, which may be missing.
-pub fn read_tally(alloc: Global, assignment: Option<&Value>) -> Result<Tally, AllocError>
+/// Inspects an assignment, which may be missing.
+pub fn inspect_assignment(alloc: Global, assignment: Option<&Value>) -> Result<Tally, AllocError>
     ensures rows { IfOk result (λ t. t.rows.items ≡ made_rows (tree_of assignment.entry)) }
-    ensures v6 { IfOk result (λ t. t.breaks_v6 ≡ assignment_breaks_v6 (tree_of assignment.entry)) }
-    ensures v12 { IfOk result (λ t. t.breaks_v12 ≡ assignment_breaks_v12 (tree_of assignment.entry)) }
-    ensures v13 { IfOk result (λ t. t.breaks_v13 ≡ assignment_breaks_v13 (tree_of assignment.entry)) }
+    ensures broken { IfOk result (λ t. t.broken ≡ assignment_broken (tree_of assignment.entry)) }
 {
     let cluster_name = member::text(alloc, assignment, "cluster_name")?;
     let groups = member::objects(alloc, assignment, "endpoints")?;
     let mut tally = Tally {
         rows: Vec::new(alloc),
-        breaks_v6: cluster_name.is_wrong() | groups.is_wrong(),
-        breaks_v12: false,
-        breaks_v13: false,
+        broken: BrokenRules {
+            v6: cluster_name.is_wrong() | groups.is_wrong(),
+            ..BrokenRules::none()
+        },
     };
     add_groups(&mut tally, alloc, member::elements(groups))?;
     Ok(tally)

@@ -1,31 +1,29 @@
 ghost use Rattle.std.specs.Prelude.{◌≡◌, IfOk};
 ghost use Rattle.serde_json.specs.View.{view};
-ghost use Rattle.ev_tree.specs.Rules.{is_name};
-ghost use Rattle.ev_cluster_json.specs.Assignments.{weight_of, is_usable_status, host_breaks_v6, host_breaks_v12};
+ghost use Rattle.ev_cluster_json.specs.Assignments.{weight_of, is_usable_status, host_broken};
 ghost use Rattle.ev_cluster_json.specs.Made.{name_in, row_with, made_row};
 
-use ev_tree::{EnumTable, member, socket_address};
+use ev_tree::{BrokenRules, EnumTable, member, socket_address};
 use ev_types::{Host, HostRow, Name, NameError};
 use serde_json::Value;
 use std::alloc::{AllocError, Global};
 
-/// What a look at a host finds.
+/// What is found of a host.
 #[derive(Drop)]
-pub struct HostReading {
+pub struct HostParts {
     /// Its row, where it has an address and a weight.
     pub row: Option<HostRow>,
     /// Its weight, which may be 0.
     pub weight: u32,
-    pub breaks_v6: bool,
-    pub breaks_v12: bool,
+    /// The rules that it breaks.
+    pub broken: BrokenRules,
 }
 
-/// A host of an assignment.
-pub fn read_host(alloc: Global, host: &Value, priority: u8) -> Result<HostReading, AllocError>
+/// Inspects a host of an assignment.
+pub fn inspect_host(alloc: Global, host: &Value, priority: u8) -> Result<HostParts, AllocError>
     ensures row { IfOk result (λ h. h.row ≡ made_row priority (view host.now)) }
     ensures weight { IfOk result (λ h. h.weight ≡ weight_of (view host.now)) }
-    ensures v6 { IfOk result (λ h. h.breaks_v6 ≡ host_breaks_v6 (view host.now)) }
-    ensures v12 { IfOk result (λ h. h.breaks_v12 ≡ host_breaks_v12 (view host.now)) }
+    ensures broken { IfOk result (λ h. h.broken ≡ host_broken (view host.now)) }
 {
     let endpoint = member::object(alloc, Some(host), "endpoint")?;
     let address = socket_address(alloc, member::inner(endpoint))?;
@@ -33,8 +31,13 @@ pub fn read_host(alloc: Global, host: &Value, priority: u8) -> Result<HostReadin
     let given_weight = member::number32(alloc, Some(host), "load_balancing_weight")?;
     let weight = given_weight.given_or(1);
     let usable = is_usable(status.given_or(0));
-    Ok(HostReading {
-        row: host_row(
+    let own = BrokenRules {
+        v6: endpoint.is_wrong() | status.is_wrong() | given_weight.is_wrong(),
+        v13: weight == 0,
+        ..BrokenRules::none()
+    };
+    Ok(HostParts {
+        row: make_row(
             alloc,
             address.address,
             address.port,
@@ -43,22 +46,19 @@ pub fn read_host(alloc: Global, host: &Value, priority: u8) -> Result<HostReadin
             usable,
         )?,
         weight,
-        breaks_v6: endpoint.is_wrong()
-            | address.breaks_v6
-            | status.is_wrong()
-            | given_weight.is_wrong(),
-        breaks_v12: address.breaks_v12,
+        broken: address.broken.or(own),
     })
 }
 
+// Whether a host of this health status may be chosen: an unknown, a healthy or a degraded one.
 fn is_usable(status: u32) -> bool
     ensures { result ≡ is_usable_status status }
 {
     status == 0 || status == 1 || status == 5
 }
 
-/// A row, where the address has 1 to 512 bytes and the weight isn't 0.
-fn host_row(
+// A row, where the address has 1 to 512 bytes and the weight isn't 0.
+fn make_row(
     alloc: Global,
     address: &str,
     port: u16,
@@ -71,7 +71,7 @@ fn host_row(
     if weight == 0 {
         return Ok(None);
     }
-    match name(alloc, address)? {
+    match make_name(alloc, address)? {
         Some(address) => Ok(Some(HostRow {
             host: Host { address, port },
             weight,
@@ -83,7 +83,7 @@ fn host_row(
 }
 
 /// The name that a text is, if it has 1 to 512 bytes.
-pub fn name(alloc: Global, text: &str) -> Result<Option<Name>, AllocError>
+pub fn make_name(alloc: Global, text: &str) -> Result<Option<Name>, AllocError>
     ensures { IfOk result (λ name. name ≡ name_in text.now) }
 {
     match Name::new(alloc, text) {

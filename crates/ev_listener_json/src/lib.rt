@@ -1,14 +1,14 @@
 //! Listeners out of JSON: a listener is read whole, or refused by the least rule that it breaks.
 #![tactic(auto)]
 
-mod broken;
 mod chains;
 mod filters;
 mod listeners;
 mod managers;
 mod objects;
 
-pub use listeners::read_listener;
+pub use chains::inspect_chain;
+pub use listeners::{listener_rule_is_least, read_listener};
 
 #[cfg(test)]
 mod tests;

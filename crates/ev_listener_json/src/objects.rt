@@ -17,6 +17,7 @@ pub fn has_member(object: Option<&Value>) -> bool
     }
 }
 
+// The same of an object that is there.
 fn value_has_member(value: &Value) -> bool
     ensures { result ≡ has_member (view value.now) }
 {
@@ -26,6 +27,7 @@ fn value_has_member(value: &Value) -> bool
     }
 }
 
+// Whether one of the members isn't `null`.
 fn any_present(members: &Map<String, Value>) -> bool
     ensures { result ≡ list_any (λ v. is_present (view v)) (values members.now) }
 {

@@ -29,7 +29,7 @@ fn describe_serve(alloc: Global, serve: &Serve) -> Result<String, AllocError> {
             format!(in alloc; "routes {name}, limited {limited}")
         }
         Serve::Inline(table) => {
-            let count = table.hosts.len();
+            let count = table.get().hosts.len();
             format!(in alloc; "{count} hosts")
         }
         Serve::Tcp(Target::One(cluster)) => {

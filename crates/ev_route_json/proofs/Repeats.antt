@@ -3,7 +3,7 @@ use Rattle.std.proofs.Common.{◌≡◌, ℕ, List, [], ◌∷◌, Bool, true, f
 use Rattle.std.specs.List.{list_any}
 use Rattle.std.specs.Str.{bytes_eq}
 use Rattle.ev_route_json.specs.Domains.{has_repeat}
-use Rattle.ev_route_json.proofs.Unions.{or_assoc}
+use Rattle.ev_tree.proofs.Unions.{or_assoc}
 
 mix : (e f a b : Bool) → (cond e true f || (a || b)) ≡ ((f || a) || (e || b))
 mix true true a b = refl

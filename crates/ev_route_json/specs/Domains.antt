@@ -1,13 +1,8 @@
 -- Domains that stand twice.
 use Rattle.std.specs.Prelude.{ℕ, ◌||◌, List, [], ◌∷◌, map, Bool, false}
 use Rattle.std.specs.List.{list_any, flat_map}
-use Rattle.std.specs.Char.{to_ascii_lowercase}
-use Rattle.std.specs.Str.{bytes_eq}
+use Rattle.std.specs.Str.{bytes_eq, str_to_ascii_lowercase}
 use Rattle.ev_types.specs.declared.routes.VirtualHost.{VirtualHost}
-
--- a text with its ASCII letters as lower case
-abbrev pub lowered : List ℕ → List ℕ
-lowered text = map to_ascii_lowercase text
 
 -- a text stands in the list twice
 abbrev pub has_repeat : List (List ℕ) → Bool
@@ -16,4 +11,4 @@ has_repeat (text ∷ texts) = list_any (bytes_eq text) texts || has_repeat texts
 
 -- a domain stands twice among all hosts of a table, ASCII letters taken as lower case
 abbrev pub repeats_domain : List VirtualHost → Bool
-repeats_domain hosts = has_repeat (map lowered (flat_map (λ host. host.domains) hosts))
+repeats_domain hosts = has_repeat (map str_to_ascii_lowercase (flat_map (λ host. host.domains) hosts))

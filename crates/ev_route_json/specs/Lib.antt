@@ -1,4 +1,3 @@
-pub mod Parts
 pub mod Presence
 pub mod Targets
 pub mod Matches

@@ -5,9 +5,11 @@ use Rattle.std.specs.List.{list_any}
 use Rattle.serde_json.specs.Data.{Data}
 use Rattle.ev_types.specs.declared.routes.PathMatch.{PathMatch}
 use Rattle.ev_types.specs.declared.routes.PathMatch.TheVariants.{Prefix, Path, Separated}
+use Rattle.ev_tree.specs.declared.broken.BrokenRules.{BrokenRules}
 use Rattle.ev_tree.specs.declared.outcome.Found.{Found}
 use Rattle.ev_tree.specs.declared.outcome.Found.TheVariants.{Absent, Wrong, Given}
 use Rattle.ev_tree.specs.Forms.{is_wrong, is_given, given_or, text_of, boolean_of}
+use Rattle.ev_tree.specs.Broken.{none_broken}
 use Rattle.ev_route_json.specs.Presence.{any_given, any_doubled, any_filled, exactly_one}
 
 -- conditions that break V21 in any form
@@ -39,23 +41,23 @@ separated_is_bad Absent = false
 separated_is_bad Wrong = false
 separated_is_bad (Given text) = is_bad_separated text
 
-unfoldable pub match_breaks_v6 : Data → Bool
-match_breaks_v6 tree =
-    is_wrong (text_of (codes "prefix") tree)
-    || is_wrong (text_of (codes "path") tree)
-    || is_wrong (text_of (codes "path_separated_prefix") tree)
-    || is_wrong (boolean_of (codes "case_sensitive") tree)
-    || any_doubled barred_conditions tree
-    || any_doubled listed_conditions tree
-
--- V21: not exactly one kind of match, or a condition that the profile lacks
-unfoldable pub match_breaks_v21 : Data → Bool
-match_breaks_v21 tree =
-    not (exactly_one (is_given (text_of (codes "prefix") tree) ∷ is_given (text_of (codes "path") tree) ∷ is_given (text_of (codes "path_separated_prefix") tree) ∷ []))
-    || any_given barred_conditions tree
-    || any_filled listed_conditions tree
-    || is_false (boolean_of (codes "case_sensitive") tree)
-    || separated_is_bad (text_of (codes "path_separated_prefix") tree)
+-- What a match breaks. V21: not exactly one kind of match, or a condition that the profile lacks.
+unfoldable pub match_broken : Data → BrokenRules
+match_broken tree = record none_broken {
+  v6 =
+      is_wrong (text_of (codes "prefix") tree)
+      || is_wrong (text_of (codes "path") tree)
+      || is_wrong (text_of (codes "path_separated_prefix") tree)
+      || is_wrong (boolean_of (codes "case_sensitive") tree)
+      || any_doubled barred_conditions tree
+      || any_doubled listed_conditions tree;
+  v21 =
+      not (exactly_one (is_given (text_of (codes "prefix") tree) ∷ is_given (text_of (codes "path") tree) ∷ is_given (text_of (codes "path_separated_prefix") tree) ∷ []))
+      || any_given barred_conditions tree
+      || any_filled listed_conditions tree
+      || is_false (boolean_of (codes "case_sensitive") tree)
+      || separated_is_bad (text_of (codes "path_separated_prefix") tree);
+}
 
 -- the match of what is given
 abbrev pub path_with : Found (List ℕ) → Found (List ℕ) → Found (List ℕ) → PathMatch

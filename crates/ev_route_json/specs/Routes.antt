@@ -5,12 +5,13 @@ use Rattle.ev_types.specs.declared.routes.Action.{Action}
 use Rattle.ev_types.specs.declared.routes.Action.TheVariants.{Forward, Redirect, Local}
 use Rattle.ev_types.specs.declared.routes.Target.{Target}
 use Rattle.ev_types.specs.declared.routes.Route.{Route}
+use Rattle.ev_tree.specs.declared.broken.BrokenRules.{BrokenRules}
+use Rattle.ev_tree.specs.Broken.{none_broken, either_broken, broken_where}
 use Rattle.ev_tree.specs.Forms.{is_wrong, is_given, given_or, inside, number_of, object_of}
-use Rattle.ev_route_json.specs.declared.broken.Broken.{Broken}
-use Rattle.ev_route_json.specs.Parts.{unbroken}
+use Rattle.ev_route_json.specs.declared.routes.TheConstants.{MIN_STATUS, MAX_STATUS}
 use Rattle.ev_route_json.specs.Presence.{exactly_one}
-use Rattle.ev_route_json.specs.Targets.{target_of, target_breaks_v6, target_breaks_v22, target_breaks_v23, target_breaks_v24}
-use Rattle.ev_route_json.specs.Matches.{path_of, match_breaks_v6, match_breaks_v21}
+use Rattle.ev_route_json.specs.Targets.{target_of, target_broken}
+use Rattle.ev_route_json.specs.Matches.{path_of, match_broken}
 
 -- ---- the action
 
@@ -24,29 +25,28 @@ status_of route = given_or 0 (number_of (codes "status") (inside (object_of (cod
 
 -- a status that a response can have
 abbrev pub is_status : ℕ → Bool
-is_status status = nat_le 200 status && nat_le status 599
+is_status status = nat_le MIN_STATUS status && nat_le status MAX_STATUS
 
 abbrev pub status_or_none : ℕ → ℕ
 status_or_none status = if is_status status then status else 0
 
-unfoldable pub action_breaks_v6 : Data → Bool
-action_breaks_v6 route =
-    is_wrong (object_of (codes "route") route)
-    || is_wrong (object_of (codes "redirect") route)
-    || is_wrong (object_of (codes "direct_response") route)
-    || is_wrong (object_of (codes "filter_action") route)
-    || is_wrong (object_of (codes "non_forwarding_action") route)
-    || is_wrong (number_of (codes "status") (inside (object_of (codes "direct_response") route)))
-    || target_breaks_v6 (forward_of route)
-
--- V22: not exactly one action, one that the profile lacks, a target that breaks it, or a status out of range
-unfoldable pub action_breaks_v22 : Data → Bool
-action_breaks_v22 route =
-    not (exactly_one (is_given (object_of (codes "route") route) ∷ is_given (object_of (codes "redirect") route) ∷ is_given (object_of (codes "direct_response") route) ∷ []))
-    || is_given (object_of (codes "filter_action") route)
-    || is_given (object_of (codes "non_forwarding_action") route)
-    || (is_given (object_of (codes "route") route) && target_breaks_v22 (forward_of route))
-    || (is_given (object_of (codes "direct_response") route) && not (is_status (status_of route)))
+-- What an action breaks: what its target breaks, where it has one, and what it breaks itself. V22: not exactly one
+-- action, one that the profile lacks, or a status out of range.
+unfoldable pub action_broken : Data → BrokenRules
+action_broken route = either_broken (broken_where (is_given (object_of (codes "route") route)) (target_broken (forward_of route))) (record none_broken {
+  v6 =
+      is_wrong (object_of (codes "route") route)
+      || is_wrong (object_of (codes "redirect") route)
+      || is_wrong (object_of (codes "direct_response") route)
+      || is_wrong (object_of (codes "filter_action") route)
+      || is_wrong (object_of (codes "non_forwarding_action") route)
+      || is_wrong (number_of (codes "status") (inside (object_of (codes "direct_response") route)));
+  v22 =
+      not (exactly_one (is_given (object_of (codes "route") route) ∷ is_given (object_of (codes "redirect") route) ∷ is_given (object_of (codes "direct_response") route) ∷ []))
+      || is_given (object_of (codes "filter_action") route)
+      || is_given (object_of (codes "non_forwarding_action") route)
+      || (is_given (object_of (codes "direct_response") route) && not (is_status (status_of route)));
+})
 
 -- the action of what is given
 abbrev pub action_with : Bool → Bool → Target → ℕ → Action
@@ -64,30 +64,9 @@ action_of route =
 unfoldable pub match_of : Data → Data
 match_of route = inside (object_of (codes "match") route)
 
-unfoldable pub route_breaks_v6 : Data → Bool
-route_breaks_v6 route = is_wrong (object_of (codes "match") route) || match_breaks_v6 (match_of route) || action_breaks_v6 route
-
-unfoldable pub route_breaks_v21 : Data → Bool
-route_breaks_v21 route = match_breaks_v21 (match_of route)
-
-unfoldable pub route_breaks_v22 : Data → Bool
-route_breaks_v22 route = action_breaks_v22 route
-
--- V23 and V24: the target's
-unfoldable pub route_breaks_v23 : Data → Bool
-route_breaks_v23 route = target_breaks_v23 (forward_of route)
-
-unfoldable pub route_breaks_v24 : Data → Bool
-route_breaks_v24 route = target_breaks_v24 (forward_of route)
-
-abbrev pub route_broken : Data → Broken
-route_broken route = record unbroken {
-  v6 = route_breaks_v6 route;
-  v21 = route_breaks_v21 route;
-  v22 = route_breaks_v22 route;
-  v23 = route_breaks_v23 route;
-  v24 = route_breaks_v24 route;
-}
+-- what a route breaks: what its match and its action break, and what it breaks itself
+unfoldable pub route_broken : Data → BrokenRules
+route_broken route = either_broken (match_broken (match_of route)) (either_broken (action_broken route) (record none_broken { v6 = is_wrong (object_of (codes "match") route) }))
 
 unfoldable pub route_of : Data → Route
 route_of route = record { path = path_of (match_of route); action = action_of route }

@@ -1,6 +1,7 @@
 ghost use Rattle.std.specs.Prelude.{◌≡◌, ◌++◌, IfOk, OnOk, map, string_bytes};
 ghost use Rattle.std.specs.List.{flat_map};
-ghost use Rattle.ev_route_json.specs.Domains.{lowered, has_repeat, repeats_domain};
+ghost use Rattle.ev_route_json.specs.Domains.{has_repeat, repeats_domain};
+ghost use Rattle.std.specs.Str.{str_to_ascii_lowercase};
 
 use ev_types::{Text, VirtualHost};
 use std::alloc::{AllocError, Global};
@@ -13,14 +14,14 @@ pub fn repeats_domain(alloc: Global, hosts: &[VirtualHost]) -> Result<bool, Allo
 {
     let mut domains = Vec::new(alloc);
     for host in hosts {
-        push_lowered(alloc, &mut domains, host.domains.as_slice())?;
+        push_in_lowercase(alloc, &mut domains, host.domains.as_slice())?;
     }
     has_repeat(alloc, domains)
 }
 
 /// Appends each domain in lower case.
-fn push_lowered(alloc: Global, texts: &mut Vec<String>, domains: &[Text]) -> Result<(), AllocError>
-    ensures { OnOk result (map string_bytes texts.new.items ≡ map string_bytes texts.old.items ++ map lowered domains.now) }
+fn push_in_lowercase(alloc: Global, texts: &mut Vec<String>, domains: &[Text]) -> Result<(), AllocError>
+    ensures { OnOk result (map string_bytes texts.new.items ≡ map string_bytes texts.old.items ++ map str_to_ascii_lowercase domains.now) }
 {
     for domain in domains {
         let mut text = String::from_str(alloc, domain.as_str())?;

@@ -2,7 +2,6 @@
 //! it breaks.
 #![tactic(auto)]
 
-mod broken;
 mod domains;
 mod matches;
 mod parts;
@@ -12,14 +11,14 @@ mod routes;
 mod tables;
 mod targets;
 
-pub use broken::{Broken, Look};
 pub use domains::repeats_domain;
-pub use matches::{MatchLook, look_match};
-pub use parts::{Part, look_all};
-pub use presence::{Presence, exactly_one, look_for};
+pub use matches::inspect_match;
+pub use parts::{Inspect, inspect_all};
+pub use presence::{Presence, exactly_one, inspect_fields};
 pub use readers::{read_routes, read_target, table_rule_is_least, target_rule_is_least};
-pub use tables::look_table;
-pub use targets::look_target;
+pub use routes::{MAX_STATUS, MIN_STATUS};
+pub use tables::inspect_table;
+pub use targets::inspect_target;
 
 #[cfg(test)]
 mod tests;

@@ -1,34 +1,27 @@
 ghost use Rattle.std.specs.Prelude.{◌≡◌, IfOk};
 ghost use Rattle.ev_tree.specs.Forms.{tree_of, found_map};
-ghost use Rattle.ev_route_json.specs.Matches.{match_breaks_v6, match_breaks_v21, path_of, path_with, is_false, is_bad_separated, separated_is_bad, ends_a_path};
+ghost use Rattle.ev_route_json.specs.Matches.{match_broken, path_of, path_with, is_false, is_bad_separated, separated_is_bad, ends_a_path};
 ghost use Rattle.std.specs.List.{list_any};
 
-use crate::presence::{exactly_one, look_for};
-use ev_tree::{Found, member};
+use crate::presence::{exactly_one, inspect_fields};
+use ev_tree::{BrokenRules, Found, Inspection, member};
 use ev_types::{PathMatch, Text};
 use serde_json::Value;
 use std::alloc::{AllocError, Global};
 
-/// What a look at a match finds.
-#[derive(Drop)]
-pub struct MatchLook {
-    /// The paths, which count where no rule is broken.
-    pub path: PathMatch,
-    pub breaks_v6: bool,
-    pub breaks_v21: bool,
-}
-
-/// Looks at the match of a route, which may be missing.
-pub fn look_match(alloc: Global, tree: Option<&Value>) -> Result<MatchLook, AllocError>
-    ensures path { IfOk result (λ look. look.path ≡ path_of (tree_of tree.entry)) }
-    ensures v6 { IfOk result (λ look. look.breaks_v6 ≡ match_breaks_v6 (tree_of tree.entry)) }
-    ensures v21 { IfOk result (λ look. look.breaks_v21 ≡ match_breaks_v21 (tree_of tree.entry)) }
+/// Inspects the match of a route, which may be missing.
+pub fn inspect_match(
+    alloc: Global,
+    tree: Option<&Value>,
+) -> Result<Inspection<PathMatch>, AllocError>
+    ensures value { IfOk result (λ found. found.value ≡ path_of (tree_of tree.entry)) }
+    ensures broken { IfOk result (λ found. found.broken ≡ match_broken (tree_of tree.entry)) }
 {
     let prefix = member::text(alloc, tree, "prefix")?;
     let path = member::text(alloc, tree, "path")?;
     let separated = member::text(alloc, tree, "path_separated_prefix")?;
     let sensitive = member::boolean(alloc, tree, "case_sensitive")?;
-    let barred = look_for(
+    let barred = inspect_fields(
         alloc,
         tree,
         &[
@@ -40,7 +33,7 @@ pub fn look_match(alloc: Global, tree: Option<&Value>) -> Result<MatchLook, Allo
             "tls_context",
         ],
     )?;
-    let listed = look_for(
+    let listed = inspect_fields(
         alloc,
         tree,
         &[
@@ -51,28 +44,33 @@ pub fn look_match(alloc: Global, tree: Option<&Value>) -> Result<MatchLook, Allo
         ],
     )?;
     let kinds = [prefix.is_given(), path.is_given(), separated.is_given()];
-    Ok(MatchLook {
-        path: path_with(alloc, prefix, path, separated)?,
-        breaks_v6: prefix.is_wrong()
-            | path.is_wrong()
-            | separated.is_wrong()
-            | sensitive.is_wrong()
-            | barred.doubled
-            | listed.doubled,
-        breaks_v21: !exactly_one(&kinds)
-            | barred.given
-            | listed.filled
-            | is_false(sensitive)
-            | separated_is_bad(separated),
+    Ok(Inspection {
+        value: make_path(alloc, prefix, path, separated)?,
+        broken: BrokenRules {
+            v6: prefix.is_wrong()
+                | path.is_wrong()
+                | separated.is_wrong()
+                | sensitive.is_wrong()
+                | barred.doubled
+                | listed.doubled,
+            v21: !exactly_one(&kinds)
+                | barred.given
+                | listed.filled
+                | is_false(sensitive)
+                | separated_is_bad(separated),
+            ..BrokenRules::none()
+        },
     })
 }
 
+// Whether `false` is given.
 fn is_false(found: Found<bool>) -> bool
     ensures { result ≡ is_false found }
 {
     matches!(found, Found::Given(false))
 }
 
+// Whether a prefix of whole segments is given that can't be one.
 fn separated_is_bad(separated: Found<&str>) -> bool
     ensures { result ≡ separated_is_bad (found_map (λ s. s.now) separated.entry) }
 {
@@ -82,7 +80,7 @@ fn separated_is_bad(separated: Found<&str>) -> bool
     }
 }
 
-/// Whether a prefix of whole segments is empty, ends with `/`, or has a `?` or `#`.
+// Whether a prefix of whole segments is empty, ends with `/`, or has a `?` or `#`.
 fn is_bad_separated(text: &[u8]) -> bool
     ensures { result ≡ is_bad_separated text.now }
 {
@@ -92,14 +90,15 @@ fn is_bad_separated(text: &[u8]) -> bool
     text[text.len() - 1] == b'/' || has_path_end(text)
 }
 
+// Whether a byte ends a path.
 fn has_path_end(text: &[u8]) -> bool
     ensures { result ≡ list_any ends_a_path text.now }
 {
     text.iter().any(|byte| *byte == b'?' || *byte == b'#')
 }
 
-/// The match of what is given.
-fn path_with(
+// The match of what is given.
+fn make_path(
     alloc: Global,
     prefix: Found<&str>,
     path: Found<&str>,

@@ -7,7 +7,7 @@ use ev_tree::{Found, member};
 use serde_json::Value;
 use std::alloc::{AllocError, Global};
 
-/// What a look at several fields finds that only count as given.
+/// What is found of several fields that only count as given.
 #[derive(Clone, Copy, Debug)]
 pub struct Presence {
     /// One of them is given.
@@ -18,8 +18,8 @@ pub struct Presence {
     pub doubled: bool,
 }
 
-/// Looks at the fields of these names.
-pub fn look_for(
+/// Inspects the fields of these names.
+pub fn inspect_fields(
     alloc: Global,
     object: Option<&Value>,
     names: &[&str],

@@ -1,48 +1,38 @@
 ghost use Rattle.std.specs.Prelude.{◌≡◌, IfOk};
 ghost use Rattle.serde_json.specs.View.{view};
-ghost use Rattle.ev_route_json.specs.Routes.{action_of, action_with, action_breaks_v6, action_breaks_v22, forward_of, is_status, status_or_none, route_of, route_broken};
-ghost use Rattle.ev_route_json.specs.Targets.{target_breaks_v23, target_breaks_v24};
+ghost use Rattle.ev_route_json.specs.Routes.{action_of, action_with, action_broken, is_status, status_or_none, route_of, route_broken};
 
-use crate::broken::{Broken, Look};
-use crate::matches::look_match;
-use crate::parts::Part;
+use crate::matches::inspect_match;
+use crate::parts::Inspect;
 use crate::presence::exactly_one;
-use crate::targets::look_target;
-use ev_tree::member;
+use crate::targets::inspect_target;
+use ev_tree::{BrokenRules, Inspection, member};
 use ev_types::{Action, Route, Target};
 use serde_json::Value;
 use std::alloc::{AllocError, Global};
 
-impl Part for Route {
+/// The least status of a direct response.
+pub const MIN_STATUS: u32 = 200;
+
+/// The greatest status of a direct response.
+pub const MAX_STATUS: u32 = 599;
+
+impl Inspect for Route {
     ghost use Rattle.ev_route_json.specs.Routes.{route_of, route_broken};
 
     ghost value_of = { route_of };
 
     ghost broken_of = { route_broken };
 
-    fn look(alloc: Global, tree: &Value) -> Result<Look<Route>, AllocError> {
-        look_route(alloc, tree)
+    fn inspect(alloc: Global, tree: &Value) -> Result<Inspection<Route>, AllocError> {
+        inspect_route(alloc, tree)
     }
 }
 
-/// What a look at the action of a route finds.
-#[derive(Drop)]
-struct ActionLook {
-    /// The action, which counts where no rule is broken.
-    action: Action,
-    breaks_v6: bool,
-    breaks_v22: bool,
-    breaks_v23: bool,
-    breaks_v24: bool,
-}
-
-/// Looks at the action of a route.
-fn look_action(alloc: Global, route: &Value) -> Result<ActionLook, AllocError>
-    ensures action { IfOk result (λ look. look.action ≡ action_of (view route.now)) }
-    ensures v6 { IfOk result (λ look. look.breaks_v6 ≡ action_breaks_v6 (view route.now)) }
-    ensures v22 { IfOk result (λ look. look.breaks_v22 ≡ action_breaks_v22 (view route.now)) }
-    ensures v23 { IfOk result (λ look. look.breaks_v23 ≡ target_breaks_v23 (forward_of (view route.now))) }
-    ensures v24 { IfOk result (λ look. look.breaks_v24 ≡ target_breaks_v24 (forward_of (view route.now))) }
+// Inspects the action of a route.
+fn inspect_action(alloc: Global, route: &Value) -> Result<Inspection<Action>, AllocError>
+    ensures value { IfOk result (λ found. found.value ≡ action_of (view route.now)) }
+    ensures broken { IfOk result (λ found. found.broken ≡ action_broken (view route.now)) }
 {
     let forward = member::object(alloc, Some(route), "route")?;
     let redirect = member::object(alloc, Some(route), "redirect")?;
@@ -50,43 +40,44 @@ fn look_action(alloc: Global, route: &Value) -> Result<ActionLook, AllocError>
     let filter = member::object(alloc, Some(route), "filter_action")?;
     let stay = member::object(alloc, Some(route), "non_forwarding_action")?;
     let given_status = member::number32(alloc, member::inner(direct), "status")?;
-    let target = look_target(alloc, member::inner(forward))?;
+    let target = inspect_target(alloc, member::inner(forward))?;
     let status = given_status.given_or(0);
     let actions = [forward.is_given(), redirect.is_given(), direct.is_given()];
-    Ok(ActionLook {
-        breaks_v6: forward.is_wrong()
+    let own = BrokenRules {
+        v6: forward.is_wrong()
             | redirect.is_wrong()
             | direct.is_wrong()
             | filter.is_wrong()
             | stay.is_wrong()
-            | given_status.is_wrong()
-            | target.broken.v6,
-        breaks_v22: !exactly_one(&actions)
+            | given_status.is_wrong(),
+        v22: !exactly_one(&actions)
             | filter.is_given()
             | stay.is_given()
-            | (forward.is_given() & target.broken.v22)
             | (direct.is_given() & !is_status(status)),
-        breaks_v23: target.broken.v23,
-        breaks_v24: target.broken.v24,
-        action: action_with(forward.is_given(), direct.is_given(), target.value, status),
+        ..BrokenRules::none()
+    };
+    Ok(Inspection {
+        broken: target.broken.only_if(forward.is_given()).or(own),
+        value: make_action(forward.is_given(), direct.is_given(), target.value, status),
     })
 }
 
-/// A status that a response can have.
+// A status that a response can have.
 fn is_status(status: u32) -> bool
     ensures { result ≡ is_status status }
 {
-    200 <= status && status <= 599
+    MIN_STATUS <= status && status <= MAX_STATUS
 }
 
+// The status, or 0 where it is none.
 fn status_or_none(status: u32) -> u16
     ensures { result ≡ status_or_none status }
 {
     if is_status(status) { status as u16 } else { 0 }
 }
 
-/// The action of what is given.
-fn action_with(forwards: bool, responds: bool, target: Target, status: u32) -> Action
+// The action of what is given.
+fn make_action(forwards: bool, responds: bool, target: Target, status: u32) -> Action
     ensures { result ≡ action_with forwards responds target status }
 {
     if forwards {
@@ -98,26 +89,23 @@ fn action_with(forwards: bool, responds: bool, target: Target, status: u32) -> A
     }
 }
 
-/// Looks at a route of a virtual host.
-fn look_route(alloc: Global, route: &Value) -> Result<Look<Route>, AllocError>
-    ensures value { IfOk result (λ look. look.value ≡ route_of (view route.now)) }
-    ensures broken { IfOk result (λ look. look.broken ≡ route_broken (view route.now)) }
+// Inspects a route of a virtual host.
+fn inspect_route(alloc: Global, route: &Value) -> Result<Inspection<Route>, AllocError>
+    ensures value { IfOk result (λ found. found.value ≡ route_of (view route.now)) }
+    ensures broken { IfOk result (λ found. found.broken ≡ route_broken (view route.now)) }
 {
     let matched = member::object(alloc, Some(route), "match")?;
-    let path = look_match(alloc, member::inner(matched))?;
-    let action = look_action(alloc, route)?;
-    Ok(Look {
-        broken: Broken {
-            v6: matched.is_wrong() | path.breaks_v6 | action.breaks_v6,
-            v21: path.breaks_v21,
-            v22: action.breaks_v22,
-            v23: action.breaks_v23,
-            v24: action.breaks_v24,
-            ..Broken::none()
-        },
+    let path = inspect_match(alloc, member::inner(matched))?;
+    let action = inspect_action(alloc, route)?;
+    let own = BrokenRules {
+        v6: matched.is_wrong(),
+        ..BrokenRules::none()
+    };
+    Ok(Inspection {
+        broken: path.broken.or(action.broken.or(own)),
         value: Route {
-            path: path.path,
-            action: action.action,
+            path: path.value,
+            action: action.value,
         },
     })
 }

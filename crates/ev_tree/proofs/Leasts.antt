@@ -1,5 +1,7 @@
 -- The first broken rule of an ascending list is the least.
 use Rattle.std.proofs.Common.{◌≡◌, ℕ, ◌≤◌, inl, inr, Bool, true, false, true≢false, List, [], ◌∷◌, Option, Some, None, refl, sym, ◌∙◌, arith, cond}
+use Rattle.std.specs.Option.{option_map}
+use Rattle.std.specs.List.{AllByRecursion, find}
 use Rattle.ev_tree.specs.Rules.{least, IsBroken, AllAbove, IsAscending, IsLeast}
 
 above_broken : (n m : ℕ) (rules : List (ℕ × Bool)) → AllAbove n rules → IsBroken m rules → n ≤ m
@@ -26,10 +28,20 @@ kept rule rules (Some n) is others = (inr others.0, bounded)
     bounded m (inl here) = absurd (true≢false (sym here.1 ∙ is))
     bounded m (inr later) = others.1 m later
 
-by_test : (b : Bool) (rule : ℕ × Bool) (rules : List (ℕ × Bool)) → rule.1 ≡ b → AllAbove rule.0 rules → IsLeast rules (least rules) → IsLeast (rule ∷ rules) (cond b (Some rule.0) (least rules))
+by_test : (b : Bool) (rule : ℕ × Bool) (rules : List (ℕ × Bool)) → rule.1 ≡ b → AllAbove rule.0 rules → IsLeast rules (least rules) → IsLeast (rule ∷ rules) (option_map (λ (r : ℕ × Bool). r.0) (cond b (Some rule) (find (λ (r : ℕ × Bool). r.1) rules)))
 by_test true rule rules is above others = at_broken rule rules is above
 by_test false rule rules is above others = kept rule rules (least rules) is others
 
 pub least_is_least : (rules : List (ℕ × Bool)) → IsAscending rules → IsLeast rules (least rules)
 least_is_least [] ascending = λ m broken. broken
 least_is_least (rule ∷ rules) ascending = by_test rule.1 rule rules refl ascending.0 (least_is_least rules ascending.1)
+
+kept_at : (b : Bool) (rule : ℕ × Bool) (rules : List (ℕ × Bool)) → rule.1 ≡ b → least (rule ∷ rules) ≡ None
+    → (least rules ≡ None → AllByRecursion (λ (rule : ℕ × Bool). rule.1 ≡ false) rules) → AllByRecursion (λ (rule : ℕ × Bool). rule.1 ≡ false) (rule ∷ rules)
+kept_at true rule rules is e others = let h = rw is at e in cc
+kept_at false rule rules is e others = (is, others (rw is at e))
+
+-- where no rule is the least, none is broken
+pub all_kept : (rules : List (ℕ × Bool)) → least rules ≡ None → AllByRecursion (λ (rule : ℕ × Bool). rule.1 ≡ false) rules
+all_kept [] e = tt
+all_kept (rule ∷ rules) e = kept_at rule.1 rule rules refl e (all_kept rules)

@@ -4,3 +4,4 @@ pub mod Names
 pub mod Units
 pub mod Outcomes
 pub mod Leasts
+pub mod Unions

@@ -1,11 +1,13 @@
 -- The tests of names, and the names of fields in their two spellings.
-use Rattle.std.proofs.Common.{◌≡◌, ℕ, ◌+◌, ◌/◌, ◌<◌, ◌≤◌, ◌++◌, List, [], ◌∷◌, Bool, true, false, bytes_eq, refl, ap, ◌∙◌, sym, arith, cond, nat_eq, ltb}
+use Rattle.std.proofs.Common.{◌≡◌, ℕ, ◌+◌, ◌/◌, ◌<◌, ◌≤◌, ◌++◌, ◌==◌, List, [], ◌∷◌, length, map, Bool, true, false, bytes_eq, refl, ap, ◌∙◌, sym, arith, cond, nat_eq, ltb}
 use Rattle.std.proofs.lemmas.Slice.Eq.{bytes_eq-Decides}
 use Rattle.std.proofs.lemmas.Bool.Decides.{nat_tests}
 use Rattle.std.proofs.lemmas.Str.{encode_ascii}
+use Rattle.std.proofs.lemmas.List.{append-nil}
 use Rattle.std.proofs.lemmas.Str.Ascii.{uppercase_ascii, uppercase_is}
 use Rattle.std.specs.Char.{to_ascii_uppercase}
-use Rattle.ev_tree.specs.Spelling.{cased, camel_from, cased_char}
+use Rattle.std.specs.List.{flat_map, zip}
+use Rattle.ev_tree.specs.Spelling.{is_underscore, cased, camel_of, cased_char}
 use lib.Utf8.{encode, next}
 
 -- texts that differ don't compare as equal
@@ -15,6 +17,19 @@ bytes_eq_apart name s other = by_test (bytes_eq name s) refl
     by_test : (b : Bool) → bytes_eq name s ≡ b → bytes_eq name s ≡ false
     by_test true e = absurd (other (sym ((bytes_eq-Decides name s).0 e)))
     by_test false e = e
+
+-- the spelling of the rest of a name, of which the byte before was an underscore or not
+abbrev pub camel_from : Bool → List ℕ → List ℕ
+camel_from after [] = []
+camel_from after (b ∷ bs) = cased after b ++ camel_from (b == 95) bs
+
+camel_from-zip : (after : Bool) (bs : List ℕ) → camel_from after bs ≡ flat_map (λ (place : Bool × ℕ). cased place.0 place.1) (zip (after ∷ map is_underscore bs) bs)
+camel_from-zip after [] = refl
+camel_from-zip after (b ∷ bs) = ap (λ xs. cased after b ++ xs) (camel_from-zip (b == 95) bs)
+
+pub whole_spelling : (name : List ℕ) → camel_from false name ≡ camel_of name
+unfolding camel_of
+whole_spelling name = camel_from-zip false name
 
 -- a byte past ASCII stands for itself
 high_byte : (after : Bool) (b : ℕ) (rest : List ℕ) → 128 ≤ b → camel_from after (b ∷ rest) ≡ b ∷ camel_from false rest
@@ -64,3 +79,8 @@ camel_from-encode after c rest = by_size (ltb c 128) refl
         let high : 128 ≤ c = grind (arith, nat_tests) in
         let other : nat_eq c 95 ≡ false = grind (arith, nat_tests) in
         high_char after c rest high ∙ ap (λ xs. xs ++ camel_from false rest) (sym (cased_high after c high)) ∙ ap (λ b. cased_char after c ++ camel_from b rest) (sym other)
+
+-- the whole name is spelled
+pub all_spelled : (spelled rest name : List ℕ) (after : Bool) → length rest ≡ 0 → spelled ++ camel_from after rest ≡ camel_from false name → spelled ≡ camel_of name
+all_spelled spelled [] name after none so = sym (append-nil spelled) ∙ so ∙ whole_spelling name
+all_spelled spelled (b ∷ rest) name after none so = absurd (omega (arith, none))

@@ -23,12 +23,6 @@ found_map f Absent = Absent
 found_map f Wrong = Wrong
 found_map f (Given x) = Given (f x)
 
--- the value, if one is given
-abbrev pub given : {A : Type 0} → Found A → Option A
-given Absent = None
-given Wrong = None
-given (Given x) = Some x
-
 abbrev pub is_wrong : {A : Type 0} → Found A → Bool
 is_wrong Absent = false
 is_wrong Wrong = true
@@ -53,36 +47,36 @@ given_or default (Given x) = x
 -- ---- a member by either spelling
 
 -- `null` counts as absent
-abbrev pub present : Option Data → Option Data
-present found = option_and_then (λ d. if is_some (as_null d) then None else Some d) found
+abbrev pub present_member : Option Data → Option Data
+present_member found = option_and_then (λ d. if is_some (as_null d) then None else Some d) found
 
-abbrev pub found_of : Option Data → Found Data
-found_of None = Absent
-found_of (Some d) = Given d
+abbrev pub value_or_absent : Option Data → Found Data
+value_or_absent None = Absent
+value_or_absent (Some d) = Given d
 
 -- the one that is there; both are the wrong form
-abbrev pub either : Option Data → Option Data → Found Data
-either None second = found_of second
-either (Some d) None = Given d
-either (Some d) (Some e) = Wrong
+abbrev pub either_spelling : Option Data → Option Data → Found Data
+either_spelling None second = value_or_absent second
+either_spelling (Some d) None = Given d
+either_spelling (Some d) (Some e) = Wrong
 
 -- a field of an object, by the name as it is written or in lowerCamelCase. What is no object has no fields.
 unfoldable pub field_of : List ℕ → Data → Found Data
 field_of name tree =
-    if bytes_eq (camel_of name) name then found_of (present (get name tree))
-    else either (present (get name tree)) (present (get (camel_of name) tree))
+    if bytes_eq (camel_of name) name then value_or_absent (present_member (get name tree))
+    else either_spelling (present_member (get name tree)) (present_member (get (camel_of name) tree))
 
 -- ---- the forms of a field
 
 -- a value that the form takes, or the wrong form
-abbrev pub taken : {A : Type 0} → Option A → Found A
-taken None = Wrong
-taken (Some x) = Given x
+abbrev pub value_or_wrong : {A : Type 0} → Option A → Found A
+value_or_wrong None = Wrong
+value_or_wrong (Some x) = Given x
 
-abbrev pub formed : {A : Type 0} → (Data → Option A) → Found Data → Found A
-formed form Absent = Absent
-formed form Wrong = Wrong
-formed form (Given d) = taken (form d)
+abbrev pub in_form : {A : Type 0} → (Data → Option A) → Found Data → Found A
+in_form form Absent = Absent
+in_form form Wrong = Wrong
+in_form form (Given d) = value_or_wrong (form d)
 
 abbrev pub object_in : Data → Option Data
 object_in d = if is_some (as_object d) then Some d else None
@@ -101,31 +95,31 @@ abbrev pub texts_in : Data → Option (List Data)
 texts_in d = option_and_then (λ ds. if list_all is_text ds then Some ds else None) (list_in d)
 
 unfoldable pub text_of : List ℕ → Data → Found (List ℕ)
-text_of name tree = formed as_str (field_of name tree)
+text_of name tree = in_form as_str (field_of name tree)
 
 unfoldable pub number_of : List ℕ → Data → Found ℕ
-number_of name tree = formed u32_in (field_of name tree)
+number_of name tree = in_form u32_in (field_of name tree)
 
 unfoldable pub boolean_of : List ℕ → Data → Found Bool
-boolean_of name tree = formed as_bool (field_of name tree)
+boolean_of name tree = in_form as_bool (field_of name tree)
 
 unfoldable pub duration_of : List ℕ → Data → Found Span
-duration_of name tree = formed (λ d. option_and_then span_of (as_str d)) (field_of name tree)
+duration_of name tree = in_form (λ d. option_and_then span_of (as_str d)) (field_of name tree)
 
 unfoldable pub object_of : List ℕ → Data → Found Data
-object_of name tree = formed object_in (field_of name tree)
+object_of name tree = in_form object_in (field_of name tree)
 
 unfoldable pub list_of : List ℕ → Data → Found (List Data)
-list_of name tree = formed list_in (field_of name tree)
+list_of name tree = in_form list_in (field_of name tree)
 
 unfoldable pub objects_of : List ℕ → Data → Found (List Data)
-objects_of name tree = formed objects_in (field_of name tree)
+objects_of name tree = in_form objects_in (field_of name tree)
 
 unfoldable pub texts_of : List ℕ → Data → Found (List Data)
-texts_of name tree = formed texts_in (field_of name tree)
+texts_of name tree = in_form texts_in (field_of name tree)
 
 unfoldable pub enumeration_of : List ℕ → EnumTable → Data → Found ℕ
-enumeration_of name table tree = formed (enum_in table) (field_of name tree)
+enumeration_of name table tree = in_form (enum_in table) (field_of name tree)
 
 -- ---- reading on
 

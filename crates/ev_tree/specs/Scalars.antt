@@ -6,6 +6,7 @@ use Rattle.std.specs.Str.{bytes_eq}
 use Rattle.std.specs.Str.Parse.{digits_value}
 use Rattle.serde_json.specs.Data.{unsigned, negative, float, Data, null, boolean, number, string, array, object, Items, no_items, item}
 use Rattle.serde_json.specs.Find.{as_array}
+use Rattle.ev_tree.specs.declared.limits.TheConstants.{MAX_U32_DIGITS, MAX_SECONDS_DIGITS, MAX_FRACTION_DIGITS, MAX_SECONDS}
 use Rattle.ev_tree.specs.declared.span.Span.{Span}
 use Rattle.ev_tree.specs.declared.span.Span.TheVariants.{Negative, Zero, Positive}
 use Rattle.ev_tree.specs.declared.tables.EnumTable.{EnumTable}
@@ -17,7 +18,7 @@ is_numeral longest s = nat_lt 0 (length s) && (nat_le (length s) longest && list
 
 -- the number that 1 to 10 digits write, where 32 bits hold it
 unfoldable pub u32_text : List ℕ → Option ℕ
-u32_text s = if is_numeral 10 s && nat_lt (digits_value 10 s) (2 ^ 32) then Some (digits_value 10 s) else None
+u32_text s = if is_numeral MAX_U32_DIGITS s && nat_lt (digits_value 10 s) (2 ^ 32) then Some (digits_value 10 s) else None
 
 -- u32: a whole number, or a string of digits
 unfoldable pub u32_in : Data → Option ℕ
@@ -50,7 +51,7 @@ span_at minus zeros = if zeros then Zero else (if minus then Negative else Posit
 
 -- 1 to 12 digits of whole seconds, at most 315576000000 (ten thousand years)
 abbrev pub is_seconds : List ℕ → Bool
-is_seconds whole = is_numeral 12 whole && nat_le (digits_value 10 whole) 315576000000
+is_seconds whole = is_numeral MAX_SECONDS_DIGITS whole && nat_le (digits_value 10 whole) MAX_SECONDS
 
 -- seconds with no fraction
 unfoldable pub whole_span : Bool → List ℕ → Option Span
@@ -59,7 +60,7 @@ whole_span minus s = if is_seconds s then Some (span_at minus (all_zeros s)) els
 -- seconds with a fraction of 1 to 9 digits
 unfoldable pub fraction_span : Bool → List ℕ → List ℕ → Option Span
 fraction_span minus whole fraction =
-    if is_seconds whole && is_numeral 9 fraction then Some (span_at minus (all_zeros whole && all_zeros fraction)) else None
+    if is_seconds whole && is_numeral MAX_FRACTION_DIGITS fraction then Some (span_at minus (all_zeros whole && all_zeros fraction)) else None
 
 -- seconds with no sign, with a point or without
 unfoldable pub seconds_span : Bool → List ℕ → Option Span

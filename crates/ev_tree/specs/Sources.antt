@@ -1,30 +1,15 @@
 -- Config sources: where a resource's values come from. The profile takes the aggregated stream alone.
 use Rattle.std.specs.Prelude.{◌||◌, Bool, true, false, not, codes}
 use Rattle.serde_json.specs.Data.{Data}
-use Rattle.ev_tree.specs.declared.outcome.Found.{Found}
-use Rattle.ev_tree.specs.declared.outcome.Found.TheVariants.{Absent, Wrong, Given}
-use Rattle.ev_tree.specs.declared.span.Span.{Span}
-use Rattle.ev_tree.specs.declared.span.Span.TheVariants.{Negative, Zero, Positive}
+use Rattle.ev_tree.specs.declared.broken.BrokenRules.{BrokenRules}
 use Rattle.ev_tree.specs.Forms.{is_wrong, is_given, field_of, object_of, duration_of}
+use Rattle.ev_tree.specs.Spans.{is_negative, is_zero}
+use Rattle.ev_tree.specs.Broken.{none_broken}
 
 -- exactly one of two
 abbrev pub one_of : Bool → Bool → Bool
 one_of true second = not second
 one_of false second = second
-
-abbrev pub is_negative : Found Span → Bool
-is_negative Absent = false
-is_negative Wrong = false
-is_negative (Given Negative) = true
-is_negative (Given Zero) = false
-is_negative (Given Positive) = false
-
-abbrev pub is_zero : Found Span → Bool
-is_zero Absent = false
-is_zero Wrong = false
-is_zero (Given Negative) = false
-is_zero (Given Zero) = true
-is_zero (Given Positive) = false
 
 -- a source that the profile lacks is given, in any form
 abbrev pub has_other_source : Data → Bool
@@ -33,23 +18,22 @@ has_other_source source =
     || is_given (field_of (codes "path_config_source") source)
     || is_given (field_of (codes "api_config_source") source)
 
--- V6 in a config source
-unfoldable pub source_breaks_v6 : Data → Bool
-source_breaks_v6 source =
-    is_wrong (object_of (codes "ads") source)
-    || is_wrong (object_of (codes "self") source)
-    || is_wrong (duration_of (codes "initial_fetch_timeout") source)
-    || is_wrong (field_of (codes "path") source)
-    || is_wrong (field_of (codes "path_config_source") source)
-    || is_wrong (field_of (codes "api_config_source") source)
-
--- V10 at a config source: not exactly one of `ads` and `self`, as where it is absent, another source, or a
--- negative timeout
-unfoldable pub source_breaks_v10 : Data → Bool
-source_breaks_v10 source =
-    not (one_of (is_given (object_of (codes "ads") source)) (is_given (object_of (codes "self") source)))
-    || has_other_source source
-    || is_negative (duration_of (codes "initial_fetch_timeout") source)
+-- What a config source breaks. V6: a field has the wrong form. V10: not exactly one of `ads` and `self`, as where
+-- it is absent, another source, or a negative timeout.
+unfoldable pub source_broken : Data → BrokenRules
+source_broken source = record none_broken {
+  v6 =
+      is_wrong (object_of (codes "ads") source)
+      || is_wrong (object_of (codes "self") source)
+      || is_wrong (duration_of (codes "initial_fetch_timeout") source)
+      || is_wrong (field_of (codes "path") source)
+      || is_wrong (field_of (codes "path_config_source") source)
+      || is_wrong (field_of (codes "api_config_source") source);
+  v10 =
+      not (one_of (is_given (object_of (codes "ads") source)) (is_given (object_of (codes "self") source)))
+      || has_other_source source
+      || is_negative (duration_of (codes "initial_fetch_timeout") source);
+}
 
 -- whether the wait for the first values ends: a timeout of zero means that it doesn't
 unfoldable pub source_is_limited : Data → Bool

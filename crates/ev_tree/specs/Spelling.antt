@@ -1,20 +1,19 @@
 -- The two spellings of a field's name, as the proto3 JSON mapping has them.
-use Rattle.std.specs.Prelude.{ℕ, ◌==◌, ◌++◌, List, [], ◌∷◌, Bool, false, if◌then◌else◌}
+use Rattle.std.specs.Prelude.{ℕ, ◌==◌, List, [], ◌∷◌, map, Bool, false, if◌then◌else◌}
+use Rattle.std.specs.List.{flat_map, zip}
 use Rattle.std.specs.Char.{to_ascii_uppercase, encode_utf8}
 
--- what a byte gives: an underscore nothing, and a letter after one its capital
+abbrev pub is_underscore : ℕ → Bool
+is_underscore b = b == 95
+
+-- what a byte gives, behind an underscore or not: an underscore nothing, and a letter behind one its capital
 abbrev pub cased : Bool → ℕ → List ℕ
-cased after_underscore b = if b == 95 then [] else ((if after_underscore then to_ascii_uppercase b else b) ∷ [])
+cased after_underscore b = if is_underscore b then [] else ((if after_underscore then to_ascii_uppercase b else b) ∷ [])
 
--- the rest of a name, of which the byte before was an underscore or not
-abbrev pub camel_from : Bool → List ℕ → List ℕ
-camel_from after_underscore [] = []
-camel_from after_underscore (b ∷ bs) = cased after_underscore b ++ camel_from (b == 95) bs
-
--- the lowerCamelCase spelling of a name
+-- the lowerCamelCase spelling of a name: what each byte gives, by whether the one before it is an underscore
 unfoldable pub camel_of : List ℕ → List ℕ
-camel_of name = camel_from false name
+camel_of name = flat_map (λ place. cased place.0 place.1) (zip (false ∷ map is_underscore name) name)
 
--- the same of a character
+-- what a character gives
 abbrev pub cased_char : Bool → ℕ → List ℕ
 cased_char after_underscore c = if c == 95 then [] else encode_utf8 (if after_underscore then to_ascii_uppercase c else c)

@@ -1,11 +1,9 @@
 ghost use Rattle.std.specs.Prelude.{◌≡◌};
 ghost use Rattle.ev_tree.specs.Scalars.{is_seconds, all_zeros, seconds_span, whole_span, fraction_span, signed_span, span_of, span_at};
 
+use crate::limits::{MAX_FRACTION_DIGITS, MAX_SECONDS, MAX_SECONDS_DIGITS};
 use crate::numbers::is_numeral;
 use crate::span::Span;
-
-/// The most whole seconds of a duration: ten thousand years, as protobuf's `Duration` has it.
-const MOST_SECONDS: u64 = 315_576_000_000;
 
 /// Where the duration lies that a text writes: an optional minus, 1 to 12 digits of whole seconds,
 /// optionally a point and 1 to 9 digits, and `s`.
@@ -16,6 +14,7 @@ pub fn span(text: &str) -> Option<Span>
     signed_span(text.strip_suffix('s')?)
 }
 
+// Of the seconds, behind a minus or not.
 #[tactic(auto, unfolding(crate::specs::Scalars::signed_span))]
 fn signed_span(text: &str) -> Option<Span>
     ensures { result ≡ signed_span text.now }
@@ -26,6 +25,7 @@ fn signed_span(text: &str) -> Option<Span>
     }
 }
 
+// Of the seconds without a sign, with a point or without.
 #[tactic(auto, unfolding(crate::specs::Scalars::seconds_span))]
 fn seconds_span(minus: bool, text: &str) -> Option<Span>
     ensures { result ≡ seconds_span minus text.now }
@@ -36,6 +36,7 @@ fn seconds_span(minus: bool, text: &str) -> Option<Span>
     }
 }
 
+// Of whole seconds.
 #[tactic(auto, unfolding(crate::specs::Scalars::whole_span))]
 fn whole_span(minus: bool, whole: &str) -> Option<Span>
     ensures { result ≡ whole_span minus whole.now }
@@ -47,17 +48,19 @@ fn whole_span(minus: bool, whole: &str) -> Option<Span>
     }
 }
 
+// Of whole seconds and a fraction.
 #[tactic(auto, unfolding(crate::specs::Scalars::fraction_span))]
 fn fraction_span(minus: bool, whole: &str, fraction: &str) -> Option<Span>
     ensures { result ≡ fraction_span minus whole.now fraction.now }
 {
-    if is_seconds(whole) && is_numeral(fraction, 9) {
+    if is_seconds(whole) && is_numeral(fraction, MAX_FRACTION_DIGITS) {
         Some(span_at(minus, is_zeros(whole) && is_zeros(fraction)))
     } else {
         None
     }
 }
 
+// Where a duration lies of this sign whose digits are all zeros or not.
 fn span_at(minus: bool, zeros: bool) -> Span
     ensures { result ≡ span_at minus zeros }
 {
@@ -70,18 +73,20 @@ fn span_at(minus: bool, zeros: bool) -> Span
     }
 }
 
+// Whether a text writes whole seconds that a duration may have.
 fn is_seconds(whole: &str) -> bool
     ensures { result ≡ is_seconds whole.now }
 {
-    if !is_numeral(whole, 12) {
+    if !is_numeral(whole, MAX_SECONDS_DIGITS) {
         return false;
     }
     match whole.parse::<u64>() {
-        Ok(seconds) => seconds <= MOST_SECONDS,
+        Ok(seconds) => seconds <= MAX_SECONDS,
         Err(_) => false,
     }
 }
 
+// Whether all digits are 0.
 fn is_zeros(digits: &str) -> bool
     ensures { result ≡ all_zeros digits.now }
 {

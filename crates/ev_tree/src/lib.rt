@@ -5,7 +5,10 @@
 #![tactic(auto)]
 
 mod addresses;
+mod broken;
 mod durations;
+mod inspections;
+mod limits;
 mod lists;
 pub mod member;
 mod numbers;
@@ -20,9 +23,14 @@ mod tables;
 mod tests;
 
 pub use addresses::{SocketAddress, socket_address};
+pub use broken::{BrokenRules, least_is_least};
+pub use inspections::Inspection;
+pub use limits::{
+    MAX_FRACTION_DIGITS, MAX_NAME_BYTES, MAX_PORT, MAX_SECONDS, MAX_SECONDS_DIGITS, MAX_U32_DIGITS,
+};
 pub use outcome::{Found, ReadError};
 pub use readers::{boolean, duration, enumeration, field, list, number32, object, text};
 pub use rules::{first_is_least, is_name, least};
 pub use sources::{ConfigSource, config_source};
-pub use span::Span;
+pub use span::{Span, is_not_positive};
 pub use tables::EnumTable;

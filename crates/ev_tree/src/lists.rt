@@ -50,12 +50,14 @@ pub fn texts_value(value: &Value) -> Option<&[Value]>
     }
 }
 
+// Whether each element is an object.
 fn are_objects(elements: &[Value]) -> bool
     ensures { result ≡ list_all (λ v. is_object (view v)) elements.now }
 {
     elements.iter().all(|element| element.is_object())
 }
 
+// Whether each element is a text.
 fn are_texts(elements: &[Value]) -> bool
     ensures { result ≡ list_all (λ v. is_text (view v)) elements.now }
 {

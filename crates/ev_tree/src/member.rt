@@ -3,7 +3,7 @@
 ghost use Rattle.std.specs.Prelude.{◌≡◌, [], IfOk, map, option_map};
 ghost use Rattle.serde_json.specs.Find.{get};
 ghost use Rattle.serde_json.specs.View.{view};
-ghost use Rattle.ev_tree.specs.Forms.{Shows, text_in, given_or, inside, listed, found_map, tree_of, present, found_of, either, taken, field_of, text_of, number_of, boolean_of, duration_of, object_of, list_of, objects_of, texts_of, enumeration_of};
+ghost use Rattle.ev_tree.specs.Forms.{Shows, text_in, given_or, inside, listed, found_map, tree_of, present_member, value_or_absent, either_spelling, value_or_wrong, field_of, text_of, number_of, boolean_of, duration_of, object_of, list_of, objects_of, texts_of, enumeration_of};
 
 use crate::durations::span;
 use crate::lists::{list_value, object_value, objects_value, texts_value};
@@ -15,16 +15,17 @@ use crate::tables::{EnumTable, enum_value};
 use serde_json::Value;
 use std::alloc::{AllocError, Global};
 
-/// A member of exactly this name; `null` counts as absent.
-fn spelled<'a>(object: &'a Value, name: &str) -> Option<&'a Value>
-    ensures { option_map (λ v. view v.now) result ≡ present (get name.now (view object.now)) }
+// A member of exactly this name; `null` counts as absent.
+fn get_member<'a>(object: &'a Value, name: &str) -> Option<&'a Value>
+    ensures { option_map (λ v. view v.now) result ≡ present_member (get name.now (view object.now)) }
 {
     let value = object.get(name)?;
     if value.is_null() { None } else { Some(value) }
 }
 
-fn found(value: Option<&Value>) -> Found<&Value>
-    ensures { found_map (λ v. view v.now) result ≡ found_of (option_map (λ v. view v.now) value.entry) }
+// A value that is there, of any form.
+fn give_or_absent(value: Option<&Value>) -> Found<&Value>
+    ensures { found_map (λ v. view v.now) result ≡ value_or_absent (option_map (λ v. view v.now) value.entry) }
 {
     match value {
         Some(value) => Found::Given(value),
@@ -32,12 +33,13 @@ fn found(value: Option<&Value>) -> Found<&Value>
     }
 }
 
-fn either<'a>(first: Option<&'a Value>, second: Option<&'a Value>) -> Found<&'a Value>
+// What stands in one of the two spellings; both are the wrong form.
+fn choose_spelling<'a>(first: Option<&'a Value>, second: Option<&'a Value>) -> Found<&'a Value>
     ensures { found_map (λ v. view v.now) result
-        ≡ either (option_map (λ v. view v.now) first.entry) (option_map (λ v. view v.now) second.entry) }
+        ≡ either_spelling (option_map (λ v. view v.now) first.entry) (option_map (λ v. view v.now) second.entry) }
 {
     match (first, second) {
-        (None, second) => found(second),
+        (None, second) => give_or_absent(second),
         (Some(value), None) => Found::Given(value),
         (Some(_), Some(_)) => Found::Wrong,
     }
@@ -57,13 +59,14 @@ pub fn field<'a>(
     };
     let camel = camel_case(alloc, name)?;
     if camel.as_str() == name {
-        return Ok(found(spelled(object, name)));
+        return Ok(give_or_absent(get_member(object, name)));
     }
-    Ok(either(spelled(object, name), spelled(object, camel.as_str())))
+    Ok(choose_spelling(get_member(object, name), get_member(object, camel.as_str())))
 }
 
-fn taken<T>(value: Option<T>) -> Found<T>
-    ensures { result ≡ taken value }
+// A value that the form takes, or the wrong form.
+fn give_or_wrong<T>(value: Option<T>) -> Found<T>
+    ensures { result ≡ value_or_wrong value }
 {
     match value {
         Some(value) => Found::Given(value),
@@ -83,7 +86,7 @@ pub fn text<'a>(
     match field(alloc, object, name)? {
         Found::Absent => Ok(Found::Absent),
         Found::Wrong => Ok(Found::Wrong),
-        Found::Given(value) => Ok(taken(value.as_str())),
+        Found::Given(value) => Ok(give_or_wrong(value.as_str())),
     }
 }
 
@@ -95,7 +98,7 @@ pub fn number32(alloc: Global, object: Option<&Value>, name: &str) -> Result<Fou
     match field(alloc, object, name)? {
         Found::Absent => Ok(Found::Absent),
         Found::Wrong => Ok(Found::Wrong),
-        Found::Given(value) => Ok(taken(u32_value(value))),
+        Found::Given(value) => Ok(give_or_wrong(u32_value(value))),
     }
 }
 
@@ -107,7 +110,7 @@ pub fn boolean(alloc: Global, object: Option<&Value>, name: &str) -> Result<Foun
     match field(alloc, object, name)? {
         Found::Absent => Ok(Found::Absent),
         Found::Wrong => Ok(Found::Wrong),
-        Found::Given(value) => Ok(taken(value.as_bool())),
+        Found::Given(value) => Ok(give_or_wrong(value.as_bool())),
     }
 }
 
@@ -123,7 +126,7 @@ pub fn duration(
     match field(alloc, object, name)? {
         Found::Absent => Ok(Found::Absent),
         Found::Wrong => Ok(Found::Wrong),
-        Found::Given(value) => Ok(taken(value.as_str().and_then(span))),
+        Found::Given(value) => Ok(give_or_wrong(value.as_str().and_then(span))),
     }
 }
 
@@ -139,7 +142,7 @@ pub fn object<'a>(
     match field(alloc, object, name)? {
         Found::Absent => Ok(Found::Absent),
         Found::Wrong => Ok(Found::Wrong),
-        Found::Given(value) => Ok(taken(object_value(value))),
+        Found::Given(value) => Ok(give_or_wrong(object_value(value))),
     }
 }
 
@@ -155,7 +158,7 @@ pub fn list<'a>(
     match field(alloc, object, name)? {
         Found::Absent => Ok(Found::Absent),
         Found::Wrong => Ok(Found::Wrong),
-        Found::Given(value) => Ok(taken(list_value(value))),
+        Found::Given(value) => Ok(give_or_wrong(list_value(value))),
     }
 }
 
@@ -171,7 +174,7 @@ pub fn objects<'a>(
     match field(alloc, object, name)? {
         Found::Absent => Ok(Found::Absent),
         Found::Wrong => Ok(Found::Wrong),
-        Found::Given(value) => Ok(taken(objects_value(value))),
+        Found::Given(value) => Ok(give_or_wrong(objects_value(value))),
     }
 }
 
@@ -187,7 +190,7 @@ pub fn texts<'a>(
     match field(alloc, object, name)? {
         Found::Absent => Ok(Found::Absent),
         Found::Wrong => Ok(Found::Wrong),
-        Found::Given(value) => Ok(taken(texts_value(value))),
+        Found::Given(value) => Ok(give_or_wrong(texts_value(value))),
     }
 }
 
@@ -204,7 +207,7 @@ pub fn enumeration(
     match field(alloc, object, name)? {
         Found::Absent => Ok(Found::Absent),
         Found::Wrong => Ok(Found::Wrong),
-        Found::Given(value) => Ok(taken(enum_value(value, table))),
+        Found::Given(value) => Ok(give_or_wrong(enum_value(value, table))),
     }
 }
 

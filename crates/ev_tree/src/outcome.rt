@@ -1,6 +1,6 @@
 ghost use Rattle.ev_tree.specs.declared.outcome.ReadError.TheVariants.{OutOfMemory};
 ghost use Rattle.std.specs.Prelude.{◌≡◌};
-ghost use Rattle.ev_tree.specs.Forms.{given, is_wrong, is_given, is_absent, given_or};
+ghost use Rattle.ev_tree.specs.Forms.{is_wrong, is_given, is_absent, given_or};
 
 use std::alloc::{AllocError, AllocFailed};
 use std::error::Error;
@@ -54,16 +54,6 @@ pub enum Found<T> {
 }
 
 impl<T: Copy> Found<T> {
-    /// The value, if one is given.
-    pub fn given(self) -> Option<T>
-        ensures { result ≡ given self }
-    {
-        match self {
-            Found::Given(value) => Some(value),
-            Found::Absent | Found::Wrong => None,
-        }
-    }
-
     /// Whether the form is wrong.
     pub fn is_wrong(&self) -> bool
         ensures { result ≡ is_wrong self.now }

@@ -12,6 +12,7 @@ use std::alloc::Global;
 /// The rule that a wrong form breaks.
 const WRONG_FORM: u8 = 6;
 
+// The answer that a reader gives: a wrong form is V6.
 fn answer<T>(found: Found<T>) -> Result<Option<T>, ReadError>
     ensures { result ≡ answer_of found }
 {

@@ -1,6 +1,8 @@
 ghost use Rattle.std.specs.Prelude.{◌≡◌, ℕ, List, Bool};
 ghost use Rattle.ev_tree.specs.Rules.{least, is_name, IsAscending, IsLeast};
 
+use crate::limits::MAX_NAME_BYTES;
+
 /// The first rule of a list that is broken: each entry is a rule's number and whether it is broken. In
 /// a list in ascending order it is the least.
 pub fn least(rules: &[(u8, bool)]) -> Option<u8>
@@ -18,7 +20,7 @@ pub fn least(rules: &[(u8, bool)]) -> Option<u8>
 pub fn is_name(text: &str) -> bool
     ensures { result ≡ is_name text.now }
 {
-    1 <= text.len() && text.len() <= 512
+    1 <= text.len() && text.len() <= MAX_NAME_BYTES
 }
 
 /// In a list in ascending order the first broken rule is the least: a law of the definition `least`.

@@ -1,10 +1,10 @@
 ghost use Rattle.std.specs.Prelude.{◌≡◌, IfOk};
 ghost use Rattle.ev_tree.specs.Forms.{tree_of};
-ghost use Rattle.ev_tree.specs.Sources.{one_of, is_negative, is_zero, has_other_source, source_breaks_v6, source_breaks_v10, source_is_limited};
+ghost use Rattle.ev_tree.specs.Sources.{one_of, source_broken, source_is_limited};
 
+use crate::broken::BrokenRules;
 use crate::member;
-use crate::outcome::Found;
-use crate::span::Span;
+use crate::span::{is_negative, is_zero};
 use serde_json::Value;
 use std::alloc::{AllocError, Global};
 
@@ -13,18 +13,16 @@ use std::alloc::{AllocError, Global};
 pub struct ConfigSource {
     /// Whether the wait for the first values ends: it doesn't where the timeout is zero.
     pub limited: bool,
-    /// Whether a field of it has the wrong form.
-    pub breaks_v6: bool,
-    /// Whether it isn't exactly one of `ads` and `self`, is another source or has a negative timeout.
-    pub breaks_v10: bool,
+    /// The rules that it breaks: V6 where a field of it has the wrong form, and V10 where it isn't exactly one of
+    /// `ads` and `self`, is another source or has a negative timeout.
+    pub broken: BrokenRules,
 }
 
 /// A config source, which may be missing.
-#[tactic(auto, unfolding(crate::specs::Sources::source_breaks_v6, crate::specs::Sources::source_breaks_v10, crate::specs::Sources::source_is_limited))]
+#[tactic(auto, unfolding(crate::specs::Sources::source_is_limited))]
 pub fn config_source(alloc: Global, source: Option<&Value>) -> Result<ConfigSource, AllocError>
     ensures limited { IfOk result (λ s. s.limited ≡ source_is_limited (tree_of source.entry)) }
-    ensures v6 { IfOk result (λ s. s.breaks_v6 ≡ source_breaks_v6 (tree_of source.entry)) }
-    ensures v10 { IfOk result (λ s. s.breaks_v10 ≡ source_breaks_v10 (tree_of source.entry)) }
+    ensures broken { IfOk result (λ s. s.broken ≡ source_broken (tree_of source.entry)) }
 {
     let ads = member::object(alloc, source, "ads")?;
     let own = member::object(alloc, source, "self")?;
@@ -35,28 +33,20 @@ pub fn config_source(alloc: Global, source: Option<&Value>) -> Result<ConfigSour
     let other = path.is_given() | watched_path.is_given() | api.is_given();
     Ok(ConfigSource {
         limited: !is_zero(timeout),
-        breaks_v6: ads.is_wrong()
-            | own.is_wrong()
-            | timeout.is_wrong()
-            | path.is_wrong()
-            | watched_path.is_wrong()
-            | api.is_wrong(),
-        breaks_v10: !is_one(ads.is_given(), own.is_given()) | other | is_negative(timeout),
+        broken: BrokenRules {
+            v6: ads.is_wrong()
+                | own.is_wrong()
+                | timeout.is_wrong()
+                | path.is_wrong()
+                | watched_path.is_wrong()
+                | api.is_wrong(),
+            v10: !is_one(ads.is_given(), own.is_given()) | other | is_negative(timeout),
+            ..BrokenRules::none()
+        },
     })
 }
 
-fn is_negative(timeout: Found<Span>) -> bool
-    ensures { result ≡ is_negative timeout }
-{
-    matches!(timeout, Found::Given(Span::Negative))
-}
-
-fn is_zero(timeout: Found<Span>) -> bool
-    ensures { result ≡ is_zero timeout }
-{
-    matches!(timeout, Found::Given(Span::Zero))
-}
-
+// Exactly one of two.
 fn is_one(first: bool, second: bool) -> bool
     ensures { result ≡ one_of first second }
 {

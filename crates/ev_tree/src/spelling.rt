@@ -6,7 +6,6 @@ use std::alloc::{AllocError, Global};
 
 /// The lowerCamelCase spelling of a field's name: each underscore falls away, and a letter after one is
 /// a capital. This is how the proto3 JSON mapping writes names.
-#[tactic(auto, unfolding(crate::specs::Spelling::camel_of))]
 pub fn camel_case(alloc: Global, name: &str) -> Result<String, AllocError>
     ensures { IfOk result (λ spelled. string_bytes spelled ≡ camel_of name.now) }
 {
@@ -19,6 +18,7 @@ pub fn camel_case(alloc: Global, name: &str) -> Result<String, AllocError>
     Ok(spelled)
 }
 
+// Appends what a character gives: an underscore nothing, and a letter behind one its capital.
 fn push_cased(spelled: &mut String, after_underscore: bool, c: char) -> Result<(), AllocError>
     ensures { OnOk result (string_bytes spelled.new ≡ string_bytes spelled.old ++ cased_char after_underscore c) }
 {

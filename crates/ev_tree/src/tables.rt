@@ -16,19 +16,20 @@ pub enum EnumTable {
     Protocol,
 }
 
-/// The number of a name.
-fn named(table: EnumTable, text: &str) -> Option<u32>
+// The number of a name.
+fn find_number(table: EnumTable, text: &str) -> Option<u32>
     ensures { result ≡ named_in table text.now }
 {
     match table {
-        EnumTable::Discovery => discovery_named(text),
-        EnumTable::Health => health_named(text),
-        EnumTable::Protocol => protocol_named(text),
+        EnumTable::Discovery => find_discovery(text),
+        EnumTable::Health => find_health(text),
+        EnumTable::Protocol => find_protocol(text),
     }
 }
 
+// The number of a discovery type's name.
 #[tactic(auto, unfolding(crate::specs::Scalars::named_in))]
-fn discovery_named(text: &str) -> Option<u32>
+fn find_discovery(text: &str) -> Option<u32>
     ensures { result ≡ named_in EnumTable.Discovery text.now }
 {
     match text {
@@ -41,8 +42,9 @@ fn discovery_named(text: &str) -> Option<u32>
     }
 }
 
+// The number of a health status' name.
 #[tactic(auto, unfolding(crate::specs::Scalars::named_in))]
-fn health_named(text: &str) -> Option<u32>
+fn find_health(text: &str) -> Option<u32>
     ensures { result ≡ named_in EnumTable.Health text.now }
 {
     match text {
@@ -56,8 +58,9 @@ fn health_named(text: &str) -> Option<u32>
     }
 }
 
+// The number of a protocol's name.
 #[tactic(auto, unfolding(crate::specs::Scalars::named_in))]
-fn protocol_named(text: &str) -> Option<u32>
+fn find_protocol(text: &str) -> Option<u32>
     ensures { result ≡ named_in EnumTable.Protocol text.now }
 {
     match text {
@@ -67,8 +70,8 @@ fn protocol_named(text: &str) -> Option<u32>
     }
 }
 
-/// How many values an enum has. They are numbered from 0.
-fn count(table: EnumTable) -> u64
+// How many values an enum has. They are numbered from 0.
+fn count_names(table: EnumTable) -> u64
     ensures { result ≡ length (names_of table) }
 {
     match table {
@@ -84,10 +87,10 @@ pub fn enum_value(value: &Value, table: EnumTable) -> Option<u32>
     ensures { result ≡ enum_in table (view value.now) }
 {
     if let Some(text) = value.as_str() {
-        return named(table, text);
+        return find_number(table, text);
     }
     let number = value.as_u64()?;
-    if number < count(table) {
+    if number < count_names(table) {
         Some(number as u32)
     } else {
         None

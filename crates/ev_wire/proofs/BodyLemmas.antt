@@ -1,5 +1,5 @@
 -- A good body has the content of its kind, and an outer name that is a name and its own.
-use Rattle.std.proofs.Common.{◌≡◌, ℕ, List, [], ◌∷◌, Bool, true, false, true≢false, not, if◌then◌else◌, refl, ◌&&◌, ◌∙◌, sym, ap, subst, Option, Some, None, Result, Ok, Err, codes, length, nat_le}
+use Rattle.std.proofs.Common.{◌≡◌, ℕ, List, [], ◌∷◌, Bool, true, false, not, if◌then◌else◌, refl, ◌&&◌, ◌||◌, ◌∙◌, sym, ap, subst, Option, Some, None, Result, Ok, Err, codes, length, nat_le}
 use Rattle.std.specs.Str.{bytes_eq}
 use Rattle.std.proofs.lemmas.Slice.Eq.{bytes_eq-Decides}
 use Rattle.std.proofs.lemmas.Bool.{leb-true}
@@ -20,12 +20,15 @@ use Rattle.ev_tree.specs.declared.outcome.Found.{Found}
 use Rattle.ev_tree.specs.declared.outcome.Found.TheVariants.{Absent, Wrong, Given}
 use Rattle.ev_tree.specs.declared.span.Span.{Span}
 use Rattle.ev_tree.specs.Forms.{given_or, inside, is_absent, is_wrong, text_of, tree_of}
-use Rattle.ev_tree.specs.Rules.{least, judged, is_name}
-use Rattle.ev_cluster_json.specs.Clusters.{cluster_reading, cluster_of, least_rule, cluster_rules, name_of, breaks_v6, head_breaks_v6}
+use Rattle.ev_tree.specs.Rules.{judged, is_name}
+use Rattle.ev_tree.specs.declared.broken.BrokenRules.{BrokenRules}
+use Rattle.ev_tree.specs.Broken.{none_broken, least_of}
+use Rattle.ev_tree.proofs.Unions.{least_none}
+use Rattle.ev_cluster_json.specs.Clusters.{cluster_reading, cluster_of, cluster_broken, own_broken as cluster_own_broken, name_of}
 use Rattle.ev_cluster_json.specs.Assignments.{assignment_reading}
 use Rattle.ev_route_json.specs.Tables.{table_reading}
-use Rattle.ev_listener_json.specs.Listeners.{listener_reading, listener_of, listener_rules, name_of as listener_name, breaks_v6 as listener_v6}
-use Rattle.ev_wire.specs.Bodies.{is_positive, is_heartbeat, is_of_type, breaks_v3, own_rules, differs, name_field, resource_of, body_of, body_with, content_of, content_with}
+use Rattle.ev_listener_json.specs.Listeners.{listener_reading, listener_of, listener_broken, name_of as listener_name}
+use Rattle.ev_wire.specs.Bodies.{is_positive, is_heartbeat, is_of_type, breaks_v3, own_broken, differs, name_field, resource_of, body_of, body_with, content_of, content_with}
 
 -- no body is of no type
 pub no_body : (kind : Kind) (name : List ℕ) (ttl : Found Span) (body : Option (Bor Value)) → body ≡ None → Bad 1 ≡ resource_of kind name ttl (tree_of body)
@@ -42,6 +45,14 @@ and_second : (a b : Bool) → (a && b) ≡ true → b ≡ true
 and_second true b h = h
 and_second false b h = cc
 
+or_first : (a b : Bool) → (a || b) ≡ false → a ≡ false
+or_first true b h = h
+or_first false b h = refl
+
+or_second : (a b : Bool) → (a || b) ≡ false → b ≡ false
+or_second true b h = cc
+or_second false b h = h
+
 not_false : (a : Bool) → not a ≡ false → a ≡ true
 not_false true h = refl
 not_false false h = cc
@@ -57,19 +68,6 @@ named name is =
     }
 
 -- ---- readings
-
-abbrev AllUnbroken : List (ℕ × Bool) → Type 0
-AllUnbroken [] = Unit {0}
-AllUnbroken (rule ∷ rules) = (rule.1 ≡ false) × AllUnbroken rules
-
-first_unbroken : (b : Bool) (n : ℕ) (rules : List (ℕ × Bool)) → (if b then Some n else least rules) ≡ None → (b ≡ false) × (least rules ≡ None)
-first_unbroken true n rules h = cc
-first_unbroken false n rules h = (refl, h)
-
--- where no rule is the least that is broken, none is
-unbroken : (rules : List (ℕ × Bool)) → least rules ≡ None → AllUnbroken rules
-unbroken [] h = tt
-unbroken (rule ∷ rules) h = ((first_unbroken rule.1 rule.0 rules h).0, unbroken rules (first_unbroken rule.1 rule.0 rules h).1)
 
 judged_ok : {A : Type 0} (rule : Option ℕ) (value a : A) → judged rule value ≡ Ok a → (rule ≡ None) × (value ≡ a)
 judged_ok None value a h = (refl, ok_injective value a h)
@@ -120,39 +118,29 @@ own_text name Wrong same right = cc
 own_text name (Given inner) same right = same_bytes inner name same
 
 -- a cluster that breaks no rule has a name of the right form
-cluster_named : (body : Data) → least_rule body ≡ None → is_wrong (text_of (codes "name") body) ≡ false
-unfolding breaks_v6 head_breaks_v6
-cluster_named body h = by_test (is_wrong (text_of (codes "name") body)) refl
-  where
-    by_test : (b : Bool) → is_wrong (text_of (codes "name") body) ≡ b → is_wrong (text_of (codes "name") body) ≡ false
-    by_test true e =
-        let broken : breaks_v6 body ≡ true = rw e refl in
-        absurd (true≢false (sym broken ∙ (unbroken (cluster_rules body) h).1.1.0))
-    by_test false e = e
+cluster_named : (body : Data) → least_of (cluster_broken body) ≡ None → is_wrong (text_of (codes "name") body) ≡ false
+unfolding cluster_broken cluster_own_broken
+cluster_named body h =
+    or_first _ _ (or_first _ _ (or_first _ _ (or_first _ _ (or_first _ _ (ap (λ (b : BrokenRules). b.v6) (least_none (cluster_broken body) h))))))
 
 cluster_own : (name : List ℕ) (body : Data) → differs name (text_of (codes "name") body) ≡ false → (cluster : ClusterParts) → cluster_reading body ≡ Ok cluster
     → cluster.name ≡ name
 unfolding name_of
 cluster_own name body same cluster h =
-    let fair = judged_ok (least_rule body) (cluster_of body) cluster h in
+    let fair = judged_ok (least_of (cluster_broken body)) (cluster_of body) cluster h in
     ap (λ (c : ClusterParts). c.name) (sym fair.1) ∙ own_text name (text_of (codes "name") body) same (cluster_named body fair.0)
 
 -- the same of a listener
-listener_named : (body : Data) → least (listener_rules body) ≡ None → is_wrong (text_of (codes "name") body) ≡ false
-unfolding listener_v6
-listener_named body h = by_test (is_wrong (text_of (codes "name") body)) refl
-  where
-    by_test : (b : Bool) → is_wrong (text_of (codes "name") body) ≡ b → is_wrong (text_of (codes "name") body) ≡ false
-    by_test true e =
-        let broken : listener_v6 body ≡ true = rw e refl in
-        absurd (true≢false (sym broken ∙ (unbroken (listener_rules body) h).1.1.0))
-    by_test false e = e
+listener_named : (body : Data) → least_of (listener_broken body) ≡ None → is_wrong (text_of (codes "name") body) ≡ false
+unfolding listener_broken
+listener_named body h =
+    or_first _ _ (or_first _ _ (or_first _ _ (or_first _ _ (or_second _ _ (ap (λ (b : BrokenRules). b.v6) (least_none (listener_broken body) h))))))
 
 listener_own : (name : List ℕ) (body : Data) → differs name (text_of (codes "name") body) ≡ false → (listener : ListenerParts) → listener_reading body ≡ Ok listener
     → listener.name ≡ name
 unfolding listener_name
 listener_own name body same listener h =
-    let fair = judged_ok (least (listener_rules body)) (listener_of body) listener h in
+    let fair = judged_ok (least_of (listener_broken body)) (listener_of body) listener h in
     ap (λ (l : ListenerParts). l.name) (sym fair.1) ∙ own_text name (text_of (codes "name") body) same (listener_named body fair.0)
 
 content_of-own_name : (kind : Kind) (name : List ℕ) (body : Data) → IsName name → differs name (text_of (name_field kind) body) ≡ false
@@ -182,12 +170,12 @@ body_with-own_name name None (Err n) own = tt
 body_with-own_name name (Some rule) (Ok c) own = tt
 body_with-own_name name (Some rule) (Err n) own = tt
 
-names_kept : (kind : Kind) (name : List ℕ) (ttl : Found Span) (body : Data) → least (own_rules kind name ttl body) ≡ None
+names_kept : (kind : Kind) (name : List ℕ) (ttl : Found Span) (body : Data) → least_of (own_broken kind name ttl body) ≡ None
     → (c : Content) → content_of kind body ≡ Ok c → IsOwnName name (Good c)
 unfolding breaks_v3
 names_kept kind name ttl body h c e =
-    let fair = unbroken (own_rules kind name ttl body) h in
-    content_of-own_name kind name body (named name (not_false (is_name name) fair.0)) fair.1.0 c e
+    let fair = least_none (own_broken kind name ttl body) h in
+    content_of-own_name kind name body (named name (not_false (is_name name) (ap (λ (b : BrokenRules). b.v2) fair))) (ap (λ (b : BrokenRules). b.v3) fair) c e
 
 -- ---- a heartbeat
 
@@ -209,7 +197,7 @@ unfolding body_of resource_of
 body_of-own_name kind name ttl resource =
     of_test (IsOwnName name) (is_heartbeat name ttl resource) Beat _ (heartbeat_named name ttl resource)
     (of_choice (IsOwnName name) (not (is_of_type kind (inside resource))) (Bad 1) _ tt
-    (body_with-own_name name (least (own_rules kind name ttl (inside resource))) (content_of kind (inside resource))
+    (body_with-own_name name (least_of (own_broken kind name ttl (inside resource))) (content_of kind (inside resource))
     (names_kept kind name ttl (inside resource))))
 
 body_with-beating : (ttl : Bool) (rule : Option ℕ) (content : Result Content ℕ) → IsBeating ttl (body_with rule content)

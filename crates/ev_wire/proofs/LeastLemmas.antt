@@ -1,5 +1,5 @@
 -- The rule that refuses a resource is the least of all that it breaks.
-use Rattle.std.proofs.Common.{ℕ, ◌≤◌, ◌⊎◌, inl, inr, Bool, true, false, true≢false, min, if◌then◌else◌, List, [], ◌∷◌, ◌++◌, Option, Some, None, refl, sym, subst, arith, rules}
+use Rattle.std.proofs.Common.{ℕ, ◌≤◌, ◌⊎◌, inl, inr, Bool, true, false, true≢false, min, if◌then◌else◌, List, [], ◌∷◌, ◌||◌, ◌∙◌, ◌≡◌, Option, Some, None, refl, sym, subst, arith, rules}
 use Rattle.std.proofs.Math.Nat.{min-le_left, min-le_right, min-eq_left, min-eq_right}
 use Rattle.std.proofs.lemmas.Bool.Decides.{leb_tells}
 use Rattle.serde_json.specs.Data.{Data}
@@ -12,33 +12,72 @@ use Rattle.ev_types.specs.declared.contents.Body.TheVariants.{Bad, Beat}
 use Rattle.ev_tree.specs.declared.outcome.Found.{Found}
 use Rattle.ev_tree.specs.declared.span.Span.{Span}
 use Rattle.ev_tree.specs.Forms.{inside}
-use Rattle.ev_tree.specs.Rules.{least, judged, IsBroken, IsLeast, AllAbove}
+use Rattle.ev_tree.specs.declared.broken.BrokenRules.{BrokenRules}
+use Rattle.ev_tree.specs.Rules.{judged, IsBroken, IsLeast, AllAbove, IsAscending}
+use Rattle.ev_tree.specs.Broken.{none_broken, either_broken, rules_of, least_of}
 use Rattle.ev_tree.proofs.Leasts.{least_is_least}
-use Rattle.ev_cluster_json.specs.Clusters.{cluster_rules, cluster_of}
-use Rattle.ev_cluster_json.specs.Assignments.{assignment_rules, rows_of}
-use Rattle.ev_route_json.specs.Tables.{table_rules, table_of}
-use Rattle.ev_listener_json.specs.Listeners.{listener_rules, listener_of}
-use Rattle.ev_wire.specs.Bodies.{is_heartbeat, breaks_v1, own_rules, resource_of, body_of, body_with, content_of, content_with, content_rules, form_rules, rule_in}
+use Rattle.ev_cluster_json.specs.Clusters.{cluster_broken, cluster_of}
+use Rattle.ev_cluster_json.specs.Assignments.{assignment_broken, rows_of}
+use Rattle.ev_route_json.specs.Tables.{table_broken, table_of}
+use Rattle.ev_listener_json.specs.Listeners.{listener_broken, listener_of}
+use Rattle.ev_wire.specs.Bodies.{is_heartbeat, breaks_v1, own_broken, resource_of, body_of, body_with, content_of, content_with, content_broken, item_broken, rule_in}
 
--- ---- a rule that is broken stands in one of two lists
+-- ---- a rule that one of two parts breaks
 
-split : (m : ℕ) (own others : List (ℕ × Bool)) → IsBroken m (own ++ others) → IsBroken m own ⊎ IsBroken m others
-split m [] others broken = inr broken
-split m (rule ∷ own) others (inl here) = inl (inl here)
-split m (rule ∷ own) others (inr later) = passed (split m own others later)
+-- the same rules, each broken where one of two says so
+abbrev joined : List (ℕ × Bool) → List (ℕ × Bool) → List (ℕ × Bool)
+joined [] others = []
+joined (rule ∷ own) [] = []
+joined (rule ∷ own) (other ∷ others) = (rule.0, rule.1 || other.1) ∷ joined own others
+
+-- two lists of the same rules in the same order
+abbrev AreSame : List (ℕ × Bool) → List (ℕ × Bool) → Type 0
+AreSame [] [] = Unit {0}
+AreSame [] (other ∷ others) = ⊥
+AreSame (rule ∷ own) [] = ⊥
+AreSame (rule ∷ own) (other ∷ others) = (rule.0 ≡ other.0) × AreSame own others
+
+either : (a b : Bool) → (a || b) ≡ true → (a ≡ true) ⊎ (b ≡ true)
+either true b h = inl refl
+either false b h = inr h
+
+or_left : (a b : Bool) → a ≡ true → (a || b) ≡ true
+or_left true b h = refl
+or_left false b h = cc
+
+or_right : (a b : Bool) → b ≡ true → (a || b) ≡ true
+or_right true b h = refl
+or_right false b h = h
+
+split : (m : ℕ) (own others : List (ℕ × Bool)) → AreSame own others → IsBroken m (joined own others) → IsBroken m own ⊎ IsBroken m others
+split m [] others same broken = absurd broken
+split m (rule ∷ own) [] same broken = absurd broken
+split m (rule ∷ own) (other ∷ others) same (inl here) = of_one (either rule.1 other.1 here.1)
   where
-    passed : IsBroken m own ⊎ IsBroken m others → IsBroken m (rule ∷ own) ⊎ IsBroken m others
+    of_one : (rule.1 ≡ true) ⊎ (other.1 ≡ true) → IsBroken m (rule ∷ own) ⊎ IsBroken m (other ∷ others)
+    of_one (inl h) = inl (inl (here.0, h))
+    of_one (inr h) = inr (inl (sym same.0 ∙ here.0, h))
+split m (rule ∷ own) (other ∷ others) same (inr later) = passed (split m own others same.1 later)
+  where
+    passed : IsBroken m own ⊎ IsBroken m others → IsBroken m (rule ∷ own) ⊎ IsBroken m (other ∷ others)
     passed (inl h) = inl (inr h)
-    passed (inr h) = inr h
+    passed (inr h) = inr (inr h)
 
-of_own : (m : ℕ) (own others : List (ℕ × Bool)) → IsBroken m own → IsBroken m (own ++ others)
-of_own m [] others broken = absurd broken
-of_own m (rule ∷ own) others (inl here) = inl here
-of_own m (rule ∷ own) others (inr later) = inr (of_own m own others later)
+of_own : (m : ℕ) (own others : List (ℕ × Bool)) → AreSame own others → IsBroken m own → IsBroken m (joined own others)
+of_own m [] others same broken = absurd broken
+of_own m (rule ∷ own) [] same broken = absurd same
+of_own m (rule ∷ own) (other ∷ others) same (inl here) = inl (here.0, or_left rule.1 other.1 here.1)
+of_own m (rule ∷ own) (other ∷ others) same (inr later) = inr (of_own m own others same.1 later)
 
-of_others : (m : ℕ) (own others : List (ℕ × Bool)) → IsBroken m others → IsBroken m (own ++ others)
-of_others m [] others broken = broken
-of_others m (rule ∷ own) others broken = inr (of_others m own others broken)
+of_others : (m : ℕ) (own others : List (ℕ × Bool)) → AreSame own others → IsBroken m others → IsBroken m (joined own others)
+of_others m [] [] same broken = absurd broken
+of_others m [] (other ∷ others) same broken = absurd same
+of_others m (rule ∷ own) [] same broken = absurd broken
+of_others m (rule ∷ own) (other ∷ others) same (inl here) = inl (same.0 ∙ here.0, or_right rule.1 other.1 here.1)
+of_others m (rule ∷ own) (other ∷ others) same (inr later) = inr (of_others m own others same.1 later)
+
+same_rules : (a b : BrokenRules) → AreSame (rules_of a) (rules_of b)
+same_rules a b = (refl, (refl, (refl, (refl, (refl, (refl, (refl, (refl, (refl, (refl, (refl, (refl, (refl, (refl, (refl, (refl, (refl, (refl, (refl, (refl, (refl, (refl, (refl, (refl, tt))))))))))))))))))))))))
 
 -- ---- the lesser of two
 
@@ -47,88 +86,86 @@ min_broken k n rules first second =
     let P : ℕ → Type 0 = λ m. IsBroken m rules in
     elim (leb_tells k n) [ inl h ↦ subst P (sym (min-eq_left h.1)) first | inr h ↦ subst P (sym (min-eq_right (omega (arith, h.1)))) second ]
 
-lesser : {A : Type 0} (own others : List (ℕ × Bool)) (content : A → Content) (value : A) (x y : Option ℕ) → IsLeast own x → IsLeast others y
-    → IsLeast (own ++ others) (rule_in (body_with x (content_with content (judged y value))))
-lesser own others content value None None first second =
-    λ m broken. elim (split m own others broken) [ inl h ↦ first m h | inr h ↦ second m h ]
-lesser own others content value None (Some n) first second =
-    (of_others n own others second.0, λ m broken. elim (split m own others broken) [ inl h ↦ absurd (first m h) | inr h ↦ second.1 m h ])
-lesser own others content value (Some k) None first second =
-    (of_own k own others first.0, λ m broken. elim (split m own others broken) [ inl h ↦ first.1 m h | inr h ↦ absurd (second m h) ])
-lesser own others content value (Some k) (Some n) first second = (
-  min_broken k n (own ++ others) (of_own k own others first.0) (of_others n own others second.0),
-  λ m broken. elim (split m own others broken)
+lesser : {A : Type 0} (a b : BrokenRules) (content : A → Content) (value : A) (x y : Option ℕ) → IsLeast (rules_of a) x → IsLeast (rules_of b) y
+    → IsLeast (rules_of (either_broken a b)) (rule_in (body_with x (content_with content (judged y value))))
+lesser a b content value None None first second =
+    λ m broken. elim (split m (rules_of a) (rules_of b) (same_rules a b) broken) [ inl h ↦ first m h | inr h ↦ second m h ]
+lesser a b content value None (Some n) first second = (
+  of_others n (rules_of a) (rules_of b) (same_rules a b) second.0,
+  λ m broken. elim (split m (rules_of a) (rules_of b) (same_rules a b) broken) [ inl h ↦ absurd (first m h) | inr h ↦ second.1 m h ],
+)
+lesser a b content value (Some k) None first second = (
+  of_own k (rules_of a) (rules_of b) (same_rules a b) first.0,
+  λ m broken. elim (split m (rules_of a) (rules_of b) (same_rules a b) broken) [ inl h ↦ first.1 m h | inr h ↦ absurd (second m h) ],
+)
+lesser a b content value (Some k) (Some n) first second = (
+  min_broken k n (rules_of (either_broken a b)) (of_own k (rules_of a) (rules_of b) (same_rules a b) first.0)
+  (of_others n (rules_of a) (rules_of b) (same_rules a b) second.0),
+  λ m broken. elim (split m (rules_of a) (rules_of b) (same_rules a b) broken)
       [ inl h ↦ omega (arith, min-le_left k n, first.1 m h) | inr h ↦ omega (arith, min-le_right k n, second.1 m h) ],
 )
 
+ascending : (a : BrokenRules) → IsAscending (rules_of a)
+ascending a = search rules
+
+least_broken : (a : BrokenRules) → IsLeast (rules_of a) (least_of a)
+least_broken a = least_is_least (rules_of a) (ascending a)
+
 of_own_and_content : (kind : Kind) (name : List ℕ) (ttl : Found Span) (body : Data)
-    → IsLeast (own_rules kind name ttl body ++ content_rules kind body) (rule_in (body_with (least (own_rules kind name ttl body)) (content_of kind body)))
+    → IsLeast (rules_of (either_broken (own_broken kind name ttl body) (content_broken kind body)))
+    (rule_in (body_with (least_of (own_broken kind name ttl body)) (content_of kind body)))
 unfolding content_of
 of_own_and_content Cds name ttl body =
-    lesser (own_rules Cds name ttl body) (cluster_rules body) Cluster (cluster_of body) (least (own_rules Cds name ttl body)) (least (cluster_rules body))
-    (least_is_least (own_rules Cds name ttl body) (search rules)) (least_is_least (cluster_rules body) (search rules))
+    lesser (own_broken Cds name ttl body) (cluster_broken body) Cluster (cluster_of body) _ _ (least_broken (own_broken Cds name ttl body)) (least_broken (cluster_broken body))
 of_own_and_content Eds name ttl body =
-    lesser (own_rules Eds name ttl body) (assignment_rules body) Assignment (rows_of body) (least (own_rules Eds name ttl body)) (least (assignment_rules body))
-    (least_is_least (own_rules Eds name ttl body) (search rules)) (least_is_least (assignment_rules body) (search rules))
+    lesser (own_broken Eds name ttl body) (assignment_broken body) Assignment (rows_of body) _ _ (least_broken (own_broken Eds name ttl body)) (least_broken (assignment_broken body))
 of_own_and_content Lds name ttl body =
-    lesser (own_rules Lds name ttl body) (listener_rules body) Listener (listener_of body) (least (own_rules Lds name ttl body)) (least (listener_rules body))
-    (least_is_least (own_rules Lds name ttl body) (search rules)) (least_is_least (listener_rules body) (search rules))
+    lesser (own_broken Lds name ttl body) (listener_broken body) Listener (listener_of body) _ _ (least_broken (own_broken Lds name ttl body)) (least_broken (listener_broken body))
 of_own_and_content Rds name ttl body =
-    lesser (own_rules Rds name ttl body) (table_rules body) Routes (table_of body) (least (own_rules Rds name ttl body)) (least (table_rules body))
-    (least_is_least (own_rules Rds name ttl body) (search rules)) (least_is_least (table_rules body) (search rules))
+    lesser (own_broken Rds name ttl body) (table_broken body) Routes (table_of body) _ _ (least_broken (own_broken Rds name ttl body)) (least_broken (table_broken body))
 
 -- ---- V1 before all others
-
-all_above_one : (kind : Kind) (name : List ℕ) (ttl : Found Span) (body : Data) → AllAbove 1 (own_rules kind name ttl body ++ content_rules kind body)
-all_above_one Cds name ttl body = search rules
-all_above_one Eds name ttl body = search rules
-all_above_one Lds name ttl body = search rules
-all_above_one Rds name ttl body = search rules
 
 above_broken : (n m : ℕ) (rules : List (ℕ × Bool)) → AllAbove n rules → IsBroken m rules → n ≤ m
 above_broken n m [] above broken = absurd broken
 above_broken n m (rule ∷ rules) above (inl here) = omega (arith, here.0, above.0)
 above_broken n m (rule ∷ rules) above (inr later) = above_broken n m rules above.1 later
 
-first_broken : (rules : List (ℕ × Bool)) → AllAbove 1 rules → IsLeast ((1, true) ∷ rules) (Some 1)
-first_broken rules above = (inl (refl, refl), bounded)
-  where
-    bounded : (m : ℕ) → IsBroken m ((1, true) ∷ rules) → 1 ≤ m
-    bounded m (inl here) = omega (arith, here.0)
-    bounded m (inr later) = above_broken 1 m rules above later
+-- V1 stands first, and is broken
+abbrev IsFirstBroken : List (ℕ × Bool) → Type 0
+IsFirstBroken [] = ⊥
+IsFirstBroken (rule ∷ rules) = (rule.0 ≡ 1) × (rule.1 ≡ true)
 
-first_kept : (rules : List (ℕ × Bool)) (found : Option ℕ) → IsLeast rules found → IsLeast ((1, false) ∷ rules) found
-first_kept rules None others = none
+first_broken : (rules : List (ℕ × Bool)) → IsAscending rules → IsFirstBroken rules → IsLeast rules (Some 1)
+first_broken [] ascending first = absurd first
+first_broken (rule ∷ rules) ascending first = (inl first, bounded)
   where
-    none : (m : ℕ) → IsBroken m ((1, false) ∷ rules) → ⊥
-    none m (inl here) = true≢false (sym here.1)
-    none m (inr later) = others m later
-first_kept rules (Some n) others = (inr others.0, bounded)
-  where
-    bounded : (m : ℕ) → IsBroken m ((1, false) ∷ rules) → n ≤ m
-    bounded m (inl here) = absurd (true≢false (sym here.1))
-    bounded m (inr later) = others.1 m later
+    bounded : (m : ℕ) → IsBroken m (rule ∷ rules) → 1 ≤ m
+    bounded m (inl here) = omega (arith, here.0, first.0)
+    bounded m (inr later) = omega (arith, first.0, above_broken rule.0 m rules ascending.0 later)
 
-by_type : (b : Bool) (rules : List (ℕ × Bool)) (body : Body) → AllAbove 1 rules → IsLeast rules (rule_in body)
-    → IsLeast ((1, b) ∷ rules) (rule_in (if b then Bad 1 else body))
-by_type true rules body above others = first_broken rules above
-by_type false rules body above others = first_kept rules (rule_in body) others
+first_of_all : (a : BrokenRules) → a.v1 ≡ true → IsLeast (rules_of a) (Some 1)
+first_of_all a is = first_broken (rules_of a) (ascending a) (refl, is)
+
+by_type : (b : Bool) (own content : BrokenRules) (body : Body) → own.v1 ≡ b → IsLeast (rules_of (either_broken own content)) (rule_in body)
+    → IsLeast (rules_of (either_broken own content)) (rule_in (if b then Bad 1 else body))
+by_type true own content body is others = first_of_all (either_broken own content) (or_left own.v1 content.v1 is)
+by_type false own content body is others = others
 
 resource_least : (kind : Kind) (name : List ℕ) (ttl : Found Span) (body : Data)
-    → IsLeast ((1, breaks_v1 kind body) ∷ own_rules kind name ttl body ++ content_rules kind body) (rule_in (resource_of kind name ttl body))
+    → IsLeast (rules_of (either_broken (own_broken kind name ttl body) (content_broken kind body))) (rule_in (resource_of kind name ttl body))
 unfolding resource_of
 resource_least kind name ttl body =
-    by_type (breaks_v1 kind body) (own_rules kind name ttl body ++ content_rules kind body) _ (all_above_one kind name ttl body)
-    (of_own_and_content kind name ttl body)
+    by_type (breaks_v1 kind body) (own_broken kind name ttl body) (content_broken kind body) _ refl (of_own_and_content kind name ttl body)
 
-by_heartbeat : (b : Bool) (rules : List (ℕ × Bool)) (body : Body) → IsLeast rules (rule_in body)
-    → IsLeast (if b then [] else rules) (rule_in (if b then Beat else body))
-by_heartbeat true rules body others = λ m broken. broken
-by_heartbeat false rules body others = others
+by_heartbeat : (b : Bool) (broken : BrokenRules) (body : Body) → IsLeast (rules_of broken) (rule_in body)
+    → IsLeast (rules_of (if b then none_broken else broken)) (rule_in (if b then Beat else body))
+by_heartbeat true broken body others = least_broken none_broken
+by_heartbeat false broken body others = others
 
 -- the rule that refuses an item is the least that is broken; a good one and a heartbeat break none
 pub body_least : (kind : Kind) (name : List ℕ) (ttl : Found Span) (resource : Found Data)
-    → IsLeast (form_rules kind name ttl resource) (rule_in (body_of kind name ttl resource))
+    → IsLeast (rules_of (item_broken kind name ttl resource)) (rule_in (body_of kind name ttl resource))
 unfolding body_of
 body_least kind name ttl resource =
     by_heartbeat (is_heartbeat name ttl resource) _ _ (resource_least kind name ttl (inside resource))

@@ -1,6 +1,6 @@
 -- Bodies of the items of a response: the content, or the least form rule that is broken, or a heartbeat. Each rule is
 -- a fact by itself.
-use Rattle.std.specs.Prelude.{ℕ, ◌&&◌, List, [], ◌∷◌, ◌++◌, Bool, true, false, not, min, if◌then◌else◌, Option, Some, None, Result, Ok, Err, codes}
+use Rattle.std.specs.Prelude.{ℕ, ◌&&◌, List, [], Bool, true, false, not, min, if◌then◌else◌, Option, Some, None, Result, Ok, Err, codes}
 use Rattle.std.specs.Str.{bytes_eq}
 use Rattle.serde_json.specs.Data.{Data}
 use Rattle.ev_types.specs.declared.contents.Kind.{Kind}
@@ -12,13 +12,16 @@ use Rattle.ev_types.specs.declared.contents.Body.TheVariants.{Good, Bad, Beat}
 use Rattle.ev_tree.specs.declared.outcome.Found.{Found}
 use Rattle.ev_tree.specs.declared.outcome.Found.TheVariants.{Absent, Wrong, Given}
 use Rattle.ev_tree.specs.declared.span.Span.{Span}
-use Rattle.ev_tree.specs.declared.span.Span.TheVariants.{Negative, Zero, Positive}
+use Rattle.ev_tree.specs.declared.span.Span.TheVariants.{Positive}
+use Rattle.ev_tree.specs.declared.broken.BrokenRules.{BrokenRules}
 use Rattle.ev_tree.specs.Forms.{is_object, is_absent, is_wrong, given_or, inside, text_of}
-use Rattle.ev_tree.specs.Rules.{least, is_name}
-use Rattle.ev_cluster_json.specs.Clusters.{cluster_reading, cluster_rules}
-use Rattle.ev_cluster_json.specs.Assignments.{assignment_reading, assignment_rules}
-use Rattle.ev_route_json.specs.Tables.{table_reading, table_rules}
-use Rattle.ev_listener_json.specs.Listeners.{listener_reading, listener_rules}
+use Rattle.ev_tree.specs.Spans.{is_not_positive}
+use Rattle.ev_tree.specs.Rules.{is_name}
+use Rattle.ev_tree.specs.Broken.{none_broken, either_broken, least_of}
+use Rattle.ev_cluster_json.specs.Clusters.{cluster_reading, cluster_broken}
+use Rattle.ev_cluster_json.specs.Assignments.{assignment_reading, assignment_broken}
+use Rattle.ev_route_json.specs.Tables.{table_reading, table_broken}
+use Rattle.ev_listener_json.specs.Listeners.{listener_reading, listener_broken}
 use Rattle.ev_wire.specs.Requests.{type_url}
 
 -- ---- heartbeats
@@ -63,16 +66,16 @@ differs name (Given inner) = not (bytes_eq inner name)
 unfoldable pub breaks_v3 : Kind → List ℕ → Data → Bool
 breaks_v3 kind name body = differs name (text_of (name_field kind) body)
 
--- V25: a time to live is given, and isn't positive
-abbrev pub is_not_positive : Found Span → Bool
-is_not_positive (Given Negative) = true
-is_not_positive (Given Zero) = true
-is_not_positive ttl = false
-
--- the rules that an item breaks by its name and its time to live. V6: the time to live has a wrong form.
-abbrev pub own_rules : Kind → List ℕ → Found Span → Data → List (ℕ × Bool)
-own_rules kind name ttl body =
-    (2, breaks_v2 name) ∷ (3, breaks_v3 kind name body) ∷ (6, is_wrong ttl) ∷ (25, is_not_positive ttl) ∷ []
+-- What an item that is no heartbeat breaks by itself, whatever its content. V6: the time to live has a wrong form.
+-- V25: it is given, and isn't positive.
+abbrev pub own_broken : Kind → List ℕ → Found Span → Data → BrokenRules
+own_broken kind name ttl body = record none_broken {
+  v1 = breaks_v1 kind body;
+  v2 = breaks_v2 name;
+  v3 = breaks_v3 kind name body;
+  v6 = is_wrong ttl;
+  v25 = is_not_positive ttl;
+}
 
 -- what the body reads as, by the reader of its type
 abbrev pub content_with : {A : Type 0} → (A → Content) → Result A ℕ → Result Content ℕ
@@ -97,7 +100,7 @@ body_with (Some rule) (Err other) = Bad (min rule other)
 unfoldable pub resource_of : Kind → List ℕ → Found Span → Data → Body
 resource_of kind name ttl body =
     if breaks_v1 kind body then Bad 1
-    else body_with (least (own_rules kind name ttl body)) (content_of kind body)
+    else body_with (least_of (own_broken kind name ttl body)) (content_of kind body)
 
 -- the body of an item of this name and time to live
 unfoldable pub body_of : Kind → List ℕ → Found Span → Found Data → Body
@@ -106,19 +109,18 @@ body_of kind name ttl resource =
 
 -- ---- all form rules, of which the least refuses
 
--- the rules that a reader finds
-abbrev pub content_rules : Kind → Data → List (ℕ × Bool)
-content_rules Cds body = cluster_rules body
-content_rules Eds body = assignment_rules body
-content_rules Lds body = listener_rules body
-content_rules Rds body = table_rules body
+-- what the reader of the type finds broken
+abbrev pub content_broken : Kind → Data → BrokenRules
+content_broken Cds body = cluster_broken body
+content_broken Eds body = assignment_broken body
+content_broken Lds body = listener_broken body
+content_broken Rds body = table_broken body
 
--- the rules that an item may break, and whether it does: a heartbeat breaks none. Those that a reader finds too, as V2
--- for a name inside the resource, stand twice.
-abbrev pub form_rules : Kind → List ℕ → Found Span → Found Data → List (ℕ × Bool)
-form_rules kind name ttl resource =
-    if is_heartbeat name ttl resource then []
-    else (1, breaks_v1 kind (inside resource)) ∷ own_rules kind name ttl (inside resource) ++ content_rules kind (inside resource)
+-- what an item breaks: a heartbeat nothing
+abbrev pub item_broken : Kind → List ℕ → Found Span → Found Data → BrokenRules
+item_broken kind name ttl resource =
+    if is_heartbeat name ttl resource then none_broken
+    else either_broken (own_broken kind name ttl (inside resource)) (content_broken kind (inside resource))
 
 -- the rule that refuses a body
 abbrev pub rule_in : Body → Option ℕ

@@ -2,17 +2,18 @@ ghost use Rattle.std.specs.Prelude.{◌≡◌, ℕ, List, IfOk};
 ghost use Rattle.serde_json.specs.Data.{Data};
 ghost use Rattle.serde_json.specs.View.{view};
 ghost use Rattle.ev_tree.specs.Forms.{found_map, tree_of};
-ghost use Rattle.ev_tree.specs.Rules.{Reads, IsLeast};
+ghost use Rattle.ev_tree.specs.Rules.{ReadsAs, IsLeast};
+ghost use Rattle.ev_tree.specs.Broken.{rules_of};
 ghost use Rattle.ev_tree.specs.declared.outcome.Found.{Found};
 ghost use Rattle.ev_tree.specs.declared.span.Span.{Span};
-ghost use Rattle.ev_wire.specs.Bodies.{is_positive, is_not_positive, is_heartbeat, is_of_type, breaks_v3, differs, content_of, body_with, resource_of, body_of, form_rules, rule_in};
+ghost use Rattle.ev_wire.specs.Bodies.{is_positive, is_heartbeat, is_of_type, breaks_v3, differs, own_broken, content_of, body_with, resource_of, body_of, item_broken, rule_in};
 ghost use Rattle.ev_types.specs.declared.contents.Kind.{Kind};
 
 use crate::kinds::{name_field, type_url};
 use ev_cluster_json::{read_assignment, read_cluster};
 use ev_listener_json::read_listener;
 use ev_route_json::read_routes;
-use ev_tree::{Found, ReadError, Span, is_name, member};
+use ev_tree::{BrokenRules, Found, ReadError, Span, is_name, is_not_positive, member};
 use ev_types::{Body, Content, Kind, Shared};
 use serde_json::Value;
 use std::alloc::{AllocError, Global};
@@ -49,13 +50,6 @@ pub(crate) fn is_positive(ttl: Found<Span>) -> bool
     matches!(ttl, Found::Given(Span::Positive))
 }
 
-// Whether a time to live is given that isn't positive.
-fn is_not_positive(ttl: Found<Span>) -> bool
-    ensures { result ≡ is_not_positive ttl }
-{
-    matches!(ttl, Found::Given(Span::Negative | Span::Zero))
-}
-
 // The body of an item that is no heartbeat.
 #[tactic(auto, using(crate::proofs::BodyLemmas::no_body), unfolding(crate::specs::Bodies::resource_of))]
 fn read_resource(
@@ -70,20 +64,35 @@ fn read_resource(
     let Some(body) = body else {
         return Ok(Body::Bad(1));
     };
-    if !is_of_type(alloc, kind, body)? {
+    let broken = inspect_own(alloc, kind, name, ttl, body)?;
+    if broken.v1 {
         return Ok(Body::Bad(1));
     }
-    let broken = ev_tree::least(&[
-        (2, !is_name(name)),
-        (3, has_another_name(alloc, kind, name, body)?),
-        (6, ttl.is_wrong()),
-        (25, is_not_positive(ttl)),
-    ]);
     match read_content(alloc, kind, body) {
-        Ok(content) => Ok(body_with(broken, Ok(content))),
-        Err(ReadError::Rule(rule)) => Ok(body_with(broken, Err(rule))),
+        Ok(content) => Ok(body_with(broken.least(), Ok(content))),
+        Err(ReadError::Rule(rule)) => Ok(body_with(broken.least(), Err(rule))),
         Err(ReadError::OutOfMemory) => Err(AllocError),
     }
+}
+
+// What an item that is no heartbeat breaks by itself, whatever its content.
+fn inspect_own(
+    alloc: Global,
+    kind: Kind,
+    name: &str,
+    ttl: Found<Span>,
+    body: &Value,
+) -> Result<BrokenRules, AllocError>
+    ensures { IfOk result (λ broken. broken ≡ own_broken kind name.now ttl (view body.now)) }
+{
+    Ok(BrokenRules {
+        v1: !is_of_type(alloc, kind, body)?,
+        v2: !is_name(name),
+        v3: has_another_name(alloc, kind, name, body)?,
+        v6: ttl.is_wrong(),
+        v25: is_not_positive(ttl),
+        ..BrokenRules::none()
+    })
 }
 
 /// The rule by which an item is refused is the least of all form rules that it breaks; a good one and a heartbeat
@@ -91,7 +100,7 @@ fn read_resource(
 #[tactic(auto, using(crate::proofs::LeastLemmas::body_least))]
 pub fn body_rule_is_least()
     ensures { (kind : Kind) (name : List ℕ) (ttl : Found Span) (resource : Found Data)
-        → IsLeast (form_rules kind name ttl resource) (rule_in (body_of kind name ttl resource)) }
+        → IsLeast (rules_of (item_broken kind name ttl resource)) (rule_in (body_of kind name ttl resource)) }
 {}
 
 // Whether a body is an object whose `@type` is that of the kind.
@@ -127,7 +136,7 @@ fn differs(name: &str, own: Found<&str>) -> bool
 // The content of a body, by the reader of its kind.
 #[tactic(auto, unfolding(crate::specs::Bodies::content_of))]
 fn read_content(alloc: Global, kind: Kind, body: &Value) -> Result<Content, ReadError>
-    ensures { Reads result (content_of kind (view body.now)) }
+    ensures { ReadsAs result (content_of kind (view body.now)) }
 {
     match kind {
         Kind::Cds => Ok(Content::Cluster(Shared::new(alloc, read_cluster(alloc, body)?)?)),

@@ -1,29 +1,31 @@
-use Rattle.std.proofs.Common.{◌∙◌, ◌||◌, ◌++◌, ap, nat_lt, codes}
-use Rattle.serde_json.specs.View.{view}
-use Rattle.std.specs.List.{list_any, flat_map, sum_by}
-use Rattle.ev_tree.specs.Forms.{is_wrong, given_or, listed, number_of}
+use Rattle.std.proofs.Common.{◌∙◌, ◌||◌, ◌++◌, ap, nat_lt}
+use Rattle.std.specs.List.{flat_map, sum_by}
+use Rattle.ev_types.specs.declared.limits.TheConstants.{MAX_WEIGHT_SUM}
+use Rattle.ev_tree.specs.Forms.{is_wrong, given_or, listed}
+use Rattle.ev_tree.specs.Broken.{either_broken, any_broken}
 use Rattle.ev_tree.proofs.Outcomes.{or_same}
-use Rattle.ev_cluster_json.specs.Assignments.{weight_of, hosts_of, priority_of, host_breaks_v6, host_breaks_v12, host_breaks_v13, group_breaks_v6, group_breaks_v12, group_breaks_v13}
+use Rattle.ev_tree.proofs.Unions.{either_assoc}
+use Rattle.ev_cluster_json.specs.declared.groups.TheConstants.{MAX_PRIORITY}
+use Rattle.ev_cluster_json.specs.Assignments.{weight_of, hosts_of, priority_of, host_broken, group_broken}
 use Rattle.ev_cluster_json.specs.Made.{host_rows, rank_of, made_group}
-use Rattle.ev_cluster_json.proofs.Gained.{or_assoc, or_regroup, cap_over}
+use Rattle.ev_cluster_json.proofs.Gained.{cap_over}
 use Rattle.ev_cluster_json.proofs.groups.add_group.Goals as goal
 
 pub returns : goal.returns
-unfolding hosts_of priority_of group_breaks_v6 group_breaks_v12 group_breaks_v13 made_group
+unfolding hosts_of priority_of group_broken made_group
 returns c =
     let old = c.args.tally.now in
     let gains = c.in_ok-sum.ensures.gains in
     let hosts = c.elements.ensures ∙ ap listed c.in_ok-hosts.ensures.value in
     let number = c.given_or-number.ensures ∙ ap (given_or 0) c.in_ok-priority.ensures in
-    let rank = c.rank.ensures ∙ ap rank_of number in
-    let wrong = or_same (c.is_wrong.ensures ∙ ap is_wrong c.in_ok-priority.ensures) (c.is_wrong-2.ensures ∙ c.in_ok-hosts.ensures.wrong) in
-    let sum = c.in_ok-sum.ensures.weight in
+    let rank = c.clamp_priority.ensures ∙ ap rank_of number in
+    let sum = ap (nat_lt MAX_WEIGHT_SUM) (c.in_ok-sum.ensures.weight) ∙ cap_over (sum_by weight_of _) ∙ ap (λ hs. nat_lt MAX_WEIGHT_SUM (sum_by weight_of hs)) hosts in
     record {
-      v6 = gains.v6 ∙ or_assoc old.breaks_v6 _ _ ∙ (λ i. old.breaks_v6 || (wrong i || list_any host_breaks_v6 (hosts i)));
-      v12 = gains.v12 ∙ (λ i. old.breaks_v12 || list_any host_breaks_v12 (hosts i));
-      v13 =
-          (λ i. (gains.v13 i || nat_lt 128 (number i)) || nat_lt (c.from.ensures i) (sum i))
-          ∙ or_regroup old.breaks_v13 _ _ _
-          ∙ (λ i. old.breaks_v13 || ((list_any host_breaks_v13 (hosts i) || nat_lt 128 (given_or 0 (number_of (codes "priority") (view c.args.group.now)))) || cap_over (sum_by weight_of (hosts i)) i));
+      broken =
+          c.or-tally.ensures ∙ ap (λ b. either_broken b _) gains.broken ∙ either_assoc old.broken _ _
+          ∙ (λ i. either_broken old.broken (either_broken (any_broken host_broken (hosts i)) (record (c.none.ensures i) {
+            v6 = or_same (c.is_wrong.ensures ∙ ap is_wrong c.in_ok-priority.ensures) (c.is_wrong-2.ensures ∙ c.in_ok-hosts.ensures.wrong) i;
+            v13 = or_same (ap (nat_lt MAX_PRIORITY) number) sum i;
+          })));
       rows = gains.rows ∙ (λ i. old.rows.items ++ flat_map (host_rows (rank i)) (hosts i));
     }

@@ -1,6 +1,6 @@
 use Rattle.std.proofs.Common.{map, take}
 use Rattle.serde_json.specs.View.{view}
-use Rattle.ev_cluster_json.specs.Assignments.{group_breaks_v6, group_breaks_v12, group_breaks_v13}
+use Rattle.ev_cluster_json.specs.Assignments.{group_broken}
 use Rattle.ev_cluster_json.specs.Made.{made_group}
 use Rattle.ev_cluster_json.proofs.Gained.{gains_nothing, gains_more, gains_all, seen_more}
 use Rattle.ev_cluster_json.proofs.groups.add_groups.Goals as goal
@@ -14,8 +14,8 @@ loop-group-preserved c =
     let i = c.loop-group.group-index in
     let group = c.group-item.result in
     let more = seen_more groups i group c.loop-group-test.true c.group-item.is in
-    gains_more group_breaks_v6 group_breaks_v12 group_breaks_v13 made_group _ _ _ (map view (take i groups)) _ (view group) more c.loop-group.invariant c.in_ok-add_group.ensures
+    gains_more group_broken made_group _ _ _ (map view (take i groups)) _ (view group) more c.loop-group.invariant c.in_ok-add_group.ensures
 
 pub returns : goal.returns
 returns c =
-    gains_all group_breaks_v6 group_breaks_v12 group_breaks_v13 made_group _ _ c.args.groups.now c.loop-group.group-index c.loop-group-test.false c.loop-group.invariant
+    gains_all group_broken made_group _ _ c.args.groups.now c.loop-group.group-index c.loop-group-test.false c.loop-group.invariant

@@ -1,7 +1,8 @@
 use Rattle.std.proofs.Common.{rules}
+use Rattle.ev_tree.specs.Broken.{rules_of}
 use Rattle.ev_tree.proofs.Leasts.{least_is_least}
-use Rattle.ev_listener_json.specs.Listeners.{listener_rules}
+use Rattle.ev_listener_json.specs.Listeners.{listener_broken}
 use Rattle.ev_listener_json.proofs.listeners.listener_rule_is_least.Goals as goal
 
 pub returns : goal.returns
-returns c = λ tree. least_is_least (listener_rules tree) (search rules)
+returns c = λ tree. least_is_least (rules_of (listener_broken tree)) (search rules)

@@ -1,5 +1,5 @@
 use Rattle.std.proofs.Common.{◌≡◌, ◌++◌, string_bytes}
-use Rattle.ev_tree.specs.Spelling.{camel_from}
+use Rattle.ev_tree.proofs.Names.{camel_from}
 use Rattle.std.proofs.Common.{false}
 use Rattle.ev_tree.proofs.spelling.camel_case.Given as goal
 
