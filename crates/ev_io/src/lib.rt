@@ -1,6 +1,6 @@
 //! What a program reads from and writes to, as two traits whose meanings say which bytes went
 //! through and how many faults there were, and what implements them: memory for tests and proofs,
-//! and the standard streams.
+//! and the standard streams. `Lines` reads a source line by line, under the limits of an input.
 #![tactic(auto)]
 
 mod calls;

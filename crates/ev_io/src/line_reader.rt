@@ -232,12 +232,15 @@ fn replace(out: &mut Vec<u8>, bytes: &[u8]) -> Result<(), AllocError>
     }
 }
 
-// Drops the first `count` bytes.
+// Drops the first `count` bytes. The others are moved only where there are some to drop, so that a
+// long line isn't moved at each of its pieces.
 fn drop_front(bytes: &mut Vec<u8>, count: usize)
     requires { count ≤ vec_len bytes.old }
     ensures { bytes.new.items ≡ drop count bytes.old.items }
 {
-    drop(bytes.drain(..count));
+    if count > 0 {
+        drop(bytes.drain(..count));
+    }
 }
 
 // Appends to `bytes` what one read of at most `most` bytes gives, and says how many: none at the
