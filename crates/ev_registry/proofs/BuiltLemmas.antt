@@ -1,5 +1,5 @@
 -- Built events lead from plain worlds to plain worlds.
-use Rattle.std.proofs.Common.{◌≡◌, ℕ, Bool, true, false, not, cond, if◌then◌else◌, List, [], ◌∷◌, ◌++◌, filter, Option, Some, None, ap, sym, ◌∙◌, refl, subst, All}
+use Rattle.std.proofs.Common.{◌≡◌, ℕ, Bool, true, false, cond, if◌then◌else◌, List, [], ◌∷◌, ◌++◌, filter, Option, Some, None, ap, sym, ◌∙◌, refl, subst, All}
 use Rattle.std.specs.List.{list_all, AllByRecursion}
 use Rattle.std.proofs.lemmas.Bool.{false≢true}
 use Rattle.std.proofs.lemmas.List.Elements.{recursion_from_All, All-from_recursion}
@@ -24,7 +24,7 @@ use Rattle.ev_types.specs.declared.rows.KeptVersion.{KeptVersion}
 use Rattle.ev_types.specs.declared.rows.Live.{Live}
 use Rattle.ev_model.specs.World.{World}
 use Rattle.ev_model.specs.Live.{lives_of, newest_of}
-use Rattle.ev_model.specs.Versions.{is_version_of, is_before, is_kept, with_version, bounded_as, renewed}
+use Rattle.ev_model.specs.Versions.{is_version_of, is_before, is_kept, with_version, renewed}
 use Rattle.ev_model.specs.Verdicts.{against, body_verdict, rule_of, verdict_by, verdict_of, lives_after, lives_left, verdicts_from, verdicts_by, verdicts_of}
 use Rattle.ev_model.specs.Rows.{status_left, is_version_left, without_rows, with_removals, replaced_status, with_statuses, add_row, keep_version, version_in, renew, with_content, add_item, add_items, made_names, with_first}
 use Rattle.ev_model.specs.Connections.{left_open}

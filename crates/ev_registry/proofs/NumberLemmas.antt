@@ -1,5 +1,5 @@
 -- At most one number is drawn for each resource.
-use Rattle.std.proofs.Common.{◌≡◌, ℕ, ◌+◌, ◌≤◌, Bool, true, false, if◌then◌else◌, List, [], ◌∷◌, ◌++◌, length, Option, Some, sym, subst, arith}
+use Rattle.std.proofs.Common.{◌≡◌, ℕ, ◌+◌, ◌≤◌, Bool, true, false, if◌then◌else◌, List, [], ◌∷◌, ◌++◌, length, Option, sym, subst, arith}
 use Rattle.ev_types.specs.Items.{ItemParts, ResponseParts}
 use Rattle.ev_types.specs.Scripts.{items_in}
 use Rattle.ev_types.specs.declared.contents.Kind.{Kind}
@@ -21,7 +21,6 @@ use Rattle.ev_model.specs.Live.{lives_of}
 use Rattle.ev_model.specs.Verdicts.{verdicts_of}
 use Rattle.ev_model.specs.Rows.{with_content, add_row, keep_version, keep_value, add_item, add_items, with_removals}
 use Rattle.ev_model.specs.Step.{step, respond_by}
-use Rattle.ev_model.specs.Runs.{world_after}
 use Rattle.ev_model.proofs.RunLemmas.{world_after-more}
 use Rattle.ev_registry.specs.Built.{is_built, IsBuilt}
 use Rattle.ev_registry.specs.Registries.{RegistryParts, world_now}

@@ -1,6 +1,6 @@
 -- What follows an event in a plain world: nothing is watched, each warming row is ready, and nothing else changes.
 use Rattle.std.proofs.Common.{◌≡◌, ℕ, Bool, true, false, not, ◌&&◌, ◌||◌, cond, if◌then◌else◌, List, [], ◌∷◌, ◌++◌, filter, map, Option, None, ap, sym, ◌∙◌, refl, subst}
-use Rattle.std.specs.List.{list_any, AllByRecursion, flat_map}
+use Rattle.std.specs.List.{AllByRecursion, flat_map}
 use Rattle.std.specs.Option.{option_to_list}
 use Rattle.std.proofs.lemmas.Bool.{false≢true, not-true}
 use Rattle.std.proofs.lemmas.List.{append-nil}
@@ -19,13 +19,12 @@ use Rattle.ev_types.specs.declared.rows.Phase.{Phase}
 use Rattle.ev_types.specs.declared.rows.RowStatus.{RowStatus}
 use Rattle.ev_model.specs.World.{World, Arrived, HealthResult}
 use Rattle.ev_model.specs.Live.{live_of, lives_of}
-use Rattle.ev_model.specs.Versions.{versions_of}
 use Rattle.ev_model.specs.Watching.{Dependency, dependency_of, discovery_dependency, is_limited, is_by_name, is_watched, name_awaited, sorted_names, watched_of}
 use Rattle.ev_model.specs.Warming.{has_answer, has_all_results, assignment_by, is_checked, is_ready_by}
 use Rattle.ev_model.specs.Rows.{is_row_of, with_statuses}
 use Rattle.ev_model.specs.Phase.{is_clusters, phase_after}
 use Rattle.ev_model.specs.Tidy.{is_due, has_successor, status_by, promoted_status, promoted, is_version_due, without_unwatched, is_result_due, without_old_results, with_phase, tidy}
-use Rattle.ev_model.specs.Requests.{Watched, all_watched, clusters_request, connect_requests, connect_requests_by, listeners_asked, changes_asked, has_left_clusters, requests_of}
+use Rattle.ev_model.specs.Requests.{all_watched, clusters_request, connect_requests, connect_requests_by, listeners_asked, changes_asked, has_left_clusters, requests_of}
 use Rattle.ev_registry.specs.Built.{is_static, is_built_content}
 use Rattle.ev_registry.specs.Plain.{IsPlain, is_plain_due, has_plain_successor, plain_status, plain_promoted, plain_requests}
 

@@ -15,7 +15,8 @@ use crate::requests::{connect_requests, reply_of, requests_of};
 use crate::rows;
 use ev_rules::verdicts;
 use ev_types::{
-    Actor, Answer, Event, Format, GenRow, KeptVersion, Kind, Phase, Response, Seq, Text, TryCopy, Verdict,
+    Actor, Answer, Event, Format, GenRow, KeptVersion, Kind, Phase, Response, Seq, Text, TryCopy,
+    Verdict,
 };
 use std::alloc::{AllocError, Global};
 

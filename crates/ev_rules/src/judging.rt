@@ -52,12 +52,7 @@ fn judge(
 }
 
 // The verdict by the body of a resource that breaks no other rule.
-fn judge_body(
-    kind: Kind,
-    lives: &[LiveRow<'_>],
-    versions: &[KeptVersion],
-    item: &Item,
-) -> Verdict
+fn judge_body(kind: Kind, lives: &[LiveRow<'_>], versions: &[KeptVersion], item: &Item) -> Verdict
     ensures { result ≡ body_verdict kind lives.now versions.now item.now item.now.body }
 {
     match &item.body {

@@ -65,9 +65,7 @@ fn is_heard(kind: Kind, lives: &[LiveRow<'_>], name: &str) -> bool
 pub(crate) fn is_kept(versions: &[KeptVersion], kind: Kind, name: &str, version: &str) -> bool
     ensures { result ≡ is_kept versions.now kind name.now version.now }
 {
-    versions
-        .iter()
-        .any(|kept| is_version_of(kind, name, kept) && kept.version.as_str() == version)
+    versions.iter().any(|kept| is_version_of(kind, name, kept) && kept.version.as_str() == version)
 }
 
 // Whether the version is that of this kind and name.

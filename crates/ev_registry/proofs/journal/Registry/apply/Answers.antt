@@ -28,14 +28,14 @@ pub returns-clause-drawn : goal.returns-clause-drawn
 returns-clause-drawn c =
     rw (c.in_ok-push.ensures.items, c.in_ok-copy.ensures.equal, c.in_ok-copy-2.ensures.equal)
     (subst (λ (r : RegistryParts).
-        (world_now (record {
-          format = c.self.inside.format;
-          workers = c.self.inside.workers;
-          node = c.self.inside.node;
-          journal = c.self.inside.journal.items
-              ++ record { actor = c.args.actor; at = c.args.at; step = c.args.step; event = c.args.event.now; answer = c.in_ok-state.answer } ∷ [];
-        })).made
-        ≤ (world_now r).made + items_in c.args.event.now)
+    (world_now (record {
+      format = c.self.inside.format;
+      workers = c.self.inside.workers;
+      node = c.self.inside.node;
+      journal = c.self.inside.journal.items
+          ++ record { actor = c.args.actor; at = c.args.at; step = c.args.step; event = c.args.event.now; answer = c.in_ok-state.answer } ∷ [];
+    })).made
+    ≤ (world_now r).made + items_in c.args.event.now)
     c.self.view_is
     (entry_made
     record { format = c.self.inside.format; workers = c.self.inside.workers; node = c.self.inside.node; journal = c.self.inside.journal.items }

@@ -2,7 +2,6 @@ use Rattle.std.proofs.Common.{◌∙◌, ap, sym, subst, ◌≡◌, List, map, f
 use Rattle.ev_types.specs.Statuses.{is_live}
 use Rattle.ev_types.specs.declared.contents.Kind.TheVariants.{Cds}
 use Rattle.ev_types.specs.declared.rows.GenRow.{GenRow}
-use Rattle.ev_types.specs.declared.rows.Live.{Live}
 use Rattle.ev_types.specs.declared.events.Verdict.{Verdict}
 use Rattle.ev_model.specs.Live.{live_of, lives_of}
 use Rattle.ev_model.specs.Verdicts.{verdicts_of}
