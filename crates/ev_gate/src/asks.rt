@@ -1,0 +1,56 @@
+//! The newest version, without a turn.
+ghost use Rattle.std.specs.Prelude.{◌≡◌, ◌≤◌};
+ghost use Rattle.ev_gate.specs.Words.{gate_id, first_of, pass_gate, pass_knows, pass_heard};
+
+use crate::gate::{Gate, Pass};
+use crate::plays::{Ask, FirstValue, Raise};
+use crate::stands::Stands;
+use crate::view::NEWEST;
+use std::marker::Brand;
+
+impl<V: Stands> Gate<V> {
+    /// A version that the value's history had at this step, without a turn and without waiting. It is not below any that
+    /// this pass has seen, and counts as one that it has seen. How new it is, no promise says.
+    pub fn newest(&self, pass: &mut Pass<V>) -> u64
+        requires { pass_gate pass.old ≡ gate_id self.now }
+        ensures gate { pass_gate pass.new ≡ gate_id self.now }
+        ensures knows { pass_knows pass.new ≡ pass_knows pass.old }
+
+        // The pass has heard of the history that had the version.
+        ensures version { result ≡ V.version_of (V.opening (first_of self.now)) (pass_heard pass.new) }
+        ensures not_below { V.version_of (V.opening (first_of self.now)) (pass_heard pass.old) ≤ result }
+    {
+        self.asked::<Brand>(pass)
+    }
+
+    // The same. K names the value that the gate was made with.
+    fn asked<K: FirstValue<V>>(&self, pass: &mut Pass<V>) -> u64
+        requires first { K.first ≡ Some (first_of self.now) }
+        requires gate { pass_gate pass.old ≡ gate_id self.now }
+        ensures gate { pass_gate pass.new ≡ gate_id self.now }
+        ensures knows { pass_knows pass.new ≡ pass_knows pass.old }
+        ensures version { result ≡ V.version_of (V.opening (first_of self.now)) (pass_heard pass.new) }
+        ensures not_below { V.version_of (V.opening (first_of self.now)) (pass_heard pass.old) ≤ result }
+    {
+        let found = self
+            .table
+            .shared
+            .fetch_max::<Ask<K>>(&mut pass.seat, NEWEST, pass.version);
+        pass.version = found.max(pass.version);
+        pass.version
+    }
+
+    // Raises the newest version to the one that the pass has seen.
+    pub(crate) fn raise(&self, pass: Pass<V>) -> Pass<V>
+        requires { pass_gate pass ≡ gate_id self.now }
+        ensures gate { pass_gate result ≡ pass_gate pass }
+        ensures knows { pass_knows result ≡ pass_knows pass }
+        ensures heard { pass_heard result ≡ pass_heard pass }
+    {
+        let Pass { mut seat, version } = pass;
+        self.table
+            .shared
+            .fetch_max::<Raise>(&mut seat, NEWEST, version);
+        Pass { seat, version }
+    }
+}
