@@ -63,14 +63,14 @@ module _ {V O C : Type 0} (opening : V → O) (commits : V → List (ℕ × C)) 
     gathers_set : (u u' : View O C) → u'.told ≡ u.told → Gathers s.views (commits terms.value.value) h.since u → Gathers (set s.views i w) (commits terms.value.value) (h.since ++ new) u'
     gathers_set u u' told g = record {
       counted = (
-        let count = count_set alive s.views i v w at in
-        let one : one_if alive v ≡ 1 = ap (λ b. cond (not b) 1 0) live in
-        let one' : one_if alive w ≡ 1 = ap (λ b. cond (not b) 1 0) same.spent_is in
-        let long = length-set s.views i w in
-        let more : length u'.told ≡ length u.told = ap length told in
-        let c = g.counted in
-        omega arith
-      );
+          let count = count_set alive s.views i v w at in
+          let one : one_if alive v ≡ 1 = ap (λ b. cond (not b) 1 0) live in
+          let one' : one_if alive w ≡ 1 = ap (λ b. cond (not b) 1 0) same.spent_is in
+          let long = length-set s.views i w in
+          let more : length u'.told ≡ length u.told = ap length told in
+          let c = g.counted in
+          omega arith
+          );
       told_spent = λ k e there. let spent = g.told_spent k e (here k e there) in set_else s.views i e.number w (elsewhere e.number spent) ∙ spent;
       told_is = λ k e there. let t = g.told_is k e (here k e there) in
           told_more t (own e.number (elsewhere e.number (g.told_spent k e (here k e there))));
@@ -342,11 +342,11 @@ module _ {V O C : Type 0} (opening : V → O) (commits : V → List (ℕ × C)) 
           heard = mine.heard;
           commits_are = a.commits_are ∙ ap (λ l. l ++ h.since) (sym mine.start_is);
           not_below = (
-            let low : version v.heard ≤ version h.since = h.none_above v.heard mine.heard in
-            let left : version_of (opening a.value) (v.start ++ v.heard) ≡ version v.heard = λ k. version_of (a.opening_is k) (mine.start_is k ++ v.heard) in
-            let right : version_of (opening a.value) (commits a.value) ≡ version h.since = λ k. version_of (a.opening_is k) (a.commits_are k) in
-            omega arith
-          );
+              let low : version v.heard ≤ version h.since = h.none_above v.heard mine.heard in
+              let left : version_of (opening a.value) (v.start ++ v.heard) ≡ version v.heard = λ k. version_of (a.opening_is k) (mine.start_is k ++ v.heard) in
+              let right : version_of (opening a.value) (commits a.value) ≡ version h.since = λ k. version_of (a.opening_is k) (a.commits_are k) in
+              omega arith
+              );
         },
       )
 
@@ -391,11 +391,11 @@ module _ {V O C : Type 0} (opening : V → O) (commits : V → List (ℕ × C)) 
       let same_opening : opening x ≡ opening terms.value.value = ap (elim_some (opening x)) (opening_is ∙ mine.opening_is) in
       let stands : commits x ≡ commits terms.value.value ++ (h.since ++ new) = commits_are ∙ append_assoc v.start v.since new ∙ (λ k. mine.start_is k ++ (all k ++ new)) in
       let up : (b : List (ℕ × C)) → Continues b new → version (h.since ++ b) ≤ version (h.since ++ new) = λ b c.
-          let r = rises b c in
-          let left : version_of (opening x) ((v.start ++ v.since) ++ b) ≡ version (h.since ++ b) = ap (version_of (opening x)) (append_assoc v.start v.since b) ∙ (λ k. version_of (same_opening k) (mine.start_is k ++ (all k ++ b))) in
-          let right : version_of (opening x) ((v.start ++ v.since) ++ new) ≡ version (h.since ++ new) = ap (version_of (opening x)) (append_assoc v.start v.since new) ∙ (λ k. version_of (same_opening k) (mine.start_is k ++ (all k ++ new))) in
-          omega arith
-          in
+      let r = rises b c in
+      let left : version_of (opening x) ((v.start ++ v.since) ++ b) ≡ version (h.since ++ b) = ap (version_of (opening x)) (append_assoc v.start v.since b) ∙ (λ k. version_of (same_opening k) (mine.start_is k ++ (all k ++ b))) in
+      let right : version_of (opening x) ((v.start ++ v.since) ++ new) ≡ version (h.since ++ new) = ap (version_of (opening x)) (append_assoc v.start v.since new) ∙ (λ k. version_of (same_opening k) (mine.start_is k ++ (all k ++ new))) in
+      omega arith
+      in
       let count = count_set queued s.views i v w at in
       let one : one_if queued v ≡ 1 = ap (λ b. cond b 1 0) waits in
       let next : (slice_index s.words 1 + 1) % 2 ^ 64 ≡ (h.served + 1) % 2 ^ 64 = ap (λ ws. (slice_index ws 1 + 1) % 2 ^ 64) h.words_are ∙ mod-add-mod h.served (2 ^ 64) 1 in
@@ -458,38 +458,38 @@ module _ {V O C : Type 0} (opening : V → O) (commits : V → List (ℕ × C)) 
       let count = count_set queued s.views i v w at in
       let all : h.since ++ [] ≡ h.since = append-nil h.since in
       changed s h i v w at live (record { spent_is = live; made_is = refl; told_is = refl }) [] (λ m apart. refl)
-          h.drawn h.served newest (set s.words 2 n) s.homes
-          (word_2 s.words (h.drawn % 2 ^ 64) (h.served % 2 ^ 64) (version h.newest) n h.words_are ∙ ap (λ m. h.drawn % 2 ^ 64 ∷ h.served % 2 ^ 64 ∷ m ∷ []) n_is)
-          (let c = h.counted in omega arith)
-          (continues_more newest h.since [] reached)
-          (omega arith)
-          (subst (NoneAbove version) (sym all) h.none_above)
-          record {
-            number_is = mine.number_is;
-            opening_is = mine.opening_is;
-            start_is = mine.start_is;
-            seen = grows_more i v.since h.since [] mine.seen refl;
-            heard = continues_more heard h.since [] begins;
-            version_is = known_is;
-            raised = omega arith;
-            ticket_from = λ q. absurd (off idle q);
-            ticket_below = λ q. absurd (off idle q);
-            served_is = λ q. absurd (off out q);
-            serving_queued = λ q. absurd (off out q);
-            seen_all = λ q. absurd (off out q);
-          }
-          (λ j u apart there. ⊎_elim
-          (λ (spent : u.spent ≡ true). let g = h.fits_spent j u there spent in ((λ q. absurd (off g.not_queued q)), (λ q. absurd (off g.not_serving q)), (λ q r _. absurd (off idle r))))
-          (λ (spent : u.spent ≡ false). let f = h.fits j u there spent in (
-            (λ q. (f.ticket_from q, f.ticket_below q)),
-            (λ q. (f.served_is q, f.seen_all q ∙ sym all)),
-            (λ q r _. absurd (off idle r)),
-          ))
-          (cases_Bool u.spent))
-          (⊎_elim
-          (λ (a : AtHome opening commits terms.value.value h.since s.homes). inl record { value = a.value; there = a.there; opening_is = a.opening_is; commits_are = a.commits_are ∙ ap (λ l. commits terms.value.value ++ l) (sym all) })
-          (λ (o : IsOut s.homes s.views). inr record { gone = o.gone; seat = o.seat; view = o.view; there = set_else s.views i o.seat w (not_here s i v at out o) ∙ o.there; serving = o.serving })
-          h.slot)
+      h.drawn h.served newest (set s.words 2 n) s.homes
+      (word_2 s.words (h.drawn % 2 ^ 64) (h.served % 2 ^ 64) (version h.newest) n h.words_are ∙ ap (λ m. h.drawn % 2 ^ 64 ∷ h.served % 2 ^ 64 ∷ m ∷ []) n_is)
+      (let c = h.counted in omega arith)
+      (continues_more newest h.since [] reached)
+      (omega arith)
+      (subst (NoneAbove version) (sym all) h.none_above)
+      record {
+        number_is = mine.number_is;
+        opening_is = mine.opening_is;
+        start_is = mine.start_is;
+        seen = grows_more i v.since h.since [] mine.seen refl;
+        heard = continues_more heard h.since [] begins;
+        version_is = known_is;
+        raised = omega arith;
+        ticket_from = λ q. absurd (off idle q);
+        ticket_below = λ q. absurd (off idle q);
+        served_is = λ q. absurd (off out q);
+        serving_queued = λ q. absurd (off out q);
+        seen_all = λ q. absurd (off out q);
+      }
+      (λ j u apart there. ⊎_elim
+      (λ (spent : u.spent ≡ true). let g = h.fits_spent j u there spent in ((λ q. absurd (off g.not_queued q)), (λ q. absurd (off g.not_serving q)), (λ q r _. absurd (off idle r))))
+      (λ (spent : u.spent ≡ false). let f = h.fits j u there spent in (
+        (λ q. (f.ticket_from q, f.ticket_below q)),
+        (λ q. (f.served_is q, f.seen_all q ∙ sym all)),
+        (λ q r _. absurd (off idle r)),
+      ))
+      (cases_Bool u.spent))
+      (⊎_elim
+      (λ (a : AtHome opening commits terms.value.value h.since s.homes). inl record { value = a.value; there = a.there; opening_is = a.opening_is; commits_are = a.commits_are ∙ ap (λ l. commits terms.value.value ++ l) (sym all) })
+      (λ (o : IsOut s.homes s.views). inr record { gone = o.gone; seat = o.seat; view = o.view; there = set_else s.views i o.seat w (not_here s i v at out o) ∙ o.there; serving = o.serving })
+      h.slot)
     where
       not_here : (s : State (Option V) (View O C)) (i : ℕ) (v : View O C) → get_elem? s.views i ≡ some v → v.serving ≡ false → (o : IsOut s.homes s.views) → o.seat ≢ i
       not_here s i v at out o e = off out (ap (λ (y : View O C). y.serving) (same_there s.views i v o.view at (subst (λ n. get_elem? s.views n ≡ some o.view) e o.there)) ∙ o.serving)
@@ -662,18 +662,18 @@ module _ {V O C : Type 0} (opening : V → O) (commits : V → List (ℕ × C)) 
           → Gathers (set s.views i (left_view v) ++ right_view v ∷ []) (commits terms.value.value) h.since u'
       gathers_old s h at u u' told g = record {
         counted = (
-          let views : List (View O C) = set s.views i (left_view v) in
-          let count = count_set alive s.views i v (left_view v) at in
-          let count' = count_end alive views (right_view v) in
-          let one : one_if alive v ≡ 1 = ap (λ b. cond (not b) 1 0) live in
-          let one' : one_if alive (left_view v) ≡ 1 = ap (λ b. cond (not b) 1 0) live in
-          let one'' : one_if alive (right_view v) ≡ 1 = ap (λ b. cond (not b) 1 0) live in
-          let long = length-set s.views i (left_view v) in
-          let size = length-append views (right_view v ∷ []) in
-          let more : length u'.told ≡ length u.told = ap length told in
-          let c = g.counted in
-          omega arith
-        );
+            let views : List (View O C) = set s.views i (left_view v) in
+            let count = count_set alive s.views i v (left_view v) at in
+            let count' = count_end alive views (right_view v) in
+            let one : one_if alive v ≡ 1 = ap (λ b. cond (not b) 1 0) live in
+            let one' : one_if alive (left_view v) ≡ 1 = ap (λ b. cond (not b) 1 0) live in
+            let one'' : one_if alive (right_view v) ≡ 1 = ap (λ b. cond (not b) 1 0) live in
+            let long = length-set s.views i (left_view v) in
+            let size = length-append views (right_view v ∷ []) in
+            let more : length u'.told ≡ length u.told = ap length told in
+            let c = g.counted in
+            omega arith
+            );
         told_spent = λ k e there.
             let spent = g.told_spent k e (here k e there) in
             at_longer (set s.views i (left_view v)) (right_view v ∷ []) e.number spent_view (set_else s.views i e.number (left_view v) (not_spent s at e.number spent) ∙ spent);

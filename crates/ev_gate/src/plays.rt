@@ -50,7 +50,7 @@ pub(crate) struct Ask<K> {
 impl<V: Stands, K: FirstValue<V>> Play<Option<V>, View<V::Opening, V::Commit>> for Ask<K> {
     ghost then = { λ s m found n.
         Asks V.opening V.commits V.version_of s.first m found n
-            × KnowsFirst V.opening V.commits K.first m.0 };
+        × KnowsFirst V.opening V.commits K.first m.0 };
 }
 
 pub(crate) struct Seating;

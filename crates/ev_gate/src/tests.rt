@@ -210,12 +210,7 @@ fn perform_all<R: Threads + Wait + Sync>(
 }
 
 // One act after another.
-fn play<R: Threads + Wait + Sync>(
-    rt: &R,
-    gate: &Gate<Numbers>,
-    actors: &mut [Actor],
-    acts: &[Act],
-)
+fn play<R: Threads + Wait + Sync>(rt: &R, gate: &Gate<Numbers>, actors: &mut [Actor], acts: &[Act])
     requires { (i : ℕ) (d : _) → i < length actors.old → IsSomeAnd (slice_index_or actors.old i d).pass (IsPassOf (gate_id gate.now) i) }
     ensures { (i : ℕ) (d : _) → i < length actors.old → IsSomeAnd (slice_index_or actors.new i d).pass (IsPassOf (gate_id gate.now) i) }
 {
@@ -261,9 +256,12 @@ fn passes_of(
     ensures { AreAll (gate_id gate.now) (length actors.items) result.0.items }
 {
     while actors.len() > 0 {
-        let actor = actors.take_last();
-        told.push_reserved(actor.told);
-        passes.push_reserved(actor.pass.unwrap());
+        let Actor {
+            pass,
+            told: answers,
+        } = actors.take_last();
+        told.push_reserved(answers);
+        passes.push_reserved(pass.unwrap());
     }
     actors.destroy_empty();
     (passes, told)
@@ -359,7 +357,11 @@ fn each_seat_has_its_numbers_in_order(rt: HostRuntime) -> Result<(), Fail> {
         let total = evens.len().wrapping_mul(count as usize).wrapping_add(2);
         assert_eq!(rt; numbers.added.len(), total, "at {count}");
         assert_eq!(rt; numbers.version(), 0, "at {count}");
-        assert_eq!(rt; &numbers.added[..2], [(0, 76), (0, 78)].as_slice(), "at {count}");
+        assert_eq!(rt;
+            &numbers.added[..2],
+            [(0, 76), (0, 78)].as_slice(),
+            "at {count}"
+        );
         for seat in 0..u64::from(count) {
             let mine: Vec<u64> = numbers
                 .added
