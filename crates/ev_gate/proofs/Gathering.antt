@@ -1,5 +1,5 @@
 -- The passes as the first of them takes in the others, and the whole history at the end.
-use Rattle.std.proofs.Common.{◌≡◌, ℕ, zero, suc, ◌+◌, ◌<◌, Bool, true, false, true≢false, eqb, List, [], ◌∷◌, ◌++◌, length, map, get_or, refl, sym, ap, ◌∙◌, subst, arith, append_assoc, length-append, Option, Some, All}
+use Rattle.std.proofs.Common.{◌≡◌, ℕ, zero, suc, ◌+◌, ◌<◌, Bool, true, false, true≢false, eqb, List, [], ◌∷◌, ◌++◌, length, map, get_or, refl, sym, ap, ◌∙◌, subst, arith, append_assoc, Option, Some, All}
 use Rattle.std.specs.Prelude.{slice_get, remove}
 use Rattle.std.proofs.lemmas.Bool.{eqb-true}
 use Rattle.std.proofs.lemmas.List.{append-nil}
@@ -10,10 +10,10 @@ use Rattle.ev_gate.specs.declared.view.View.{View}
 use Rattle.ev_gate.specs.declared.view.Joined.{Joined}
 use Rattle.ev_gate.specs.declared.view.Terms.{Terms}
 use Rattle.ev_gate.specs.declared.gate.Pass.{Pass}
-use Rattle.ev_gate.specs.History.{commits_by, Continues, seen_of, mine_of}
+use Rattle.ev_gate.specs.History.{Continues}
 use Rattle.ev_gate.specs.Rule.{WasTold, joined, joined_view}
 use Rattle.ev_gate.specs.Inner.{IsGathering, IsLast}
-use Rattle.ev_gate.specs.Words.{AreAll, IsWhole, pass_knows, pass_heard}
+use Rattle.ev_gate.specs.Words.{AreAll, IsWhole, pass_knows}
 use Rattle.ev_gate.proofs.Lists.{Some-injective}
 use Rattle.ev_gate.proofs.Turning.{nil_of, same_mine}
 

@@ -17,7 +17,7 @@ use Rattle.ev_gate.specs.declared.view.Terms.{Terms}
 use Rattle.ev_gate.specs.History.{commits_by, Continues, GrowsWithout}
 use Rattle.ev_gate.specs.Rule.{queued_count, spent_view, NoneAbove, Fits, FitsSpent, IsOut, WasTold, Gathers, AtHome, KnowsFirst, IsKept, first_view, Draws, Takes, Looks, Ends, Raises, Asks, left_view, right_view, joined, joined_view}
 use Rattle.ev_gate.specs.Inner.{IsLast}
-use Rattle.ev_gate.proofs.Lists.{Some-injective, at_below, at_end, get_at_end, same_there, all_below, commits_by-append, continues_more, none_above_more, grows_more, none_more, grows_from_none, one_if, count_set, count_end, count_few, two_pass}
+use Rattle.ev_gate.proofs.Lists.{Some-injective, at_below, at_end, get_at_end, same_there, all_below, continues_more, none_above_more, grows_more, none_more, grows_from_none, one_if, count_set, count_end, count_few, two_pass}
 
 abbrev queued : {O C : Type 0} → View O C → Bool
 queued v = v.queued

@@ -13,7 +13,7 @@ use Rattle.ev_gate.specs.History.{commits_by, Continues, GrowsWithout}
 use Rattle.ev_gate.specs.Held.{holds_empty}
 use Rattle.ev_gate.specs.Inner.{IsWaiting, IsServed, HasTurn}
 use Rattle.ev_gate.specs.Rule.{KnowsFirst, IsKept, Draws, Takes, Looks, Ends, Raises, Asks}
-use Rattle.ev_gate.proofs.Lists.{Some-injective, beginning_of_one, commits_by-append, commits_by-other, no_rest}
+use Rattle.ev_gate.proofs.Lists.{Some-injective, beginning_of_one, commits_by-append, commits_by-other}
 use Rattle.ev_gate.proofs.Steps.{no_start, draws, looks, ends, asks, raises}
 
 pub nil_of : {A : Type 0} → (l : List A) → length l ≡ 0 → l ≡ []

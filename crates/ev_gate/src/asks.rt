@@ -1,5 +1,6 @@
 //! The newest version, without a turn.
 ghost use Rattle.std.specs.Prelude.{◌≡◌, ◌≤◌};
+ghost use Rattle.ev_gate.specs.History.{Continues};
 ghost use Rattle.ev_gate.specs.Words.{gate_id, first_of, pass_gate, pass_knows, pass_heard};
 
 use crate::gate::{Gate, Pass};
@@ -16,7 +17,9 @@ impl<V: Stands> Gate<V> {
         ensures gate { pass_gate pass.new ≡ gate_id self.now }
         ensures knows { pass_knows pass.new ≡ pass_knows pass.old }
 
-        // The pass has heard of the history that had the version.
+        // The pass has heard of the history that had the version: what the value stood for when the gate was made, and
+        // then perhaps more.
+        ensures begins { Continues (V.commits (first_of self.now)) (pass_heard pass.new) }
         ensures version { result ≡ V.version_of (V.opening (first_of self.now)) (pass_heard pass.new) }
         ensures not_below { V.version_of (V.opening (first_of self.now)) (pass_heard pass.old) ≤ result }
     {
@@ -29,6 +32,7 @@ impl<V: Stands> Gate<V> {
         requires gate { pass_gate pass.old ≡ gate_id self.now }
         ensures gate { pass_gate pass.new ≡ gate_id self.now }
         ensures knows { pass_knows pass.new ≡ pass_knows pass.old }
+        ensures begins { Continues (V.commits (first_of self.now)) (pass_heard pass.new) }
         ensures version { result ≡ V.version_of (V.opening (first_of self.now)) (pass_heard pass.new) }
         ensures not_below { V.version_of (V.opening (first_of self.now)) (pass_heard pass.old) ≤ result }
     {

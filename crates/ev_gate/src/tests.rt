@@ -142,7 +142,7 @@ enum Act {
     Ask,
 }
 
-// A seat's pass lies in an `Option`, since a thread only borrows it.
+/// A seat, whose pass lies in an `Option` so that a thread can take it and put it back.
 struct Actor {
     pass: Option<Pass<Numbers>>,
     told: Told,
@@ -170,6 +170,7 @@ fn perform<R: Threads + Wait + Sync>(
     }
 }
 
+// The same, with the pass of an actor, which a thread only borrows.
 fn perform_as<R: Threads + Wait + Sync>(
     rt: &R,
     gate: &Gate<Numbers>,
@@ -219,6 +220,7 @@ fn play<R: Threads + Wait + Sync>(rt: &R, gate: &Gate<Numbers>, actors: &mut [Ac
     }
 }
 
+// The passes of a new gate, each with its actor.
 fn actors_of(
     mut passes: Vec<Pass<Numbers>>,
     mut actors: Vec<Actor>,
@@ -296,6 +298,7 @@ impl Rooms {
     }
 }
 
+/// Why a gate could not run, or that another value came back.
 #[derive(Debug, Drop)]
 enum RunError {
     Memory,

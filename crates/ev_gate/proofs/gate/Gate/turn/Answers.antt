@@ -4,7 +4,7 @@ use Rattle.atomic_table.specs.Table.{rest}
 use Rattle.std.specs.Prelude.{IsSome}
 use Rattle.ev_gate.specs.Held.{holds_empty}
 use Rattle.ev_gate.specs.Inner.{IsServed, HasTurn}
-use Rattle.ev_gate.proofs.Turning.{nil_of, looks_as, still, served, in_slot, taken_out}
+use Rattle.ev_gate.proofs.Turning.{looks_as, still, served, in_slot, taken_out}
 use Rattle.ev_gate.proofs.gate.Gate.turn.Goals as goal
 use Rattle.ev_gate.proofs.gate.Gate.turn.Goals.{After-load-served, After-unwrap}
 
