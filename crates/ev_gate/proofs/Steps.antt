@@ -547,10 +547,10 @@ module _ {V O C : Type 0} (opening : V → O) (commits : V → List (ℕ × C)) 
       ⊎_elim
       (λ (lt : slice_index s.words 2 < known).
       let most : n ≡ version v.heard = (let top : max (slice_index s.words 2) known ≡ known = omega arith in top ∙ own) in
-      (record v { raised = known }, keeps, tt, topped s h i v at live idle out v.heard v.heard v.version known n mine.heard mine.version_is mine.heard most (omega arith) (omega arith), record { view_is = refl; held = refl }))
+      (record v { raised = v.version }, keeps, tt, topped s h i v at live idle out v.heard v.heard v.version v.version n mine.heard mine.version_is mine.heard most (omega arith) (omega arith), record { view_is = refl; held = refl }))
       (λ (le : known ≤ slice_index s.words 2).
       let most : n ≡ version h.newest = (let top : max (slice_index s.words 2) known ≡ slice_index s.words 2 = omega arith in top ∙ word) in
-      (record v { raised = known }, keeps, tt, topped s h i v at live idle out v.heard h.newest v.version known n mine.heard mine.version_is h.reached most (omega arith) (omega arith), record { view_is = refl; held = refl }))
+      (record v { raised = v.version }, keeps, tt, topped s h i v at live idle out v.heard h.newest v.version v.version n mine.heard mine.version_is h.reached most (omega arith) (omega arith), record { view_is = refl; held = refl }))
       (cases_lt (slice_index s.words 2) known)
 
   -- what a seat fits where only what it alone knows of others changes

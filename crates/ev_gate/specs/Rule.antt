@@ -96,9 +96,9 @@ module _ {V O C : Type 0} (opening : V → O) (commits : V → List (ℕ × C)) 
     pub ticket_is : n.0.ticket % 2 ^ 64 ≡ found
     pub held : n.1 ≡ m.1
 
-  -- the seat has raised the word
+  -- the seat has raised the word to the version that it has heard of
   pub record Raises (m n : Me (Option V) (View O C)) : Type 0 where
-    pub view_is : n.0 ≡ record m.0 { raised = n.0.raised }
+    pub view_is : n.0 ≡ record m.0 { raised = m.0.version }
     pub held : n.1 ≡ m.1
 
 module _ {V O C : Type 0} (opening : V → O) (commits : V → List (ℕ × C)) (version_of : O → List (ℕ × C) → ℕ) where
@@ -157,7 +157,7 @@ module _ {V O C : Type 0} (opening : V → O) (commits : V → List (ℕ × C)) 
 
   -- The seat has heard of a history, which has the greater of the version found and the version known.
   pub record Asks (known : ℕ) (m : Me (Option V) (View O C)) (found : ℕ) (n : Me (Option V) (View O C)) : Type 0 where
-    pub view_is : n.0 ≡ record m.0 { heard = n.0.heard; version = max found known; raised = n.0.raised }
+    pub view_is : n.0 ≡ record m.0 { heard = n.0.heard; version = max found known; raised = max found known }
     pub held : n.1 ≡ m.1
     pub before : (o : O) → m.0.opening ≡ Some o → m.0.version ≡ version_of o (m.0.start ++ m.0.heard)
     pub after : (o : O) → m.0.opening ≡ Some o → max found known ≡ version_of o (m.0.start ++ n.0.heard)

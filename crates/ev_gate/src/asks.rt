@@ -1,12 +1,12 @@
 //! The newest version, without a turn.
-ghost use Rattle.std.specs.Prelude.{◌≡◌, ◌≤◌};
+ghost use Rattle.std.specs.Prelude.{◌≡◌, ◌≤◌, ◌++◌, [], false, length};
 ghost use Rattle.ev_gate.specs.History.{Continues};
-ghost use Rattle.ev_gate.specs.Words.{gate_id, first_of, pass_gate, pass_knows, pass_heard};
+ghost use Rattle.ev_gate.specs.Words.{gate_id, first_of, pass_gate, pass_knows, pass_heard, known};
 
 use crate::gate::{Gate, Pass};
 use crate::plays::{Ask, FirstValue, Raise};
 use crate::stands::Stands;
-use crate::view::NEWEST;
+use crate::view::{GateSeat, NEWEST};
 use std::marker::Brand;
 
 impl<V: Stands> Gate<V> {
@@ -44,14 +44,18 @@ impl<V: Stands> Gate<V> {
         pass.version
     }
 
-    // Raises the newest version to the one that the pass has seen.
-    pub(crate) fn raise(&self, pass: Pass<V>) -> Pass<V>
-        requires { pass_gate pass ≡ gate_id self.now }
-        ensures gate { pass_gate result ≡ pass_gate pass }
-        ensures knows { pass_knows result ≡ pass_knows pass }
-        ensures heard { pass_heard result ≡ pass_heard pass }
+    // Raises the newest version to the one that the seat has heard of. Its pass is then at rest.
+    pub(crate) fn raise(&self, mut seat: GateSeat<V>, version: u64) -> Pass<V>
+        requires gate { seat.table_id ≡ gate_id self.now }
+        requires idle { (seat.me.0.spent ≡ false) × (seat.me.0.queued ≡ false)
+            × (seat.me.0.serving ≡ false) }
+        requires holds_nothing { seat.me.1 ≡ [] }
+        requires took_in_nothing { length seat.me.0.told ≡ 0 }
+        requires version { version ≡ seat.me.0.version }
+        ensures gate { pass_gate result ≡ seat.table_id }
+        ensures knows { pass_knows result ≡ known seat.me.0 }
+        ensures heard { pass_heard result ≡ seat.me.0.start ++ seat.me.0.heard }
     {
-        let Pass { mut seat, version } = pass;
         self.table
             .shared
             .fetch_max::<Raise>(&mut seat, NEWEST, version);

@@ -1,5 +1,5 @@
 //! A gate, its passes and its turns.
-ghost use Rattle.std.specs.Prelude.{◌≡◌, ◌<◌, ℕ, true, false, length};
+ghost use Rattle.std.specs.Prelude.{◌≡◌, ◌<◌, ◌≤◌, ℕ, true, false, length};
 ghost use Rattle.ev_gate.specs.Held.{TableId-set, holds_empty};
 
 use crate::stands::Stands;
@@ -23,6 +23,7 @@ pub struct Pass<V: Stands> {
     ghost holds_nothing: { length seat.me.1 ≡ 0 },
     ghost took_in_nothing: { length seat.me.0.told ≡ 0 },
     ghost version_is: { version ≡ seat.me.0.version },
+    ghost raised: { version ≤ seat.me.0.raised },
 }
 
 /// A seat's turn: it has the value, and no other seat has. It must be spent, by `done` or `quit`.

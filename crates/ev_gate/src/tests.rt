@@ -37,7 +37,8 @@ impl Stands for Numbers {
 impl Numbers {
     fn add(&mut self, seat: u64, number: u64) -> bool
         ensures first { self.new.first ≡ self.old.first }
-        ensures added { self.new.added.items ≡ (if result then self.old.added.items ++ (seat, number) ∷ [] else self.old.added.items) }
+        ensures added { let before = self.old.added.items in
+            self.new.added.items ≡ (if result then before ++ (seat, number) ∷ [] else before) }
     {
         self.added.push((seat, number)).is_ok()
     }
@@ -195,8 +196,10 @@ fn perform_all<R: Threads + Wait + Sync>(
     actors: &mut [Actor],
     act: Act,
 )
-    requires { (i : ℕ) (d : _) → i < length actors.old → IsSomeAnd (slice_index_or actors.old i d).pass (IsPassOf (gate_id gate.now) i) }
-    ensures { (i : ℕ) (d : _) → i < length actors.old → IsSomeAnd (slice_index_or actors.new i d).pass (IsPassOf (gate_id gate.now) i) }
+    requires { (i : ℕ) (d : _) → i < length actors.old →
+        IsSomeAnd (slice_index_or actors.old i d).pass (IsPassOf (gate_id gate.now) i) }
+    ensures { (i : ℕ) (d : _) → i < length actors.old →
+        IsSomeAnd (slice_index_or actors.new i d).pass (IsPassOf (gate_id gate.now) i) }
 {
     let threads = actors.len().max(1);
     thread::for_each_mut(
@@ -212,8 +215,10 @@ fn perform_all<R: Threads + Wait + Sync>(
 
 // One act after another.
 fn play<R: Threads + Wait + Sync>(rt: &R, gate: &Gate<Numbers>, actors: &mut [Actor], acts: &[Act])
-    requires { (i : ℕ) (d : _) → i < length actors.old → IsSomeAnd (slice_index_or actors.old i d).pass (IsPassOf (gate_id gate.now) i) }
-    ensures { (i : ℕ) (d : _) → i < length actors.old → IsSomeAnd (slice_index_or actors.new i d).pass (IsPassOf (gate_id gate.now) i) }
+    requires { (i : ℕ) (d : _) → i < length actors.old →
+        IsSomeAnd (slice_index_or actors.old i d).pass (IsPassOf (gate_id gate.now) i) }
+    ensures { (i : ℕ) (d : _) → i < length actors.old →
+        IsSomeAnd (slice_index_or actors.new i d).pass (IsPassOf (gate_id gate.now) i) }
 {
     for act in acts {
         perform_all(rt, gate, actors, *act);
@@ -227,9 +232,11 @@ fn actors_of(
     gate: &Gate<Numbers>,
 ) -> Vec<Actor>
     requires room { (actors.items ≡ []) × (length passes.items ≤ vec_capacity actors) }
-    requires each { (k : ℕ) (d : _) → k < length passes.items → IsPassOf (gate_id gate.now) k (slice_index_or passes.items k d) }
+    requires each { (k : ℕ) (d : _) → k < length passes.items →
+        IsPassOf (gate_id gate.now) k (slice_index_or passes.items k d) }
     ensures length { length result.items ≡ length passes.items }
-    ensures each { (i : ℕ) (d : _) → i < length result.items → IsSomeAnd (slice_index_or result.items i d).pass (IsPassOf (gate_id gate.now) i) }
+    ensures each { (i : ℕ) (d : _) → i < length result.items →
+        IsSomeAnd (slice_index_or result.items i d).pass (IsPassOf (gate_id gate.now) i) }
 {
     while passes.len() > 0 {
         actors.push_reserved(Actor {
@@ -254,7 +261,8 @@ fn passes_of(
 ) -> (Vec<Pass<Numbers>>, Vec<Told>)
     requires room { (passes.items ≡ []) × (length actors.items ≤ vec_capacity passes) }
     requires room_told { (told.items ≡ []) × (length actors.items ≤ vec_capacity told) }
-    requires each { (i : ℕ) (d : _) → i < length actors.items → IsSomeAnd (slice_index_or actors.items i d).pass (IsPassOf (gate_id gate.now) i) }
+    requires each { (i : ℕ) (d : _) → i < length actors.items →
+        IsSomeAnd (slice_index_or actors.items i d).pass (IsPassOf (gate_id gate.now) i) }
     ensures { AreAll (gate_id gate.now) (length actors.items) result.0.items }
 {
     while actors.len() > 0 {

@@ -90,7 +90,7 @@ impl<'a, V: Stands> Turn<'a, V> {
 
     /// Ends the turn after one commit of this seat. The value has the same opening, and one commit more than at the
     /// turn, which bears this seat's number, and its version has not fallen. The pass has seen the commit and counts it
-    /// as its own. After the commit the gate's newest version is raised to the value's.
+    /// as its own. After the commit the gate's newest version is raised, so that it is not below the value's.
     pub fn done(self) -> Pass<V>
         requires opening { Some (V.opening (turn_value self)) ≡ (turn_knows self).opening }
         requires commit { AddsOne (turn_knows self) (V.commits (turn_value self)) }
@@ -103,11 +103,11 @@ impl<'a, V: Stands> Turn<'a, V> {
             → CountsAlso (turn_knows self.entry) c (pass_knows result) }
         ensures heard { pass_heard result ≡ V.commits (turn_value self.entry) }
     {
-        let gate = self.gate;
-        gate.raise(self.put_back())
+        self.put_back()
     }
 
-    /// Ends the turn without a commit: the value stands for what it stood for at the turn. The pass has seen that.
+    /// Ends the turn without a commit: the value stands for what it stood for at the turn. The pass has seen that. The
+    /// gate's newest version is then not below the value's.
     pub fn quit(self) -> Pass<V>
         requires opening { Some (V.opening (turn_value self)) ≡ (turn_knows self).opening }
         requires same { V.commits (turn_value self) ≡ seen_of (turn_knows self) }
@@ -118,7 +118,7 @@ impl<'a, V: Stands> Turn<'a, V> {
         Turn::put_back(self)
     }
 
-    // Puts the value back, and serves the next ticket.
+    // Puts the value back, serves the next ticket, and raises the newest version.
     fn put_back(self) -> Pass<V>
         requires opening { Some (V.opening (turn_value self)) ≡ (turn_knows self).opening }
         requires own { AddsAtMostOne (turn_knows self) (V.commits (turn_value self)) }
@@ -139,6 +139,6 @@ impl<'a, V: Stands> Turn<'a, V> {
         let None = slot else { unreachable!() };
         gate.table.shared.fetch_add::<End>(&mut seat, SERVING, 1);
         gate.table.shared.wake_all(SERVING);
-        Pass { seat, version }
+        gate.raise(seat, version)
     }
 }
