@@ -1,12 +1,13 @@
--- Lists that are read by places, lists of commits, and how many seats have a ticket.
-use Rattle.std.proofs.Common.{◌≡◌, ◌≢◌, ◌⊎◌, ℕ, zero, suc, ◌+◌, ◌<◌, ◌≤◌, Bool, true, false, List, [], ◌∷◌, ◌++◌, length, set, eqb, cond, All, refl, sym, ap, ◌∙◌, inl, inr, ⊎_elim, arith, append_assoc}
+-- Lists that are read by places, lists of commits, and how many elements pass a test.
+use Rattle.std.proofs.Common.{◌≡◌, ◌≢◌, ◌⊎◌, ℕ, zero, suc, ◌+◌, ◌<◌, ◌≤◌, Bool, true, false, List, [], ◌∷◌, ◌++◌, length, set, eqb, cond, All, refl, sym, ap, ◌∙◌, inl, inr, ⊎_elim, arith, append_assoc, Some}
+use Rattle.std.specs.Prelude.{slice_get}
 use Rattle.std.proofs.lemmas.Bool.{ne_eqb, eq-eqb, cases_lt}
+use Rattle.std.proofs.lemmas.List.{append-nil}
 use Rattle.std.proofs.lemmas.List.Elements.{filter-append}
 use mathlib.Core.Option.{some, some-injective, some-ne-none}
 use lib.ListN.{get_elem?}
-use Rattle.ev_gate.specs.declared.view.View.{View}
-use Rattle.ev_gate.specs.History.{commits_by, GrowsWithout}
-use Rattle.ev_gate.specs.Rule.{queued_count}
+use Rattle.ev_gate.specs.History.{commits_by, Continues, GrowsWithout}
+use Rattle.ev_gate.specs.Rule.{count_where, NoneAbove}
 
 module _ {A : Type 0} where
   pub at_below : (l : List A) (i : ℕ) (a : A) → get_elem? l i ≡ some a → i < length l
@@ -20,6 +21,15 @@ module _ {A : Type 0} where
   at_end [] a b (suc j) e = absurd (some-ne-none b (sym e))
   at_end (x ∷ xs) a b zero e = inl e
   at_end (x ∷ xs) a b (suc j) e = ⊎_elim inl (λ t. inr (ap suc t.0, t.1)) (at_end xs a b j e)
+
+  pub Some-injective : (a b : A) → Some a ≡ Some b → a ≡ b
+  Some-injective a b e = cc
+
+  pub get_at_end : (xs : List A) (x y : A) (k : ℕ) → slice_get (xs ++ x ∷ []) k ≡ Some y → (slice_get xs k ≡ Some y) ⊎ ((k ≡ length xs) × (x ≡ y))
+  get_at_end [] x y zero e = inr (refl, Some-injective x y e)
+  get_at_end [] x y (suc k) e = absurd (cc)
+  get_at_end (z ∷ xs) x y zero e = inl e
+  get_at_end (z ∷ xs) x y (suc k) e = ⊎_elim inl (λ t. inr (ap suc t.0, t.1)) (get_at_end xs x y k e)
 
   pub same_there : (l : List A) (i : ℕ) (a b : A) → get_elem? l i ≡ some a → get_elem? l i ≡ some b → a ≡ b
   same_there l i a b p q = some-injective a b (sym p ∙ q)
@@ -46,9 +56,37 @@ module _ {C : Type 0} where
   pub grows_from_none : (n m : ℕ) (earlier later : List (ℕ × C)) → GrowsWithout n earlier later → commits_by m later ≡ [] → GrowsWithout m earlier later
   grows_from_none n m earlier later g none = (g.0, g.1, no_rest (commits_by m earlier) (commits_by m g.0) (sym (commits_by-append m earlier g.0) ∙ sym (ap (commits_by m) g.1) ∙ none))
 
-one_at_most : (b : Bool) → cond b 1 0 ≤ 1
-one_at_most true = omega arith
-one_at_most false = omega arith
+module _ {C : Type 0} where
+  pub continues_more : (earlier later new : List (ℕ × C)) → Continues earlier later → Continues earlier (later ++ new)
+  continues_more earlier later new c = (c.0 ++ new, ap (λ l. l ++ new) c.1 ∙ append_assoc earlier c.0 new)
+
+  pub continues_itself : (xs : List (ℕ × C)) → Continues xs xs
+  continues_itself xs = ([], sym (append-nil xs))
+
+  -- a beginning of two lists is one of the first, or the first and a beginning of the second
+  pub beginning_of_two : (earlier xs ys : List (ℕ × C)) → Continues earlier (xs ++ ys) → Continues earlier xs ⊎ ((b : List (ℕ × C)) × (earlier ≡ xs ++ b) × Continues b ys)
+  beginning_of_two earlier [] ys c = inr (earlier, refl, c)
+  beginning_of_two [] (x ∷ xs) ys c = inl (x ∷ xs, refl)
+  beginning_of_two (e ∷ earlier) (x ∷ xs) ys c =
+      let head : x ≡ e = cc in
+      let tail : xs ++ ys ≡ earlier ++ c.0 = cc in
+      ⊎_elim
+      (λ (t : Continues earlier xs). inl (t.0, λ k. head k ∷ t.1 k))
+      (λ (t : (b : List (ℕ × C)) × (earlier ≡ xs ++ b) × Continues b ys). inr (t.0, (λ k. sym head k ∷ t.1 k), t.2))
+      (beginning_of_two earlier xs ys (c.0, tail))
+
+  pub beginning_of_one : (earlier : List (ℕ × C)) (x : ℕ × C) → Continues earlier (x ∷ []) → (earlier ≡ []) ⊎ (earlier ≡ x ∷ [])
+  beginning_of_one [] x c = inl refl
+  beginning_of_one (e ∷ []) x c = inr (cc)
+  beginning_of_one (e ∷ f ∷ earlier) x c = absurd (cc)
+
+  module _ (version : List (ℕ × C) → ℕ) (since new : List (ℕ × C)) where
+    -- the version does not fall while these commits are added
+    pub none_above_more : NoneAbove version since → ((b : List (ℕ × C)) → Continues b new → version (since ++ b) ≤ version (since ++ new)) → NoneAbove version (since ++ new)
+    none_above_more none rises earlier c = ⊎_elim
+        (λ (t : Continues earlier since). let low : version earlier ≤ version since = none earlier t in let high : version (since ++ []) ≤ version (since ++ new) = rises [] (new, refl) in let same : version (since ++ []) ≡ version since = ap version (append-nil since) in omega arith)
+        (λ (t : (b : List (ℕ × C)) × (earlier ≡ since ++ b) × Continues b new). let high : version (since ++ t.0) ≤ version (since ++ new) = rises t.0 t.2 in let same : version earlier ≡ version (since ++ t.0) = ap version t.1 in omega arith)
+        (beginning_of_two earlier since new c)
 
 -- where a seat from m on has made no commit, each commit's seat is below m
 pub all_below : {C : Type 0} (m : ℕ) (xs : List (ℕ × C)) → ((n : ℕ) → m ≤ n → commits_by n xs ≡ []) → All (λ c. c.0 < m) xs
@@ -65,19 +103,35 @@ all_below {C} m (x ∷ xs) none = each (all_below m xs (λ n le. no_rest (commit
     each later zero d lt = below
     each later (suc k) d lt = later k d (omega arith)
 
-module _ {O C : Type 0} where
-  abbrev pub one_if : View O C → ℕ
-  one_if v = cond v.queued 1 0
+module _ {A : Type 0} (p : A → Bool) where
+  abbrev pub one_if : A → ℕ
+  one_if x = cond (p x) 1 0
 
-  pub queued_set : (vs : List (View O C)) (i : ℕ) (v w : View O C) → get_elem? vs i ≡ some v → queued_count (set vs i w) + one_if v ≡ queued_count vs + one_if w
-  queued_set [] i v w e = absurd (some-ne-none v (sym e))
-  queued_set (x ∷ vs) zero v w e = let same : one_if x ≡ one_if v = ap one_if (some-injective x v e) in omega arith
-  queued_set (x ∷ vs) (suc i) v w e = let h = queued_set vs i v w e in omega arith
+  one_at_most : (b : Bool) → cond b 1 0 ≤ 1
+  one_at_most true = omega arith
+  one_at_most false = omega arith
 
-  pub queued_end : (vs : List (View O C)) (w : View O C) → queued_count (vs ++ w ∷ []) ≡ queued_count vs + one_if w
-  queued_end [] w = omega arith
-  queued_end (x ∷ vs) w = let h = queued_end vs w in omega arith
+  pub count_set : (xs : List A) (i : ℕ) (v w : A) → get_elem? xs i ≡ some v → count_where p (set xs i w) + one_if v ≡ count_where p xs + one_if w
+  count_set [] i v w e = absurd (some-ne-none v (sym e))
+  count_set (x ∷ xs) zero v w e = let same : one_if x ≡ one_if v = ap one_if (some-injective x v e) in omega arith
+  count_set (x ∷ xs) (suc i) v w e = let h = count_set xs i v w e in omega arith
 
-  pub queued_few : (vs : List (View O C)) → queued_count vs ≤ length vs
-  queued_few [] = omega arith
-  queued_few (x ∷ vs) = let h = queued_few vs in let k = one_at_most x.queued in omega arith
+  pub count_end : (xs : List A) (w : A) → count_where p (xs ++ w ∷ []) ≡ count_where p xs + one_if w
+  count_end [] w = omega arith
+  count_end (x ∷ xs) w = let h = count_end xs w in omega arith
+
+  pub count_few : (xs : List A) → count_where p xs ≤ length xs
+  count_few [] = omega arith
+  count_few (x ∷ xs) = let h = count_few xs in let k = one_at_most (p x) in omega arith
+
+  one_passes : (xs : List A) (i : ℕ) (v : A) → get_elem? xs i ≡ some v → p v ≡ true → 1 ≤ count_where p xs
+  one_passes [] i v e t = absurd (some-ne-none v (sym e))
+  one_passes (x ∷ xs) zero v e t = let one : one_if x ≡ 1 = ap one_if (some-injective x v e) ∙ ap (λ b. cond b 1 0) t in omega arith
+  one_passes (x ∷ xs) (suc i) v e t = let h = one_passes xs i v e t in omega arith
+
+  pub two_pass : (xs : List A) (i j : ℕ) (v w : A) → get_elem? xs i ≡ some v → get_elem? xs j ≡ some w → i ≢ j → p v ≡ true → p w ≡ true → 2 ≤ count_where p xs
+  two_pass [] i j v w e f apart t t' = absurd (some-ne-none v (sym e))
+  two_pass (x ∷ xs) zero zero v w e f apart t t' = absurd (apart refl)
+  two_pass (x ∷ xs) zero (suc j) v w e f apart t t' = let one : one_if x ≡ 1 = ap one_if (some-injective x v e) ∙ ap (λ b. cond b 1 0) t in let h = one_passes xs j w f t' in omega arith
+  two_pass (x ∷ xs) (suc i) zero v w e f apart t t' = let one : one_if x ≡ 1 = ap one_if (some-injective x w f) ∙ ap (λ b. cond b 1 0) t' in let h = one_passes xs i v e t in omega arith
+  two_pass (x ∷ xs) (suc i) (suc j) v w e f apart t t' = let h = two_pass xs i j v w e f (λ q. apart (ap suc q)) t t' in omega arith

@@ -1,5 +1,5 @@
 -- Commits, each beside the number of the seat that made it, and what a seat knows of them.
-use Rattle.std.specs.Prelude.{◌≡◌, ◌≢◌, ℕ, ◌==◌, List, [], ◌∷◌, ◌++◌, filter, Option}
+use Rattle.std.specs.Prelude.{◌≡◌, ◌⊎◌, ℕ, ◌==◌, List, [], ◌∷◌, ◌++◌, filter, Option}
 
 -- of these commits those of the seat n, in order
 abbrev pub commits_by : {C : Type 0} → ℕ → List (ℕ × C) → List (ℕ × C)
@@ -8,6 +8,10 @@ commits_by n cs = filter (λ c. c.0 == n) cs
 -- the later list is the earlier one and then more, none of which is the seat's
 abbrev pub GrowsWithout : {C : Type 0} → ℕ → List (ℕ × C) → List (ℕ × C) → Type 0
 GrowsWithout {C} n earlier later = (more : List (ℕ × C)) × (later ≡ earlier ++ more) × (commits_by n more ≡ [])
+
+-- the later list is the earlier one, and then perhaps more
+abbrev pub Continues : {C : Type 0} → List (ℕ × C) → List (ℕ × C) → Type 0
+Continues {C} earlier later = (more : List (ℕ × C)) × (later ≡ earlier ++ more)
 
 -- What a seat knows: its number, the opening of the gate's value, the commits that the value stood for at the start, and the commits since then that it has seen.
 pub record Knowledge (O C : Type 0) : Type 0 where
@@ -37,6 +41,6 @@ module _ {O C : Type 0} where
   abbrev pub CountsAlso : Knowledge O C → C → Knowledge O C → Type 0
   CountsAlso before c after = mine_of after ≡ mine_of before ++ (before.number, c) ∷ []
 
-  -- the commits are what the seat has seen, and then perhaps more, all of which is its own
-  abbrev pub AddsOwn : Knowledge O C → List (ℕ × C) → Type 0
-  AddsOwn k commits = (new : List (ℕ × C)) × (commits ≡ seen_of k ++ new) × ((n : ℕ) → n ≢ k.number → commits_by n new ≡ [])
+  -- the commits are what the seat has seen, or that and then one of its own
+  abbrev pub AddsAtMostOne : Knowledge O C → List (ℕ × C) → Type 0
+  AddsAtMostOne k commits = (commits ≡ seen_of k) ⊎ AddsOne k commits

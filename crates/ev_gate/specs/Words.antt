@@ -6,7 +6,7 @@ use Rattle.ev_gate.specs.declared.view.View.{View}
 use Rattle.ev_gate.specs.declared.gate.Pass.{Pass}
 use Rattle.ev_gate.specs.declared.gate.Turn.{Turn}
 use Rattle.ev_gate.specs.declared.gate.Gate.{Gate}
-use Rattle.ev_gate.specs.History.{commits_by, Knowledge, mine_of}
+use Rattle.ev_gate.specs.History.{commits_by, Continues, Knowledge, seen_of, mine_of}
 
 -- what a view knows of the history
 abbrev pub known : {O C : Type 0} → View O C → Knowledge O C
@@ -41,6 +41,10 @@ module _ {V O C : Type 0} {g : Ghosts V O C} where
   abbrev pub pass_knows : Pass V O C g → Knowledge O C
   pass_knows it = known it.seat.me.0
 
+  -- the history with the greatest version that the pass has heard of
+  abbrev pub pass_heard : Pass V O C g → List (ℕ × C)
+  pass_heard it = it.seat.me.0.start ++ it.seat.me.0.heard
+
   -- the pass of the seat with this number at this gate
   abbrev pub IsPassOf : TableId → ℕ → Pass V O C g → Type 0
   IsPassOf gate number it = (pass_gate it ≡ gate) × ((pass_knows it).number ≡ number)
@@ -50,16 +54,19 @@ module _ {V O C : Type 0} {g : Ghosts V O C} where
     pub count_is : length passes ≡ seats
     pub gate_is : (k : ℕ) (p : Pass V O C g) → slice_get passes k ≡ Some p → pass_gate p ≡ gate
     pub knows : (k : ℕ) (p : Pass V O C g) → slice_get passes k ≡ Some p → pass_knows p ≡ record { number = k; opening = Some opening; start = start; since = [] }
+    pub heard : (k : ℕ) (p : Pass V O C g) → slice_get passes k ≡ Some p → pass_heard p ≡ start
 
-  -- all passes of a gate, in the order of their numbers
+  -- All passes of a gate, in any order: as many as it has seats. No two are of one seat, since a pass can't be copied.
   pub record AreAll (gate : TableId) (seats : ℕ) (passes : List (Pass V O C g)) : Type 0 where
     pub count_is : length passes ≡ seats
     pub gate_is : (k : ℕ) (p : Pass V O C g) → slice_get passes k ≡ Some p → pass_gate p ≡ gate
-    pub number_is : (k : ℕ) (p : Pass V O C g) → slice_get passes k ≡ Some p → (pass_knows p).number ≡ k
 
   -- The whole history: the start, and then commits that each bear the number of a seat. Those of a seat are what its pass counts as its own.
+  -- What a pass has seen, and what it has heard of, are beginnings of it.
   pub record IsWhole (start commits : List (ℕ × C)) (passes : List (Pass V O C g)) : Type 0 where
     pub since : List (ℕ × C)
     pub commits_are : commits ≡ start ++ since
     pub numbered : All (λ c. c.0 < length passes) since
-    pub own : (k : ℕ) (p : Pass V O C g) → slice_get passes k ≡ Some p → commits_by k since ≡ mine_of (pass_knows p)
+    pub own : (k : ℕ) (p : Pass V O C g) → slice_get passes k ≡ Some p → commits_by (pass_knows p).number since ≡ mine_of (pass_knows p)
+    pub seen : (k : ℕ) (p : Pass V O C g) → slice_get passes k ≡ Some p → Continues (seen_of (pass_knows p)) commits
+    pub heard : (k : ℕ) (p : Pass V O C g) → slice_get passes k ≡ Some p → Continues (pass_heard p) commits

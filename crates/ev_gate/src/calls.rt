@@ -29,9 +29,10 @@ impl<V: Stands> Gate<V> {
             Ok(passes) => passes,
             Err(error) => return Err((value, error)),
         };
-        match Gate::founded(alloc, value, seats) {
+        let version = value.version();
+        match Gate::founded(alloc, value, seats, version) {
             Ok((gate, leader)) => {
-                let passes = gate.seated(passes, leader, seats);
+                let passes = gate.seated(passes, leader, seats, version);
                 Ok((gate, passes))
             }
             Err(value) => {
@@ -41,8 +42,8 @@ impl<V: Stands> Gate<V> {
         }
     }
 
-    /// Closes the gate, once all its passes are back, and gives the value. Its history is whole: each seat's commits in
-    /// it are those that its pass counts as its own, each once and in their order.
+    /// Closes the gate, once all its passes are back, in any order, and gives the value. Its history is whole: each
+    /// seat's commits in it are those that its pass counts as its own, each once and in their order.
     pub fn close(self, passes: Vec<Pass<V>>) -> V
         requires { AreAll (gate_id self) (seats_of self) passes.items }
         ensures opening { V.opening result ≡ V.opening (first_of self) }
@@ -54,12 +55,18 @@ impl<V: Stands> Gate<V> {
     }
 
     // The gate and its first seat, which leads the others.
-    fn founded(alloc: Global, value: V, seats: u32) -> Result<(Gate<V>, GateSeat<V>), V>
+    fn founded(
+        alloc: Global,
+        value: V,
+        seats: u32,
+        version: u64,
+    ) -> Result<(Gate<V>, GateSeat<V>), V>
         requires some_seat { 0 < seats }
         requires few { seats ≤ 20 }
+        requires version { version ≡ V.version_of (V.opening value) (V.commits value) }
         ensures gate { IfOk result (λ r. (first_of r.0 ≡ value) × (seats_of r.0 ≡ seats)) }
         ensures leader { IfOk result (λ r. let v = first_of r.0 in
-            IsLeader (gate_id r.0) 1 (V.opening v) (V.commits v) r.1) }
+            IsLeader (gate_id r.0) 1 (V.opening v) (V.commits v) version r.1) }
         ensures value_returned { IfErr result (λ v. v ≡ value) }
     {
         let terms = Terms {
@@ -71,7 +78,7 @@ impl<V: Stands> Gate<V> {
             Err(_) => return Err(value),
         };
         slots.push_reserved(Some(value));
-        match Table::new(alloc, &[0, 0], slots, &terms) {
+        match Table::new(alloc, &[0, 0, version], slots, &terms) {
             Ok((table, leader)) => Ok((Gate { table }, leader)),
             Err(Refused { mut slots }) => {
                 let slot = slots.take_last();
@@ -82,30 +89,43 @@ impl<V: Stands> Gate<V> {
     }
 
     // A pass for each seat: the leader makes the others.
-    fn seated(&self, mut passes: Vec<Pass<V>>, mut leader: GateSeat<V>, seats: u32) -> Vec<Pass<V>>
+    fn seated(
+        &self,
+        mut passes: Vec<Pass<V>>,
+        mut leader: GateSeat<V>,
+        seats: u32,
+        version: u64,
+    ) -> Vec<Pass<V>>
         requires some_seat { (0 < seats) × (seats ≡ seats_of self.now) }
         requires room { (passes.items ≡ []) × (seats ≤ vec_capacity passes) }
         requires leader { let v = first_of self.now in
-            IsLeader (gate_id self.now) 1 (V.opening v) (V.commits v) leader }
+            IsLeader (gate_id self.now) 1 (V.opening v) (V.commits v) version leader }
         ensures { let v = first_of self.now in
             AreNew (gate_id self.now) seats (V.opening v) (V.commits v) result.items }
     {
         for _made in 1..seats {
             let seat = self.table.shared.split_seat::<Seating>(&mut leader);
-            passes.push_reserved(Pass { seat });
+            passes.push_reserved(Pass { seat, version });
         }
-        passes.insert(0, Pass { seat: leader }).unwrap();
+        let first = Pass {
+            seat: leader,
+            version,
+        };
+        passes.insert(0, first).unwrap();
         passes
     }
 
-    // The leader takes in the other seats, in the order of their numbers.
+    // The first seat of these takes in the others.
     fn gathered(&self, mut passes: Vec<Pass<V>>) -> GateSeat<V>
         requires { AreAll (gate_id self.now) (seats_of self.now) passes.items }
         ensures { IsGathering (gate_id self.now) passes.items [] result }
     {
-        let Pass { seat: mut leader } = passes.remove(0);
+        let Pass {
+            seat: mut leader,
+            version: _,
+        } = passes.remove(0);
         while !passes.is_empty() {
-            let Pass { seat } = passes.remove(0);
+            let Pass { seat, version: _ } = passes.remove(0);
             self.table.shared.join_seat::<Gathering>(&mut leader, seat);
         }
         passes.destroy_empty();
@@ -117,7 +137,6 @@ impl<V: Stands> Gate<V> {
 fn taken_out<V: Stands>(table: GateTable<V>, leader: GateSeat<V>) -> V
     requires slots { table.shared.table_id.slots ≡ 1 }
     requires seat { leader.table_id ≡ table.shared.table_id }
-    requires first { leader.me.0.number ≡ 0 }
     requires idle { (leader.me.0.spent ≡ false) × (leader.me.0.serving ≡ false) }
     requires all { length leader.me.0.told + 1 ≡ table.shared.key.seats }
     ensures { IsLast V.opening V.commits table.shared.key leader.me.0 result }

@@ -16,7 +16,8 @@ pub trait Stands {
 
     ghost version_of: { Self.Opening → List (ℕ × Self.Commit) → ℕ };
 
-    /// A number that the opening and the commits determine.
+    /// A number that the opening and the commits determine. It must not fall along a history: `Turn::done` asks that the
+    /// value's version is not below that at the turn.
     fn version(&self) -> u64
         ensures { result ≡ version_of (opening self.now) (commits self.now) };
 }

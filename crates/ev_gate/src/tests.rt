@@ -1,5 +1,5 @@
-//! Gates of one, three and twenty seats, each taken by a thread of its own.
-ghost use Rattle.std.specs.Prelude.{◌≡◌, ℕ, ◌<◌, ◌≤◌, [], ◌∷◌, ◌++◌, length, map, if◌then◌else◌, IfOk, IsSomeAnd, Some, slice_index_or, vec_capacity};
+//! Gates of one, three, five and twenty seats, each taken by a thread of its own.
+ghost use Rattle.std.specs.Prelude.{◌≡◌, ℕ, ◌%◌, ◌==◌, count_by, ◌<◌, ◌≤◌, [], ◌∷◌, ◌++◌, length, if◌then◌else◌, IfOk, IsSomeAnd, slice_index_or, vec_capacity};
 ghost use Rattle.ev_gate.specs.History.{mine_of};
 ghost use Rattle.ev_gate.specs.Words.{gate_id, pass_knows, IsPassOf, AreAll};
 
@@ -10,7 +10,8 @@ use std::test::Fail;
 use std::thread;
 use std::thread::Threads;
 
-/// A list of numbers. Each commit adds one, beside the number of the seat that added it.
+/// A list of numbers. Each commit adds one, beside the number of the seat that added it. An odd number is a publication,
+/// and the version is how many publications there are.
 #[derive(Drop)]
 struct Numbers {
     first: u32,
@@ -26,29 +27,31 @@ impl Stands for Numbers {
 
     ghost commits = { λ s. s.added.items };
 
-    ghost version_of = { λ _ cs. length cs };
+    ghost version_of = { λ _ cs. count_by (λ c. c.1 % 2 == 1) cs };
 
     fn version(&self) -> u64 {
-        self.added.len() as u64
+        self.added.iter().filter(|c| c.1 % 2 == 1).count() as u64
     }
 }
 
 impl Numbers {
     fn add(&mut self, seat: u64, number: u64) -> bool
         ensures first { self.new.first ≡ self.old.first }
-        ensures added { self.new.added.items ≡ (if result then self.old.added.items ++ (seat, number) ∷ [] else self.old.added.items) }
+        ensures added { let before = self.old.added.items in
+            self.new.added.items ≡ (if result then before ++ (seat, number) ∷ [] else before) }
     {
         self.added.push((seat, number)).is_ok()
     }
 }
 
-// One turn, and whether it made a commit. Without memory for the number it is quit.
+// One turn, which adds the number or not, and whether it did. Without memory for the number it is quit.
 fn take_turn<R: Threads + Wait + Sync>(
     rt: &R,
     gate: &Gate<Numbers>,
     pass: Pass<Numbers>,
     seat: u64,
     number: u64,
+    adds: bool,
 ) -> (Pass<Numbers>, bool)
     requires { IsPassOf (gate_id gate.now) seat pass }
     ensures pass { IsPassOf (gate_id gate.now) seat result.0 }
@@ -56,14 +59,14 @@ fn take_turn<R: Threads + Wait + Sync>(
         mine_of (pass_knows result.0) ≡ (if result.1 then mine ++ (seat, number) ∷ [] else mine) }
 {
     let mut turn = gate.turn(rt, pass);
-    if number % 2 == 0 && turn.value().add(seat, number) {
+    if adds && turn.value().add(seat, number) {
         return (turn.done(), true);
     }
     (turn.quit(), false)
 }
 
-// As many turns as that, with the numbers from 0 on.
-fn take_turns<R: Threads + Wait + Sync>(
+// As many turns as that, with the numbers from 0 on, of which the even ones are added.
+fn add_evens<R: Threads + Wait + Sync>(
     rt: &R,
     gate: &Gate<Numbers>,
     mut pass: Pass<Numbers>,
@@ -74,99 +77,236 @@ fn take_turns<R: Threads + Wait + Sync>(
     ensures { IsPassOf (gate_id gate.now) seat result }
 {
     for number in 0..turns {
-        (pass, _) = take_turn(rt, gate, pass, seat, number);
+        (pass, _) = take_turn(rt, gate, pass, seat, number, number % 2 == 0);
     }
     pass
 }
 
-// A seat's pass lies in an `Option`, since a thread only borrows it.
-fn run_seat<R: Threads + Wait + Sync>(
+// As many publications as that.
+fn publish<R: Threads + Wait + Sync>(
     rt: &R,
     gate: &Gate<Numbers>,
-    pass: &mut Option<Pass<Numbers>>,
-    seat: usize,
-    turns: u64,
-)
-    requires { IsSomeAnd pass.old (IsPassOf (gate_id gate.now) seat) }
-    ensures { IsSomeAnd pass.new (IsPassOf (gate_id gate.now) seat) }
+    mut pass: Pass<Numbers>,
+    seat: u64,
+    times: u64,
+) -> Pass<Numbers>
+    requires { IsPassOf (gate_id gate.now) seat pass }
+    ensures { IsPassOf (gate_id gate.now) seat result }
 {
-    let taken = pass.take().unwrap();
-    let back = take_turns(rt, gate, taken, seat as u64, turns);
-    let before = pass.replace(back);
+    for _time in 0..times {
+        (pass, _) = take_turn(rt, gate, pass, seat, 1, true);
+    }
+    pass
+}
+
+/// What a seat was told when it asked.
+#[derive(Clone, Copy)]
+struct Told {
+    first: Option<u64>,
+    last: u64,
+    /// Whether no answer was below an earlier one.
+    rises: bool,
+}
+
+// As many questions as that.
+fn ask(
+    gate: &Gate<Numbers>,
+    mut pass: Pass<Numbers>,
+    seat: u64,
+    times: u64,
+    mut told: Told,
+) -> (Pass<Numbers>, Told)
+    requires { IsPassOf (gate_id gate.now) seat pass }
+    ensures { IsPassOf (gate_id gate.now) seat result.0 }
+{
+    for _time in 0..times {
+        let answer = gate.newest(&mut pass);
+        told = Told {
+            first: told.first.or(Some(answer)),
+            last: answer,
+            rises: told.rises && told.last <= answer,
+        };
+    }
+    (pass, told)
+}
+
+/// What all seats of a gate do at the same time, each in a thread of its own.
+#[derive(Clone, Copy)]
+enum Act {
+    /// Each takes as many turns, and adds the even numbers.
+    AddEvens(u64),
+    /// One seat publishes once.
+    PublishAt(u64),
+    /// Seats 0 and 1 publish as many times, while the others ask as often.
+    PublishAndAsk(u64),
+    /// Each asks once.
+    Ask,
+}
+
+/// A seat, whose pass lies in an `Option` so that a thread can take it and put it back.
+struct Actor {
+    pass: Option<Pass<Numbers>>,
+    told: Told,
+}
+
+// What a seat does in an act.
+fn perform<R: Threads + Wait + Sync>(
+    rt: &R,
+    gate: &Gate<Numbers>,
+    pass: Pass<Numbers>,
+    seat: u64,
+    act: Act,
+    told: Told,
+) -> (Pass<Numbers>, Told)
+    requires { IsPassOf (gate_id gate.now) seat pass }
+    ensures { IsPassOf (gate_id gate.now) seat result.0 }
+{
+    match act {
+        Act::AddEvens(turns) => (add_evens(rt, gate, pass, seat, turns), told),
+        Act::PublishAt(publisher) if publisher == seat => (publish(rt, gate, pass, seat, 1), told),
+        Act::PublishAt(_) => (pass, told),
+        Act::PublishAndAsk(times) if seat < 2 => (publish(rt, gate, pass, seat, times), told),
+        Act::PublishAndAsk(times) => ask(gate, pass, seat, times, told),
+        Act::Ask => ask(gate, pass, seat, 1, told),
+    }
+}
+
+// The same, with the pass of an actor, which a thread only borrows.
+fn perform_as<R: Threads + Wait + Sync>(
+    rt: &R,
+    gate: &Gate<Numbers>,
+    actor: &mut Actor,
+    seat: usize,
+    act: Act,
+)
+    requires { IsSomeAnd actor.old.pass (IsPassOf (gate_id gate.now) seat) }
+    ensures { IsSomeAnd actor.new.pass (IsPassOf (gate_id gate.now) seat) }
+{
+    let taken = actor.pass.take().unwrap();
+    let (back, told) = perform(rt, gate, taken, seat as u64, act, actor.told);
+    actor.told = told;
+    let before = actor.pass.replace(back);
     let None = before else { unreachable!() };
 }
 
-// Each seat in a thread of its own.
-fn run_seats<R: Threads + Wait + Sync>(
+// One act, each seat in a thread of its own.
+fn perform_all<R: Threads + Wait + Sync>(
     rt: &R,
     gate: &Gate<Numbers>,
-    passes: &mut [Option<Pass<Numbers>>],
-    turns: u64,
+    actors: &mut [Actor],
+    act: Act,
 )
-    requires { (i : ℕ) (d : _) → i < length passes.old → IsSomeAnd (slice_index_or passes.old i d) (IsPassOf (gate_id gate.now) i) }
-    ensures { (i : ℕ) (d : _) → i < length passes.old → IsSomeAnd (slice_index_or passes.new i d) (IsPassOf (gate_id gate.now) i) }
+    requires { (i : ℕ) (d : _) → i < length actors.old →
+        IsSomeAnd (slice_index_or actors.old i d).pass (IsPassOf (gate_id gate.now) i) }
+    ensures { (i : ℕ) (d : _) → i < length actors.old →
+        IsSomeAnd (slice_index_or actors.new i d).pass (IsPassOf (gate_id gate.now) i) }
 {
-    let threads = passes.len().max(1);
+    let threads = actors.len().max(1);
     thread::for_each_mut(
         rt,
-        passes,
+        actors,
         threads,
-        &|i: usize, pass: &mut Option<Pass<Numbers>>|
-            requires { IsSomeAnd pass.old (IsPassOf (gate_id gate.now) i) }
-            ensures { IsSomeAnd pass.new (IsPassOf (gate_id gate.entry.now) i) }
-        { run_seat(rt, gate, pass, i, turns) },
+        &|i: usize, actor: &mut Actor|
+            requires { IsSomeAnd actor.old.pass (IsPassOf (gate_id gate.now) i) }
+            ensures { IsSomeAnd actor.new.pass (IsPassOf (gate_id gate.entry.now) i) }
+        { perform_as(rt, gate, actor, i, act) },
     );
 }
 
-fn wrapped(
+// One act after another.
+fn play<R: Threads + Wait + Sync>(rt: &R, gate: &Gate<Numbers>, actors: &mut [Actor], acts: &[Act])
+    requires { (i : ℕ) (d : _) → i < length actors.old →
+        IsSomeAnd (slice_index_or actors.old i d).pass (IsPassOf (gate_id gate.now) i) }
+    ensures { (i : ℕ) (d : _) → i < length actors.old →
+        IsSomeAnd (slice_index_or actors.new i d).pass (IsPassOf (gate_id gate.now) i) }
+{
+    for act in acts {
+        perform_all(rt, gate, actors, *act);
+    }
+}
+
+// The passes of a new gate, each with its actor.
+fn actors_of(
     mut passes: Vec<Pass<Numbers>>,
-    mut seats: Vec<Option<Pass<Numbers>>>,
-) -> Vec<Option<Pass<Numbers>>>
-    requires { (seats.items ≡ []) × (length passes.items ≤ vec_capacity seats) }
-    ensures { result.items ≡ map Some passes.items }
+    mut actors: Vec<Actor>,
+    gate: &Gate<Numbers>,
+) -> Vec<Actor>
+    requires room { (actors.items ≡ []) × (length passes.items ≤ vec_capacity actors) }
+    requires each { (k : ℕ) (d : _) → k < length passes.items →
+        IsPassOf (gate_id gate.now) k (slice_index_or passes.items k d) }
+    ensures length { length result.items ≡ length passes.items }
+    ensures each { (i : ℕ) (d : _) → i < length result.items →
+        IsSomeAnd (slice_index_or result.items i d).pass (IsPassOf (gate_id gate.now) i) }
 {
     while passes.len() > 0 {
-        let pass = passes.remove(0);
-        seats.push_reserved(Some(pass));
+        actors.push_reserved(Actor {
+            pass: Some(passes.remove(0)),
+            told: Told {
+                first: None,
+                last: 0,
+                rises: true,
+            },
+        });
     }
     passes.destroy_empty();
-    seats
+    actors
 }
 
-fn unwrapped(
-    mut seats: Vec<Option<Pass<Numbers>>>,
+// The passes, in another order than that in which they went out, and what the seats were told.
+fn passes_of(
+    mut actors: Vec<Actor>,
     mut passes: Vec<Pass<Numbers>>,
+    mut told: Vec<Told>,
     gate: &Gate<Numbers>,
-) -> Vec<Pass<Numbers>>
-    requires room { (passes.items ≡ []) × (length seats.items ≤ vec_capacity passes) }
-    requires each { (i : ℕ) (d : _) → i < length seats.items → IsSomeAnd (slice_index_or seats.items i d) (IsPassOf (gate_id gate.now) i) }
-    ensures { AreAll (gate_id gate.now) (length seats.items) result.items }
+) -> (Vec<Pass<Numbers>>, Vec<Told>)
+    requires room { (passes.items ≡ []) × (length actors.items ≤ vec_capacity passes) }
+    requires room_told { (told.items ≡ []) × (length actors.items ≤ vec_capacity told) }
+    requires each { (i : ℕ) (d : _) → i < length actors.items →
+        IsSomeAnd (slice_index_or actors.items i d).pass (IsPassOf (gate_id gate.now) i) }
+    ensures { AreAll (gate_id gate.now) (length actors.items) result.0.items }
 {
-    while seats.len() > 0 {
-        let seat = seats.remove(0);
-        passes.push_reserved(seat.unwrap());
+    while actors.len() > 0 {
+        let Actor {
+            pass,
+            told: answers,
+        } = actors.take_last();
+        told.push_reserved(answers);
+        passes.push_reserved(pass.unwrap());
     }
-    seats.destroy_empty();
-    passes
+    actors.destroy_empty();
+    (passes, told)
 }
 
-type Seats = Vec<Option<Pass<Numbers>>>;
+/// Room for the actors of a gate, for their passes when they are back, and for what the seats were told.
+struct Rooms {
+    actors: Vec<Actor>,
+    passes: Vec<Pass<Numbers>>,
+    told: Vec<Told>,
+}
 
-// Room for the passes, out in their threads and back.
-fn rooms(alloc: Global, count: usize) -> Result<(Seats, Vec<Pass<Numbers>>), AllocError>
-    ensures seats { IfOk result (λ r. (r.0.items ≡ []) × (count ≤ vec_capacity r.0)) }
-    ensures passes { IfOk result (λ r. (r.1.items ≡ []) × (count ≤ vec_capacity r.1)) }
-{
-    let seats = Vec::with_capacity(alloc, count)?;
-    match Vec::with_capacity(alloc, count) {
-        Ok(passes) => Ok((seats, passes)),
-        Err(error) => {
-            seats.destroy_empty();
-            Err(error)
+impl Rooms {
+    fn new(alloc: Global, count: usize) -> Result<Rooms, AllocError>
+        ensures actors { IfOk result (λ r. (r.actors.items ≡ []) × (count ≤ vec_capacity r.actors)) }
+        ensures passes { IfOk result (λ r. (r.passes.items ≡ []) × (count ≤ vec_capacity r.passes)) }
+        ensures told { IfOk result (λ r. (r.told.items ≡ []) × (count ≤ vec_capacity r.told)) }
+    {
+        let told = Vec::with_capacity(alloc, count)?;
+        let actors = Vec::with_capacity(alloc, count)?;
+        match Vec::with_capacity(alloc, count) {
+            Ok(passes) => Ok(Rooms {
+                actors,
+                passes,
+                told,
+            }),
+            Err(error) => {
+                actors.destroy_empty();
+                Err(error)
+            }
         }
     }
 }
 
+/// Why a gate could not run, or that another value came back.
 #[derive(Debug, Drop)]
 enum RunError {
     Memory,
@@ -179,32 +319,37 @@ impl From<AllocError> for RunError {
     }
 }
 
-// The numbers that a gate has after turns of so many seats, each in a thread of its own. It begins with one number.
+// The numbers that a gate has after some acts, and what its seats were told. It begins with the number 7 and two commits
+// of an earlier time: no pass counts these as its own, whatever number they have, and neither is a publication.
 fn run_gate<R: Threads + Wait + Sync>(
     rt: &R,
     alloc: Global,
     count: u32,
-    turns: u64,
-) -> Result<Numbers, RunError>
+    acts: &[Act],
+) -> Result<(Numbers, Vec<Told>), RunError>
     requires some_seat { 0 < count }
     requires few { count ≤ 20 }
-    ensures { IfOk result (λ v. v.first ≡ 7) }
+    ensures { IfOk result (λ r. r.0.first ≡ 7) }
 {
     let mut added = Vec::new(alloc);
-    // A commit of an earlier time: no pass counts it as its own, whatever number it has.
-    added.push((0, 77)).map_err(AllocError::from)?;
-    let (seats, back) = rooms(alloc, count as usize)?;
+    added.push((0, 76)).map_err(AllocError::from)?;
+    added.push((0, 78)).map_err(AllocError::from)?;
+    let Rooms {
+        actors,
+        passes: back,
+        told,
+    } = Rooms::new(alloc, count as usize)?;
     match Gate::new(alloc, Numbers { first: 7, added }, count) {
         Ok((gate, passes)) => {
-            let mut seats = wrapped(passes, seats);
-            run_seats(rt, &gate, seats.as_mut_slice(), turns);
-            let passes = unwrapped(seats, back, &gate);
-            Ok(gate.close(passes))
+            let mut actors = actors_of(passes, actors, &gate);
+            play(rt, &gate, actors.as_mut_slice(), acts);
+            let (passes, told) = passes_of(actors, back, told, &gate);
+            Ok((gate.close(passes), told))
         }
         Err((value, _)) => {
-            seats.destroy_empty();
+            actors.destroy_empty();
             back.destroy_empty();
-            if value.first == 7 && value.added.as_slice() == [(0, 77)].as_slice() {
+            if value.first == 7 && value.added.as_slice() == [(0, 76), (0, 78)].as_slice() {
                 Err(RunError::Memory)
             } else {
                 Err(RunError::AnotherValue)
@@ -218,22 +363,52 @@ fn each_seat_has_its_numbers_in_order(rt: HostRuntime) -> Result<(), Fail> {
     let alloc: Global = rt.alloc();
     for (count, turns) in [(1u32, 10u64), (3, 100), (20, 6)] {
         prove!(count > 0 && count <= 20);
-        let numbers = run_gate(&rt, alloc, count, turns)?;
+        let (numbers, _told) = run_gate(&rt, alloc, count, &[Act::AddEvens(turns)])?;
         let evens: Vec<u64> = (0..turns).filter(|n| *n % 2 == 0).collect(alloc)?;
-        let total = evens.len().wrapping_mul(count as usize).wrapping_add(1);
+        let total = evens.len().wrapping_mul(count as usize).wrapping_add(2);
         assert_eq!(rt; numbers.added.len(), total, "at {count}");
-        assert_eq!(rt; numbers.version(), total as u64, "at {count}");
-        assert_eq!(rt; numbers.added[0], (0, 77), "at {count}");
+        assert_eq!(rt; numbers.version(), 0, "at {count}");
+        assert_eq!(rt;
+            &numbers.added[..2],
+            [(0, 76), (0, 78)].as_slice(),
+            "at {count}"
+        );
         for seat in 0..u64::from(count) {
             let mine: Vec<u64> = numbers
                 .added
                 .iter()
-                .skip(1)
+                .skip(2)
                 .filter(|c| c.0 == seat)
                 .map(|c| c.1)
                 .collect(alloc)?;
             assert_eq!(rt; mine.as_slice(), evens.as_slice(), "seat {seat} of {count}");
         }
+    }
+    Ok(())
+}
+
+#[test]
+fn newest_is_told_to_each_pass(rt: HostRuntime) -> Result<(), Fail> {
+    let acts = [Act::Ask, Act::PublishAt(3), Act::Ask];
+    let (numbers, told) = run_gate(&rt, rt.alloc(), 5, &acts)?;
+    assert_eq!(rt; numbers.version(), 1);
+    assert_eq!(rt; told.len(), 5);
+    for answers in &told {
+        assert_eq!(rt; answers.first, Some(0));
+        assert_eq!(rt; answers.last, 1);
+    }
+    Ok(())
+}
+
+#[test]
+fn answers_never_fall_while_others_publish(rt: HostRuntime) -> Result<(), Fail> {
+    let acts = [Act::PublishAndAsk(300), Act::Ask];
+    let (numbers, told) = run_gate(&rt, rt.alloc(), 3, &acts)?;
+    assert_eq!(rt; numbers.version(), 600);
+    assert_eq!(rt; told.len(), 3);
+    for answers in &told {
+        assert!(rt; answers.rises);
+        assert_eq!(rt; answers.last, 600);
     }
     Ok(())
 }

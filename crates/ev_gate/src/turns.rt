@@ -1,20 +1,18 @@
 //! A turn at a gate: its value, and its two ends.
-ghost use Rattle.std.specs.Prelude.{◌≡◌, length, drop};
+ghost use Rattle.std.specs.Prelude.{◌≡◌, ◌≤◌, [], false, length, drop};
 ghost use Rattle.std.specs.Borrow.{sem};
-ghost use Rattle.ev_gate.specs.History.{GrowsWithout, Adds, AddsOne, AddsOwn, CountsAlso, seen_of, mine_of};
+ghost use Rattle.ev_gate.specs.History.{GrowsWithout, Continues, Adds, AddsOne, AddsAtMostOne, CountsAlso, seen_of, mine_of};
 ghost use Rattle.ev_gate.specs.Lent.{LendsValue};
-ghost use Rattle.ev_gate.specs.Words.{gate_id, pass_gate, pass_knows, turn_gate, turn_knows, turn_value};
+ghost use Rattle.ev_gate.specs.Inner.{IsWaiting};
+ghost use Rattle.ev_gate.specs.Words.{gate_id, first_of, pass_gate, pass_knows, pass_heard, turn_gate, turn_knows, turn_value};
 
 use crate::gate::{Gate, Pass, Turn};
-use crate::plays::{Draw, End, Look};
+use crate::plays::{Draw, End, FirstValue, Look};
 use crate::stands::Stands;
+use crate::view::{GateSeat, SERVING, TICKET};
+use std::marker::Brand;
 use std::sync::Wait;
 use std::thread::Threads;
-
-// The words of the table.
-const TICKET: usize = 0;
-
-const SERVING: usize = 1;
 
 // Of a word as many bits as a thread parks on.
 const PARKED_BITS: u64 = 0xffff_ffff;
@@ -33,10 +31,22 @@ impl<V: Stands> Gate<V> {
         // The value has the gate's opening, and stands for all that the seat has now seen.
         ensures opening { Some (V.opening (turn_value result)) ≡ (turn_knows result).opening }
         ensures history { V.commits (turn_value result) ≡ seen_of (turn_knows result) }
+
+        // The opening and the start are those of the value that the gate was made with.
+        ensures gate_opening { V.opening (turn_value result) ≡ V.opening (first_of self.now) }
+        ensures gate_start { (turn_knows result).start ≡ V.commits (first_of self.now) }
+
+        // What the pass had heard of is a beginning of the history, and had no greater version.
+        ensures heard { Continues (pass_heard pass) (V.commits (turn_value result)) }
+        ensures not_below { let o = V.opening (turn_value result) in
+            V.version_of o (pass_heard pass) ≤ V.version_of o (V.commits (turn_value result)) }
     {
-        let Pass { mut seat } = pass;
+        let Pass {
+            mut seat,
+            version: _,
+        } = pass;
         let shared = &self.table.shared;
-        let ticket = shared.fetch_add::<Draw>(&mut seat, TICKET, 1);
+        let ticket = self.draw::<Brand>(&mut seat);
         for _ in rt.forever() {
             let served = shared.load::<Look>(&mut seat, SERVING);
             let is_served = served == ticket;
@@ -52,6 +62,20 @@ impl<V: Stands> Gate<V> {
         }
         unreachable!()
     }
+
+    // Draws a ticket. K names the value that the gate was made with.
+    fn draw<K: FirstValue<V>>(&self, seat: &mut GateSeat<V>) -> u64
+        requires first { K.first ≡ Some (first_of self.now) }
+        requires gate { seat.old.table_id ≡ gate_id self.now }
+        requires idle { (seat.old.me.0.spent ≡ false) × (seat.old.me.0.queued ≡ false)
+            × (seat.old.me.0.serving ≡ false) }
+        requires holds_nothing { seat.old.me.1 ≡ [] }
+        ensures waits { IsWaiting result seat.old seat.new }
+        ensures opening { seat.old.me.0.opening ≡ Some (V.opening (first_of self.now)) }
+        ensures start { seat.old.me.0.start ≡ V.commits (first_of self.now) }
+    {
+        self.table.shared.fetch_add::<Draw<K>>(seat, TICKET, 1)
+    }
 }
 
 impl<'a, V: Stands> Turn<'a, V> {
@@ -65,46 +89,56 @@ impl<'a, V: Stands> Turn<'a, V> {
     }
 
     /// Ends the turn after one commit of this seat. The value has the same opening, and one commit more than at the
-    /// turn, which bears this seat's number. The pass has seen it and counts it as its own.
+    /// turn, which bears this seat's number, and its version has not fallen. The pass has seen the commit and counts it
+    /// as its own. After the commit the gate's newest version is raised, so that it is not below the value's.
     pub fn done(self) -> Pass<V>
         requires opening { Some (V.opening (turn_value self)) ≡ (turn_knows self).opening }
         requires commit { AddsOne (turn_knows self) (V.commits (turn_value self)) }
+        requires version { let o = V.opening (turn_value self) in
+            V.version_of o (seen_of (turn_knows self)) ≤ V.version_of o (V.commits (turn_value self)) }
         ensures gate { pass_gate result ≡ turn_gate self.entry }
         ensures knows { pass_knows result ≡ record (turn_knows self.entry) { since = (pass_knows result).since } }
         ensures seen { seen_of (pass_knows result) ≡ V.commits (turn_value self.entry) }
         ensures mine { (c : V.Commit) → Adds (turn_knows self.entry) c (V.commits (turn_value self.entry))
             → CountsAlso (turn_knows self.entry) c (pass_knows result) }
+        ensures heard { pass_heard result ≡ V.commits (turn_value self.entry) }
     {
         self.put_back()
     }
 
-    /// Ends the turn without a commit: the value stands for what it stood for at the turn. The pass has seen that.
+    /// Ends the turn without a commit: the value stands for what it stood for at the turn. The pass has seen that. The
+    /// gate's newest version is then not below the value's.
     pub fn quit(self) -> Pass<V>
         requires opening { Some (V.opening (turn_value self)) ≡ (turn_knows self).opening }
         requires same { V.commits (turn_value self) ≡ seen_of (turn_knows self) }
         ensures gate { pass_gate result ≡ turn_gate self.entry }
         ensures knows { pass_knows result ≡ turn_knows self.entry }
+        ensures heard { pass_heard result ≡ V.commits (turn_value self.entry) }
     {
         Turn::put_back(self)
     }
 
-    // Puts the value back, and serves the next ticket.
+    // Puts the value back, serves the next ticket, and raises the newest version.
     fn put_back(self) -> Pass<V>
         requires opening { Some (V.opening (turn_value self)) ≡ (turn_knows self).opening }
-        requires own { AddsOwn (turn_knows self) (V.commits (turn_value self)) }
+        requires own { AddsAtMostOne (turn_knows self) (V.commits (turn_value self)) }
+        requires version { let o = V.opening (turn_value self) in
+            V.version_of o (seen_of (turn_knows self)) ≤ V.version_of o (V.commits (turn_value self)) }
         ensures gate { pass_gate result ≡ turn_gate self.entry }
         ensures knows { let k = turn_knows self.entry in
             pass_knows result ≡ record k { since = drop (length k.start) (V.commits (turn_value self.entry)) } }
+        ensures heard { pass_heard result ≡ V.commits (turn_value self.entry) }
     {
         let Turn {
             gate,
             mut seat,
             value,
         } = self;
+        let version = value.version();
         let slot = gate.table.shared.exchange(&mut seat, 0, Some(value));
         let None = slot else { unreachable!() };
         gate.table.shared.fetch_add::<End>(&mut seat, SERVING, 1);
         gate.table.shared.wake_all(SERVING);
-        Pass { seat }
+        gate.raise(seat, version)
     }
 }

@@ -25,10 +25,24 @@ pub struct View<O, C> {
     pub start: LinkedList<(u64, C)>,
     /// The commits since then that the seat has seen.
     pub since: LinkedList<(u64, C)>,
-    /// The leader's alone: how many seats there are.
+    /// The commits since the start of the history that had the greatest version that the seat has heard of.
+    pub heard: LinkedList<(u64, C)>,
+    /// That version.
+    pub version: u64,
+    /// The version to which the seat has raised the word `newest`.
+    pub raised: u64,
+    /// The first seat's alone: how many seats there are.
     pub made: u64,
-    /// The leader's alone: what the joined seats committed, from seat 1 on.
-    pub told: LinkedList<LinkedList<(u64, C)>>,
+    /// What the seats knew that this one took in, in order.
+    pub told: LinkedList<Joined<C>>,
+}
+
+/// What a seat knew of the history when another took it in. No value of it is made.
+pub struct Joined<C> {
+    pub number: u64,
+    pub start: LinkedList<(u64, C)>,
+    pub since: LinkedList<(u64, C)>,
+    pub heard: LinkedList<(u64, C)>,
 }
 
 /// What a table is told once: the value that the gate was made with, and how many seats it may have.
@@ -49,10 +63,17 @@ pub struct OneHistory<V> {
 }
 
 impl<V: Stands> TableRule<Option<V>, View<V::Opening, V::Commit>, Terms<V>> for OneHistory<V> {
-    ghost holds = { λ terms. IsKept V.opening V.commits terms };
+    ghost holds = { λ terms. IsKept V.opening V.commits V.version_of terms };
 
-    ghost first = { λ terms. first_view V.opening V.commits terms };
+    ghost first = { λ terms. first_view V.opening V.commits V.version_of terms };
 }
+
+// The words of a gate's table.
+pub(crate) const TICKET: usize = 0;
+
+pub(crate) const SERVING: usize = 1;
+
+pub(crate) const NEWEST: usize = 2;
 
 pub(crate) type GateSeat<V> = Seat<Option<V>, View<<V as Stands>::Opening, <V as Stands>::Commit>>;
 

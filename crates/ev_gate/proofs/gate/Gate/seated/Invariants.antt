@@ -5,4 +5,4 @@ use Rattle.ev_gate.proofs.gate.Gate.seated.Given as goal
 
 -- the leader has made as many seats as the counter says, and each but its own has a pass
 abbrev pub invariant-loop-made : goal.invariant-loop-made
-invariant-loop-made g l = IsSeating (gate_id l.self) l._made (g.V.Stands.opening (first_of l.self)) (g.V.Stands.commits (first_of l.self)) l.leader l.passes.items × (l.seats ≤ vec_capacity l.passes)
+invariant-loop-made g l = IsSeating (gate_id l.self) l._made (g.V.Stands.opening (first_of l.self)) (g.V.Stands.commits (first_of l.self)) l.version l.leader l.passes.items × (l.seats ≤ vec_capacity l.passes)

@@ -4,33 +4,22 @@ use Rattle.atomic_table.specs.Table.{rest}
 use Rattle.std.specs.Prelude.{IsSome}
 use Rattle.ev_gate.specs.Held.{holds_empty}
 use Rattle.ev_gate.specs.Inner.{IsServed, HasTurn}
-use Rattle.ev_gate.proofs.Turning.{nil_of, draws_as, looks_as, drawn, still, served, in_slot, taken_out}
+use Rattle.ev_gate.proofs.Turning.{looks_as, still, served, in_slot, taken_out}
 use Rattle.ev_gate.proofs.gate.Gate.turn.Goals as goal
 use Rattle.ev_gate.proofs.gate.Gate.turn.Goals.{After-load-served, After-unwrap}
-
-pub fetch_add-ticket-requires : goal.fetch_add-ticket-requires
-fetch_add-ticket-requires g c =
-    let p = c.args.pass in (
-      c.requires,
-      (let w = c.args.self.now.sized.0 in omega arith),
-      draws_as g.V.Stands.opening g.V.Stands.commits c.args.self.now.table.shared.key c.args.self.now.table.shared.table_id.slots p.seat.id p.seat.me (nil_of p.seat.me.1 p.holds_nothing) p.idle.0 p.idle.1 p.idle.2,
-    )
-
-pub loop-init : goal.loop-init
-loop-init g c = let e = c.fetch_add-ticket.ensures in drawn g.V.Stands.opening g.V.Stands.commits c.args.pass.seat c.fetch_add-ticket.result c.fetch_add-ticket.new.seat c.fetch_add-ticket.new.seat e.0 (nil_of c.args.pass.seat.me.1 c.args.pass.holds_nothing) e.2
 
 pub load-served-requires : goal.load-served-requires
 load-served-requires g c =
     let h = c.loop.invariant in let p = c.args.pass in (
       h.gate_is ∙ c.requires,
       (let w = c.args.self.now.sized.0 in omega arith),
-      looks_as g.V.Stands.opening g.V.Stands.commits c.args.self.now.table.shared.key c.args.self.now.table.shared.table_id.slots c.loop.seat.id c.loop.seat.me h.holds_nothing
+      looks_as g.V.Stands.opening g.V.Stands.commits g.V.Stands.version_of c.args.self.now.table.shared.key c.args.self.now.table.shared.table_id.slots c.loop.seat.id c.loop.seat.me h.holds_nothing
           (ap (λ v. v.spent) h.view_is ∙ p.idle.0) (ap (λ v. v.queued) h.view_is) (ap (λ v. v.serving) h.view_is ∙ p.idle.2),
     )
 
 -- the seat that is served
-is_served : (g : _) (c : After-load-served g) → c.load-served.result ≡ c.fetch_add-ticket.result → IsServed g.V.Stands.opening g.V.Stands.commits c.args.pass.seat c.load-served.new.seat
-is_served g c e = let l = c.load-served.ensures in served g.V.Stands.opening g.V.Stands.commits c.args.pass.seat c.fetch_add-ticket.result c.loop.seat c.load-served.new.seat c.load-served.result c.loop.invariant l.0 l.2 e
+is_served : (g : _) (c : After-load-served g) → c.load-served.result ≡ c.draw-ticket.result → IsServed g.V.Stands.opening g.V.Stands.commits g.V.Stands.version_of c.args.pass.seat c.load-served.new.seat
+is_served g c e = let l = c.load-served.ensures in served g.V.Stands.opening g.V.Stands.commits g.V.Stands.version_of c.args.pass.seat c.draw-ticket.result c.loop.seat c.load-served.new.seat c.load-served.result c.loop.invariant l.0 l.2 e
 
 pub exchange-slot-requires : goal.exchange-slot-requires
 exchange-slot-requires g c =
@@ -38,15 +27,15 @@ exchange-slot-requires g c =
     (s.gate_is ∙ c.requires, (Some s.value, s.held ∙ ap (λ l. (0, Some s.value) ∷ rest l) (sym s.held)))
 
 -- the seat with the value in its hand
-has_turn : (g : _) (c : After-unwrap g) → IsServed g.V.Stands.opening g.V.Stands.commits c.args.pass.seat c.load-served.new.seat → HasTurn g.V.Stands.opening g.V.Stands.commits c.args.pass.seat c.exchange-slot.new.seat c.unwrap.result
+has_turn : (g : _) (c : After-unwrap g) → IsServed g.V.Stands.opening g.V.Stands.commits g.V.Stands.version_of c.args.pass.seat c.load-served.new.seat → HasTurn g.V.Stands.opening g.V.Stands.commits g.V.Stands.version_of c.args.pass.seat c.exchange-slot.new.seat c.unwrap.result
 has_turn g c s =
     let e = c.exchange-slot.ensures in
-    taken_out g.V.Stands.opening g.V.Stands.commits c.args.pass.seat c.load-served.new.seat s c.exchange-slot.new.seat c.unwrap.result e.0 e.3 (sym (in_slot g.V.Stands.opening g.V.Stands.commits c.args.pass.seat c.load-served.new.seat s c.exchange-slot.result e.2) ∙ c.unwrap.ensures)
+    taken_out g.V.Stands.opening g.V.Stands.commits g.V.Stands.version_of c.args.pass.seat c.load-served.new.seat s c.exchange-slot.new.seat c.unwrap.result e.0 e.3 (sym (in_slot g.V.Stands.opening g.V.Stands.commits g.V.Stands.version_of c.args.pass.seat c.load-served.new.seat s c.exchange-slot.result e.2) ∙ c.unwrap.ensures)
 
 pub unwrap-requires : goal.unwrap-requires
 unwrap-requires g c =
     let s = is_served g (goal.at.unwrap-requires g c).After-load-served c.if-is_served.true in
-    subst IsSome (sym (in_slot g.V.Stands.opening g.V.Stands.commits c.args.pass.seat c.load-served.new.seat s c.exchange-slot.result c.exchange-slot.ensures.2)) refl
+    subst IsSome (sym (in_slot g.V.Stands.opening g.V.Stands.commits g.V.Stands.version_of c.args.pass.seat c.load-served.new.seat s c.exchange-slot.result c.exchange-slot.ensures.2)) refl
 
 pub invariant_of-result : goal.invariant_of-result
 invariant_of-result g c =
@@ -55,4 +44,4 @@ invariant_of-result g c =
     record { here = t.gate_is ∙ c.requires; served = (ap (λ v. v.spent) t.view_is ∙ p.idle.0, ap (λ v. v.queued) t.view_is, ap (λ v. v.serving) t.view_is); slot_is_out = ap holds_empty t.held; took_in_nothing = ap (λ v. length v.told) t.view_is ∙ p.took_in_nothing }
 
 pub loop-preserved : goal.loop-preserved
-loop-preserved g c = let l = c.load-served.ensures in still g.V.Stands.opening g.V.Stands.commits c.args.pass.seat c.fetch_add-ticket.result c.loop.seat c.load-served.new.seat c.load-served.result c.loop.invariant l.0 l.2 c.if-is_served.false
+loop-preserved g c = let l = c.load-served.ensures in still g.V.Stands.opening g.V.Stands.commits g.V.Stands.version_of c.args.pass.seat c.draw-ticket.result c.loop.seat c.load-served.new.seat c.load-served.result c.loop.invariant l.0 l.2 c.if-is_served.false
