@@ -1,9 +1,10 @@
 -- A script whose lines the registry takes is replayed line by line: nothing follows a line, and nothing is batched.
-use Rattle.std.proofs.Common.{◌≡◌, Bool, false, not, ◌&&◌, ◌%◌, ◌==◌, cond, List, [], ◌∷◌, ◌++◌, map, filter, length, refl, ap, ◌∙◌}
+use Rattle.std.proofs.Common.{◌≡◌, Bool, false, not, ◌&&◌, ◌%◌, ◌==◌, cond, List, [], ◌∷◌, ◌++◌, map, filter, length, take, get_or, ℕ, ◌+◌, ◌<◌, ◌≤◌, refl, ap, ◌∙◌, arith}
 use Rattle.std.specs.Prelude.{All}
 use Rattle.std.specs.List.{list_any, flat_map, range_with_len}
 use Rattle.std.proofs.lemmas.List.Elements.{All-head, All-tail, All-append, All-map, All-weaker}
-use Rattle.ev_types.specs.Scripts.{ScriptParts}
+use Rattle.std.proofs.lemmas.List.Sums.{sum_by_more_le}
+use Rattle.ev_types.specs.Scripts.{ScriptParts, items_in, items_of}
 use Rattle.ev_types.specs.declared.events.Event.{Event}
 use Rattle.ev_types.specs.declared.events.Event.TheVariants.{Connect, Disconnect, Response, Health, FetchTimeout, DrainTimeout, TtlExpired, Publish, Reap, Accept, Close, Settle}
 use Rattle.ev_types.specs.declared.events.Line.{Line}
@@ -74,3 +75,10 @@ taken_operations script taken =
         (All-map (λ (o : Operation). is_batched o.event ≡ false) line_operation script.lines
         (All-weaker (λ (line : Line). IsBuilt line.event) (λ (line : Line). is_batched line.event ≡ false) (λ line built. not_batched line.event built) script.lines taken.built))
         (All-map (λ (o : Operation). is_batched o.event ≡ false) (last_settle script) (range_with_len 0 script.workers) (λ k worker h. refl))
+
+-- the resources of the lines before a place and of the one there are among those of all lines
+pub items_at : (lines : List Line) (k : ℕ) (line : Line) → k < length lines → line ≡ get_or lines k line
+    → items_of (take k lines) + items_in line.event ≤ items_of lines
+items_at lines k line within is =
+    let here : items_in line.event ≡ items_in (get_or lines k line).event = ap (λ (l : Line). items_in l.event) is in
+    omega (arith, here, sum_by_more_le (λ (l : Line). items_in l.event) lines k line within)

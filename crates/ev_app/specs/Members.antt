@@ -6,7 +6,7 @@ use Rattle.std.specs.Str.{bytes_eq, is_utf8}
 use Rattle.serde_json.specs.Data.{Data, null, boolean, number, string, array, object, Members, no_members, member}
 use Rattle.serde_json.specs.Read.{read}
 use Rattle.serde_json.specs.Find.{as_number, as_u64, as_str}
-use Rattle.ev_types.specs.Texts.{max_name_length}
+use Rattle.ev_types.specs.declared.limits.TheConstants.{MAX_NAME_LENGTH}
 
 -- the value that bytes are, where they are JSON in UTF-8
 abbrev pub tree_of : List ℕ → Option Data
@@ -32,7 +32,7 @@ whole_within low high tree = option_and_then (λ n. if nat_le low n && nat_le n 
 
 -- a text of 1 to 512 bytes
 abbrev pub name_of : Data → Option (List ℕ)
-name_of tree = option_and_then (λ text. if nat_le 1 (length text) && nat_le (length text) max_name_length then Some text else None) (as_str tree)
+name_of tree = option_and_then (λ text. if nat_le 1 (length text) && nat_le (length text) MAX_NAME_LENGTH then Some text else None) (as_str tree)
 
 -- what a reader gives for a value that is there, or the default for one that isn't
 abbrev pub or_default : {A : Type 0} → (Data → Option A) → A → Option Data → Option A

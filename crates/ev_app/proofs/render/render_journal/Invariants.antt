@@ -1,7 +1,7 @@
 use Rattle.std.proofs.Common.{◌≡◌, ◌++◌, take}
 use Rattle.std.specs.List.{flat_map}
 use Rattle.ev_app.specs.Rendering.{line_text, header_tree, entry_tree}
-use Rattle.ev_app.proofs.render.render.Given as goal
+use Rattle.ev_app.proofs.render.render_journal.Given as goal
 
 abbrev pub invariant-loop-entry : goal.invariant-loop-entry
 invariant-loop-entry l =
