@@ -16,118 +16,116 @@ fn find_rule<T: Drop>(read: Result<T, ReadError>) -> u8 {
 // Clusters, each with the rule that refuses it: each rule alone, beside a lower and a higher one, and the fields that
 // aren't looked at. LONG stands for a text of 513 bytes.
 const CLUSTERS: [(&str, u8); 28] = [
-        (r#"{"name":"a","type":"EDS"}"#, 8),
-        (
-            r#"{"name":"a","type":"EDS","edsClusterConfig":{},"eds_cluster_config":{}}"#,
-            6,
-        ),
-        (r#"{"name":"a","type":"EDS","edsClusterConfig":{}}"#, 10),
-        (r#"{}"#, 3),
-        (r#"{"name":"a"}"#, 0),
-        (r#"{"name":"a","type":"STRICT_DNS"}"#, 7),
-        (r#"{"name":"a","type":9}"#, 6),
-        (r#"{"name":"a","clusterType":{}}"#, 7),
-        (
-            r#"{"name":"a","type":0,"eds_cluster_config":{"edsConfig":{"ads":{}}}}"#,
-            9,
-        ),
-        (
-            r#"{"name":"a","type":"EDS","edsClusterConfig":{"edsConfig":{"ads":{},"initialFetchTimeout":"-1s"}}}"#,
-            10,
-        ),
-        (r#"{"name":"a","connectTimeout":"0s"}"#, 11),
-        (
-            r#"{"name":"a","loadAssignment":{"endpoints":[{"lbEndpoints":[{}]}]}}"#,
-            12,
-        ),
-        (
-            r#"{"name":"a","loadAssignment":{"endpoints":[{"priority":129}]}}"#,
-            13,
-        ),
-
-        (r#"{"name":"a","type":"EDS","connectTimeout":"0s"}"#, 8),
-        (r#"{"name":"a","type":"EDS","connectTimeout":"1"}"#, 6),
-        (
-            r#"{"name":"a","edsClusterConfig":{"serviceName":"LONG"}}"#,
-            2,
-        ),
-        (
-            r#"{"name":"","edsClusterConfig":{"serviceName":"LONG"},"connectTimeout":"0s"}"#,
-            2,
-        ),
-        (r#"{"name":"","type":7,"healthChecks":{}}"#, 3),
-        (r#"{"name":5,"type":"STRICT_DNS"}"#, 6),
-        (
-            r#"{"name":"a","type":1,"edsClusterConfig":{},"connectTimeout":"-1s"}"#,
-            7,
-        ),
-        (
-            r#"{"name":"a","eds_cluster_config":{},"connectTimeout":"-1s","loadAssignment":{"endpoints":[{"priority":200}]}}"#,
-            9,
-        ),
-        (
-            r#"{"name":"a","connectTimeout":"0s","loadAssignment":{"endpoints":[{"lbEndpoints":[{}],"priority":200}]}}"#,
-            11,
-        ),
-        (
-            r#"{"name":"a","loadAssignment":{"endpoints":[{"priority":200},{"lbEndpoints":[{}]}]}}"#,
-            12,
-        ),
-        (
-            r#"{"name":"a","loadAssignment":{"endpoints":[{"priority":200},{"lbEndpoints":[null]}]}}"#,
-            6,
-        ),
-
-        (
-            r#"{"name":"a","type":"EDS","edsClusterConfig":{"edsConfig":{"ads":{}}},"loadAssignment":7}"#,
-            0,
-        ),
-        (
-            r#"{"name":"a","type":null,"loadAssignment":null,"edsClusterConfig":null,"healthChecks":null}"#,
-            0,
-        ),
-        (r#"{"name":"a","loadAssignment":7}"#, 6),
-        (r#"{"name":"a","edsClusterConfig":{"edsConfig":"ads"}}"#, 6),
+    (r#"{"name":"a","type":"EDS"}"#, 8),
+    (
+        r#"{"name":"a","type":"EDS","edsClusterConfig":{},"eds_cluster_config":{}}"#,
+        6,
+    ),
+    (r#"{"name":"a","type":"EDS","edsClusterConfig":{}}"#, 10),
+    (r#"{}"#, 3),
+    (r#"{"name":"a"}"#, 0),
+    (r#"{"name":"a","type":"STRICT_DNS"}"#, 7),
+    (r#"{"name":"a","type":9}"#, 6),
+    (r#"{"name":"a","clusterType":{}}"#, 7),
+    (
+        r#"{"name":"a","type":0,"eds_cluster_config":{"edsConfig":{"ads":{}}}}"#,
+        9,
+    ),
+    (
+        r#"{"name":"a","type":"EDS","edsClusterConfig":{"edsConfig":{"ads":{},"initialFetchTimeout":"-1s"}}}"#,
+        10,
+    ),
+    (r#"{"name":"a","connectTimeout":"0s"}"#, 11),
+    (
+        r#"{"name":"a","loadAssignment":{"endpoints":[{"lbEndpoints":[{}]}]}}"#,
+        12,
+    ),
+    (
+        r#"{"name":"a","loadAssignment":{"endpoints":[{"priority":129}]}}"#,
+        13,
+    ),
+    (r#"{"name":"a","type":"EDS","connectTimeout":"0s"}"#, 8),
+    (r#"{"name":"a","type":"EDS","connectTimeout":"1"}"#, 6),
+    (
+        r#"{"name":"a","edsClusterConfig":{"serviceName":"LONG"}}"#,
+        2,
+    ),
+    (
+        r#"{"name":"","edsClusterConfig":{"serviceName":"LONG"},"connectTimeout":"0s"}"#,
+        2,
+    ),
+    (r#"{"name":"","type":7,"healthChecks":{}}"#, 3),
+    (r#"{"name":5,"type":"STRICT_DNS"}"#, 6),
+    (
+        r#"{"name":"a","type":1,"edsClusterConfig":{},"connectTimeout":"-1s"}"#,
+        7,
+    ),
+    (
+        r#"{"name":"a","eds_cluster_config":{},"connectTimeout":"-1s","loadAssignment":{"endpoints":[{"priority":200}]}}"#,
+        9,
+    ),
+    (
+        r#"{"name":"a","connectTimeout":"0s","loadAssignment":{"endpoints":[{"lbEndpoints":[{}],"priority":200}]}}"#,
+        11,
+    ),
+    (
+        r#"{"name":"a","loadAssignment":{"endpoints":[{"priority":200},{"lbEndpoints":[{}]}]}}"#,
+        12,
+    ),
+    (
+        r#"{"name":"a","loadAssignment":{"endpoints":[{"priority":200},{"lbEndpoints":[null]}]}}"#,
+        6,
+    ),
+    (
+        r#"{"name":"a","type":"EDS","edsClusterConfig":{"edsConfig":{"ads":{}}},"loadAssignment":7}"#,
+        0,
+    ),
+    (
+        r#"{"name":"a","type":null,"loadAssignment":null,"edsClusterConfig":null,"healthChecks":null}"#,
+        0,
+    ),
+    (r#"{"name":"a","loadAssignment":7}"#, 6),
+    (r#"{"name":"a","edsClusterConfig":{"edsConfig":"ads"}}"#, 6),
 ];
 
 // The same of assignments. HOST stands for a host, HOST0 for one of weight 0, and HOSTMAX for one of the greatest.
 const ASSIGNMENTS: [(&str, u8); 15] = [
-        (r#"{"endpoints":[{"lbEndpoints":[HOST]}]}"#, 0),
-        (
-            r#"{"clusterName":"","endpoints":[{"lb_endpoints":[HOST,HOST],"priority":"128"}]}"#,
-            0,
-        ),
-        (r#"{}"#, 0),
-        (r#"{"clusterName":7}"#, 6),
-        (r#"{"endpoints":{}}"#, 6),
-        (r#"{"endpoints":[null]}"#, 6),
-        (
-            r#"{"endpoints":[{"lbEndpoints":[HOST],"lb_endpoints":[HOST]}]}"#,
-            6,
-        ),
-        (r#"{"endpoints":[{"lbEndpoints":[{"endpoint":[]}]}]}"#, 6),
-        (
-            r#"{"endpoints":[{"lbEndpoints":[{"endpoint":{"address":{"pipe":{"path":"/x"}}}}]}]}"#,
-            12,
-        ),
-        (
-            r#"{"endpoints":[{"lbEndpoints":[{"endpointName":"x"}]}]}"#,
-            12,
-        ),
-        (r#"{"endpoints":[{"lbEndpoints":[HOST0]}]}"#, 13),
-        (r#"{"endpoints":[{"lbEndpoints":[HOSTMAX,HOST]}]}"#, 13),
-        (
-            r#"{"endpoints":[{"lbEndpoints":[HOSTMAX]},{"lbEndpoints":[HOST]}]}"#,
-            0,
-        ),
-        (
-            r#"{"endpoints":[{"lbEndpoints":[HOSTMAX,HOST]},{"lbEndpoints":[{}]}]}"#,
-            12,
-        ),
-        (
-            r#"{"endpoints":[{"lbEndpoints":[HOST0,{}]},{"lbEndpoints":[{"healthStatus":"SICK"}]}]}"#,
-            6,
-        ),
+    (r#"{"endpoints":[{"lbEndpoints":[HOST]}]}"#, 0),
+    (
+        r#"{"clusterName":"","endpoints":[{"lb_endpoints":[HOST,HOST],"priority":"128"}]}"#,
+        0,
+    ),
+    (r#"{}"#, 0),
+    (r#"{"clusterName":7}"#, 6),
+    (r#"{"endpoints":{}}"#, 6),
+    (r#"{"endpoints":[null]}"#, 6),
+    (
+        r#"{"endpoints":[{"lbEndpoints":[HOST],"lb_endpoints":[HOST]}]}"#,
+        6,
+    ),
+    (r#"{"endpoints":[{"lbEndpoints":[{"endpoint":[]}]}]}"#, 6),
+    (
+        r#"{"endpoints":[{"lbEndpoints":[{"endpoint":{"address":{"pipe":{"path":"/x"}}}}]}]}"#,
+        12,
+    ),
+    (
+        r#"{"endpoints":[{"lbEndpoints":[{"endpointName":"x"}]}]}"#,
+        12,
+    ),
+    (r#"{"endpoints":[{"lbEndpoints":[HOST0]}]}"#, 13),
+    (r#"{"endpoints":[{"lbEndpoints":[HOSTMAX,HOST]}]}"#, 13),
+    (
+        r#"{"endpoints":[{"lbEndpoints":[HOSTMAX]},{"lbEndpoints":[HOST]}]}"#,
+        0,
+    ),
+    (
+        r#"{"endpoints":[{"lbEndpoints":[HOSTMAX,HOST]},{"lbEndpoints":[{}]}]}"#,
+        12,
+    ),
+    (
+        r#"{"endpoints":[{"lbEndpoints":[HOST0,{}]},{"lbEndpoints":[{"healthStatus":"SICK"}]}]}"#,
+        6,
+    ),
 ];
 
 #[test]
@@ -197,7 +195,10 @@ fn clusters_of_control_planes(rt: HostRuntime) -> Result<(), Fail> {
         alloc,
         r#"{"name":"b","type":3,"edsClusterConfig":{"edsConfig":{"self":{}}}}"#,
     )?;
-    assert_eq!(rt; find_service(&read_cluster(alloc, &value)?), Some(("b", true)));
+    assert_eq!(rt;
+        find_service(&read_cluster(alloc, &value)?),
+        Some(("b", true))
+    );
     Ok(())
 }
 

@@ -54,7 +54,12 @@ const MANAGER: &str =
     r#"{"name":"in","address":{"socket_address":{"address":"10.1.0.1","port_value":8080}},"filter_chains":[{"filters":[{"typed_config":{"@type":"type.googleapis.com/envoy.extensions.filters.network.http_connection_manager.v3.HttpConnectionManager","#;
 
 // What is told of each case of a table. The members of its body stand between the two texts.
-fn find_wrong_answers(alloc: Global, table: &str, before: &str, after: &str) -> Result<String, Fail> {
+fn find_wrong_answers(
+    alloc: Global,
+    table: &str,
+    before: &str,
+    after: &str,
+) -> Result<String, Fail> {
     let mut wrong = String::new(alloc);
     if let Value::Array(pairs) = Value::from_str(alloc, table)? {
         for pair in pairs.as_slice() {

@@ -20,7 +20,11 @@ pub fn repeats_domain(alloc: Global, hosts: &[VirtualHost]) -> Result<bool, Allo
 }
 
 // Appends each domain in lower case.
-fn push_in_lowercase(alloc: Global, texts: &mut Vec<String>, domains: &[Text]) -> Result<(), AllocError>
+fn push_in_lowercase(
+    alloc: Global,
+    texts: &mut Vec<String>,
+    domains: &[Text],
+) -> Result<(), AllocError>
     ensures { OnOk result (map string_bytes texts.new.items ≡ map string_bytes texts.old.items ++ map str_to_ascii_lowercase domains.now) }
 {
     for domain in domains {
