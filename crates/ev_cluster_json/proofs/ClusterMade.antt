@@ -1,5 +1,5 @@
 -- What was found of a cluster's parts, against the cluster's tree.
-use Rattle.std.proofs.Common.{◌≡◌, ℕ, ◌||◌, ◌&&◌, ◌==◌, not, Bool, true, false, true≢false, List, [], length, Option, Some, None, nat_lt, cond, refl, sym, ap, ◌∙◌, arith, codes, if◌then◌else◌}
+use Rattle.std.proofs.Common.{◌≡◌, ℕ, ◌&&◌, ◌==◌, not, Bool, true, false, true≢false, List, [], length, Option, Some, None, nat_lt, cond, refl, ap, ◌∙◌, arith, codes, if◌then◌else◌}
 use Rattle.std.specs.Option.{option_map, option_and_then}
 use Rattle.std.proofs.lemmas.Bool.Decides.{nat_tests}
 use Rattle.serde_json.specs.Data.{Data}
@@ -15,7 +15,7 @@ use Rattle.ev_tree.specs.Broken.{none_broken, either_broken, broken_where, least
 use Rattle.ev_tree.specs.Sources.{source_is_limited}
 use Rattle.ev_tree.proofs.Unions.{least_none}
 use Rattle.ev_cluster_json.specs.declared.parts.TheConstants.{STATIC, EDS}
-use Rattle.ev_cluster_json.specs.Assignments.{rows_of, assignment_broken}
+use Rattle.ev_cluster_json.specs.Assignments.{rows_of}
 use Rattle.ev_cluster_json.specs.Clusters.{name_of, type_of, is_static, is_eds, eds_source_of, service_name_of, service_with, service_of, load_assignment_of, is_checked, own_broken, eds_broken, load_assignment_broken, cluster_broken, discovery_of, cluster_of}
 use Rattle.ev_cluster_json.specs.Made.{name_in, discovery_with, cluster_with, made_rows}
 use Rattle.ev_cluster_json.proofs.RowsMade.{left_false, right_false, not_false, rows_made}

@@ -31,13 +31,7 @@ pub fn read_cluster(alloc: Global, value: &Value) -> Result<Cluster, ReadError>
         return Err(ReadError::Rule(rule));
     }
     let service = choose_service(own.name, eds.service_name);
-    let discovery = make_discovery(
-        alloc,
-        own.kind == STATIC,
-        hosts.rows,
-        service,
-        eds.limited,
-    )?;
+    let discovery = make_discovery(alloc, own.kind == STATIC, hosts.rows, service, eds.limited)?;
     let cluster = make_cluster(alloc, own.name, discovery, own.checked)?;
     Ok(cluster.unwrap())
 }

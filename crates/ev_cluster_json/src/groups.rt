@@ -79,7 +79,12 @@ pub fn add_group(tally: &mut Tally, alloc: Global, group: &Value) -> Result<(), 
     let priority = member::number32(alloc, Some(group), "priority")?;
     let hosts = member::objects(alloc, Some(group), "lb_endpoints")?;
     let number = priority.given_or(0);
-    let sum = add_hosts(tally, alloc, member::elements(hosts), clamp_priority(number))?;
+    let sum = add_hosts(
+        tally,
+        alloc,
+        member::elements(hosts),
+        clamp_priority(number),
+    )?;
     let own = BrokenRules {
         v6: priority.is_wrong() | hosts.is_wrong(),
         v13: (number > MAX_PRIORITY) | (sum > MAX_WEIGHT_SUM),

@@ -2,11 +2,10 @@ use crate::{read_assignment, read_cluster};
 use ev_tree::ReadError;
 use ev_types::{Cluster, Discovery};
 use serde_json::Value;
-use std::alloc::Global;
 use std::test::Fail;
 
-/// The number of the rule that refused a resource, 0 for one that was read and 99 for want of memory.
-fn rule<T: Drop>(read: Result<T, ReadError>) -> u8 {
+// The number of the rule that refused a resource, 0 for one that was read and 99 for want of memory.
+fn find_rule<T: Drop>(read: Result<T, ReadError>) -> u8 {
     match read {
         Ok(_) => 0,
         Err(ReadError::Rule(rule)) => rule,
@@ -14,185 +13,161 @@ fn rule<T: Drop>(read: Result<T, ReadError>) -> u8 {
     }
 }
 
-/// The number of the rule that refused the cluster that `json` writes.
-fn cluster_rule(alloc: Global, json: &str) -> Result<u8, Fail> {
-    let value = Value::from_str(alloc, json)?;
-    Ok(rule(read_cluster(alloc, &value)))
-}
+// Clusters, each with the rule that refuses it: each rule alone, beside a lower and a higher one, and the fields that
+// aren't looked at. LONG stands for a text of 513 bytes.
+const CLUSTERS: [(&str, u8); 28] = [
+    (r#"{"name":"a","type":"EDS"}"#, 8),
+    (
+        r#"{"name":"a","type":"EDS","edsClusterConfig":{},"eds_cluster_config":{}}"#,
+        6,
+    ),
+    (r#"{"name":"a","type":"EDS","edsClusterConfig":{}}"#, 10),
+    (r#"{}"#, 3),
+    (r#"{"name":"a"}"#, 0),
+    (r#"{"name":"a","type":"STRICT_DNS"}"#, 7),
+    (r#"{"name":"a","type":9}"#, 6),
+    (r#"{"name":"a","clusterType":{}}"#, 7),
+    (
+        r#"{"name":"a","type":0,"eds_cluster_config":{"edsConfig":{"ads":{}}}}"#,
+        9,
+    ),
+    (
+        r#"{"name":"a","type":"EDS","edsClusterConfig":{"edsConfig":{"ads":{},"initialFetchTimeout":"-1s"}}}"#,
+        10,
+    ),
+    (r#"{"name":"a","connectTimeout":"0s"}"#, 11),
+    (
+        r#"{"name":"a","loadAssignment":{"endpoints":[{"lbEndpoints":[{}]}]}}"#,
+        12,
+    ),
+    (
+        r#"{"name":"a","loadAssignment":{"endpoints":[{"priority":129}]}}"#,
+        13,
+    ),
+    (r#"{"name":"a","type":"EDS","connectTimeout":"0s"}"#, 8),
+    (r#"{"name":"a","type":"EDS","connectTimeout":"1"}"#, 6),
+    (
+        r#"{"name":"a","edsClusterConfig":{"serviceName":"LONG"}}"#,
+        2,
+    ),
+    (
+        r#"{"name":"","edsClusterConfig":{"serviceName":"LONG"},"connectTimeout":"0s"}"#,
+        2,
+    ),
+    (r#"{"name":"","type":7,"healthChecks":{}}"#, 3),
+    (r#"{"name":5,"type":"STRICT_DNS"}"#, 6),
+    (
+        r#"{"name":"a","type":1,"edsClusterConfig":{},"connectTimeout":"-1s"}"#,
+        7,
+    ),
+    (
+        r#"{"name":"a","eds_cluster_config":{},"connectTimeout":"-1s","loadAssignment":{"endpoints":[{"priority":200}]}}"#,
+        9,
+    ),
+    (
+        r#"{"name":"a","connectTimeout":"0s","loadAssignment":{"endpoints":[{"lbEndpoints":[{}],"priority":200}]}}"#,
+        11,
+    ),
+    (
+        r#"{"name":"a","loadAssignment":{"endpoints":[{"priority":200},{"lbEndpoints":[{}]}]}}"#,
+        12,
+    ),
+    (
+        r#"{"name":"a","loadAssignment":{"endpoints":[{"priority":200},{"lbEndpoints":[null]}]}}"#,
+        6,
+    ),
+    (
+        r#"{"name":"a","type":"EDS","edsClusterConfig":{"edsConfig":{"ads":{}}},"loadAssignment":7}"#,
+        0,
+    ),
+    (
+        r#"{"name":"a","type":null,"loadAssignment":null,"edsClusterConfig":null,"healthChecks":null}"#,
+        0,
+    ),
+    (r#"{"name":"a","loadAssignment":7}"#, 6),
+    (r#"{"name":"a","edsClusterConfig":{"edsConfig":"ads"}}"#, 6),
+];
+
+// The same of assignments. HOST stands for a host, HOST0 for one of weight 0, and HOSTMAX for one of the greatest.
+const ASSIGNMENTS: [(&str, u8); 15] = [
+    (r#"{"endpoints":[{"lbEndpoints":[HOST]}]}"#, 0),
+    (
+        r#"{"clusterName":"","endpoints":[{"lb_endpoints":[HOST,HOST],"priority":"128"}]}"#,
+        0,
+    ),
+    (r#"{}"#, 0),
+    (r#"{"clusterName":7}"#, 6),
+    (r#"{"endpoints":{}}"#, 6),
+    (r#"{"endpoints":[null]}"#, 6),
+    (
+        r#"{"endpoints":[{"lbEndpoints":[HOST],"lb_endpoints":[HOST]}]}"#,
+        6,
+    ),
+    (r#"{"endpoints":[{"lbEndpoints":[{"endpoint":[]}]}]}"#, 6),
+    (
+        r#"{"endpoints":[{"lbEndpoints":[{"endpoint":{"address":{"pipe":{"path":"/x"}}}}]}]}"#,
+        12,
+    ),
+    (
+        r#"{"endpoints":[{"lbEndpoints":[{"endpointName":"x"}]}]}"#,
+        12,
+    ),
+    (r#"{"endpoints":[{"lbEndpoints":[HOST0]}]}"#, 13),
+    (r#"{"endpoints":[{"lbEndpoints":[HOSTMAX,HOST]}]}"#, 13),
+    (
+        r#"{"endpoints":[{"lbEndpoints":[HOSTMAX]},{"lbEndpoints":[HOST]}]}"#,
+        0,
+    ),
+    (
+        r#"{"endpoints":[{"lbEndpoints":[HOSTMAX,HOST]},{"lbEndpoints":[{}]}]}"#,
+        12,
+    ),
+    (
+        r#"{"endpoints":[{"lbEndpoints":[HOST0,{}]},{"lbEndpoints":[{"healthStatus":"SICK"}]}]}"#,
+        6,
+    ),
+];
 
 #[test]
-fn clusters_that_break_one_rule_or_none(rt: HostRuntime) -> Result<(), Fail> {
+fn rules_of_clusters(rt: HostRuntime) -> Result<(), Fail> {
     let alloc = rt.alloc();
-    let rows = [
-        (r#"{"name":"a","type":"EDS"}"#, 8),
-        (
-            r#"{"name":"a","type":"EDS","edsClusterConfig":{},"eds_cluster_config":{}}"#,
-            6,
-        ),
-        (r#"{"name":"a","type":"EDS","edsClusterConfig":{}}"#, 10),
-        // each rule alone
-        (r#"{}"#, 3),
-        (r#"{"name":"a"}"#, 0),
-        (r#"{"name":"a","type":"STRICT_DNS"}"#, 7),
-        (r#"{"name":"a","type":9}"#, 6),
-        (r#"{"name":"a","clusterType":{}}"#, 7),
-        (
-            r#"{"name":"a","type":0,"eds_cluster_config":{"edsConfig":{"ads":{}}}}"#,
-            9,
-        ),
-        (
-            r#"{"name":"a","type":"EDS","edsClusterConfig":{"edsConfig":{"ads":{},"initialFetchTimeout":"-1s"}}}"#,
-            10,
-        ),
-        (r#"{"name":"a","connectTimeout":"0s"}"#, 11),
-        (
-            r#"{"name":"a","loadAssignment":{"endpoints":[{"lbEndpoints":[{}]}]}}"#,
-            12,
-        ),
-        (
-            r#"{"name":"a","loadAssignment":{"endpoints":[{"priority":129}]}}"#,
-            13,
-        ),
-    ];
-    for (json, want) in rows {
-        assert_eq!(rt; cluster_rule(alloc, json)?, want, "{json}");
-    }
-    Ok(())
-}
-
-#[test]
-fn least_rule_of_clusters_that_break_several(rt: HostRuntime) -> Result<(), Fail> {
-    let alloc = rt.alloc();
-    let rows = [
-        (r#"{"name":"a","type":"EDS","connectTimeout":"0s"}"#, 8),
-        (r#"{"name":"a","type":"EDS","connectTimeout":"1"}"#, 6),
-        (
-            r#"{"name":"a","edsClusterConfig":{"serviceName":"LONG"}}"#,
-            2,
-        ),
-        // beside a lower and a higher one
-        (
-            r#"{"name":"","edsClusterConfig":{"serviceName":"LONG"},"connectTimeout":"0s"}"#,
-            2,
-        ),
-        (r#"{"name":"","type":7,"healthChecks":{}}"#, 3),
-        (r#"{"name":5,"type":"STRICT_DNS"}"#, 6),
-        (
-            r#"{"name":"a","type":1,"edsClusterConfig":{},"connectTimeout":"-1s"}"#,
-            7,
-        ),
-        (
-            r#"{"name":"a","eds_cluster_config":{},"connectTimeout":"-1s","loadAssignment":{"endpoints":[{"priority":200}]}}"#,
-            9,
-        ),
-        (
-            r#"{"name":"a","connectTimeout":"0s","loadAssignment":{"endpoints":[{"lbEndpoints":[{}],"priority":200}]}}"#,
-            11,
-        ),
-        (
-            r#"{"name":"a","loadAssignment":{"endpoints":[{"priority":200},{"lbEndpoints":[{}]}]}}"#,
-            12,
-        ),
-        (
-            r#"{"name":"a","loadAssignment":{"endpoints":[{"priority":200},{"lbEndpoints":[null]}]}}"#,
-            6,
-        ),
-    ];
     let long = "x".repeat(alloc, 513)?;
-    for (json, want) in rows {
+    for (json, want) in CLUSTERS {
         let body = json.replace(alloc, "LONG", long.as_str())?;
-        assert_eq!(rt; cluster_rule(alloc, body.as_str())?, want, "{json}");
+        let value = Value::from_str(alloc, body.as_str())?;
+        assert_eq!(rt; find_rule(read_cluster(alloc, &value)), want, "{json}");
     }
     Ok(())
 }
 
 #[test]
-fn which_fields_of_a_cluster_are_looked_at(rt: HostRuntime) -> Result<(), Fail> {
+fn rules_of_assignments(rt: HostRuntime) -> Result<(), Fail> {
     let alloc = rt.alloc();
-    let rows = [
-        // what isn't looked at, and null
-        (
-            r#"{"name":"a","type":"EDS","edsClusterConfig":{"edsConfig":{"ads":{}}},"loadAssignment":7}"#,
-            0,
-        ),
-        (
-            r#"{"name":"a","type":null,"loadAssignment":null,"edsClusterConfig":null,"healthChecks":null}"#,
-            0,
-        ),
-        (r#"{"name":"a","loadAssignment":7}"#, 6),
-        (r#"{"name":"a","edsClusterConfig":{"edsConfig":"ads"}}"#, 6),
-    ];
-    for (json, want) in rows {
-        assert_eq!(rt; cluster_rule(alloc, json)?, want, "{json}");
-    }
-    Ok(())
-}
-
-#[test]
-fn rules_of_an_assignment(rt: HostRuntime) -> Result<(), Fail> {
-    let alloc = rt.alloc();
-    let rows = [
-        (r#"{"endpoints":[{"lbEndpoints":[HOST]}]}"#, 0),
-        (
-            r#"{"clusterName":"","endpoints":[{"lb_endpoints":[HOST,HOST],"priority":"128"}]}"#,
-            0,
-        ),
-        (r#"{}"#, 0),
-        (r#"{"clusterName":7}"#, 6),
-        (r#"{"endpoints":{}}"#, 6),
-        (r#"{"endpoints":[null]}"#, 6),
-        (
-            r#"{"endpoints":[{"lbEndpoints":[HOST],"lb_endpoints":[HOST]}]}"#,
-            6,
-        ),
-        (r#"{"endpoints":[{"lbEndpoints":[{"endpoint":[]}]}]}"#, 6),
-        (
-            r#"{"endpoints":[{"lbEndpoints":[{"endpoint":{"address":{"pipe":{"path":"/x"}}}}]}]}"#,
-            12,
-        ),
-        (
-            r#"{"endpoints":[{"lbEndpoints":[{"endpointName":"x"}]}]}"#,
-            12,
-        ),
-        (r#"{"endpoints":[{"lbEndpoints":[HOST0]}]}"#, 13),
-        (r#"{"endpoints":[{"lbEndpoints":[HOSTMAX,HOST]}]}"#, 13),
-        (
-            r#"{"endpoints":[{"lbEndpoints":[HOSTMAX]},{"lbEndpoints":[HOST]}]}"#,
-            0,
-        ),
-        (
-            r#"{"endpoints":[{"lbEndpoints":[HOSTMAX,HOST]},{"lbEndpoints":[{}]}]}"#,
-            12,
-        ),
-        (
-            r#"{"endpoints":[{"lbEndpoints":[HOST0,{}]},{"lbEndpoints":[{"healthStatus":"SICK"}]}]}"#,
-            6,
-        ),
-    ];
-    for (json, want) in rows {
-        let address = r#""endpoint":{"address":{"socketAddress":{"address":"a","portValue":1}}}"#;
-        let zero = format!(in alloc; "{{{address},\"loadBalancingWeight\":0}}")?;
-        let most = format!(in alloc; "{{{address},\"load_balancing_weight\":\"4294967295\"}}")?;
-        let plain = format!(in alloc; "{{{address},\"healthStatus\":\"UNHEALTHY\"}}")?;
+    let address = r#""endpoint":{"address":{"socketAddress":{"address":"a","portValue":1}}}"#;
+    let zero = format!(in alloc; "{{{address},\"loadBalancingWeight\":0}}")?;
+    let most = format!(in alloc; "{{{address},\"load_balancing_weight\":\"4294967295\"}}")?;
+    let plain = format!(in alloc; "{{{address},\"healthStatus\":\"UNHEALTHY\"}}")?;
+    for (json, want) in ASSIGNMENTS {
         let body = json.replace(alloc, "HOST0", zero.as_str())?;
         let body = body.as_str().replace(alloc, "HOSTMAX", most.as_str())?;
         let body = body.as_str().replace(alloc, "HOST", plain.as_str())?;
         let value = Value::from_str(alloc, body.as_str())?;
-        assert_eq!(rt; rule(read_assignment(alloc, &value)), want, "{json}");
+        assert_eq!(rt; find_rule(read_assignment(alloc, &value)), want, "{json}");
     }
     Ok(())
 }
 
-fn service(cluster: &Cluster) -> Option<(&str, bool)> {
+// The name that hosts are asked for by, and whether the wait ends.
+fn find_service(cluster: &Cluster) -> Option<(&str, bool)> {
     match &cluster.discovery {
         Discovery::Static(_) => None,
         Discovery::Eds { service, limited } => Some((service.as_str(), *limited)),
     }
 }
 
-// Bodies as control planes write them; the profile passes over most of their fields.
+// Clusters as control planes write them; the profile passes over most of their fields.
 #[test]
-fn bodies_of_control_planes(rt: HostRuntime) -> Result<(), Fail> {
+fn clusters_of_control_planes(rt: HostRuntime) -> Result<(), Fail> {
     let alloc = rt.alloc();
     let value = Value::from_str(
         alloc,
@@ -212,7 +187,7 @@ fn bodies_of_control_planes(rt: HostRuntime) -> Result<(), Fail> {
         "outbound|9080||reviews.default.svc.cluster.local"
     );
     assert_eq!(rt;
-        service(&eds),
+        find_service(&eds),
         Some(("outbound|9080||reviews.default.svc.cluster.local", false))
     );
     assert!(rt; eds.checked);
@@ -220,7 +195,17 @@ fn bodies_of_control_planes(rt: HostRuntime) -> Result<(), Fail> {
         alloc,
         r#"{"name":"b","type":3,"edsClusterConfig":{"edsConfig":{"self":{}}}}"#,
     )?;
-    assert_eq!(rt; service(&read_cluster(alloc, &value)?), Some(("b", true)));
+    assert_eq!(rt;
+        find_service(&read_cluster(alloc, &value)?),
+        Some(("b", true))
+    );
+    Ok(())
+}
+
+// The same of an assignment.
+#[test]
+fn an_assignment_of_a_control_plane(rt: HostRuntime) -> Result<(), Fail> {
+    let alloc = rt.alloc();
     let value = Value::from_str(
         alloc,
         r#"{"clusterName":"reviews","policy":{"overprovisioningFactor":140},"endpoints":[

@@ -1,15 +1,13 @@
 -- A listener that breaks no rule has a name and an address.
-use Rattle.std.proofs.Common.{◌≡◌, ◌||◌, ◌&&◌, not, Bool, true, false, true≢false, None, refl, sym, ap, ◌∙◌, codes}
+use Rattle.std.proofs.Common.{◌≡◌, ◌||◌, ◌&&◌, not, Bool, true, false, true≢false, None, refl, ap, codes}
 use Rattle.serde_json.specs.Data.{Data}
 use Rattle.ev_tree.specs.declared.broken.BrokenRules.{BrokenRules}
-use Rattle.ev_tree.specs.declared.tables.EnumTable.TheVariants.{Protocol}
-use Rattle.ev_tree.specs.Forms.{is_wrong, text_of, number_of, object_of, objects_of, enumeration_of}
+use Rattle.ev_tree.specs.Forms.{is_wrong, text_of}
 use Rattle.ev_tree.specs.Rules.{is_name}
-use Rattle.ev_tree.specs.Broken.{none_broken, any_broken, least_of}
-use Rattle.ev_tree.specs.Addresses.{socket_of, address_text_of, is_port, address_broken}
+use Rattle.ev_tree.specs.Broken.{least_of}
+use Rattle.ev_tree.specs.Addresses.{address_text_of, address_broken}
 use Rattle.ev_tree.proofs.Unions.{least_none}
-use Rattle.ev_listener_json.specs.Filters.{chain_broken}
-use Rattle.ev_listener_json.specs.Listeners.{name_of, chains_of, is_udp, listener_broken}
+use Rattle.ev_listener_json.specs.Listeners.{name_of, listener_broken}
 
 left_false : (a b : Bool) → (a || b) ≡ false → a ≡ false
 left_false true b e = absurd (true≢false e)

@@ -1,5 +1,5 @@
 -- Listeners (`envoy.config.listener.v3.Listener`), and the rules that they break.
-use Rattle.std.specs.Prelude.{ℕ, ◌||◌, ◌&&◌, ◌==◌, List, [], ◌∷◌, length, map, Bool, false, not, Result, unwrap_or, codes}
+use Rattle.std.specs.Prelude.{ℕ, ◌||◌, ◌&&◌, ◌==◌, List, [], length, map, Bool, false, not, Result, unwrap_or, codes}
 use Rattle.serde_json.specs.Data.{Data}
 use Rattle.ev_types.specs.declared.listeners.Listener.{Listener}
 use Rattle.ev_types.specs.declared.listeners.Serve.{Serve}

@@ -5,14 +5,15 @@ use serde_json::Value;
 use std::alloc::{AllocError, Global};
 use std::test::Fail;
 
-/// What the reader answers, as text: the content, or the rule.
-fn told(alloc: Global, read: Result<Listener, ReadError>) -> Result<String, AllocError> {
+// What the reader answers, as text: the content, or the rule.
+fn tell(alloc: Global, read: Result<Listener, ReadError>) -> Result<String, AllocError> {
     match read {
         Ok(listener) => describe(alloc, &listener),
         Err(error) => format!(in alloc; "{error}"),
     }
 }
 
+// The listener as text.
 fn describe(alloc: Global, listener: &Listener) -> Result<String, AllocError> {
     let serve = describe_serve(alloc, &listener.serve)?;
     let name = listener.name.as_str();
@@ -21,6 +22,7 @@ fn describe(alloc: Global, listener: &Listener) -> Result<String, AllocError> {
     format!(in alloc; "{name} at {address}:{port} serves {serve}")
 }
 
+// What is served, as text.
 fn describe_serve(alloc: Global, serve: &Serve) -> Result<String, AllocError> {
     match serve {
         Serve::Rds { name, limited } => {
@@ -43,17 +45,22 @@ fn describe_serve(alloc: Global, serve: &Serve) -> Result<String, AllocError> {
     }
 }
 
-/// The start of a listener that is good: the members of a case come after its own, and take their place.
+// The start of a listener that is good: the members of a case come after its own, and take their place.
 const LISTENER: &str =
     r#"{"name":"in","address":{"socket_address":{"address":"10.1.0.1","port_value":8080}},"filter_chains":[{"filters":[{"typed_config":{"@type":"type.googleapis.com/envoy.extensions.filters.network.tcp_proxy.v3.TcpProxy","cluster":"c"}}]}],"#;
 
-/// A listener up to the configuration of its connection manager.
+// A listener up to the configuration of its connection manager.
 const MANAGER: &str =
     r#"{"name":"in","address":{"socket_address":{"address":"10.1.0.1","port_value":8080}},"filter_chains":[{"filters":[{"typed_config":{"@type":"type.googleapis.com/envoy.extensions.filters.network.http_connection_manager.v3.HttpConnectionManager","#;
 
-/// What is told of each case of a table. The members of its body stand between the two texts.
-fn answers(alloc: Global, table: &str, before: &str, after: &str) -> Result<String, Fail> {
-    let mut told_all = String::new(alloc);
+// What is told of each case of a table. The members of its body stand between the two texts.
+fn find_wrong_answers(
+    alloc: Global,
+    table: &str,
+    before: &str,
+    after: &str,
+) -> Result<String, Fail> {
+    let mut wrong = String::new(alloc);
     if let Value::Array(pairs) = Value::from_str(alloc, table)? {
         for pair in pairs.as_slice() {
             if let (Some(Value::String(rule)), Some(case)) = (pair.get(0usize), pair.get(1usize)) {
@@ -61,7 +68,7 @@ fn answers(alloc: Global, table: &str, before: &str, after: &str) -> Result<Stri
                 let mut body = String::from_str(alloc, before)?;
                 body.push_str(members.as_str().trim_start_matches('{'))?;
                 body.push_str(after)?;
-                let answer = told(
+                let answer = tell(
                     alloc,
                     read_listener(alloc, &Value::from_str(alloc, body.as_str())?),
                 )?;
@@ -70,13 +77,13 @@ fn answers(alloc: Global, table: &str, before: &str, after: &str) -> Result<Stri
                     rule => answer.as_str() == rule,
                 };
                 if !right {
-                    told_all.push_str(answer.as_str())?;
-                    told_all.push_str(members.as_str())?;
+                    wrong.push_str(answer.as_str())?;
+                    wrong.push_str(members.as_str())?;
                 }
             }
         }
     }
-    Ok(told_all)
+    Ok(wrong)
 }
 
 const LISTENERS: &str = r#"[
@@ -156,7 +163,7 @@ const MANAGERS: &str = r#"[
   ["V24", {"route_config":{"virtual_hosts":[{"name":"h","domains":["*"],"routes":[{"match":{"prefix":"/"},"route":{"weighted_clusters":{}}}]}]}}]
 ]"#;
 
-/// Listeners as control planes write them, with what is told of each.
+// Listeners as control planes write them, with what is told of each.
 const WHOLE: &str = r#"[
   ["ingress at 0.0.0.0:8443 serves routes shop, limited false", {
     "@type": "type.googleapis.com/envoy.config.listener.v3.Listener",
@@ -204,11 +211,11 @@ const WHOLE: &str = r#"[
 #[test]
 fn each_rule_alone_and_beside_others(rt: HostRuntime) -> Result<(), Fail> {
     let alloc = rt.alloc();
-    let wrong = answers(alloc, LISTENERS, LISTENER, "")?;
+    let wrong = find_wrong_answers(alloc, LISTENERS, LISTENER, "")?;
     assert_eq!(rt; wrong.as_str(), "");
-    let wrong = answers(alloc, MANAGERS, MANAGER, "}]}]}")?;
+    let wrong = find_wrong_answers(alloc, MANAGERS, MANAGER, "}]}]}")?;
     assert_eq!(rt; wrong.as_str(), "");
-    let unlike = answers(alloc, r#"[["V18",{"route_config":{}}]]"#, MANAGER, "}]}]}")?;
+    let unlike = find_wrong_answers(alloc, r#"[["V18",{"route_config":{}}]]"#, MANAGER, "}]}]}")?;
     assert_eq!(rt;
         unlike.as_str(),
         r#"in at 10.1.0.1:8080 serves 0 hosts{"route_config":{}}"#
@@ -226,7 +233,7 @@ fn whole_listeners(rt: HostRuntime) -> Result<(), Fail> {
                 pair.get(0usize),
                 pair.get(1usize),
             ) {
-                let answer = told(alloc, read_listener(alloc, body))?;
+                let answer = tell(alloc, read_listener(alloc, body))?;
                 assert_eq!(rt; answer.as_str(), content.as_str());
                 count = count.saturating_add(1);
             }

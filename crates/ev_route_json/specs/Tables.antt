@@ -1,5 +1,5 @@
 -- Route configurations (`envoy.config.route.v3.RouteConfiguration`), and the rules that they break.
-use Rattle.std.specs.Prelude.{ℕ, ◌||◌, ◌==◌, List, [], ◌∷◌, length, map, Bool, Result, codes}
+use Rattle.std.specs.Prelude.{ℕ, ◌||◌, ◌==◌, List, [], length, map, Result, codes}
 use Rattle.serde_json.specs.Data.{Data}
 use Rattle.ev_types.specs.declared.routes.VirtualHost.{VirtualHost}
 use Rattle.ev_types.specs.declared.routes.RouteTable.{RouteTable}

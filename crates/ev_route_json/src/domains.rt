@@ -19,8 +19,12 @@ pub fn repeats_domain(alloc: Global, hosts: &[VirtualHost]) -> Result<bool, Allo
     has_repeat(alloc, domains)
 }
 
-/// Appends each domain in lower case.
-fn push_in_lowercase(alloc: Global, texts: &mut Vec<String>, domains: &[Text]) -> Result<(), AllocError>
+// Appends each domain in lower case.
+fn push_in_lowercase(
+    alloc: Global,
+    texts: &mut Vec<String>,
+    domains: &[Text],
+) -> Result<(), AllocError>
     ensures { OnOk result (map string_bytes texts.new.items ≡ map string_bytes texts.old.items ++ map str_to_ascii_lowercase domains.now) }
 {
     for domain in domains {
@@ -31,7 +35,7 @@ fn push_in_lowercase(alloc: Global, texts: &mut Vec<String>, domains: &[Text]) -
     Ok(())
 }
 
-/// Whether a text stands in the list twice.
+// Whether a text stands in the list twice.
 fn has_repeat(alloc: Global, texts: Vec<String>) -> Result<bool, AllocError>
     ensures { IfOk result (λ repeats. repeats ≡ has_repeat (map string_bytes texts.items)) }
 {

@@ -44,6 +44,7 @@ pub fn inspect_fields(
     })
 }
 
+// Whether a value is given that isn't an empty array.
 fn is_filled(found: Found<&Value>) -> bool
     ensures { result ≡ is_filled (found_map (λ v. view v.now) found.entry) }
 {
@@ -53,6 +54,7 @@ fn is_filled(found: Found<&Value>) -> bool
     }
 }
 
+// Whether a value is an array without elements.
 fn is_empty_array(value: &Value) -> bool
     ensures { result ≡ is_empty_array (view value.now) }
 {

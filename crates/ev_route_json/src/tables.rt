@@ -34,10 +34,7 @@ fn copy_texts(alloc: Global, elements: &[Value]) -> Result<Vec<Text>, AllocError
 }
 
 // Inspects a virtual host.
-fn inspect_virtual_host(
-    alloc: Global,
-    host: &Value,
-) -> Result<Inspection<VirtualHost>, AllocError>
+fn inspect_virtual_host(alloc: Global, host: &Value) -> Result<Inspection<VirtualHost>, AllocError>
     ensures value { IfOk result (λ found. found.value ≡ virtual_host_of (view host.now)) }
     ensures broken { IfOk result (λ found. found.broken ≡ virtual_host_broken (view host.now)) }
 {

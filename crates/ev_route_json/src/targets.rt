@@ -46,10 +46,7 @@ fn inspect_entry(alloc: Global, entry: &Value) -> Result<Inspection<WeightedClus
 }
 
 /// Inspects a target: `cluster` or `weighted_clusters`, as a route action and a TCP proxy have them.
-pub fn inspect_target(
-    alloc: Global,
-    tree: Option<&Value>,
-) -> Result<Inspection<Target>, AllocError>
+pub fn inspect_target(alloc: Global, tree: Option<&Value>) -> Result<Inspection<Target>, AllocError>
     ensures value { IfOk result (λ found. found.value ≡ target_of (tree_of tree.entry)) }
     ensures broken { IfOk result (λ found. found.broken ≡ target_broken (tree_of tree.entry)) }
 {

@@ -5,14 +5,15 @@ use serde_json::Value;
 use std::alloc::{AllocError, Global};
 use std::test::Fail;
 
-/// What a reader answers, as text: `ok`, or the rule.
-fn told<T: Drop>(alloc: Global, read: Result<T, ReadError>) -> Result<String, AllocError> {
+// What a reader answers, as text: `ok`, or the rule.
+fn tell<T: Drop>(alloc: Global, read: Result<T, ReadError>) -> Result<String, AllocError> {
     match read {
         Ok(_) => String::from_str(alloc, "ok"),
         Err(error) => format!(in alloc; "{error}"),
     }
 }
 
+// The target as text.
 fn describe_target(alloc: Global, text: &mut String, target: &Target) -> Result<(), AllocError> {
     match target {
         Target::One(name) => text.push_str(name.as_str()),
@@ -29,6 +30,7 @@ fn describe_target(alloc: Global, text: &mut String, target: &Target) -> Result<
     }
 }
 
+// The path as text, behind its kind.
 fn describe_path(text: &mut String, path: &PathMatch) -> Result<(), AllocError> {
     let (kind, path) = match path {
         PathMatch::Prefix(path) => ("prefix ", path),
@@ -39,6 +41,7 @@ fn describe_path(text: &mut String, path: &PathMatch) -> Result<(), AllocError> 
     text.push_str(path.as_str())
 }
 
+// The action as text.
 fn describe_action(alloc: Global, text: &mut String, action: &Action) -> Result<(), AllocError> {
     match action {
         Action::Forward(target) => describe_target(alloc, text, target),
@@ -47,7 +50,7 @@ fn describe_action(alloc: Global, text: &mut String, action: &Action) -> Result<
     }
 }
 
-/// The content of a table as text, a line each host.
+// The content of a table as text, a line each host.
 fn describe(alloc: Global, table: &RouteTable) -> Result<String, AllocError> {
     let mut text = String::new(alloc);
     for host in table.hosts.as_slice() {
@@ -67,7 +70,7 @@ fn describe(alloc: Global, table: &RouteTable) -> Result<String, AllocError> {
     Ok(text)
 }
 
-/// A route configuration with one host that has this route.
+// A route configuration with one host that has this route.
 fn around(alloc: Global, route: &str) -> Result<String, AllocError> {
     let mut text = String::from_str(
         alloc,
@@ -190,8 +193,8 @@ const TARGETS: &str = r#"[
   ["V24", {"weighted_clusters":{"clusters":[{"name":"a","weight":4294967295},{"name":"a","weight":4294967295},{"name":"b","weight":2}]}}]
 ]"#;
 
-/// A route configuration as control planes write them: retry policies, rewrites, rate limits, header
-/// edits and the like are passed over.
+// A route configuration as control planes write them: retry policies, rewrites, rate limits, header
+// edits and the like are passed over.
 const BOOKSHOP: &str = r#"{
   "@type": "type.googleapis.com/envoy.config.route.v3.RouteConfiguration",
   "name": "bookshop",
@@ -235,7 +238,7 @@ const BOOKSHOP: &str = r#"{
   ]
 }"#;
 
-/// The cases of a table: what is to be told of a body, and the body.
+// The cases of a table: what is to be told of a body, and the body.
 fn cases(alloc: Global, text: &str) -> Result<Vec<(String, Value)>, Fail> {
     let mut cases = Vec::new(alloc);
     if let Value::Array(pairs) = Value::from_str(alloc, text)? {
@@ -254,7 +257,7 @@ fn each_rule_of_a_table(rt: HostRuntime) -> Result<(), Fail> {
     let cases = cases(alloc, TABLES)?;
     assert_eq!(rt; cases.len(), 28);
     for (rule, body) in cases.as_slice() {
-        let answer = told(alloc, read_routes(alloc, body))?;
+        let answer = tell(alloc, read_routes(alloc, body))?;
         assert_eq!(rt; answer.as_str(), rule.as_str(), "{body}");
     }
     Ok(())
@@ -268,7 +271,7 @@ fn each_rule_of_a_route(rt: HostRuntime) -> Result<(), Fail> {
     for (rule, route) in cases.as_slice() {
         let body = around(alloc, route.to_string(alloc)?.as_str())?;
         let body = Value::from_str(alloc, body.as_str())?;
-        let answer = told(alloc, read_routes(alloc, &body))?;
+        let answer = tell(alloc, read_routes(alloc, &body))?;
         assert_eq!(rt; answer.as_str(), rule.as_str(), "{route}");
     }
     Ok(())
@@ -280,7 +283,7 @@ fn each_rule_of_a_target(rt: HostRuntime) -> Result<(), Fail> {
     let cases = cases(alloc, TARGETS)?;
     assert_eq!(rt; cases.len(), 25);
     for (rule, body) in cases.as_slice() {
-        let answer = told(alloc, read_target(alloc, body))?;
+        let answer = tell(alloc, read_target(alloc, body))?;
         assert_eq!(rt; answer.as_str(), rule.as_str(), "{body}");
     }
     Ok(())
