@@ -1,5 +1,5 @@
 -- A good body has the content of its kind, and an outer name that is a name and its own.
-use Rattle.std.proofs.Common.{◌≡◌, ℕ, List, [], ◌∷◌, Bool, true, false, not, if◌then◌else◌, refl, ◌&&◌, ◌||◌, ◌∙◌, sym, ap, subst, Option, Some, None, Result, Ok, Err, codes, length, nat_le}
+use Rattle.std.proofs.Common.{◌≡◌, ℕ, List, [], Bool, true, false, not, if◌then◌else◌, refl, ◌&&◌, ◌||◌, ◌∙◌, sym, ap, subst, Option, Some, None, Result, Ok, Err, codes, length, nat_le}
 use Rattle.std.specs.Str.{bytes_eq}
 use Rattle.std.proofs.lemmas.Slice.Eq.{bytes_eq-Decides}
 use Rattle.std.proofs.lemmas.Bool.{leb-true}
@@ -22,7 +22,7 @@ use Rattle.ev_tree.specs.declared.span.Span.{Span}
 use Rattle.ev_tree.specs.Forms.{given_or, inside, is_absent, is_wrong, text_of, tree_of}
 use Rattle.ev_tree.specs.Rules.{judged, is_name}
 use Rattle.ev_tree.specs.declared.broken.BrokenRules.{BrokenRules}
-use Rattle.ev_tree.specs.Broken.{none_broken, least_of}
+use Rattle.ev_tree.specs.Broken.{least_of}
 use Rattle.ev_tree.proofs.Unions.{least_none}
 use Rattle.ev_cluster_json.specs.Clusters.{cluster_reading, cluster_of, cluster_broken, own_broken as cluster_own_broken, name_of}
 use Rattle.ev_cluster_json.specs.Assignments.{assignment_reading}

@@ -1,5 +1,5 @@
 -- The rule that refuses a resource is the least of all that it breaks.
-use Rattle.std.proofs.Common.{ℕ, ◌≤◌, ◌⊎◌, inl, inr, Bool, true, false, true≢false, min, if◌then◌else◌, List, [], ◌∷◌, ◌||◌, ◌∙◌, ◌≡◌, Option, Some, None, refl, sym, subst, arith, rules}
+use Rattle.std.proofs.Common.{ℕ, ◌≤◌, ◌⊎◌, inl, inr, Bool, true, false, min, if◌then◌else◌, List, [], ◌∷◌, ◌||◌, ◌∙◌, ◌≡◌, Option, Some, None, refl, sym, subst, arith, rules}
 use Rattle.std.proofs.Math.Nat.{min-le_left, min-le_right, min-eq_left, min-eq_right}
 use Rattle.std.proofs.lemmas.Bool.Decides.{leb_tells}
 use Rattle.serde_json.specs.Data.{Data}
@@ -100,7 +100,7 @@ lesser a b content value (Some k) None first second = (
 )
 lesser a b content value (Some k) (Some n) first second = (
   min_broken k n (rules_of (either_broken a b)) (of_own k (rules_of a) (rules_of b) (same_rules a b) first.0)
-  (of_others n (rules_of a) (rules_of b) (same_rules a b) second.0),
+      (of_others n (rules_of a) (rules_of b) (same_rules a b) second.0),
   λ m broken. elim (split m (rules_of a) (rules_of b) (same_rules a b) broken)
       [ inl h ↦ omega (arith, min-le_left k n, first.1 m h) | inr h ↦ omega (arith, min-le_right k n, second.1 m h) ],
 )

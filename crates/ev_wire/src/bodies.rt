@@ -140,14 +140,8 @@ fn read_content(alloc: Global, kind: Kind, body: &Value) -> Result<Content, Read
 {
     match kind {
         Kind::Cds => Ok(Content::Cluster(Shared::new(alloc, read_cluster(alloc, body)?)?)),
-        Kind::Eds => Ok(Content::Assignment(Shared::new(
-            alloc,
-            read_assignment(alloc, body)?,
-        )?)),
-        Kind::Lds => Ok(Content::Listener(Shared::new(
-            alloc,
-            read_listener(alloc, body)?,
-        )?)),
+        Kind::Eds => Ok(Content::Assignment(Shared::new(alloc, read_assignment(alloc, body)?)?)),
+        Kind::Lds => Ok(Content::Listener(Shared::new(alloc, read_listener(alloc, body)?)?)),
         Kind::Rds => Ok(Content::Routes(Shared::new(alloc, read_routes(alloc, body)?)?)),
     }
 }
