@@ -12,3 +12,11 @@ pub mod CountLemmas
 pub mod OneANameLemmas
 pub mod ReplayLemmas
 pub mod VersionLemmas
+pub mod SeenLemmas
+pub mod PromotionLemmas
+pub mod HeldLemmas
+pub mod ChoiceLemmas
+pub mod AnyLemmas
+pub mod PictureLemmas
+pub mod MemberLemmas
+pub mod AnswerLemmas
