@@ -20,3 +20,5 @@ pub mod AnyLemmas
 pub mod PictureLemmas
 pub mod MemberLemmas
 pub mod AnswerLemmas
+pub mod DrawnLemmas
+pub mod HiddenLemmas

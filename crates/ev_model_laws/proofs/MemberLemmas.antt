@@ -71,7 +71,7 @@ promoted_served succeeded ready Draining h = refl
 promoted_served succeeded ready Dropped h = absurd (false≢true h)
 
 -- a row that serves has served
-active_served : (status : RowStatus) → is_active status ≡ true → has_served status ≡ true
+pub active_served : (status : RowStatus) → is_active status ≡ true → has_served status ≡ true
 active_served Warming h = h
 active_served Active h = refl
 active_served Draining h = refl

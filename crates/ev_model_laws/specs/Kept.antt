@@ -1,6 +1,6 @@
 -- What every event of a run keeps, and the opening has: the parts from which the laws of runs follow. This project's own. Some
 -- speak of one world, and some of a journal's first entries, since they tell how that world came about.
-use Rattle.std.specs.Prelude.{ℕ, ◌≡◌, ◌≤◌, ◌<◌, Bool, true, false, ◌&&◌, ◌==◌, IsTrue, List, take, drop, map, filter, Contains, Option, Some, None}
+use Rattle.std.specs.Prelude.{ℕ, ◌≡◌, ◌≤◌, ◌<◌, Bool, true, false, not, ◌&&◌, ◌==◌, IsTrue, List, take, drop, map, filter, Contains, Option, Some, None}
 use Rattle.std.specs.List.{list_any, flat_map}
 use Rattle.ev_types.specs.declared.contents.Kind.{Kind}
 use Rattle.ev_types.specs.declared.contents.Kind.TheVariants.{Lds}
@@ -41,9 +41,13 @@ numbers_published world = flat_map numbers_shown world.pictures
 abbrev pub is_seen : World → ℕ → Bool
 is_seen world number = is_in_use_by (numbers_published world) world.opened number
 
--- a generation that is seen has served: one that warms, or was dropped, is in no picture and has no connection
-abbrev pub ShowsServed : World → Type 0
-ShowsServed world = (row : GenRow) → Contains world.rows row → IsTrue (is_seen world row.number) → IsTrue (has_served row.status)
+-- the row is of this number, and warms or was dropped
+abbrev pub is_unserved_as : ℕ → GenRow → Bool
+is_unserved_as number row = (row.number == number) && not (has_served row.status)
+
+-- a generation that warms, or was dropped, is in no picture and has no connection
+abbrev pub HidesUnserved : World → Type 0
+HidesUnserved world = (number : ℕ) → IsTrue (is_seen world number) → list_any (is_unserved_as number) world.rows ≡ false
 
 -- no worker holds a version above the last
 abbrev pub HoldsPublished : World → Type 0
