@@ -22,3 +22,4 @@ pub mod MemberLemmas
 pub mod AnswerLemmas
 pub mod DrawnLemmas
 pub mod HiddenLemmas
+pub mod RunParts

@@ -1,6 +1,6 @@
 -- What every event of a run keeps, and the opening has: the parts from which the laws of runs follow. This project's own. Some
 -- speak of one world, and some of a journal's first entries, since they tell how that world came about.
-use Rattle.std.specs.Prelude.{ℕ, ◌≡◌, ◌≤◌, ◌<◌, Bool, true, false, not, ◌&&◌, ◌==◌, IsTrue, List, take, drop, map, filter, Contains, Option, Some, None}
+use Rattle.std.specs.Prelude.{ℕ, ◌≡◌, ◌≤◌, ◌<◌, Bool, true, false, not, ◌&&◌, ◌==◌, IsTrue, List, length, take, drop, map, filter, Contains, Option, Some, None}
 use Rattle.std.specs.List.{list_any, flat_map}
 use Rattle.ev_types.specs.declared.contents.Kind.{Kind}
 use Rattle.ev_types.specs.declared.contents.Kind.TheVariants.{Lds}
@@ -71,3 +71,12 @@ pub record DrawnOnce (world : World) (gone : List ℕ) : Type 0 where
 -- it is so after the first k entries, with what these have reaped
 abbrev pub NumbersAreDrawnOnce : Told → ℕ → Type 0
 NumbersAreDrawnOnce told k = DrawnOnce (world_told told k) (numbers_gone (take k told.journal))
+
+-- what every run has after its first k entries
+pub record HasParts (told : Told) (k : ℕ) : Type 0 where
+  pub workers : length (world_told told k).held ≡ told.workers
+  pub uses : UsesServed (world_told told k)
+  pub hides : HidesUnserved (world_told told k)
+  pub holds : HoldsPublished (world_told told k)
+  pub due : NothingIsDue (world_told told k)
+  pub drawn : NumbersAreDrawnOnce told k
