@@ -34,7 +34,7 @@ use Rattle.ev_model.specs.Step.{step}
 use Rattle.ev_model_laws.specs.Numbers.{RiseWithin, IsNumbered}
 use Rattle.ev_model_laws.specs.Kept.{numbers_published, DrawnOnce}
 use Rattle.ev_model_laws.proofs.KeepLemmas.{Seen, KeepsTidied, managed-keeps, removed_where, Keeps, step-keeps, either, step-each, step-holds}
-use Rattle.ev_model_laws.proofs.AnswerLemmas.{managed_answer}
+use Rattle.ev_model_laws.proofs.AnswerLemmas.{HoldsOfAnswers, managed_answer, accepted_answer, closed_answer}
 use Rattle.ev_model_laws.proofs.AnyLemmas.{or_so, any_so, any_behind, any_only, any_left, any_mapped, any_flat, any_sorted}
 use Rattle.ev_model_laws.proofs.NumberLemmas.{numbers, keeps_numbered, keeps_count}
 use Rattle.ev_model_laws.proofs.PictureLemmas.{serves_numbered, shown_serves}
@@ -184,31 +184,22 @@ step-shown format world actor event rise drawn = step-each ShowsDrawn format wor
 abbrev ReapsNothing : Answer → Type 0
 ReapsNothing answer = (number : ℕ) → has_number number (numbers_reaped answer) ≡ false
 
-served_reaps : (listener cluster : ℕ) (host : Option Host) → ReapsNothing (served_by listener cluster host)
-served_reaps listener cluster None number = refl
-served_reaps listener cluster (Some host) number = refl
-
-choice_reaps : (picture : Picture) (choice : Choice) → ReapsNothing (answer_of picture choice)
-choice_reaps picture NoListener number = refl
-choice_reaps picture (NoRoute listener) number = refl
-choice_reaps picture (Local listener status) number = refl
-choice_reaps picture (Redirect listener) number = refl
-choice_reaps picture (NoCluster listener) number = refl
-choice_reaps picture (NoEndpoint listener) number = refl
-choice_reaps picture (Served listener cluster place) number = served_reaps listener cluster (host_at picture cluster place) number
-
-accepted_reaps : (picture : Picture) (ask : Ask) (worker : ℕ) (opened : List OpenMember) → ReapsNothing (accepted picture ask worker opened).answer
-accepted_reaps picture ask worker opened =
-    cond_both (is_open opened worker ask.conn) (record { opened = opened; answer = InUse })
-    (opened_by picture worker ask.conn (choice_of picture ask) opened)
-    (λ (worked : Worked). ReapsNothing worked.answer) (λ is number. refl) (λ new. choice_reaps picture (choice_of picture ask))
-
-closed_reaps : (connection worker : ℕ) (opened : List OpenMember) → ReapsNothing (closed connection worker opened).answer
-closed_reaps connection worker opened =
-    cond_both (is_open opened worker connection)
-    (record { opened = filter (λ (m : OpenMember). not (is_member worker connection m)) opened; answer = done })
-    (record { opened = opened; answer = NotOpen })
-    (λ (worked : Worked). ReapsNothing worked.answer) (λ is number. refl) (λ none number. refl)
+answers_reap : HoldsOfAnswers ReapsNothing
+answers_reap = record {
+  ignored = λ number. refl;
+  done = λ number. refl;
+  moved = λ requests number. refl;
+  replied = λ requests verdicts number. refl;
+  in_use = λ number. refl;
+  not_open = λ number. refl;
+  no_listener = λ number. refl;
+  no_route = λ listener number. refl;
+  redirect = λ listener number. refl;
+  no_cluster = λ listener number. refl;
+  no_endpoint = λ listener number. refl;
+  local = λ listener status number. refl;
+  served = λ listener cluster host number. refl;
+}
 
 -- what is named by a reaping is away behind it
 abbrev AreAway : World × Answer → Type 0
@@ -230,19 +221,14 @@ pub step-reaped : (format : Format) (world : World) (actor : Actor) (event : Eve
 step-reaped format world actor event rise = step-holds AreAway format world actor event (record {
   ignored = away_of_none (world, Ignored) (λ number. refl);
   managed = λ event is. away_of_none (step format world actor event)
-      (managed_answer ReapsNothing (record {
-        ignored = λ number. refl;
-        done = λ number. refl;
-        moved = λ requests number. refl;
-        replied = λ requests verdicts number. refl;
-      }) format world actor event is);
+      (managed_answer ReapsNothing answers_reap format world actor event is);
   published = cond_both (shown_same (shown_of world) (shown_at world (last_version world))) (world, Unchanged)
       (record world { pictures = world.pictures ++ shown_of world ∷ [] }, Version (length world.pictures)) AreAway
       (λ same. away_of_none (world, Unchanged) (λ number. refl))
       (λ new. away_of_none (record world { pictures = world.pictures ++ shown_of world ∷ [] }, Version (length world.pictures)) (λ number. refl));
   reaped = reaped_away format world rise;
-  accepted = λ ask worker is. away_of_none (accept ask worker world) (accepted_reaps (picture_held world worker) ask worker world.opened);
-  closed = λ connection worker is. away_of_none (close connection worker world) (closed_reaps connection worker world.opened);
+  accepted = λ ask worker is. away_of_none (accept ask worker world) (accepted_answer ReapsNothing answers_reap (picture_held world worker) ask worker world.opened);
+  closed = λ connection worker is. away_of_none (close connection worker world) (closed_answer ReapsNothing answers_reap connection worker world.opened);
   settled = λ worker is. away_of_none (settle worker world) (λ number. refl);
 })
 

@@ -22,4 +22,6 @@ pub mod MemberLemmas
 pub mod AnswerLemmas
 pub mod DrawnLemmas
 pub mod HiddenLemmas
+pub mod PlaceLemmas
+pub mod SettledLemmas
 pub mod RunParts

@@ -4,7 +4,7 @@ use Rattle.std.specs.Bool.{⊤}
 use Rattle.std.specs.Prelude.{slice_get}
 use Rattle.std.specs.List.{flat_map}
 use Rattle.std.proofs.lemmas.Grind.{flat_map-append}
-use Rattle.std.proofs.lemmas.List.{append-nil, take_more, length-replicate}
+use Rattle.std.proofs.lemmas.List.{append-nil, take_more, length-replicate, get_or-replicate}
 use Rattle.std.proofs.lemmas.Option.{slice_get_within, get_or_from_slice_get, slice_get_cases}
 use Rattle.ev_types.specs.Events.{MayMake}
 use Rattle.ev_types.specs.declared.events.Actor.{Actor}
@@ -20,59 +20,13 @@ use Rattle.ev_model.specs.Runs.{world_after, RunsFrom, IsRun}
 use Rattle.ev_model.specs.Laws.{Told, world_told, IsEntryAt}
 use Rattle.ev_model.proofs.RunLemmas.{world_after-more, length-held}
 use Rattle.ev_model_laws.specs.Kept.{numbers_gone, UsesServed, HidesUnserved, HoldsPublished, NothingIsDue, DrawnOnce, HasParts}
+use Rattle.ev_model_laws.proofs.PlaceLemmas.{IsAnswered, Runs, entry_answered, world_next, gone_next}
 use Rattle.ev_model_laws.proofs.HeldLemmas.{opens_held, step-held}
+use Rattle.ev_model_laws.proofs.SettledLemmas.{settled_next}
 use Rattle.ev_model_laws.proofs.PromotionLemmas.{opens_due, step-due}
 use Rattle.ev_model_laws.proofs.MemberLemmas.{IsKnown, opens_uses, step-uses}
 use Rattle.ev_model_laws.proofs.DrawnLemmas.{opens_drawn, step-drawn}
 use Rattle.ev_model_laws.proofs.HiddenLemmas.{opens_hidden, step-hidden}
-
--- one element more at the end of the first ones
-pub take_one : {X : Type 0} (xs : List X) (k : ℕ) (x : X) → slice_get xs k ≡ Some x → take (k + 1) xs ≡ take k xs ++ x ∷ []
-take_one xs k x there =
-    take_more xs k x (slice_get_within xs k x there) ∙ ap (λ y. take k xs ++ y ∷ []) (get_or_from_slice_get xs k x x there)
-
--- an entry is one of its actor's, and is answered as the machine answers it at the world before it
-pub record IsAnswered (told : Told) (k : ℕ) (entry : Entry) : Type 0 where
-  pub may : MayMake told.workers entry.actor entry.event
-  pub answer : entry.answer ≡ (step told.format (world_told told k) entry.actor entry.event).1
-
--- the journal is a run, its batches left aside
-abbrev pub Runs : Told → Type 0
-Runs told = RunsFrom told.format told.workers (opening told.workers told.node) told.journal
-
-answered_from : (format : Format) (workers : ℕ) (world : World) (entries : List Entry) (k : ℕ) (entry : Entry)
-    → RunsFrom format workers world entries → slice_get entries k ≡ Some entry
-    → MayMake workers entry.actor entry.event
-    × (entry.answer ≡ (step format (world_after format world (take k entries)) entry.actor entry.event).1)
-answered_from format workers world [] k entry run there = absurd (cc)
-answered_from format workers world (first ∷ entries) zero entry run there =
-    let same : first ≡ entry = cc in
-    subst (λ (e : Entry). MayMake workers e.actor e.event × (e.answer ≡ (step format world e.actor e.event).1)) same (run.0, run.1)
-answered_from format workers world (first ∷ entries) (suc k) entry run there =
-    answered_from format workers (step format world first.actor first.event).0 entries k entry run.2 there
-
--- so is each entry of a run
-pub entry_answered : (told : Told) (k : ℕ) (entry : Entry) → Runs told → IsEntryAt told k entry → IsAnswered told k entry
-entry_answered told k entry run there =
-    let both : MayMake told.workers entry.actor entry.event × (entry.answer ≡ (step told.format (world_told told k) entry.actor entry.event).1) =
-    answered_from told.format told.workers (opening told.workers told.node) told.journal k entry run there in
-    record { may = both.0; answer = both.1 }
-
--- the world behind an entry is that to which its event leads
-pub world_next : (told : Told) (k : ℕ) (entry : Entry) → IsEntryAt told k entry
-    → world_told told (k + 1) ≡ (step told.format (world_told told k) entry.actor entry.event).0
-world_next told k entry there =
-    ap (world_after told.format (opening told.workers told.node)) (take_one told.journal k entry there)
-    ∙ world_after-more told.format (opening told.workers told.node) (take k told.journal) entry
-
--- and what was reaped by then is what was reaped before and what the entry reaps
-gone_next : (told : Told) (k : ℕ) (entry : Entry) → IsEntryAt told k entry → IsAnswered told k entry
-    → numbers_gone (take (k + 1) told.journal)
-    ≡ numbers_gone (take k told.journal) ++ numbers_reaped (step told.format (world_told told k) entry.actor entry.event).1
-gone_next told k entry there answered =
-    ap numbers_gone (take_one told.journal k entry there)
-    ∙ flat_map-append (λ (e : Entry). numbers_reaped e.answer) (take k told.journal) (entry ∷ [])
-    ∙ ap (λ ns. numbers_gone (take k told.journal) ++ ns) (append-nil (numbers_reaped entry.answer) ∙ ap numbers_reaped answered.answer)
 
 -- who may make an event is no worker, or one of so many
 may_known : (workers : ℕ) (actor : Actor) (event : Event) → MayMake workers actor event → IsKnown workers actor
@@ -107,6 +61,7 @@ parts_next told k entry run there parts =
       hides = subst HidesUnserved (sym next)
           (step-hidden told.format world entry.actor entry.event (numbers_gone (take k told.journal)) parts.drawn parts.uses parts.hides);
       holds = subst HoldsPublished (sym next) (step-held told.format world entry.actor entry.event parts.holds);
+      settled = settled_next told k entry there answered parts.workers parts.settled;
       due = subst NothingIsDue (sym next) (step-due told.format world entry.actor entry.event parts.due);
       drawn = subst₂ DrawnOnce (sym next) (sym (gone_next told k entry there answered))
           (step-drawn told.format world entry.actor entry.event (numbers_gone (take k told.journal)) parts.drawn);
@@ -126,6 +81,7 @@ parts_kept told run zero le = record {
   uses = opens_uses told.workers told.node;
   hides = opens_hidden told.workers told.node;
   holds = opens_held told.workers told.node;
+  settled = λ worker lt. get_or-replicate told.workers worker 0 0 lt;
   due = opens_due told.workers told.node;
   drawn = opens_drawn told.workers told.node;
 }

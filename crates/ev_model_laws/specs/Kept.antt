@@ -72,11 +72,17 @@ pub record DrawnOnce (world : World) (gone : List ℕ) : Type 0 where
 abbrev pub NumbersAreDrawnOnce : Told → ℕ → Type 0
 NumbersAreDrawnOnce told k = DrawnOnce (world_told told k) (numbers_gone (take k told.journal))
 
+-- after the first k entries each worker holds the version on which it has settled last, or 0
+abbrev pub HoldsSettled : Told → ℕ → Type 0
+HoldsSettled told k =
+    (worker : ℕ) → worker < told.workers → version_held (world_told told k) worker ≡ last_settled (take k told.journal) (Worker worker)
+
 -- what every run has after its first k entries
 pub record HasParts (told : Told) (k : ℕ) : Type 0 where
   pub workers : length (world_told told k).held ≡ told.workers
   pub uses : UsesServed (world_told told k)
   pub hides : HidesUnserved (world_told told k)
   pub holds : HoldsPublished (world_told told k)
+  pub settled : HoldsSettled told k
   pub due : NothingIsDue (world_told told k)
   pub drawn : NumbersAreDrawnOnce told k
