@@ -1,8 +1,9 @@
 -- Whether some element of a list passes a test.
-use Rattle.std.proofs.Common.{◌≡◌, ℕ, zero, suc, Bool, true, false, ◌||◌, cond, List, [], ◌∷◌, ◌++◌, map, filter, refl, sym, ap, ◌∙◌}
+use Rattle.std.proofs.Common.{◌≡◌, ℕ, zero, suc, Bool, true, false, not, ◌&&◌, ◌||◌, cond, List, [], ◌∷◌, ◌++◌, map, filter, refl, sym, ap, ◌∙◌, subst, inl, inr}
 use Rattle.std.specs.Prelude.{slice_set}
+use Rattle.std.specs.Cmp.{first_so, second_so}
 use Rattle.std.specs.List.{list_any, flat_map}
-use Rattle.std.proofs.lemmas.Bool.{false≢true, cond_both, or_left, or_right}
+use Rattle.std.proofs.lemmas.Bool.{false≢true, cond_both, cond-true, cases_Bool, and_from, or_left, or_right, not_from_false}
 use Rattle.std.proofs.lemmas.List.Folds.{list_any-append}
 use Rattle.ev_model.specs.Sorted.{put_by, sorted_by}
 
@@ -94,3 +95,56 @@ any_sorted p precedes [] h = h
 any_sorted p precedes (x ∷ xs) h =
     or_so (p x) (list_any p (sorted_by precedes xs)) (λ first. or_left (p x) (list_any p xs) first)
     (λ rest. or_right (p x) (list_any p xs) (any_sorted p precedes xs rest)) (any_put p precedes x (sorted_by precedes xs) h)
+
+any_put_back : {X : Type 0} (p : X → Bool) (precedes : X → X → Bool) (x : X) (xs : List X)
+    → (p x || list_any p xs) ≡ true → list_any p (put_by precedes x xs) ≡ true
+any_put_back p precedes x [] h = h
+any_put_back p precedes x (y ∷ ys) h =
+    cond_both (precedes x y) (x ∷ y ∷ ys) (y ∷ put_by precedes x ys) (λ zs. list_any p zs ≡ true)
+    (λ before. h)
+    (λ behind. or_so (p x) (p y || list_any p ys)
+    (λ first. or_right (p y) (list_any p (put_by precedes x ys)) (any_put_back p precedes x ys (or_left (p x) (list_any p ys) first)))
+    (or_so (p y) (list_any p ys) (λ second. or_left (p y) (list_any p (put_by precedes x ys)) second)
+    (λ rest. or_right (p y) (list_any p (put_by precedes x ys)) (any_put_back p precedes x ys (or_right (p x) (list_any p ys) rest))))
+    h)
+
+pub any_in_order : {X : Type 0} (p : X → Bool) (precedes : X → X → Bool) (xs : List X)
+    → list_any p xs ≡ true → list_any p (sorted_by precedes xs) ≡ true
+any_in_order p precedes [] h = h
+any_in_order p precedes (x ∷ xs) h =
+    any_put_back p precedes x (sorted_by precedes xs)
+    (or_so (p x) (list_any p xs) (λ first. or_left (p x) (list_any p (sorted_by precedes xs)) first)
+    (λ rest. or_right (p x) (list_any p (sorted_by precedes xs)) (any_in_order p precedes xs rest)) h)
+
+-- what passes a test and is kept stands among what a filter leaves
+pub any_passing : {X : Type 0} (p keeps : X → Bool) (xs : List X) → list_any (λ x. p x && keeps x) xs ≡ true → list_any p (filter keeps xs) ≡ true
+any_passing p keeps [] h = h
+any_passing p keeps (x ∷ xs) h =
+    or_so (p x && keeps x) (list_any (λ x. p x && keeps x) xs)
+    (λ first.
+    subst (λ ys. list_any p ys ≡ true) (sym (cond-true (keeps x) (x ∷ filter keeps xs) (filter keeps xs) (second_so (p x) (keeps x) first)))
+    (or_left (p x) (list_any p (filter keeps xs)) (first_so (p x) (keeps x) first)))
+    (λ rest.
+    cond_both (keeps x) (x ∷ filter keeps xs) (filter keeps xs) (λ ys. list_any p ys ≡ true)
+    (λ kept. or_right (p x) (list_any p (filter keeps xs)) (any_passing p keeps xs rest))
+    (λ gone. any_passing p keeps xs rest))
+    h
+
+-- what passes one test passes it with a second, or without it
+pub any_either : {X P : Type 0} (p q : X → Bool) (xs : List X) → (list_any (λ x. p x && q x) xs ≡ true → P)
+    → (list_any (λ x. p x && not (q x)) xs ≡ true → P) → list_any p xs ≡ true → P
+any_either p q [] within without h = absurd (false≢true h)
+any_either p q (x ∷ xs) within without h =
+    or_so (p x) (list_any p xs)
+    (λ first. elim (cases_Bool (q x)) [
+      inl passes ↦ within (or_left (p x && q x) (list_any (λ x. p x && q x) xs) (and_from (p x) (q x) first passes))
+    | inr fails ↦ without (or_left (p x && not (q x)) (list_any (λ x. p x && not (q x)) xs) (and_from (p x) (not (q x)) first (not_from_false (q x) fails)))
+    ])
+    (any_either p q xs (λ there. within (or_right (p x && q x) (list_any (λ x. p x && q x) xs) there))
+    (λ there. without (or_right (p x && not (q x)) (list_any (λ x. p x && not (q x)) xs) there)))
+    h
+
+-- what each element that passes tells
+pub any_tells : {X : Type 0} (p : X → Bool) (told : Bool) (xs : List X) → ((x : X) → p x ≡ true → told ≡ true) → list_any p xs ≡ true → told ≡ true
+any_tells p told [] tells h = absurd (false≢true h)
+any_tells p told (x ∷ xs) tells h = or_so (p x) (list_any p xs) (tells x) (any_tells p told xs tells) h

@@ -269,7 +269,7 @@ module _ (Fact : List GenRow → ℕ → Phase → List KeptVersion → Seen →
   managed-keeps format world actor Settle is after = absurd (false≢true is)
 
 -- what holds of what a worker's change does, and of nothing done, since no other actor makes it
-of_worker-keeps : (P : World × Answer → Type 0) (change : ℕ → World → World × Answer) (actor : Actor) (world : World)
+pub of_worker-keeps : (P : World × Answer → Type 0) (change : ℕ → World → World × Answer) (actor : Actor) (world : World)
     → ((worker : ℕ) → actor ≡ Worker worker → P (change worker world)) → P (world, Ignored) → P (of_worker change actor world)
 of_worker-keeps P change Stream world changed ignored = ignored
 of_worker-keeps P change health_checker world changed ignored = ignored

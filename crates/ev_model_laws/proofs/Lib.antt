@@ -24,4 +24,5 @@ pub mod DrawnLemmas
 pub mod HiddenLemmas
 pub mod PlaceLemmas
 pub mod SettledLemmas
+pub mod OpenedLemmas
 pub mod RunParts

@@ -23,6 +23,7 @@ use Rattle.ev_model_laws.specs.Kept.{numbers_gone, UsesServed, HidesUnserved, Ho
 use Rattle.ev_model_laws.proofs.PlaceLemmas.{IsAnswered, Runs, entry_answered, world_next, gone_next}
 use Rattle.ev_model_laws.proofs.HeldLemmas.{opens_held, step-held}
 use Rattle.ev_model_laws.proofs.SettledLemmas.{settled_next}
+use Rattle.ev_model_laws.proofs.OpenedLemmas.{open_next}
 use Rattle.ev_model_laws.proofs.PromotionLemmas.{opens_due, step-due}
 use Rattle.ev_model_laws.proofs.MemberLemmas.{IsKnown, opens_uses, step-uses}
 use Rattle.ev_model_laws.proofs.DrawnLemmas.{opens_drawn, step-drawn}
@@ -62,6 +63,7 @@ parts_next told k entry run there parts =
           (step-hidden told.format world entry.actor entry.event (numbers_gone (take k told.journal)) parts.drawn parts.uses parts.hides);
       holds = subst HoldsPublished (sym next) (step-held told.format world entry.actor entry.event parts.holds);
       settled = settled_next told k entry there answered parts.workers parts.settled;
+      stays = open_next told k entry there answered parts.stays;
       due = subst NothingIsDue (sym next) (step-due told.format world entry.actor entry.event parts.due);
       drawn = subst₂ DrawnOnce (sym next) (sym (gone_next told k entry there answered))
           (step-drawn told.format world entry.actor entry.event (numbers_gone (take k told.journal)) parts.drawn);
@@ -82,6 +84,7 @@ parts_kept told run zero le = record {
   hides = opens_hidden told.workers told.node;
   holds = opens_held told.workers told.node;
   settled = λ worker lt. get_or-replicate told.workers worker 0 0 lt;
+  stays = λ j actor number connection lt opened. absurd (omega arith);
   due = opens_due told.workers told.node;
   drawn = opens_drawn told.workers told.node;
 }

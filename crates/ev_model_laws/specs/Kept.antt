@@ -1,6 +1,6 @@
 -- What every event of a run keeps, and the opening has: the parts from which the laws of runs follow. This project's own. Some
 -- speak of one world, and some of a journal's first entries, since they tell how that world came about.
-use Rattle.std.specs.Prelude.{ℕ, ◌≡◌, ◌≤◌, ◌<◌, Bool, true, false, not, ◌&&◌, ◌==◌, IsTrue, List, length, take, drop, map, filter, Contains, Option, Some, None}
+use Rattle.std.specs.Prelude.{ℕ, ◌≡◌, ◌≤◌, ◌<◌, ◌⊎◌, Bool, true, false, not, ◌&&◌, ◌==◌, IsTrue, List, length, take, drop, map, filter, Contains, Option, Some, None}
 use Rattle.std.specs.List.{list_any, flat_map}
 use Rattle.ev_types.specs.declared.contents.Kind.{Kind}
 use Rattle.ev_types.specs.declared.contents.Kind.TheVariants.{Lds}
@@ -8,14 +8,16 @@ use Rattle.ev_types.specs.declared.contents.Content.{Content}
 use Rattle.ev_types.specs.declared.rows.RowStatus.{RowStatus}
 use Rattle.ev_types.specs.declared.rows.RowStatus.TheVariants.{Warming, Active, Draining, Dropped}
 use Rattle.ev_types.specs.declared.rows.GenRow.{GenRow}
+use Rattle.ev_types.specs.declared.events.Actor.{Actor}
 use Rattle.ev_types.specs.declared.events.Actor.TheVariants.{Worker}
 use Rattle.ev_types.specs.declared.events.Entry.{Entry}
 use Rattle.ev_model.specs.World.{World, OpenMember, last_version}
 use Rattle.ev_model.specs.Picture.{has_number, is_shown, numbers_shown}
-use Rattle.ev_model.specs.Dead.{shown_at, version_held, is_in_use, is_in_use_by}
+use Rattle.ev_model.specs.Dead.{version_held, is_open_on, is_in_use, is_in_use_by}
+use Rattle.ev_model.specs.Operations.{actor_same}
 use Rattle.ev_model.specs.Tidy.{is_due}
-use Rattle.ev_model.specs.Entries.{MadeRow, made_of, last_settled, numbers_reaped}
-use Rattle.ev_model.specs.Laws.{Told, world_told, HadWarmed, WasWarm, HasWaited}
+use Rattle.ev_model.specs.Entries.{last_settled, numbers_reaped}
+use Rattle.ev_model.specs.Laws.{Told, world_told, Opened, IsClosedBetween}
 use Rattle.ev_model_laws.specs.Numbers.{IsNumbered}
 
 -- it serves, or drains since it has served
@@ -77,6 +79,17 @@ abbrev pub HoldsSettled : Told → ℕ → Type 0
 HoldsSettled told k =
     (worker : ℕ) → worker < told.workers → version_held (world_told told k) worker ≡ last_settled (take k told.journal) (Worker worker)
 
+-- the actor's connection of this number is open on the generation
+abbrev pub is_open_for : Actor → ℕ → ℕ → OpenMember → Bool
+is_open_for actor connection number member =
+    actor_same actor (Worker member.worker) && (member.connection == connection) && is_open_on number member
+
+-- a connection that an accept before place k opened on a generation is open on it, or was closed between
+abbrev pub StaysOpen : Told → ℕ → Type 0
+StaysOpen told k =
+    (j : ℕ) (actor : Actor) (number connection : ℕ) → j < k → Opened told j actor number connection
+    → IsClosedBetween told j k actor connection ⊎ IsTrue (list_any (is_open_for actor connection number) (world_told told k).opened)
+
 -- what every run has after its first k entries
 pub record HasParts (told : Told) (k : ℕ) : Type 0 where
   pub workers : length (world_told told k).held ≡ told.workers
@@ -84,5 +97,6 @@ pub record HasParts (told : Told) (k : ℕ) : Type 0 where
   pub hides : HidesUnserved (world_told told k)
   pub holds : HoldsPublished (world_told told k)
   pub settled : HoldsSettled told k
+  pub stays : StaysOpen told k
   pub due : NothingIsDue (world_told told k)
   pub drawn : NumbersAreDrawnOnce told k
