@@ -2,7 +2,8 @@
 use Rattle.std.proofs.Common.{◌≡◌, ℕ, zero, suc, Bool, true, false, not, ◌&&◌, ◌||◌, cond, List, [], ◌∷◌, ◌++◌, map, filter, refl, sym, ap, ◌∙◌, subst, inl, inr}
 use Rattle.std.specs.Prelude.{slice_set}
 use Rattle.std.specs.Cmp.{first_so, second_so}
-use Rattle.std.specs.List.{list_any, flat_map}
+use Rattle.std.specs.List.{list_any, flat_map, Contains}
+use Rattle.std.proofs.lemmas.List.Elements.{Contains-append_left, Contains-append_right, Contains-push}
 use Rattle.std.proofs.lemmas.Bool.{false≢true, cond_both, cond-true, cases_Bool, and_from, or_left, or_right, not_from_false}
 use Rattle.std.proofs.lemmas.List.Folds.{list_any-append}
 use Rattle.ev_model.specs.Sorted.{put_by, sorted_by}
@@ -148,3 +149,12 @@ any_either p q (x ∷ xs) within without h =
 pub any_tells : {X : Type 0} (p : X → Bool) (told : Bool) (xs : List X) → ((x : X) → p x ≡ true → told ≡ true) → list_any p xs ≡ true → told ≡ true
 any_tells p told [] tells h = absurd (false≢true h)
 any_tells p told (x ∷ xs) tells h = or_so (p x) (list_any p xs) (tells x) (any_tells p told xs tells) h
+
+-- an element that passes
+pub any_found : {X : Type 0} (p : X → Bool) (xs : List X) → list_any p xs ≡ true → (x : X) × Contains xs x × (p x ≡ true)
+any_found p [] h = absurd (false≢true h)
+any_found {X = X} p (x ∷ xs) h =
+    or_so (p x) (list_any p xs) (λ first. (x, Contains-append_left (x ∷ []) xs x (Contains-push [] x), first))
+    (λ rest. let found : (y : X) × Contains xs y × (p y ≡ true) = any_found p xs rest in
+    (found.0, Contains-append_right (x ∷ []) xs found.0 found.1, found.2))
+    h

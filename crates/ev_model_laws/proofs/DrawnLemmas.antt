@@ -172,7 +172,7 @@ published_drawn world rise drawn number =
 
 step-shown : (format : Format) (world : World) (actor : Actor) (event : Event) → IsNumbered world → ShowsDrawn world → ShowsDrawn (step format world actor event).0
 step-shown format world actor event rise drawn = step-each ShowsDrawn format world actor event drawn (record {
-  managed = λ event is. managed-keeps _ ShowsDrawn keeps_shown format world actor event is drawn;
+  managed = λ event is. managed-keeps _ ShowsDrawn keeps_shown (λ numbers other drawn. drawn) format world actor event is drawn;
   published = either ShowsDrawn _ _ _ drawn (published_drawn world rise drawn);
   reaped = drawn;
   accepted = λ ask worker is. drawn;

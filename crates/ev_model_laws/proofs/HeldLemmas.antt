@@ -1,5 +1,5 @@
 -- No worker holds a version above the last.
-use Rattle.std.proofs.Common.{◌≡◌, ℕ, zero, suc, ◌-◌, ◌≤◌, true, List, [], ◌∷◌, ◌++◌, length, replicate, refl, sym, subst, length-append, arith}
+use Rattle.std.proofs.Common.{◌≡◌, ℕ, zero, suc, ◌-◌, ◌≤◌, true, List, [], ◌∷◌, ◌++◌, length, replicate, refl, sym, subst₂, length-append, arith}
 use Rattle.std.specs.Prelude.{slice_index_or, slice_set}
 use Rattle.ev_types.specs.declared.events.Actor.{Actor}
 use Rattle.ev_types.specs.declared.events.Event.{Event}
@@ -10,8 +10,8 @@ use Rattle.ev_model.specs.Picture.{shown_of}
 use Rattle.ev_model.specs.Connections.{settle}
 use Rattle.ev_model.specs.Step.{step}
 use Rattle.ev_model_laws.specs.Kept.{HoldsPublished}
-use Rattle.ev_model_laws.proofs.KeepLemmas.{Seen, is_for_managers, either, step-each}
-use Rattle.ev_model_laws.proofs.SeenLemmas.{same_seen}
+use Rattle.ev_model_laws.proofs.KeepLemmas.{seen_of, is_for_managers, either, step-each}
+use Rattle.ev_model_laws.proofs.SeenLemmas.{IsSameSeen, same_seen}
 
 -- a number of the list that is set to one within the bound stays within it, and so do the others
 set_within : (held : List ℕ) (place value bound other : ℕ) → value ≤ bound → ((n : ℕ) → slice_index_or held n 0 ≤ bound)
@@ -30,8 +30,8 @@ replicated_within (suc workers) (suc other) = replicated_within workers other
 managed_held : (format : Format) (world : World) (actor : Actor) (event : Event) → is_for_managers event ≡ true
     → HoldsPublished world → HoldsPublished (step format world actor event).0
 managed_held format world actor event is within worker =
-    subst (λ (seen : Seen). slice_index_or seen.held worker 0 ≤ length seen.pictures - 1)
-    (sym (same_seen format world actor event is)) (within worker)
+    let same : IsSameSeen (seen_of world) (seen_of (step format world actor event).0) = same_seen format world actor event is in
+    subst₂ (λ held (pictures : List Shown). slice_index_or held worker 0 ≤ length pictures - 1) (sym same.held) (sym same.pictures) (within worker)
 
 published_held : (world : World) (shown : Shown) → HoldsPublished world → HoldsPublished (record world { pictures = world.pictures ++ shown ∷ [] })
 published_held world shown within worker = omega (arith, within worker, length-append world.pictures (shown ∷ []))

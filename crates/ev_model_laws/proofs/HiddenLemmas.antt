@@ -178,7 +178,7 @@ module _ (world : World) (served : SeesServed world) where
 step-sees : (format : Format) (world : World) (actor : Actor) (event : Event) → IsNumbered world
     → SeesServed world → SeesServed (step format world actor event).0
 step-sees format world actor event rise served = step-each SeesServed format world actor event served (record {
-  managed = λ event is. managed-keeps _ SeesServed keeps_hidden format world actor event is served;
+  managed = λ event is. managed-keeps _ SeesServed keeps_hidden (λ numbers other served. served) format world actor event is served;
   published = either SeesServed _ _ _ served (published_hides world served rise);
   reaped = reaped_hides world served format;
   accepted = λ ask worker is. accepted_hides world served ask worker;

@@ -39,15 +39,17 @@ use Rattle.ev_model.specs.Connections.{accept, close, settle}
 use Rattle.ev_model.specs.Step.{step, connect, disconnect, responded, respond_by, respond, of_worker}
 use Rattle.ev_model.specs.Runs.{world_after}
 
--- what workers see and do: the pictures, the versions that they hold, and the connections that are open
+-- what workers see and do: the pictures, the versions that they hold, the connections that are open, and the listeners whose
+-- drain timeout came
 pub record Seen : Type 0 where
   pub pictures : List Shown
   pub held : List ℕ
   pub opened : List OpenMember
+  pub expired : List ℕ
 
 -- what they see and do in this world
 abbrev pub seen_of : World → Seen
-seen_of world = record { pictures = world.pictures; held = world.held; opened = world.opened }
+seen_of world = record { pictures = world.pictures; held = world.held; opened = world.opened; expired = world.expired }
 
 -- a fact on the rows, the count of numbers, the phase, the versions and what workers see
 abbrev pub HoldsWith : (List GenRow → ℕ → Phase → List KeptVersion → Seen → Type 0) → World → Type 0
@@ -67,6 +69,11 @@ is_for_managers Reap = false
 is_for_managers (Accept ask) = false
 is_for_managers (Close connection) = false
 is_for_managers Settle = false
+
+-- it is for the managers, and no drain timeout: requests may follow it
+abbrev pub is_moving : Event → Bool
+is_moving (DrainTimeout listener) = false
+is_moving event = is_for_managers event
 
 -- a row's status where those go that the test names, as if their resources were removed
 abbrev pub removed_where : (GenRow → Bool) → GenRow → RowStatus
@@ -224,11 +231,6 @@ module _ (Fact : List GenRow → ℕ → Phase → List KeptVersion → Seen →
       either After _ _ _ after (keeps.tidied (record world { late_listeners = true }) (keeps.untidied world after))
   fetch_timeout-keeps Rds name world after = name_timeout-keeps Rds name world after
 
-  expire-keeps : (numbers : List ℕ) (world : World) → After world → After (expire numbers world).0
-  expire-keeps [] world after = after
-  expire-keeps (number ∷ numbers) world after =
-      keeps.tidied (record world { expired = world.expired ++ number ∷ numbers }) (keeps.untidied world after)
-
   forget_version-keeps : (kind : Kind) (name : List ℕ) (world : World) → HoldsWith Fact world → HoldsWith Fact (forget_version kind name world)
   forget_version-keeps kind name world holds = versions_left-keeps _ world holds
 
@@ -251,22 +253,44 @@ module _ (Fact : List GenRow → ℕ → Phase → List KeptVersion → Seen →
       (with_end-keeps kind name forgotten (forget_version-keeps kind name world (keeps.untidied world after))))
       after
 
-  -- what holds between events holds after an event for the managers
-  pub managed-keeps : (format : Format) (world : World) (actor : Actor) (event : Event) → is_for_managers event ≡ true
+  -- what holds between events holds after an event for the managers that is no drain timeout
+  pub moved-keeps : (format : Format) (world : World) (actor : Actor) (event : Event) → is_moving event ≡ true
       → After world → After (step format world actor event).0
-  managed-keeps format world actor Connect is after = connect-keeps world after
-  managed-keeps format world actor Disconnect is after = disconnect-keeps world after
-  managed-keeps format world actor (Response response) is after = respond-keeps response world after
-  managed-keeps format world actor (Health cluster host healthy) is after =
+  moved-keeps format world actor Connect is after = connect-keeps world after
+  moved-keeps format world actor Disconnect is after = disconnect-keeps world after
+  moved-keeps format world actor (Response response) is after = respond-keeps response world after
+  moved-keeps format world actor (Health cluster host healthy) is after =
       health-keeps host healthy (rows_meant world.arrivals cluster host world.rows) world after
-  managed-keeps format world actor (FetchTimeout timeout) is after = fetch_timeout-keeps timeout.kind timeout.name world after
-  managed-keeps format world actor (DrainTimeout listener) is after = expire-keeps (unexpired world.expired listener world.rows) world after
-  managed-keeps format world actor (TtlExpired kind name) is after = ttl_expired-keeps kind name world after
-  managed-keeps format world actor Publish is after = absurd (false≢true is)
-  managed-keeps format world actor Reap is after = absurd (false≢true is)
-  managed-keeps format world actor (Accept ask) is after = absurd (false≢true is)
-  managed-keeps format world actor (Close connection) is after = absurd (false≢true is)
-  managed-keeps format world actor Settle is after = absurd (false≢true is)
+  moved-keeps format world actor (FetchTimeout timeout) is after = fetch_timeout-keeps timeout.kind timeout.name world after
+  moved-keeps format world actor (DrainTimeout listener) is after = absurd (false≢true is)
+  moved-keeps format world actor (TtlExpired kind name) is after = ttl_expired-keeps kind name world after
+  moved-keeps format world actor Publish is after = absurd (false≢true is)
+  moved-keeps format world actor Reap is after = absurd (false≢true is)
+  moved-keeps format world actor (Accept ask) is after = absurd (false≢true is)
+  moved-keeps format world actor (Close connection) is after = absurd (false≢true is)
+  moved-keeps format world actor Settle is after = absurd (false≢true is)
+
+  module _ (expires : (numbers : List ℕ) (world : World) → After world → HoldsWith Fact (record world { expired = world.expired ++ numbers })) where
+    expire-keeps : (numbers : List ℕ) (world : World) → After world → After (expire numbers world).0
+    expire-keeps [] world after = after
+    expire-keeps (number ∷ numbers) world after =
+        keeps.tidied (record world { expired = world.expired ++ number ∷ numbers }) (expires (number ∷ numbers) world after)
+
+    -- and after a drain timeout, where expired listeners leave the fact
+    pub managed-keeps : (format : Format) (world : World) (actor : Actor) (event : Event) → is_for_managers event ≡ true
+        → After world → After (step format world actor event).0
+    managed-keeps format world actor Connect is after = moved-keeps format world actor Connect is after
+    managed-keeps format world actor Disconnect is after = moved-keeps format world actor Disconnect is after
+    managed-keeps format world actor (Response response) is after = moved-keeps format world actor (Response response) is after
+    managed-keeps format world actor (Health cluster host healthy) is after = moved-keeps format world actor (Health cluster host healthy) is after
+    managed-keeps format world actor (FetchTimeout timeout) is after = moved-keeps format world actor (FetchTimeout timeout) is after
+    managed-keeps format world actor (DrainTimeout listener) is after = expire-keeps (unexpired world.expired listener world.rows) world after
+    managed-keeps format world actor (TtlExpired kind name) is after = moved-keeps format world actor (TtlExpired kind name) is after
+    managed-keeps format world actor Publish is after = absurd (false≢true is)
+    managed-keeps format world actor Reap is after = absurd (false≢true is)
+    managed-keeps format world actor (Accept ask) is after = absurd (false≢true is)
+    managed-keeps format world actor (Close connection) is after = absurd (false≢true is)
+    managed-keeps format world actor Settle is after = absurd (false≢true is)
 
 -- what holds of what a worker's change does, and of nothing done, since no other actor makes it
 pub of_worker-keeps : (P : World × Answer → Type 0) (change : ℕ → World → World × Answer) (actor : Actor) (world : World)
@@ -361,7 +385,8 @@ module _ (Fact : List GenRow → ℕ → Phase → List KeptVersion → Type 0) 
       → Holds Fact world → Holds Fact (step format world actor event).0
   step-keeps-all format world actor event holds = step-each (Holds Fact) format world actor event holds (record {
     managed = λ event is.
-        managed-keeps (λ rows made phase versions seen. Fact rows made phase versions) (Holds Fact) keeps_tidied format world actor event is holds;
+        managed-keeps (λ rows made phase versions seen. Fact rows made phase versions) (Holds Fact) keeps_tidied (λ numbers world holds. holds)
+        format world actor event is holds;
     published = either (Holds Fact) _ _ _ holds holds;
     reaped = keeps.left _ world.rows world.made world.phase world.versions holds;
     accepted = λ ask worker is. holds;

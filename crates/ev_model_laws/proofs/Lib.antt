@@ -25,4 +25,5 @@ pub mod HiddenLemmas
 pub mod PlaceLemmas
 pub mod SettledLemmas
 pub mod OpenedLemmas
+pub mod ExpiredLemmas
 pub mod RunParts

@@ -222,7 +222,7 @@ opens_uses workers node number used =
 pub step-uses : (format : Format) (world : World) (actor : Actor) (event : Event) → IsKnown (length world.held) actor
     → UsesServed world → UsesServed (step format world actor event).0
 step-uses format world actor event known served = step-each UsesServed format world actor event served (record {
-  managed = λ event is. managed-keeps _ UsesServed keeps_uses format world actor event is served;
+  managed = λ event is. managed-keeps _ UsesServed keeps_uses (λ numbers other served. served) format world actor event is served;
   published = either UsesServed _ _ _ served (published_uses world served);
   reaped = reaped_uses world served format;
   accepted = λ ask worker is. accepted_uses world served ask worker (subst (IsKnown (length world.held)) is known);

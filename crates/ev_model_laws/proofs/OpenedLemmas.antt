@@ -31,7 +31,7 @@ use Rattle.ev_model.specs.Entries.{names_row, connection_of, closes, closes_conn
 use Rattle.ev_model.specs.Step.{step}
 use Rattle.ev_model.specs.Laws.{Told, world_told, IsEntryAt, Opened, IsClosedBetween}
 use Rattle.ev_model_laws.specs.Kept.{is_open_for, StaysOpen}
-use Rattle.ev_model_laws.proofs.KeepLemmas.{Seen, is_for_managers, either, of_worker-keeps}
+use Rattle.ev_model_laws.proofs.KeepLemmas.{is_for_managers, either, of_worker-keeps}
 use Rattle.ev_model_laws.proofs.SeenLemmas.{same_seen}
 use Rattle.ev_model_laws.proofs.PlaceLemmas.{take_one, IsAnswered, world_next}
 use Rattle.ev_model_laws.proofs.AnyLemmas.{or_so, any_so, any_first, any_second, any_mapped, any_in_order, any_passing, any_either, any_tells}
@@ -57,7 +57,7 @@ module _ (world : World) (actor : Actor) (connection number : ℕ) (is : list_an
   managed_open : (format : Format) (maker : Actor) (event : Event) → is_for_managers event ≡ true
       → IsOpenOrClosed maker event actor connection number (step format world maker event)
   managed_open format maker event for =
-      still maker event (step format world maker event) (ap (λ (seen : Seen). seen.opened) (same_seen format world maker event for))
+      still maker event (step format world maker event) (same_seen format world maker event for).opened
 
   closed_open : (closing worker : ℕ) → IsOpenOrClosed (Worker worker) (Close closing) actor connection number (close closing worker world)
   closed_open closing worker =

@@ -37,7 +37,7 @@ opens_due workers node row there = absurd (omega (arith, there.1))
 pub step-due : (format : Format) (world : World) (actor : Actor) (event : Event)
     → NothingIsDue world → NothingIsDue (step format world actor event).0
 step-due format world actor event none = step-each NothingIsDue format world actor event none (record {
-  managed = λ event is. managed-keeps _ NothingIsDue keeps_due format world actor event is none;
+  managed = λ event is. managed-keeps _ NothingIsDue keeps_due (λ numbers other none. tt) format world actor event is none;
   published = either NothingIsDue _ _ _ none none;
   reaped = each_left (λ (row : GenRow). is_due world.arrivals world.results row ≡ false) _ world.rows none;
   accepted = λ ask worker is. none;

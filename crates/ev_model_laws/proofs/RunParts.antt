@@ -4,6 +4,7 @@ use Rattle.std.specs.Bool.{⊤}
 use Rattle.std.specs.Prelude.{slice_get}
 use Rattle.std.specs.List.{flat_map}
 use Rattle.std.proofs.lemmas.Grind.{flat_map-append}
+use Rattle.std.proofs.lemmas.Bool.{false≢true}
 use Rattle.std.proofs.lemmas.List.{append-nil, take_more, length-replicate, get_or-replicate}
 use Rattle.std.proofs.lemmas.Option.{slice_get_within, get_or_from_slice_get, slice_get_cases}
 use Rattle.ev_types.specs.Events.{MayMake}
@@ -24,6 +25,7 @@ use Rattle.ev_model_laws.proofs.PlaceLemmas.{IsAnswered, Runs, entry_answered, w
 use Rattle.ev_model_laws.proofs.HeldLemmas.{opens_held, step-held}
 use Rattle.ev_model_laws.proofs.SettledLemmas.{settled_next}
 use Rattle.ev_model_laws.proofs.OpenedLemmas.{open_next}
+use Rattle.ev_model_laws.proofs.ExpiredLemmas.{expired_next}
 use Rattle.ev_model_laws.proofs.PromotionLemmas.{opens_due, step-due}
 use Rattle.ev_model_laws.proofs.MemberLemmas.{IsKnown, opens_uses, step-uses}
 use Rattle.ev_model_laws.proofs.DrawnLemmas.{opens_drawn, step-drawn}
@@ -64,6 +66,7 @@ parts_next told k entry run there parts =
       holds = subst HoldsPublished (sym next) (step-held told.format world entry.actor entry.event parts.holds);
       settled = settled_next told k entry there answered parts.workers parts.settled;
       stays = open_next told k entry there answered parts.stays;
+      expires = expired_next told k entry there answered parts.expires;
       due = subst NothingIsDue (sym next) (step-due told.format world entry.actor entry.event parts.due);
       drawn = subst₂ DrawnOnce (sym next) (sym (gone_next told k entry there answered))
           (step-drawn told.format world entry.actor entry.event (numbers_gone (take k told.journal)) parts.drawn);
@@ -85,6 +88,7 @@ parts_kept told run zero le = record {
   holds = opens_held told.workers told.node;
   settled = λ worker lt. get_or-replicate told.workers worker 0 0 lt;
   stays = λ j actor number connection lt opened. absurd (omega arith);
+  expires = λ number h. absurd (false≢true h);
   due = opens_due told.workers told.node;
   drawn = opens_drawn told.workers told.node;
 }

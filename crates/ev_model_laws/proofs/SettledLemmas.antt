@@ -23,7 +23,7 @@ use Rattle.ev_model.specs.Entries.{version_settled, version_settled_by, last_set
 use Rattle.ev_model.specs.Step.{step}
 use Rattle.ev_model.specs.Laws.{Told, world_told, IsEntryAt}
 use Rattle.ev_model_laws.specs.Kept.{HoldsSettled}
-use Rattle.ev_model_laws.proofs.KeepLemmas.{Seen, step-holds}
+use Rattle.ev_model_laws.proofs.KeepLemmas.{step-holds}
 use Rattle.ev_model_laws.proofs.SeenLemmas.{same_seen}
 use Rattle.ev_model_laws.proofs.AnswerLemmas.{HoldsOfAnswers, managed_answer, accepted_answer, closed_answer}
 use Rattle.ev_model_laws.proofs.PlaceLemmas.{IsAnswered, take_one, world_next}
@@ -110,7 +110,7 @@ settle_holds world actor settler is worker lt =
 pub step-settled : (format : Format) (world : World) (actor : Actor) (event : Event) → HoldsBy world actor (step format world actor event)
 step-settled format world actor event = step-holds (HoldsBy world actor) format world actor event (record {
   ignored = unsettled world actor (world, Ignored) refl refl;
-  managed = λ event is. unsettled world actor (step format world actor event) (ap (λ (seen : Seen). seen.held) (same_seen format world actor event is))
+  managed = λ event is. unsettled world actor (step format world actor event) (same_seen format world actor event is).held
       (managed_answer SettlesNothing answers_settle format world actor event is);
   published = cond_both (shown_same (shown_of world) (shown_at world (last_version world))) (world, Unchanged)
       (record world { pictures = world.pictures ++ shown_of world ∷ [] }, Version (length world.pictures)) (HoldsBy world actor)

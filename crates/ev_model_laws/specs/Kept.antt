@@ -17,7 +17,7 @@ use Rattle.ev_model.specs.Dead.{version_held, is_open_on, is_in_use, is_in_use_b
 use Rattle.ev_model.specs.Operations.{actor_same}
 use Rattle.ev_model.specs.Tidy.{is_due}
 use Rattle.ev_model.specs.Entries.{last_settled, numbers_reaped}
-use Rattle.ev_model.specs.Laws.{Told, world_told, Opened, IsClosedBetween}
+use Rattle.ev_model.specs.Laws.{Told, world_told, Opened, IsClosedBetween, StandsAt, HasWaited}
 use Rattle.ev_model_laws.specs.Numbers.{IsNumbered}
 
 -- it serves, or drains since it has served
@@ -90,6 +90,16 @@ StaysOpen told k =
     (j : ℕ) (actor : Actor) (number connection : ℕ) → j < k → Opened told j actor number connection
     → IsClosedBetween told j k actor connection ⊎ IsTrue (list_any (is_open_for actor connection number) (world_told told k).opened)
 
+-- after the first k entries the generation is a draining listener, and its drain timeout came when it was draining already
+pub record HasExpired (told : Told) (number k : ℕ) : Type 0 where
+  pub name : List ℕ
+  pub draining : StandsAt told k number Lds name Draining
+  pub waited : HasWaited told number name k
+
+-- each number that is marked as expired is one of a draining listener whose drain timeout came
+abbrev pub ExpiresDraining : Told → ℕ → Type 0
+ExpiresDraining told k = (number : ℕ) → IsTrue (has_number number (world_told told k).expired) → HasExpired told number k
+
 -- what every run has after its first k entries
 pub record HasParts (told : Told) (k : ℕ) : Type 0 where
   pub workers : length (world_told told k).held ≡ told.workers
@@ -98,5 +108,6 @@ pub record HasParts (told : Told) (k : ℕ) : Type 0 where
   pub holds : HoldsPublished (world_told told k)
   pub settled : HoldsSettled told k
   pub stays : StaysOpen told k
+  pub expires : ExpiresDraining told k
   pub due : NothingIsDue (world_told told k)
   pub drawn : NumbersAreDrawnOnce told k
