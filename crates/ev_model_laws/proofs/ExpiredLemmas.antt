@@ -147,7 +147,7 @@ pub record IsMarked (world : World) (event : Event) (did : World × Answer) (num
   pub drains : list_any (drains_as number name) world.rows ≡ true
 
 -- what a filter leaves passes it
-passed : {X : Type 0} (keeps : X → Bool) (xs : List X) (x : X) → Contains (filter keeps xs) x → keeps x ≡ true
+pub passed : {X : Type 0} (keeps : X → Bool) (xs : List X) (x : X) → Contains (filter keeps xs) x → keeps x ≡ true
 passed keeps xs x there = All-contains (λ y. keeps y ≡ true) (filter keeps xs) x (filter_passes keeps xs) there
 
 unexpired_drains : (number : ℕ) (expired name : List ℕ) (rows : List GenRow) → has_number number (unexpired expired name rows) ≡ true

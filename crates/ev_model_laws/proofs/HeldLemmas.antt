@@ -1,5 +1,5 @@
--- No worker holds a version above the last.
-use Rattle.std.proofs.Common.{◌≡◌, ℕ, zero, suc, ◌-◌, ◌≤◌, true, List, [], ◌∷◌, ◌++◌, length, replicate, refl, sym, subst₂, length-append, arith}
+-- Each worker holds the version of a picture that was published.
+use Rattle.std.proofs.Common.{◌≡◌, ℕ, zero, suc, ◌<◌, ◌-◌, ◌≤◌, true, List, [], ◌∷◌, ◌++◌, length, replicate, refl, sym, subst₂, length-append, arith}
 use Rattle.std.specs.Prelude.{slice_index_or, slice_set}
 use Rattle.ev_types.specs.declared.events.Actor.{Actor}
 use Rattle.ev_types.specs.declared.events.Event.{Event}
@@ -13,16 +13,16 @@ use Rattle.ev_model_laws.specs.Kept.{HoldsPublished}
 use Rattle.ev_model_laws.proofs.KeepLemmas.{seen_of, is_for_managers, either, step-each}
 use Rattle.ev_model_laws.proofs.SeenLemmas.{IsSameSeen, same_seen}
 
--- a number of the list that is set to one within the bound stays within it, and so do the others
-set_within : (held : List ℕ) (place value bound other : ℕ) → value ≤ bound → ((n : ℕ) → slice_index_or held n 0 ≤ bound)
-    → slice_index_or (slice_set held place value) other 0 ≤ bound
-set_within [] place value bound other le each = each other
-set_within (one ∷ held) zero value bound zero le each = le
-set_within (one ∷ held) zero value bound (suc n) le each = each (suc n)
-set_within (one ∷ held) (suc place) value bound zero le each = each zero
-set_within (one ∷ held) (suc place) value bound (suc n) le each = set_within held place value bound n le (λ m. each (suc m))
+-- what holds of the new number and of all others holds of each where one number of a list is set
+set_each : (P : ℕ → Type 0) (held : List ℕ) (place value other : ℕ) → P value → ((n : ℕ) → P (slice_index_or held n 0))
+    → P (slice_index_or (slice_set held place value) other 0)
+set_each P [] place value other new each = each other
+set_each P (one ∷ held) zero value zero new each = new
+set_each P (one ∷ held) zero value (suc n) new each = each (suc n)
+set_each P (one ∷ held) (suc place) value zero new each = each zero
+set_each P (one ∷ held) (suc place) value (suc n) new each = set_each P held place value n new (λ m. each (suc m))
 
-replicated_within : (workers other : ℕ) → slice_index_or (replicate workers 0) other 0 ≤ 0
+replicated_within : (workers other : ℕ) → slice_index_or (replicate workers 0) other 0 < 1
 replicated_within zero other = omega arith
 replicated_within (suc workers) zero = omega arith
 replicated_within (suc workers) (suc other) = replicated_within workers other
@@ -31,13 +31,14 @@ managed_held : (format : Format) (world : World) (actor : Actor) (event : Event)
     → HoldsPublished world → HoldsPublished (step format world actor event).0
 managed_held format world actor event is within worker =
     let same : IsSameSeen (seen_of world) (seen_of (step format world actor event).0) = same_seen format world actor event is in
-    subst₂ (λ held (pictures : List Shown). slice_index_or held worker 0 ≤ length pictures - 1) (sym same.held) (sym same.pictures) (within worker)
+    subst₂ (λ held (pictures : List Shown). slice_index_or held worker 0 < length pictures) (sym same.held) (sym same.pictures) (within worker)
 
 published_held : (world : World) (shown : Shown) → HoldsPublished world → HoldsPublished (record world { pictures = world.pictures ++ shown ∷ [] })
 published_held world shown within worker = omega (arith, within worker, length-append world.pictures (shown ∷ []))
 
 settled_held : (worker : ℕ) (world : World) → HoldsPublished world → HoldsPublished (settle worker world).0
-settled_held worker world within other = set_within world.held worker (last_version world) (last_version world) other (omega arith) within
+settled_held worker world within other =
+    set_each (λ version. version < length world.pictures) world.held worker (last_version world) other (omega (arith, within other)) within
 
 pub opens_held : (workers : ℕ) (node : List ℕ) → HoldsPublished (opening workers node)
 opens_held workers node worker = replicated_within workers worker

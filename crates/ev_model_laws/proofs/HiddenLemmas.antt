@@ -35,7 +35,7 @@ use Rattle.ev_model_laws.proofs.MemberLemmas.{removed_served, replaced_served, p
 use Rattle.ev_model_laws.proofs.NumberLemmas.{numbers}
 use Rattle.ev_model_laws.proofs.DrawnLemmas.{is_numbered, numbered_within, none_numbered, none_left, none_so, next_apart, ShowsDrawn, published_with}
 
-unserved_back : (before after : Bool) → (before ≡ true → after ≡ true) → not after ≡ true → not before ≡ true
+pub unserved_back : (before after : Bool) → (before ≡ true → after ≡ true) → not after ≡ true → not before ≡ true
 unserved_back true after keeps h = absurd (false≢true (sym (ap not (keeps refl)) ∙ h))
 unserved_back false after keeps h = refl
 

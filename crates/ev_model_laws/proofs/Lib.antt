@@ -27,3 +27,5 @@ pub mod SettledLemmas
 pub mod OpenedLemmas
 pub mod ExpiredLemmas
 pub mod RunParts
+pub mod LawLemmas
+pub mod WaitedLemmas

@@ -4,6 +4,7 @@ use Rattle.std.specs.Bool.{⊤}
 use Rattle.std.specs.Prelude.{slice_get}
 use Rattle.std.specs.List.{flat_map}
 use Rattle.std.proofs.lemmas.Grind.{flat_map-append}
+use Rattle.std.proofs.lemmas.Bool.{cases_lt}
 use Rattle.std.proofs.lemmas.List.{append-nil, take_more, length-replicate, get_or-replicate}
 use Rattle.std.proofs.lemmas.Option.{slice_get_within, get_or_from_slice_get, slice_get_cases}
 use Rattle.ev_types.specs.Events.{MayMake}
@@ -69,3 +70,27 @@ gone_next told k entry there answered =
     ∙ flat_map-append (λ (e : Entry). numbers_reaped e.answer) (take k told.journal) (entry ∷ [])
     ∙ ap (λ ns. numbers_gone (take k told.journal) ++ ns) (append-nil (numbers_reaped entry.answer) ∙ ap numbers_reaped answered.answer)
 
+
+entry_by : (told : Told) (k : ℕ) → k < length told.journal
+    → ((entry : Entry) × (k < length told.journal) × (slice_get told.journal k ≡ Some entry) × (get_or told.journal k entry ≡ entry))
+    ⊎ ((length told.journal ≤ k) × (slice_get told.journal k ≡ None))
+    → (entry : Entry) × IsEntryAt told k entry
+entry_by told k lt (inl found) = (found.0, found.2)
+entry_by told k lt (inr past) = absurd (omega (arith, past.0))
+
+-- there is an entry at each place of the journal
+pub entry_at : (told : Told) (k : ℕ) → k < length told.journal → (entry : Entry) × IsEntryAt told k entry
+entry_at told k lt = entry_by told k lt (slice_get_cases told.journal k).1
+
+module _ (told : Told) (P : ℕ → Type 0) (j : ℕ) (here : P j)
+    (next : (k : ℕ) (entry : Entry) → j ≤ k → IsEntryAt told k entry → P k → P (k + 1)) where
+  over_by : (k : ℕ) → suc k ≤ length told.journal → (j ≤ k → P k) → (j < suc k) ⊎ (suc k ≤ j) → j ≤ suc k → P (suc k)
+  over_by k le before (inl lt) from =
+      let found : (entry : Entry) × IsEntryAt told k entry = entry_at told k (omega arith) in
+      subst P (add-one k) (next k found.0 (omega arith) found.1 (before (omega arith)))
+  over_by k le before (inr at) from = let same : j ≡ suc k = omega arith in subst P same here
+
+  -- what holds at a place, and is kept by each entry from there on, holds at each place from there on
+  pub over_places : (k : ℕ) → j ≤ k → k ≤ length told.journal → P k
+  over_places zero from le = let same : j ≡ 0 = omega arith in subst P same here
+  over_places (suc k) from le = over_by k le (λ before. over_places k before (omega arith)) (cases_lt j (suc k)) from

@@ -73,10 +73,10 @@ unsettled world actor did same none worker lt =
     ∙ none_by (actor_same actor (Worker worker)) (version_settled did.1) (version_held world worker) none
 
 -- no settle is answered
-abbrev SettlesNothing : Answer → Type 0
+abbrev pub SettlesNothing : Answer → Type 0
 SettlesNothing answer = version_settled answer ≡ None
 
-answers_settle : HoldsOfAnswers SettlesNothing
+pub answers_settle : HoldsOfAnswers SettlesNothing
 answers_settle = record {
   ignored = refl;
   done = refl;

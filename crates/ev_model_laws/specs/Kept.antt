@@ -11,7 +11,7 @@ use Rattle.ev_types.specs.declared.rows.GenRow.{GenRow}
 use Rattle.ev_types.specs.declared.events.Actor.{Actor}
 use Rattle.ev_types.specs.declared.events.Actor.TheVariants.{Worker}
 use Rattle.ev_types.specs.declared.events.Entry.{Entry}
-use Rattle.ev_model.specs.World.{World, OpenMember, last_version}
+use Rattle.ev_model.specs.World.{World, OpenMember}
 use Rattle.ev_model.specs.Picture.{has_number, is_shown, numbers_shown}
 use Rattle.ev_model.specs.Dead.{version_held, is_open_on, is_in_use, is_in_use_by}
 use Rattle.ev_model.specs.Operations.{actor_same}
@@ -51,9 +51,9 @@ is_unserved_as number row = (row.number == number) && not (has_served row.status
 abbrev pub HidesUnserved : World → Type 0
 HidesUnserved world = (number : ℕ) → IsTrue (is_seen world number) → list_any (is_unserved_as number) world.rows ≡ false
 
--- no worker holds a version above the last
+-- each worker holds the version of a picture that was published
 abbrev pub HoldsPublished : World → Type 0
-HoldsPublished world = (worker : ℕ) → version_held world worker ≤ last_version world
+HoldsPublished world = (worker : ℕ) → version_held world worker < length world.pictures
 
 -- no generation that warms is ready: what was due serves
 abbrev pub NothingIsDue : World → Type 0
