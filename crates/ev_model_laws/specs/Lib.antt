@@ -7,3 +7,4 @@ pub mod OneAName
 pub mod OneReplay
 pub mod VersionsKept
 pub mod Kept
+pub mod RunLaws

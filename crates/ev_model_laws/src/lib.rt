@@ -7,6 +7,7 @@ mod numbers;
 mod one_a_name;
 mod one_replay;
 mod phase_forward;
+mod run_laws;
 mod tidying;
 mod versions_kept;
 
@@ -16,5 +17,6 @@ pub use numbers::numbers_are_drawn_once;
 pub use one_a_name::one_warms_and_one_serves;
 pub use one_replay::has_a_replay;
 pub use phase_forward::phase_never_goes_back;
+pub use run_laws::{drained_listeners_have_waited, reaped_generations_are_unused, runs_keep_their_parts, snapshots_never_go_back};
 pub use tidying::tidies_once;
 pub use versions_kept::versions_are_kept_once;
