@@ -1,5 +1,5 @@
 -- How events are answered, but publications, reapings and settles.
-use Rattle.std.proofs.Common.{◌≡◌, ℕ, Bool, true, false, not, ◌||◌, cond, List, [], ◌∷◌, filter, Option, Some, None, is_some, refl}
+use Rattle.std.proofs.Common.{◌≡◌, ℕ, Bool, true, false, not, ◌||◌, cond, List, [], ◌∷◌, filter, Option, Some, None, is_some}
 use Rattle.std.proofs.lemmas.Bool.{false≢true, cond_both}
 use Rattle.ev_types.specs.Items.{ResponseParts}
 use Rattle.ev_types.specs.declared.hosts.Host.{Host}
@@ -27,12 +27,16 @@ use Rattle.ev_model.specs.Signals.{rows_meant, health_of, is_awaited, name_timeo
 use Rattle.ev_model.specs.Step.{step, respond_by}
 use Rattle.ev_model_laws.proofs.KeepLemmas.{is_for_managers}
 
--- each answer of the managers, of an accept and of a close has the fact
-pub record HoldsOfAnswers (Q : Answer → Type 0) : Type 0 where
+-- each answer of the managers has the fact
+pub record HoldsOfManaged (Q : Answer → Type 0) : Type 0 where
   pub ignored : Q Ignored
   pub done : Q Done
   pub moved : (requests : List Request) → Q (Moved requests)
   pub replied : (requests : List Request) (verdicts : List Verdict) → Q (Replied requests verdicts)
+
+-- and each answer of an accept and of a close
+pub record HoldsOfAnswers (Q : Answer → Type 0) : Type 0 where
+  pub managed : HoldsOfManaged Q
   pub in_use : Q InUse
   pub not_open : Q NotOpen
   pub no_listener : Q no_listener
@@ -43,7 +47,7 @@ pub record HoldsOfAnswers (Q : Answer → Type 0) : Type 0 where
   pub local : (listener status : ℕ) → Q (local listener status)
   pub served : (listener cluster : ℕ) (host : Host) → Q (served listener cluster host)
 
-module _ (Q : Answer → Type 0) (each : HoldsOfAnswers Q) where
+module _ (Q : Answer → Type 0) (each : HoldsOfManaged Q) where
   either_answer : (test : Bool) (this that : World × Answer) → Q this.1 → Q that.1 → Q (cond test this that).1
   either_answer true this that holds other = holds
   either_answer false this that holds other = other
@@ -88,6 +92,7 @@ module _ (Q : Answer → Type 0) (each : HoldsOfAnswers Q) where
   managed_answer format world actor (Close connection) is = absurd (false≢true is)
   managed_answer format world actor Settle is = absurd (false≢true is)
 
+module _ (Q : Answer → Type 0) (each : HoldsOfAnswers Q) where
   served_answer : (listener cluster : ℕ) (host : Option Host) → Q (served_by listener cluster host)
   served_answer listener cluster None = each.no_endpoint listener
   served_answer listener cluster (Some host) = each.served listener cluster host
@@ -114,4 +119,4 @@ module _ (Q : Answer → Type 0) (each : HoldsOfAnswers Q) where
       cond_both (is_open opened worker connection)
       (record { opened = filter (λ (m : OpenMember). not (is_member worker connection m)) opened; answer = Done })
       (record { opened = opened; answer = NotOpen })
-      (λ (worked : Worked). Q worked.answer) (λ is. each.done) (λ none. each.not_open)
+      (λ (worked : Worked). Q worked.answer) (λ is. each.managed.done) (λ none. each.not_open)

@@ -1,5 +1,5 @@
 -- Whether some element of a list passes a test.
-use Rattle.std.proofs.Common.{◌≡◌, ℕ, zero, suc, Bool, true, false, not, ◌&&◌, ◌||◌, cond, List, [], ◌∷◌, ◌++◌, map, filter, refl, sym, ap, ◌∙◌, subst, inl, inr}
+use Rattle.std.proofs.Common.{◌≡◌, ℕ, zero, suc, Bool, true, false, not, ◌&&◌, ◌||◌, List, [], ◌∷◌, ◌++◌, map, filter, refl, sym, ap, ◌∙◌, subst, inl, inr}
 use Rattle.std.specs.Prelude.{slice_set}
 use Rattle.std.specs.Cmp.{first_so, second_so}
 use Rattle.std.specs.List.{list_any, flat_map, Contains}
@@ -138,8 +138,8 @@ any_either p q [] within without h = absurd (false≢true h)
 any_either p q (x ∷ xs) within without h =
     or_so (p x) (list_any p xs)
     (λ first. elim (cases_Bool (q x)) [
-      inl passes ↦ within (or_left (p x && q x) (list_any (λ x. p x && q x) xs) (and_from (p x) (q x) first passes))
-    | inr fails ↦ without (or_left (p x && not (q x)) (list_any (λ x. p x && not (q x)) xs) (and_from (p x) (not (q x)) first (not_from_false (q x) fails)))
+      | inl passes ↦ within (or_left (p x && q x) (list_any (λ x. p x && q x) xs) (and_from (p x) (q x) first passes))
+      | inr fails ↦ without (or_left (p x && not (q x)) (list_any (λ x. p x && not (q x)) xs) (and_from (p x) (not (q x)) first (not_from_false (q x) fails)))
     ])
     (any_either p q xs (λ there. within (or_right (p x && q x) (list_any (λ x. p x && q x) xs) there))
     (λ there. without (or_right (p x && not (q x)) (list_any (λ x. p x && not (q x)) xs) there)))

@@ -1,5 +1,5 @@
 -- A choice in a picture names generations that the picture shows, and so does the connection that it opens.
-use Rattle.std.proofs.Common.{◌≡◌, ℕ, Bool, true, false, ◌||◌, ◌==◌, ◌/◌, List, [], ◌∷◌, ◌++◌, map, Option, Some, None, refl, ◌∙◌, subst}
+use Rattle.std.proofs.Common.{◌≡◌, ℕ, Bool, true, false, ◌==◌, ◌/◌, List, [], ◌∷◌, map, Option, Some, None, refl, ◌∙◌, subst}
 use Rattle.std.specs.Bool.{⊤}
 use Rattle.std.specs.List.{find, list_any}
 use Rattle.std.specs.Option.{IfSome}

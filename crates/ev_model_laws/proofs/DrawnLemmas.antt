@@ -1,42 +1,36 @@
 -- Numbers that were drawn: those of rows rise, those that pictures show were drawn, and one that was reaped is no row's again.
-use Rattle.std.proofs.Common.{◌≡◌, ℕ, ◌<◌, ◌≤◌, ◌+◌, Bool, true, false, not, ◌&&◌, ◌||◌, ◌==◌, cond, List, [], ◌∷◌, ◌++◌, length, map, filter, Option, Some, None, refl, sym, ap, ◌∙◌, subst, le_trans, arith}
-use Rattle.std.specs.Cmp.{first_so, second_so}
+use Rattle.std.proofs.Common.{◌≡◌, ℕ, ◌<◌, ◌≤◌, ◌+◌, Bool, true, false, not, ◌==◌, cond, List, [], ◌∷◌, ◌++◌, length, map, filter, refl, sym, ◌∙◌, arith}
+use Rattle.std.specs.Cmp.{first_so}
 use Rattle.std.specs.List.{list_any, flat_map}
-use Rattle.std.proofs.lemmas.Bool.{false≢true, cond_both, and_from, or_from, or_left, or_right, false_from_ne_true}
+use Rattle.std.proofs.lemmas.Bool.{false≢true, cond_both, or_from, false_from_ne_true}
 use Rattle.std.proofs.lemmas.List.Folds.{list_any-append}
 use Rattle.std.specs.Prelude.{nat_le}
 use Rattle.ev_types.specs.Same.{numbers_decide}
 use Rattle.ev_types.specs.Statuses.{is_active}
-use Rattle.ev_types.specs.declared.hosts.Host.{Host}
 use Rattle.ev_types.specs.declared.events.Actor.{Actor}
 use Rattle.ev_types.specs.declared.events.Answer.{Answer}
-use Rattle.ev_types.specs.declared.events.Answer.TheVariants.{InUse, NotOpen, Done as done, Ignored, Unchanged, Version}
-use Rattle.ev_types.specs.declared.events.Ask.{Ask}
+use Rattle.ev_types.specs.declared.events.Answer.TheVariants.{Ignored, Unchanged, Version}
 use Rattle.ev_types.specs.declared.events.Event.{Event}
 use Rattle.ev_types.specs.declared.journals.Format.{Format}
 use Rattle.ev_types.specs.declared.rows.GenRow.{GenRow}
 use Rattle.ev_types.specs.declared.rows.Phase.{Phase}
 use Rattle.ev_types.specs.declared.rows.RowStatus.{RowStatus}
-use Rattle.ev_model.specs.declared.pictures.Picture.{Picture}
 use Rattle.ev_model.specs.declared.pictures.Shown.{Shown}
-use Rattle.ev_model.specs.declared.pictures.Choice.{Choice}
-use Rattle.ev_model.specs.declared.pictures.Choice.TheVariants.{NoListener, NoRoute, Local, Redirect, NoCluster, NoEndpoint, Served}
-use Rattle.ev_model.specs.World.{World, OpenMember, last_version, opening}
+use Rattle.ev_model.specs.World.{World, last_version, opening}
 use Rattle.ev_model.specs.Rows.{with_statuses, replaced_status, new_row}
 use Rattle.ev_model.specs.Tidy.{promoted_status}
 use Rattle.ev_model.specs.Picture.{has_number, is_shown, numbers_shown, shown_of, shown_same}
 use Rattle.ev_model.specs.Dead.{shown_at, picture_held, is_dead}
 use Rattle.ev_model.specs.Entries.{numbers_reaped}
-use Rattle.ev_model.specs.Choice.{choice_of}
-use Rattle.ev_model.specs.Connections.{Worked, is_open, is_member, host_at, served_by, answer_of, opened_by, accepted, closed, accept, close, settle}
-use Rattle.ev_model.specs.Publishing.{publish, reap, dead_numbers, without_dead}
+use Rattle.ev_model.specs.Connections.{accept, close, settle}
+use Rattle.ev_model.specs.Publishing.{reap}
 use Rattle.ev_model.specs.Step.{step}
 use Rattle.ev_model_laws.specs.Numbers.{RiseWithin, IsNumbered}
 use Rattle.ev_model_laws.specs.Kept.{numbers_published, DrawnOnce}
-use Rattle.ev_model_laws.proofs.KeepLemmas.{Seen, KeepsTidied, managed-keeps, removed_where, Keeps, step-keeps, either, step-each, step-holds}
+use Rattle.ev_model_laws.proofs.KeepLemmas.{KeepsTidied, managed-keeps, removed_where, Keeps, step-keeps, either, step-each, step-holds}
 use Rattle.ev_model_laws.proofs.AnswerLemmas.{HoldsOfAnswers, managed_answer, accepted_answer, closed_answer}
 use Rattle.ev_model_laws.proofs.AnyLemmas.{or_so, any_so, any_behind, any_only, any_left, any_mapped, any_flat, any_sorted}
-use Rattle.ev_model_laws.proofs.NumberLemmas.{numbers, keeps_numbered, keeps_count}
+use Rattle.ev_model_laws.proofs.NumberLemmas.{numbers, keeps_numbered}
 use Rattle.ev_model_laws.proofs.PictureLemmas.{serves_numbered, shown_serves}
 
 -- the row is of this number
@@ -181,15 +175,17 @@ step-shown format world actor event rise drawn = step-each ShowsDrawn format wor
 })
 
 -- no reaping is answered
-abbrev ReapsNothing : Answer → Type 0
+abbrev pub ReapsNothing : Answer → Type 0
 ReapsNothing answer = (number : ℕ) → has_number number (numbers_reaped answer) ≡ false
 
-answers_reap : HoldsOfAnswers ReapsNothing
+pub answers_reap : HoldsOfAnswers ReapsNothing
 answers_reap = record {
-  ignored = λ number. refl;
-  done = λ number. refl;
-  moved = λ requests number. refl;
-  replied = λ requests verdicts number. refl;
+  managed = record {
+    ignored = λ number. refl;
+    done = λ number. refl;
+    moved = λ requests number. refl;
+    replied = λ requests verdicts number. refl;
+  };
   in_use = λ number. refl;
   not_open = λ number. refl;
   no_listener = λ number. refl;
@@ -208,20 +204,21 @@ AreAway did = (number : ℕ) → has_number number (numbers_reaped did.1) ≡ tr
 away_of_none : (did : World × Answer) → ReapsNothing did.1 → AreAway did
 away_of_none did none number h = absurd (false≢true (sym (none number) ∙ h))
 
-reaped_away : (format : Format) (world : World) → IsNumbered world → AreAway (reap format world)
+pub reaped_away : (format : Format) (world : World) → IsNumbered world → AreAway (reap format world)
 reaped_away format world rise number h =
     let among : list_any (is_numbered number) (filter (is_dead format world) world.rows) ≡ true =
     sym (any_mapped (λ n. n == number) (λ (row : GenRow). row.number) (filter (is_dead format world) world.rows))
-    ∙ any_sorted (λ n. n == number) nat_le (map (λ (row : GenRow). row.number) (filter (is_dead format world) world.rows)) h in
-    ((numbered_within number 0 world.rows world.made rise (any_left (is_numbered number) (is_dead format world) world.rows among)).1,
-    away (is_dead format world) number 0 world.rows world.made rise among)
+    ∙ any_sorted (λ n. n == number) nat_le (map (λ (row : GenRow). row.number) (filter (is_dead format world) world.rows)) h in (
+      (numbered_within number 0 world.rows world.made rise (any_left (is_numbered number) (is_dead format world) world.rows among)).1,
+      away (is_dead format world) number 0 world.rows world.made rise among,
+    )
 
 -- what an event reaps was drawn, and is no row's behind it
 pub step-reaped : (format : Format) (world : World) (actor : Actor) (event : Event) → IsNumbered world → AreAway (step format world actor event)
 step-reaped format world actor event rise = step-holds AreAway format world actor event (record {
   ignored = away_of_none (world, Ignored) (λ number. refl);
   managed = λ event is. away_of_none (step format world actor event)
-      (managed_answer ReapsNothing answers_reap format world actor event is);
+      (managed_answer ReapsNothing answers_reap.managed format world actor event is);
   published = cond_both (shown_same (shown_of world) (shown_at world (last_version world))) (world, Unchanged)
       (record world { pictures = world.pictures ++ shown_of world ∷ [] }, Version (length world.pictures)) AreAway
       (λ same. away_of_none (world, Unchanged) (λ number. refl))
@@ -245,7 +242,7 @@ pub step-drawn : (format : Format) (world : World) (actor : Actor) (event : Even
     → DrawnOnce world gone → DrawnOnce (step format world actor event).0 (gone ++ numbers_reaped (step format world actor event).1)
 step-drawn format world actor event gone drawn =
     let is_away : (number : ℕ) → has_number number (gone ++ numbers_reaped (step format world actor event).1) ≡ true
-        → IsAway number (step format world actor event).0 = λ number.
+    → IsAway number (step format world actor event).0 = λ number.
     any_behind (λ n. n == number) gone (numbers_reaped (step format world actor event).1)
     (λ old. stays_away format world actor event number (drawn.reaped number old, drawn.away number old))
     (step-reaped format world actor event drawn.rows number) in

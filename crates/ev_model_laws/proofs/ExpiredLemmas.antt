@@ -1,10 +1,10 @@
 -- A listener that is marked as expired is draining, and its drain timeout came when it was draining already.
-use Rattle.std.proofs.Common.{◌≡◌, ℕ, ◌<◌, ◌≤◌, ◌+◌, ◌⊎◌, inl, inr, Bool, true, false, not, ◌&&◌, ◌||◌, ◌==◌, cond, List, [], ◌∷◌, ◌++◌, map, filter, refl, sym, ap, ◌∙◌, subst, IsTrue, arith}
+use Rattle.std.proofs.Common.{◌≡◌, ℕ, ◌+◌, ◌⊎◌, inl, inr, Bool, true, false, not, ◌&&◌, ◌==◌, cond, List, [], ◌∷◌, map, filter, refl, sym, ap, ◌∙◌, subst, arith}
 use Rattle.std.specs.Prelude.{nat_le}
 use Rattle.std.specs.Str.{bytes_eq}
 use Rattle.std.specs.Cmp.{first_so, second_so}
 use Rattle.std.specs.List.{list_any, Contains}
-use Rattle.std.proofs.lemmas.Bool.{false≢true, both_ways, cond_both, and_from, not-true, or_left, or_right}
+use Rattle.std.proofs.lemmas.Bool.{false≢true, both_ways, cond_both, and_from, not-true}
 use Rattle.std.proofs.lemmas.List.Elements.{All-contains, filter_passes}
 use Rattle.ev_types.specs.Kinds.{kind_same, kind_decides}
 use Rattle.ev_types.specs.Same.{bytes_decide, numbers_decide}
@@ -12,7 +12,7 @@ use Rattle.ev_types.specs.Statuses.{is_warming}
 use Rattle.ev_types.specs.declared.contents.Kind.TheVariants.{Lds}
 use Rattle.ev_types.specs.declared.events.Actor.{Actor}
 use Rattle.ev_types.specs.declared.events.Answer.{Answer}
-use Rattle.ev_types.specs.declared.events.Answer.TheVariants.{Ignored, Done}
+use Rattle.ev_types.specs.declared.events.Answer.TheVariants.{Done}
 use Rattle.ev_types.specs.declared.events.Entry.{Entry}
 use Rattle.ev_types.specs.declared.events.Event.{Event}
 use Rattle.ev_types.specs.declared.events.Event.TheVariants.{Connect, Disconnect, Response, Health, FetchTimeout, DrainTimeout, TtlExpired, Publish, Reap, Accept, Close, Settle}
@@ -30,10 +30,10 @@ use Rattle.ev_model.specs.Signals.{is_draining, is_unexpired, unexpired, expire}
 use Rattle.ev_model.specs.Connections.{accept, close, settle}
 use Rattle.ev_model.specs.Publishing.{dead_numbers, without_dead}
 use Rattle.ev_model.specs.Step.{step}
-use Rattle.ev_model.specs.Laws.{Told, world_told, IsEntryAt, StandsAt, DrainsBetween, HasWaited}
+use Rattle.ev_model.specs.Laws.{Told, world_told, IsEntryAt, StandsAt, HasWaited}
 use Rattle.ev_model_laws.specs.Kept.{HasExpired, ExpiresDraining}
 use Rattle.ev_model_laws.proofs.TidyLists.{any_at}
-use Rattle.ev_model_laws.proofs.KeepLemmas.{KeepsTidied, managed-keeps, is_moving, removed_where, either, step-each, step-holds, of_worker-keeps}
+use Rattle.ev_model_laws.proofs.KeepLemmas.{KeepsTidied, managed-keeps, is_moving, removed_where, either, step-each, of_worker-keeps}
 use Rattle.ev_model_laws.proofs.SeenLemmas.{same_expired}
 use Rattle.ev_model_laws.proofs.AnyLemmas.{or_so, any_so, any_behind, any_first, any_left, any_mapped, any_in_order, any_passing, any_either, any_found}
 use Rattle.ev_model_laws.proofs.PlaceLemmas.{IsAnswered, world_next}

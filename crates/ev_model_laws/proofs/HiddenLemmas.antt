@@ -1,5 +1,5 @@
 -- A generation that warms, or was dropped, is in no picture and has no connection.
-use Rattle.std.proofs.Common.{◌≡◌, ℕ, ◌<◌, ◌≤◌, ◌+◌, zero, suc, Bool, true, false, not, ◌&&◌, ◌||◌, ◌==◌, List, [], ◌∷◌, ◌++◌, filter, refl, sym, ap, ◌∙◌, subst, arith}
+use Rattle.std.proofs.Common.{◌≡◌, ℕ, ◌<◌, ◌≤◌, ◌+◌, zero, suc, Bool, true, false, not, ◌&&◌, ◌==◌, List, [], ◌∷◌, ◌++◌, filter, refl, sym, ap, ◌∙◌, arith}
 use Rattle.std.specs.Prelude.{slice_index_or}
 use Rattle.std.specs.Cmp.{first_so, second_so}
 use Rattle.std.specs.List.{list_any, flat_map}
@@ -88,9 +88,10 @@ SeesServed world = (number : ℕ) → is_seen world number ≡ true → (number 
 keeps_hidden : KeepsTidied
     (λ rows made phase versions seen. (number : ℕ) → sees seen number ≡ true → (number ≤ made) × (list_any (is_unserved_as number) rows ≡ false)) SeesServed
 keeps_hidden = record {
-  removed = λ goes rows made phase versions seen served number h.
-      ((served number h).0,
-      unserved_with number (removed_where goes) rows (λ row. removed_served (goes row) row.status) (served number h).1);
+  removed = λ goes rows made phase versions seen served number h. (
+    (served number h).0,
+    unserved_with number (removed_where goes) rows (λ row. removed_served (goes row) row.status) (served number h).1,
+  );
   added = λ kind name content rows made phase versions seen served number h. (
     omega (arith, (served number h).0),
     list_any-append (is_unserved_as number) (with_statuses (replaced_status kind name) rows) (new_row kind made name content ∷ [])
@@ -102,11 +103,12 @@ keeps_hidden = record {
   version_renewed = λ kind name rows made phase versions seen served. served;
   versions_left = λ test rows made phase versions seen served. served;
   untidied = λ world served. served;
-  tidied = λ world served number h.
-      ((served number h).0,
-      unserved_with number (promoted_status world.arrivals world.results world.rows) world.rows
-      (λ row. promoted_served (has_successor world.arrivals world.results world.rows row) (is_ready_by world.arrivals world.results row) row.status)
-      (served number h).1);
+  tidied = λ world served number h. (
+    (served number h).0,
+    unserved_with number (promoted_status world.arrivals world.results world.rows) world.rows
+        (λ row. promoted_served (has_successor world.arrivals world.results world.rows row) (is_ready_by world.arrivals world.results row) row.status)
+        (served number h).1,
+  );
 }
 
 shown_among : (number : ℕ) (pictures : List Shown) (version : ℕ) → is_shown number (slice_index_or pictures version nothing_shown) ≡ true

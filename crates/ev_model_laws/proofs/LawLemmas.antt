@@ -1,20 +1,18 @@
 -- Laws of runs from the parts.
-use Rattle.std.proofs.Common.{◌≡◌, ℕ, ◌<◌, ◌≤◌, ◌+◌, ◌-◌, ◌⊎◌, inl, inr, zero, suc, Bool, true, false, not, ◌&&◌, ◌||◌, ◌==◌, cond, List, [], ◌∷◌, ◌++◌, length, map, filter, take, Option, Some, None, refl, sym, ap, ◌∙◌, subst, IsTrue, length-append, le_trans, arith}
-use Rattle.std.specs.Prelude.{nat_le, slice_get, slice_index_or}
-use Rattle.std.specs.Str.{bytes_eq}
+use Rattle.std.proofs.Common.{◌≡◌, ℕ, ◌<◌, ◌≤◌, ◌⊎◌, inl, inr, Bool, true, false, not, ◌&&◌, ◌==◌, cond, List, [], ◌∷◌, ◌++◌, length, map, filter, Option, Some, None, refl, sym, ap, ◌∙◌, subst, IsTrue, length-append, le_trans, arith}
+use Rattle.std.specs.Prelude.{nat_le}
 use Rattle.std.specs.Cmp.{first_so, second_so}
 use Rattle.std.specs.List.{list_any, Contains}
-use Rattle.std.proofs.lemmas.Bool.{false≢true, both_ways, cond_both, and_from, and_left, and_right, or_from, or_left, or_right, or_parts, not-true, not_from_true, false_from_ne_true}
-use Rattle.std.proofs.lemmas.List.Folds.{list_any_at, list_any-append}
+use Rattle.std.proofs.lemmas.Bool.{false≢true, both_ways, cond_both, and_from, and_left, and_right, or_from, or_left, or_parts, not-true, not_from_true, false_from_ne_true}
+use Rattle.std.proofs.lemmas.List.Folds.{list_any_at}
 use Rattle.std.proofs.lemmas.Option.{slice_get_within, slice_get-get_or}
 use Rattle.ev_types.specs.Same.{numbers_decide}
 use Rattle.ev_types.specs.declared.events.Actor.{Actor}
 use Rattle.ev_types.specs.declared.events.Actor.TheVariants.{Worker}
 use Rattle.ev_types.specs.declared.events.Answer.{Answer}
-use Rattle.ev_types.specs.declared.events.Answer.TheVariants.{Ignored, Unchanged, Version, Reaped}
+use Rattle.ev_types.specs.declared.events.Answer.TheVariants.{Ignored, Unchanged, Version}
 use Rattle.ev_types.specs.declared.events.Entry.{Entry}
 use Rattle.ev_types.specs.declared.events.Event.{Event}
-use Rattle.ev_types.specs.declared.events.Event.TheVariants.{Reap}
 use Rattle.ev_types.specs.declared.journals.Format.{Format}
 use Rattle.ev_types.specs.declared.rows.GenRow.{GenRow}
 use Rattle.ev_types.specs.declared.rows.RowStatus.{RowStatus}
@@ -23,17 +21,17 @@ use Rattle.ev_model.specs.declared.pictures.Shown.{Shown}
 use Rattle.ev_model.specs.World.{World, OpenMember, nothing_shown, last_version}
 use Rattle.ev_model.specs.Operations.{actor_same}
 use Rattle.ev_model.specs.Picture.{has_number, is_shown, shown_of, shown_same}
-use Rattle.ev_model.specs.Dead.{shown_at, version_held, picture_held, numbers_in_use, is_in_use, is_open_on, is_dead_at, is_dead, waits_for_timer}
-use Rattle.ev_model.specs.Connections.{accept, close, settle}
+use Rattle.ev_model.specs.Dead.{shown_at, version_held, picture_held, numbers_in_use, is_in_use, is_open_on, is_dead_at, is_dead}
+use Rattle.ev_model.specs.Connections.{accept, close}
 use Rattle.ev_model.specs.Publishing.{reap, dead_numbers}
-use Rattle.ev_model.specs.Entries.{numbers_reaped, version_settled, version_settled_by, last_settled}
+use Rattle.ev_model.specs.Entries.{numbers_reaped, version_settled}
 use Rattle.ev_model.specs.Step.{step}
-use Rattle.ev_model.specs.Laws.{Told, world_told, IsEntryAt, SettlesOn, Forward, Opened, IsClosedBetween, IsHidden, Reaps, Unused}
+use Rattle.ev_model.specs.Laws.{Told, world_told, SettlesOn, Forward, IsClosedBetween, IsHidden, Reaps, Unused}
 use Rattle.ev_model_laws.specs.Numbers.{RiseWithin, IsNumbered}
-use Rattle.ev_model_laws.specs.Kept.{has_served, has_served_as, UsesServed, is_open_for, HasParts}
-use Rattle.ev_model_laws.proofs.KeepLemmas.{is_for_managers, either, step-each, step-holds}
+use Rattle.ev_model_laws.specs.Kept.{has_served, UsesServed, is_open_for, HasParts}
+use Rattle.ev_model_laws.proofs.KeepLemmas.{either, step-each, step-holds}
 use Rattle.ev_model_laws.proofs.SeenLemmas.{same_seen}
-use Rattle.ev_model_laws.proofs.AnswerLemmas.{HoldsOfAnswers, managed_answer, accepted_answer, closed_answer}
+use Rattle.ev_model_laws.proofs.AnswerLemmas.{managed_answer, accepted_answer, closed_answer}
 use Rattle.ev_model_laws.proofs.AnyLemmas.{or_so, any_so, any_first, any_second, any_mapped, any_sorted, any_found}
 use Rattle.ev_model_laws.proofs.NumberLemmas.{numbers}
 use Rattle.ev_model_laws.proofs.PromotionLemmas.{each_left}
@@ -42,7 +40,7 @@ use Rattle.ev_model_laws.proofs.SettledLemmas.{SettlesNothing, answers_settle}
 use Rattle.ev_model_laws.proofs.DrawnLemmas.{is_numbered, numbered_within, none_numbered, none_so}
 use Rattle.ev_model_laws.proofs.ExpiredLemmas.{passed}
 use Rattle.ev_model_laws.proofs.TidyLists.{any_at}
-use Rattle.ev_model_laws.proofs.PlaceLemmas.{Runs, IsAnswered, entry_answered, world_next, over_places}
+use Rattle.ev_model_laws.proofs.PlaceLemmas.{Runs, entry_answered, world_next, over_places}
 use Rattle.ev_model_laws.proofs.RunParts.{parts_kept}
 
 -- the version of a settle is the last one
@@ -55,7 +53,7 @@ of_none world did none version h = absurd (let never : None ≡ Some version = s
 step-last : (format : Format) (world : World) (actor : Actor) (event : Event) → SettlesLast world (step format world actor event)
 step-last format world actor event = step-holds (SettlesLast world) format world actor event (record {
   ignored = of_none world (world, Ignored) refl;
-  managed = λ event is. of_none world (step format world actor event) (managed_answer SettlesNothing answers_settle format world actor event is);
+  managed = λ event is. of_none world (step format world actor event) (managed_answer SettlesNothing answers_settle.managed format world actor event is);
   published = cond_both (shown_same (shown_of world) (shown_at world (last_version world))) (world, Unchanged)
       (record world { pictures = world.pictures ++ shown_of world ∷ [] }, Version (length world.pictures)) (SettlesLast world)
       (λ same. of_none world (world, Unchanged) refl)
@@ -121,7 +119,7 @@ pub record HasDead (format : Format) (world : World) (number : ℕ) : Type 0 whe
   pub numbered : row.number ≡ number
   pub dead : is_dead format world row ≡ true
 
-dead_named : (format : Format) (world : World) (number : ℕ) → has_number number (dead_numbers format world) ≡ true → HasDead format world number
+pub dead_named : (format : Format) (world : World) (number : ℕ) → has_number number (dead_numbers format world) ≡ true → HasDead format world number
 dead_named format world number h =
     let found : (row : GenRow) × Contains (filter (is_dead format world) world.rows) row × ((row.number == number) ≡ true) =
     any_found (λ (row : GenRow). row.number == number) (filter (is_dead format world) world.rows)
@@ -202,7 +200,7 @@ dead_unused format world number rise uses dead =
     (subst (λ n. is_in_use world n ≡ true) (sym dead.numbered) used))
 
 -- a picture that doesn't show the generation hides it
-hidden_at : (world : World) (version number : ℕ) → version < length world.pictures → is_shown number (shown_at world version) ≡ false → IsHidden world version number
+pub hidden_at : (world : World) (version number : ℕ) → version < length world.pictures → is_shown number (shown_at world version) ≡ false → IsHidden world version number
 hidden_at world version number lt hidden = record {
   shown = shown_at world version;
   there = slice_get-get_or world.pictures version nothing_shown lt;

@@ -29,3 +29,4 @@ pub mod ExpiredLemmas
 pub mod RunParts
 pub mod LawLemmas
 pub mod WaitedLemmas
+pub mod OnceLemmas

@@ -1,7 +1,7 @@
 -- What pictures in use show, and what connections are open on, is generations that have served.
 use Rattle.std.proofs.Common.{◌≡◌, ℕ, ◌<◌, Bool, true, false, not, ◌&&◌, ◌||◌, ◌==◌, cond, List, [], ◌∷◌, ◌++◌, length, filter, replicate, refl, sym, ap, ◌∙◌, subst}
 use Rattle.std.specs.Bool.{⊤}
-use Rattle.std.specs.Prelude.{slice_index_or, slice_set}
+use Rattle.std.specs.Prelude.{slice_set}
 use Rattle.std.specs.Cmp.{first_so, second_so}
 use Rattle.std.specs.List.{list_any}
 use Rattle.std.proofs.lemmas.Bool.{false≢true, cond_both, and_from, or_left, or_right}
@@ -24,9 +24,9 @@ use Rattle.ev_model.specs.Rows.{is_row_of, removed_status, with_statuses, replac
 use Rattle.ev_model.specs.Tidy.{has_successor, status_by, promoted_status}
 use Rattle.ev_model.specs.Warming.{is_ready_by}
 use Rattle.ev_model.specs.Picture.{has_number, is_shown, shown_of}
-use Rattle.ev_model.specs.Dead.{shown_at, picture_held, version_held, numbers_in_use, is_open_on, is_in_use, is_dead_at, is_dead, waits_for_timer}
+use Rattle.ev_model.specs.Dead.{shown_at, picture_held, version_held, numbers_in_use, is_open_on, is_in_use, is_dead_at, is_dead}
 use Rattle.ev_model.specs.Choice.{choice_of}
-use Rattle.ev_model.specs.Connections.{Worked, is_member, is_open, members_of, opened_by, is_closing, left_open, accept, close, settle}
+use Rattle.ev_model.specs.Connections.{Worked, is_member, is_open, members_of, opened_by, is_closing, accept, close, settle}
 use Rattle.ev_model.specs.Publishing.{without_dead}
 use Rattle.ev_model.specs.Step.{step}
 use Rattle.ev_model_laws.specs.Kept.{has_served, has_served_as, UsesServed}

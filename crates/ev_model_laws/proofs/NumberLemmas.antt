@@ -30,7 +30,7 @@ kept-rise true low row rows high lt rise = (lt, rise)
 kept-rise false low row rows high lt rise = lower-rise row.number low (numbers rows) high (omega arith) rise
 
 -- so do the numbers of some of the rows
-filter-rise : (test : GenRow → Bool) (low : ℕ) (rows : List GenRow) (high : ℕ)
+pub filter-rise : (test : GenRow → Bool) (low : ℕ) (rows : List GenRow) (high : ℕ)
     → RiseWithin low (numbers rows) high → RiseWithin low (numbers (filter test rows)) high
 filter-rise test low [] high rise = rise
 filter-rise test low (row ∷ rows) high rise =

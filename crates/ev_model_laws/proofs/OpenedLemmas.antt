@@ -1,9 +1,9 @@
 -- A connection that an accept opened stays open until it is closed.
-use Rattle.std.proofs.Common.{◌≡◌, ℕ, ◌<◌, ◌≤◌, ◌+◌, ◌⊎◌, inl, inr, Bool, true, false, not, ◌&&◌, ◌||◌, ◌==◌, List, [], ◌∷◌, ◌++◌, length, drop, take, map, filter, Option, Some, None, refl, sym, ap, ◌∙◌, subst, IsTrue, arith}
+use Rattle.std.proofs.Common.{◌≡◌, ℕ, ◌<◌, ◌≤◌, ◌+◌, ◌⊎◌, inl, inr, Bool, true, false, not, ◌&&◌, ◌==◌, List, [], ◌∷◌, ◌++◌, length, drop, take, map, filter, Option, Some, None, refl, sym, ap, ◌∙◌, subst, IsTrue, arith}
 use Rattle.std.specs.Prelude.{nat_le, slice_get}
 use Rattle.std.specs.Cmp.{first_so, second_so}
 use Rattle.std.specs.List.{list_any}
-use Rattle.std.proofs.lemmas.Bool.{false≢true, cond_both, cases_lt, and_from, or_left, or_right}
+use Rattle.std.proofs.lemmas.Bool.{false≢true, cond_both, cases_lt, and_from, or_left}
 use Rattle.std.proofs.lemmas.List.{length-take-le, drop-append-le}
 use Rattle.std.proofs.lemmas.Option.{slice_get_within}
 use Rattle.ev_types.specs.Same.{numbers_decide}
@@ -11,7 +11,7 @@ use Rattle.ev_types.specs.declared.hosts.Host.{Host}
 use Rattle.ev_types.specs.declared.events.Actor.{Actor}
 use Rattle.ev_types.specs.declared.events.Actor.TheVariants.{Stream, Health as health_checker, Timer, Main, Worker}
 use Rattle.ev_types.specs.declared.events.Answer.{Answer}
-use Rattle.ev_types.specs.declared.events.Answer.TheVariants.{Ignored, InUse, NotOpen, Done}
+use Rattle.ev_types.specs.declared.events.Answer.TheVariants.{InUse, NotOpen, Done}
 use Rattle.ev_types.specs.declared.events.Ask.{Ask}
 use Rattle.ev_types.specs.Events.{MayMake}
 use Rattle.ev_types.specs.declared.events.Entry.{Entry}
@@ -21,12 +21,12 @@ use Rattle.ev_types.specs.declared.journals.Format.{Format}
 use Rattle.ev_model.specs.declared.pictures.Picture.{Picture}
 use Rattle.ev_model.specs.declared.pictures.Choice.{Choice}
 use Rattle.ev_model.specs.declared.pictures.Choice.TheVariants.{NoListener, NoRoute, Local, Redirect, NoCluster, NoEndpoint, Served}
-use Rattle.ev_model.specs.World.{World, OpenMember, last_version}
+use Rattle.ev_model.specs.World.{World, OpenMember}
 use Rattle.ev_model.specs.Operations.{actor_same, actor_decides}
 use Rattle.ev_model.specs.Picture.{has_number}
 use Rattle.ev_model.specs.Dead.{is_open_on, picture_held}
 use Rattle.ev_model.specs.Choice.{choice_of}
-use Rattle.ev_model.specs.Connections.{Worked, is_member, is_open, host_at, served_by, answer_of, member_on, members_of, opened_by, closed, closed_by, is_closing, left_open, accept, close, settle}
+use Rattle.ev_model.specs.Connections.{Worked, is_member, is_open, host_at, served_by, answer_of, member_on, members_of, opened_by, closed_by, is_closing, accept, close, settle}
 use Rattle.ev_model.specs.Entries.{names_row, connection_of, closes, closes_connection}
 use Rattle.ev_model.specs.Step.{step}
 use Rattle.ev_model.specs.Laws.{Told, world_told, IsEntryAt, Opened, IsClosedBetween}
@@ -34,15 +34,16 @@ use Rattle.ev_model_laws.specs.Kept.{is_open_for, StaysOpen}
 use Rattle.ev_model_laws.proofs.KeepLemmas.{is_for_managers, either, of_worker-keeps}
 use Rattle.ev_model_laws.proofs.SeenLemmas.{same_seen}
 use Rattle.ev_model_laws.proofs.PlaceLemmas.{take_one, IsAnswered, world_next}
-use Rattle.ev_model_laws.proofs.AnyLemmas.{or_so, any_so, any_first, any_second, any_mapped, any_in_order, any_passing, any_either, any_tells}
+use Rattle.ev_model_laws.proofs.AnyLemmas.{any_so, any_first, any_second, any_mapped, any_in_order, any_passing, any_either, any_tells}
 
 -- the member is a worker's connection of this number
 open_parts : (actor : Actor) (connection number : ℕ) (member : OpenMember) → is_open_for actor connection number member ≡ true
     → (actor ≡ Worker member.worker) × (member.connection ≡ connection)
 open_parts actor connection number member h =
-    let both : (actor_same actor (Worker member.worker) && (member.connection == connection)) ≡ true = first_so _ (is_open_on number member) h in
-    ((actor_decides actor (Worker member.worker)).0 (first_so (actor_same actor (Worker member.worker)) (member.connection == connection) both),
-    (numbers_decide member.connection connection).0 (second_so (actor_same actor (Worker member.worker)) (member.connection == connection) both))
+    let both : (actor_same actor (Worker member.worker) && (member.connection == connection)) ≡ true = first_so _ (is_open_on number member) h in (
+      (actor_decides actor (Worker member.worker)).0 (first_so (actor_same actor (Worker member.worker)) (member.connection == connection) both),
+      (numbers_decide member.connection connection).0 (second_so (actor_same actor (Worker member.worker)) (member.connection == connection) both),
+    )
 
 -- behind what was done the connection is open, or the event has closed it
 abbrev pub IsOpenOrClosed : Actor → Event → Actor → ℕ → ℕ → World × Answer → Type 0

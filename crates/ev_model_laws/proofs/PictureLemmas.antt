@@ -1,8 +1,8 @@
 -- What pictures show: one that is published shows generations that serve, and what is in use is shown by a version in use.
-use Rattle.std.proofs.Common.{◌≡◌, ℕ, ◌-◌, ◌+◌, ◌<◌, zero, suc, Bool, true, false, ◌&&◌, ◌||◌, ◌==◌, cond, List, [], ◌∷◌, ◌++◌, length, map, filter, refl, sym, ap, ◌∙◌, subst, length-append, arith}
+use Rattle.std.proofs.Common.{◌≡◌, ℕ, ◌-◌, zero, suc, Bool, true, false, ◌&&◌, ◌||◌, ◌==◌, cond, List, [], ◌∷◌, ◌++◌, length, map, filter, sym, ap, ◌∙◌, length-append, arith}
 use Rattle.std.specs.Prelude.{slice_index_or}
-use Rattle.std.specs.Cmp.{first_so, second_so}
-use Rattle.std.specs.List.{list_any, flat_map, Contains}
+use Rattle.std.specs.Cmp.{second_so}
+use Rattle.std.specs.List.{list_any, flat_map}
 use Rattle.std.proofs.Math.Seq.{get_or-append_seam}
 use Rattle.std.proofs.lemmas.Bool.{false≢true, cond_both, and_from, or_left, or_right}
 use Rattle.ev_types.specs.Kinds.{kind_same}
@@ -12,17 +12,15 @@ use Rattle.ev_types.specs.declared.contents.Kind.TheVariants.{Cds, Lds}
 use Rattle.ev_types.specs.declared.contents.Content.{Content}
 use Rattle.ev_types.specs.declared.contents.Content.TheVariants.{Cluster as a_cluster, Assignment as an_assignment, Listener as a_listener, Routes as routes}
 use Rattle.ev_types.specs.declared.rows.GenRow.{GenRow}
-use Rattle.ev_types.specs.declared.rows.RowStatus.{RowStatus}
-use Rattle.ev_types.specs.declared.rows.RowStatus.TheVariants.{Warming, Active, Draining, Dropped}
 use Rattle.ev_model.specs.declared.pictures.Shown.{Shown}
 use Rattle.ev_model.specs.declared.pictures.ServedCluster.{ServedCluster}
 use Rattle.ev_model.specs.declared.pictures.ServedListener.{ServedListener}
 use Rattle.ev_model.specs.World.{World, Arrived, nothing_shown, last_version}
 use Rattle.ev_model.specs.Phase.{is_serving}
-use Rattle.ev_model.specs.Picture.{has_number, is_shown, numbers_shown, active_rows, by_name, served_cluster, served_clusters, served_listener, served_listeners, shown_of}
+use Rattle.ev_model.specs.Picture.{has_number, is_shown, numbers_shown, active_rows, served_cluster, served_clusters, served_listener, served_listeners, shown_of}
 use Rattle.ev_model.specs.Versions.{is_before}
 use Rattle.ev_model.specs.Dead.{shown_at, numbers_in_use}
-use Rattle.ev_model_laws.proofs.AnyLemmas.{or_so, any_so, any_behind, any_left, any_mapped, any_flat, any_sorted}
+use Rattle.ev_model_laws.proofs.AnyLemmas.{or_so, any_so, any_behind, any_mapped, any_flat, any_sorted}
 
 -- the row is of this number, and serves
 abbrev pub serves_numbered : ℕ → GenRow → Bool

@@ -1,26 +1,20 @@
 -- A place of a run: its entry is answered as the machine answers it, and leads from one world to the next.
-use Rattle.std.proofs.Common.{◌≡◌, ℕ, ◌+◌, ◌<◌, ◌≤◌, ◌⊎◌, inl, inr, zero, suc, List, get_or, [], ◌∷◌, ◌++◌, length, take, Option, Some, None, refl, sym, ap, ◌∙◌, subst, subst₂, add-one, arith}
-use Rattle.std.specs.Bool.{⊤}
+use Rattle.std.proofs.Common.{◌≡◌, ℕ, ◌+◌, ◌<◌, ◌≤◌, ◌⊎◌, inl, inr, zero, suc, List, get_or, [], ◌∷◌, ◌++◌, length, take, Some, None, ap, ◌∙◌, subst, add-one, arith}
 use Rattle.std.specs.Prelude.{slice_get}
-use Rattle.std.specs.List.{flat_map}
 use Rattle.std.proofs.lemmas.Grind.{flat_map-append}
 use Rattle.std.proofs.lemmas.Bool.{cases_lt}
-use Rattle.std.proofs.lemmas.List.{append-nil, take_more, length-replicate, get_or-replicate}
+use Rattle.std.proofs.lemmas.List.{append-nil, take_more}
 use Rattle.std.proofs.lemmas.Option.{slice_get_within, get_or_from_slice_get, slice_get_cases}
 use Rattle.ev_types.specs.Events.{MayMake}
-use Rattle.ev_types.specs.declared.events.Actor.{Actor}
-use Rattle.ev_types.specs.declared.events.Actor.TheVariants.{Stream, Health as health_checker, Timer, Main, Worker}
-use Rattle.ev_types.specs.declared.events.Event.{Event}
-use Rattle.ev_types.specs.declared.events.Event.TheVariants.{Connect, Disconnect, Response, Health, FetchTimeout, DrainTimeout, TtlExpired, Publish, Reap, Accept, Close, Settle}
 use Rattle.ev_types.specs.declared.events.Entry.{Entry}
 use Rattle.ev_types.specs.declared.journals.Format.{Format}
 use Rattle.ev_model.specs.World.{World, opening}
 use Rattle.ev_model.specs.Entries.{numbers_reaped}
 use Rattle.ev_model.specs.Step.{step}
-use Rattle.ev_model.specs.Runs.{world_after, RunsFrom, IsRun}
+use Rattle.ev_model.specs.Runs.{world_after, RunsFrom}
 use Rattle.ev_model.specs.Laws.{Told, world_told, IsEntryAt}
-use Rattle.ev_model.proofs.RunLemmas.{world_after-more, length-held}
-use Rattle.ev_model_laws.specs.Kept.{numbers_gone, UsesServed, HidesUnserved, HoldsPublished, NothingIsDue, DrawnOnce, HasParts}
+use Rattle.ev_model.proofs.RunLemmas.{world_after-more}
+use Rattle.ev_model_laws.specs.Kept.{numbers_gone}
 
 -- one element more at the end of the first ones
 pub take_one : {X : Type 0} (xs : List X) (k : ℕ) (x : X) → slice_get xs k ≡ Some x → take (k + 1) xs ≡ take k xs ++ x ∷ []
@@ -69,7 +63,6 @@ gone_next told k entry there answered =
     ap numbers_gone (take_one told.journal k entry there)
     ∙ flat_map-append (λ (e : Entry). numbers_reaped e.answer) (take k told.journal) (entry ∷ [])
     ∙ ap (λ ns. numbers_gone (take k told.journal) ++ ns) (append-nil (numbers_reaped entry.answer) ∙ ap numbers_reaped answered.answer)
-
 
 entry_by : (told : Told) (k : ℕ) → k < length told.journal
     → ((entry : Entry) × (k < length told.journal) × (slice_get told.journal k ≡ Some entry) × (get_or told.journal k entry ≡ entry))

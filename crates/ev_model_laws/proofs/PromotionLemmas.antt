@@ -1,5 +1,5 @@
 -- What was due serves: no generation that warms is ready between two events.
-use Rattle.std.proofs.Common.{◌≡◌, ℕ, Bool, true, false, List, [], filter, refl, arith}
+use Rattle.std.proofs.Common.{◌≡◌, ℕ, Bool, false, List, filter, arith}
 use Rattle.std.specs.Bool.{⊤}
 use Rattle.std.specs.List.{Contains}
 use Rattle.std.proofs.lemmas.List.Elements.{All-contains, All-filter}

@@ -1,25 +1,19 @@
 -- The parts that every event keeps hold after any first entries of a run.
-use Rattle.std.proofs.Common.{◌≡◌, ℕ, ◌+◌, ◌<◌, ◌≤◌, ◌⊎◌, inl, inr, zero, suc, List, get_or, [], ◌∷◌, ◌++◌, length, take, Option, Some, None, refl, sym, ap, ◌∙◌, subst, subst₂, add-one, arith}
-use Rattle.std.specs.Bool.{⊤}
+use Rattle.std.proofs.Common.{◌≡◌, ℕ, ◌+◌, ◌<◌, ◌≤◌, ◌⊎◌, inl, inr, zero, suc, get_or, length, take, Some, None, sym, ap, ◌∙◌, subst, subst₂, add-one, arith}
 use Rattle.std.specs.Prelude.{slice_get}
-use Rattle.std.specs.List.{flat_map}
-use Rattle.std.proofs.lemmas.Grind.{flat_map-append}
 use Rattle.std.proofs.lemmas.Bool.{false≢true}
-use Rattle.std.proofs.lemmas.List.{append-nil, take_more, length-replicate, get_or-replicate}
-use Rattle.std.proofs.lemmas.Option.{slice_get_within, get_or_from_slice_get, slice_get_cases}
+use Rattle.std.proofs.lemmas.List.{length-replicate, get_or-replicate}
+use Rattle.std.proofs.lemmas.Option.{slice_get_cases}
 use Rattle.ev_types.specs.Events.{MayMake}
 use Rattle.ev_types.specs.declared.events.Actor.{Actor}
 use Rattle.ev_types.specs.declared.events.Actor.TheVariants.{Stream, Health as health_checker, Timer, Main, Worker}
 use Rattle.ev_types.specs.declared.events.Event.{Event}
 use Rattle.ev_types.specs.declared.events.Event.TheVariants.{Connect, Disconnect, Response, Health, FetchTimeout, DrainTimeout, TtlExpired, Publish, Reap, Accept, Close, Settle}
 use Rattle.ev_types.specs.declared.events.Entry.{Entry}
-use Rattle.ev_types.specs.declared.journals.Format.{Format}
-use Rattle.ev_model.specs.World.{World, opening}
-use Rattle.ev_model.specs.Entries.{numbers_reaped}
+use Rattle.ev_model.specs.World.{World}
 use Rattle.ev_model.specs.Step.{step}
-use Rattle.ev_model.specs.Runs.{world_after, RunsFrom, IsRun}
 use Rattle.ev_model.specs.Laws.{Told, world_told, IsEntryAt}
-use Rattle.ev_model.proofs.RunLemmas.{world_after-more, length-held}
+use Rattle.ev_model.proofs.RunLemmas.{length-held}
 use Rattle.ev_model_laws.specs.Kept.{numbers_gone, UsesServed, HidesUnserved, HoldsPublished, NothingIsDue, DrawnOnce, HasParts}
 use Rattle.ev_model_laws.proofs.PlaceLemmas.{IsAnswered, Runs, entry_answered, world_next, gone_next}
 use Rattle.ev_model_laws.proofs.HeldLemmas.{opens_held, step-held}
@@ -32,7 +26,7 @@ use Rattle.ev_model_laws.proofs.DrawnLemmas.{opens_drawn, step-drawn}
 use Rattle.ev_model_laws.proofs.HiddenLemmas.{opens_hidden, step-hidden}
 
 -- who may make an event is no worker, or one of so many
-may_known : (workers : ℕ) (actor : Actor) (event : Event) → MayMake workers actor event → IsKnown workers actor
+pub may_known : (workers : ℕ) (actor : Actor) (event : Event) → MayMake workers actor event → IsKnown workers actor
 may_known workers Stream event may = tt
 may_known workers health_checker event may = tt
 may_known workers Timer event may = tt

@@ -78,10 +78,7 @@ SettlesNothing answer = version_settled answer ≡ None
 
 pub answers_settle : HoldsOfAnswers SettlesNothing
 answers_settle = record {
-  ignored = refl;
-  done = refl;
-  moved = λ requests. refl;
-  replied = λ requests verdicts. refl;
+  managed = record { ignored = refl; done = refl; moved = λ requests. refl; replied = λ requests verdicts. refl };
   in_use = refl;
   not_open = refl;
   no_listener = refl;
@@ -111,7 +108,7 @@ pub step-settled : (format : Format) (world : World) (actor : Actor) (event : Ev
 step-settled format world actor event = step-holds (HoldsBy world actor) format world actor event (record {
   ignored = unsettled world actor (world, Ignored) refl refl;
   managed = λ event is. unsettled world actor (step format world actor event) (same_seen format world actor event is).held
-      (managed_answer SettlesNothing answers_settle format world actor event is);
+      (managed_answer SettlesNothing answers_settle.managed format world actor event is);
   published = cond_both (shown_same (shown_of world) (shown_at world (last_version world))) (world, Unchanged)
       (record world { pictures = world.pictures ++ shown_of world ∷ [] }, Version (length world.pictures)) (HoldsBy world actor)
       (λ same. unsettled world actor (world, Unchanged) refl refl)

@@ -1,16 +1,15 @@
 -- In format 2 a listener that has served is destroyed only when its drain timeout has come.
-use Rattle.std.proofs.Common.{◌≡◌, ℕ, ◌<◌, ◌≤◌, ◌+◌, Bool, true, false, not, ◌&&◌, ◌||◌, ◌==◌, List, [], ◌∷◌, ◌++◌, length, refl, sym, ap, ap₂, ◌∙◌, subst, IsTrue, arith}
+use Rattle.std.proofs.Common.{◌≡◌, ℕ, ◌<◌, ◌≤◌, ◌+◌, Bool, true, false, not, ◌&&◌, ◌||◌, ◌==◌, List, [], ◌∷◌, length, refl, sym, ap, ap₂, ◌∙◌, subst, arith}
 use Rattle.std.specs.Str.{bytes_eq}
 use Rattle.std.specs.Cmp.{first_so, second_so}
 use Rattle.std.specs.List.{list_any, Contains}
-use Rattle.std.proofs.lemmas.Bool.{false≢true, both_ways, and_from, and_left, or_from, or_parts, not-false}
+use Rattle.std.proofs.lemmas.Bool.{both_ways, and_from, and_left, or_from, or_parts, not-false}
 use Rattle.std.proofs.lemmas.List.Folds.{list_any-append}
 use Rattle.std.proofs.lemmas.Option.{slice_get_within}
 use Rattle.ev_types.specs.Kinds.{kind_same, kind_decides}
 use Rattle.ev_types.specs.Same.{bytes_decide, numbers_decide}
 use Rattle.ev_types.specs.declared.contents.Kind.{Kind}
 use Rattle.ev_types.specs.declared.contents.Kind.TheVariants.{Lds}
-use Rattle.ev_types.specs.declared.events.Entry.{Entry}
 use Rattle.ev_types.specs.declared.journals.Format.{Format}
 use Rattle.ev_types.specs.declared.journals.Format.TheVariants.{Two}
 use Rattle.ev_types.specs.declared.rows.GenRow.{GenRow}
@@ -23,8 +22,7 @@ use Rattle.ev_model.specs.Tidy.{has_successor, promoted_status}
 use Rattle.ev_model.specs.Warming.{is_ready_by}
 use Rattle.ev_model.specs.Picture.{has_number}
 use Rattle.ev_model.specs.Dead.{is_in_use, waits_for_timer}
-use Rattle.ev_model.specs.Step.{step}
-use Rattle.ev_model.specs.Laws.{Told, world_told, IsEntryAt, StandsAt, HasWaited, Reaps, Waited}
+use Rattle.ev_model.specs.Laws.{Told, world_told, StandsAt, HasWaited, Waited}
 use Rattle.ev_model_laws.specs.Kept.{has_served, HasExpired, HasParts}
 use Rattle.ev_model_laws.proofs.TidyLists.{any_at}
 use Rattle.ev_model_laws.proofs.KeepLemmas.{removed_where, Keeps, step-keeps}
@@ -93,11 +91,12 @@ listened_at told j number name parts at =
     (and_from (at.row.number == number) (has_listened name at.row) ((numbers_decide at.row.number number).1 at.numbered)
     (and_from (is_row_of Lds name at.row) (has_served at.row.status)
     (and_from (kind_same at.row.kind Lds) (bytes_eq at.row.name name) ((kind_decides at.row.kind Lds).1 at.of_kind) ((bytes_decide at.row.name name).1 at.named))
-    (ap has_served at.stands))) in
-    ((numbered_within number 0 world.rows world.made parts.drawn.rows
-    (any_so (λ (row : GenRow). (row.number == number) && has_listened name row) (is_numbered number) world.rows
-    (λ (row : GenRow). first_so (row.number == number) (has_listened name row)) here)).1,
-    one_passes (has_listened name) number 0 world.rows world.made parts.drawn.rows here)
+    (ap has_served at.stands))) in (
+      (numbered_within number 0 world.rows world.made parts.drawn.rows
+          (any_so (λ (row : GenRow). (row.number == number) && has_listened name row) (is_numbered number) world.rows
+          (λ (row : GenRow). first_so (row.number == number) (has_listened name row)) here)).1,
+      one_passes (has_listened name) number 0 world.rows world.made parts.drawn.rows here,
+    )
 
 -- so has each row of the number at a later place
 listened_later : (told : Told) (j k number : ℕ) (name : List ℕ) → HasListened number name (world_told told j) → j ≤ k → k ≤ length told.journal
@@ -118,9 +117,22 @@ row_listened number name world row listened among numbered =
     (any_at (is_other number name) world.rows row among
     (and_from (row.number == number) (not (has_listened name row)) ((numbers_decide row.number number).1 numbered) (ap not fails))))
 
+same_name : (row : GenRow) (name other : List ℕ) → is_row_of Lds name row ≡ true → row.name ≡ other → other ≡ name
+same_name row name other is named = sym named ∙ (bytes_decide row.name name).0 (second_so (kind_same row.kind Lds) (bytes_eq row.name name) is)
+
 timer_came : (format : Format) (kind : Kind) (marked : Bool) → format ≡ Two → kind ≡ Lds → (waits_for_timer format kind && not marked) ≡ false → marked ≡ true
 timer_came format kind marked two listener h =
     not-false marked (sym (ap₂ (λ (f : Format) (k : Kind). waits_for_timer f k && not marked) two listener) ∙ h)
+
+-- what is marked as expired has waited under the name that its rows have
+expired_waited : (told : Told) (k number : ℕ) (name : List ℕ) → HasListened number name (world_told told k) → HasExpired told number k → HasWaited told number name k
+expired_waited told k number name listened expired =
+    let is : has_listened name expired.draining.row ≡ true =
+    row_listened number name (world_told told k) expired.draining.row listened expired.draining.among expired.draining.numbered in
+    let same : expired.name ≡ name =
+    same_name expired.draining.row name expired.name (first_so (is_row_of Lds name expired.draining.row) (has_served expired.draining.row.status) is)
+    expired.draining.named in
+    subst (λ n. HasWaited told number n k) same expired.waited
 
 -- a listener that has served is destroyed only when its drain timeout has come
 pub runs_waited : (told : Told) → Runs told → Waited told
@@ -139,12 +151,5 @@ runs_waited told run j k number name two from at reaps =
     ((kind_decides dead.row.kind Lds).0 (first_so (kind_same dead.row.kind Lds) (bytes_eq dead.row.name name) named))
     (or_parts (is_in_use world dead.row.number) held
     (not_held dead.row.status (is_in_use world dead.row.number || held) (second_so (is_row_of Lds name dead.row) (has_served dead.row.status) is) dead.dead)).1 in
-    let expired : HasExpired told number k = parts.expires number (subst (λ n. has_number n world.expired ≡ true) dead.numbered marked) in
-    let same_row : has_listened name expired.draining.row ≡ true =
-    row_listened number name world expired.draining.row listened expired.draining.among expired.draining.numbered in
-    let same : expired.name ≡ name =
-    sym expired.draining.named
-    ∙ (bytes_decide expired.draining.row.name name).0
-    (second_so (kind_same expired.draining.row.kind Lds) (bytes_eq expired.draining.row.name name)
-    (first_so (is_row_of Lds name expired.draining.row) (has_served expired.draining.row.status) same_row)) in
-    subst (λ n. HasWaited told number n k) same expired.waited
+    expired_waited told k number name listened
+    (parts.expires number (subst (λ n. has_number n world.expired ≡ true) dead.numbered marked))

@@ -1,10 +1,8 @@
 -- What every event of a run keeps, and the opening has: the parts from which the laws of runs follow. This project's own. Some
 -- speak of one world, and some of a journal's first entries, since they tell how that world came about.
-use Rattle.std.specs.Prelude.{ℕ, ◌≡◌, ◌≤◌, ◌<◌, ◌⊎◌, Bool, true, false, not, ◌&&◌, ◌==◌, IsTrue, List, length, take, drop, map, filter, Contains, Option, Some, None}
+use Rattle.std.specs.Prelude.{ℕ, ◌≡◌, ◌≤◌, ◌<◌, ◌⊎◌, Bool, true, false, not, ◌&&◌, ◌==◌, IsTrue, List, length, take, Contains}
 use Rattle.std.specs.List.{list_any, flat_map}
-use Rattle.ev_types.specs.declared.contents.Kind.{Kind}
 use Rattle.ev_types.specs.declared.contents.Kind.TheVariants.{Lds}
-use Rattle.ev_types.specs.declared.contents.Content.{Content}
 use Rattle.ev_types.specs.declared.rows.RowStatus.{RowStatus}
 use Rattle.ev_types.specs.declared.rows.RowStatus.TheVariants.{Warming, Active, Draining, Dropped}
 use Rattle.ev_types.specs.declared.rows.GenRow.{GenRow}
@@ -12,7 +10,7 @@ use Rattle.ev_types.specs.declared.events.Actor.{Actor}
 use Rattle.ev_types.specs.declared.events.Actor.TheVariants.{Worker}
 use Rattle.ev_types.specs.declared.events.Entry.{Entry}
 use Rattle.ev_model.specs.World.{World, OpenMember}
-use Rattle.ev_model.specs.Picture.{has_number, is_shown, numbers_shown}
+use Rattle.ev_model.specs.Picture.{has_number, numbers_shown}
 use Rattle.ev_model.specs.Dead.{version_held, is_open_on, is_in_use, is_in_use_by}
 use Rattle.ev_model.specs.Operations.{actor_same}
 use Rattle.ev_model.specs.Tidy.{is_due}
