@@ -10,7 +10,7 @@ use Rattle.ev_model_laws.specs.Numbers.{RiseWithin, IsAmong, AreOldOrNew, DrawsI
 use Rattle.ev_model_laws.proofs.KeepLemmas.{removed_where, Keeps, step-keeps, run-keeps}
 
 -- the numbers of these rows
-abbrev numbers : List GenRow → List ℕ
+abbrev pub numbers : List GenRow → List ℕ
 numbers rows = map (λ (row : GenRow). row.number) rows
 
 -- other statuses leave the numbers
@@ -30,7 +30,7 @@ kept-rise true low row rows high lt rise = (lt, rise)
 kept-rise false low row rows high lt rise = lower-rise row.number low (numbers rows) high (omega arith) rise
 
 -- so do the numbers of some of the rows
-filter-rise : (test : GenRow → Bool) (low : ℕ) (rows : List GenRow) (high : ℕ)
+pub filter-rise : (test : GenRow → Bool) (low : ℕ) (rows : List GenRow) (high : ℕ)
     → RiseWithin low (numbers rows) high → RiseWithin low (numbers (filter test rows)) high
 filter-rise test low [] high rise = rise
 filter-rise test low (row ∷ rows) high rise =
@@ -42,7 +42,7 @@ added-rise : (low : ℕ) (rows : List GenRow) (new : GenRow) (high : ℕ) → ne
 added-rise low [] new high is rise = (omega arith, omega arith)
 added-rise low (row ∷ rows) new high is rise = (rise.0, added-rise row.number rows new high is rise.1)
 
-keeps_numbered : Keeps (λ rows made phase. RiseWithin 0 (numbers rows) made)
+pub keeps_numbered : Keeps (λ rows made phase. RiseWithin 0 (numbers rows) made)
 keeps_numbered = record {
   removed = λ goes rows made phase rise. statuses-rise (removed_where goes) 0 rows made rise;
   added = λ kind name content rows made phase rise.
@@ -52,7 +52,7 @@ keeps_numbered = record {
   tidied = λ world rise. statuses-rise (promoted_status world.arrivals world.results world.rows) 0 world.rows world.made rise;
 }
 
-keeps_count : (least : ℕ) → Keeps (λ (rows : List GenRow) made (phase : Phase). least ≤ made)
+pub keeps_count : (least : ℕ) → Keeps (λ (rows : List GenRow) made (phase : Phase). least ≤ made)
 keeps_count least = record {
   removed = λ goes rows made phase le. le;
   added = λ kind name content rows made phase le. omega arith;

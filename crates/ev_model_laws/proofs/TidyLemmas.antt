@@ -32,6 +32,7 @@ use Rattle.ev_model.specs.Warming.{came_for, content_in, rows_in, is_word, is_ti
 use Rattle.ev_model.specs.Rows.{is_row_of}
 use Rattle.ev_model.specs.Phase.{phase_from, phase_after, clusters_have_come, listeners_have_come}
 use Rattle.ev_model.specs.Tidy.{is_due, has_successor, status_by, promoted_status, promoted_rows, promoted, arrivals_watched, is_version_due, without_unwatched, has_host, is_result_due, without_old_results, with_phase, tidy}
+use Rattle.ev_model_laws.specs.Kept.{NothingIsDue}
 use Rattle.ev_model_laws.specs.Tidying.{TidiesOnce}
 use Rattle.ev_model_laws.proofs.TidyLists.{all_of, any_at, any_none, all_agree, map_same, filter_within, filter_twice, any_of_map}
 
@@ -171,12 +172,8 @@ none_by false ready Active = refl
 none_by succeeded ready Draining = refl
 none_by succeeded ready Dropped = refl
 
--- no row is due
-abbrev NoneDue : World → Type 0
-NoneDue world = (row : GenRow) → Contains world.rows row → is_due_in world row ≡ false
-
 -- once all that are due serve, none is due
-none_due : (world : World) → NoneDue (promoted world)
+none_due : (world : World) → NothingIsDue (promoted world)
 none_due world row there =
     let status_of : GenRow → RowStatus = promoted_status world.arrivals world.results world.rows in
     All-contains (λ (r : GenRow). is_due_in world r ≡ false) (promoted world).rows row
@@ -197,13 +194,13 @@ and_false : (a b : Bool) → b ≡ false → (a && b) ≡ false
 and_false true b h = h
 and_false false b h = refl
 
-no_successor : (world : World) (row : GenRow) → NoneDue world → has_successor world.arrivals world.results world.rows row ≡ false
+no_successor : (world : World) (row : GenRow) → NothingIsDue world → has_successor world.arrivals world.results world.rows row ≡ false
 no_successor world row none =
     any_none (λ (other : GenRow). is_row_of row.kind row.name other && is_due_in world other) world.rows
     (λ (other : GenRow) there. and_false (is_row_of row.kind row.name other) (is_due_in world other) (none other there))
 
 -- where none is due, each row keeps its status
-promotes_nothing : (world : World) → NoneDue world → promoted world ≡ world
+promotes_nothing : (world : World) → NothingIsDue world → promoted world ≡ world
 promotes_nothing world none =
     let rows : promoted_rows world.arrivals world.results world.rows ≡ world.rows =
     map_same (λ (row : GenRow). record row { status = promoted_status world.arrivals world.results world.rows row }) world.rows
@@ -244,7 +241,8 @@ nothing_old world =
     let results : (without_old_results (tidy world)).results ≡ (tidy world).results = filter_twice (is_result_due before.arrivals before.rows) before.results in
     λ i. record (tidy world) { results = results i }
 
-nothing_due : (world : World) → NoneDue (tidy world)
+-- where a world was tidied no row is due
+pub nothing_due : (world : World) → NothingIsDue (tidy world)
 nothing_due world row there = due_same (promoted world) row there ∙ none_due world row there
 
 pub tidied_once : TidiesOnce

@@ -7,3 +7,5 @@ pub mod OneAName
 pub mod OneReplay
 pub mod VersionsKept
 pub mod Acknowledging
+pub mod Kept
+pub mod RunLaws

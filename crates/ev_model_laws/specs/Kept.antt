@@ -1,0 +1,111 @@
+-- What every event of a run keeps, and the opening has: the parts from which the laws of runs follow. This project's own. Some
+-- speak of one world, and some of a journal's first entries, since they tell how that world came about.
+use Rattle.std.specs.Prelude.{ℕ, ◌≡◌, ◌≤◌, ◌<◌, ◌⊎◌, Bool, true, false, not, ◌&&◌, ◌==◌, IsTrue, List, length, take, Contains}
+use Rattle.std.specs.List.{list_any, flat_map}
+use Rattle.ev_types.specs.declared.contents.Kind.TheVariants.{Lds}
+use Rattle.ev_types.specs.declared.rows.RowStatus.{RowStatus}
+use Rattle.ev_types.specs.declared.rows.RowStatus.TheVariants.{Warming, Active, Draining, Dropped}
+use Rattle.ev_types.specs.declared.rows.GenRow.{GenRow}
+use Rattle.ev_types.specs.declared.events.Actor.{Actor}
+use Rattle.ev_types.specs.declared.events.Actor.TheVariants.{Worker}
+use Rattle.ev_types.specs.declared.events.Entry.{Entry}
+use Rattle.ev_model.specs.World.{World, OpenMember}
+use Rattle.ev_model.specs.Picture.{has_number, numbers_shown}
+use Rattle.ev_model.specs.Dead.{version_held, is_open_on, is_in_use, is_in_use_by}
+use Rattle.ev_model.specs.Operations.{actor_same}
+use Rattle.ev_model.specs.Tidy.{is_due}
+use Rattle.ev_model.specs.Entries.{last_settled, numbers_reaped}
+use Rattle.ev_model.specs.Laws.{Told, world_told, Opened, IsClosedBetween, StandsAt, HasWaited}
+use Rattle.ev_model_laws.specs.Numbers.{IsNumbered}
+
+-- it serves, or drains since it has served
+abbrev pub has_served : RowStatus → Bool
+has_served Warming = false
+has_served Active = true
+has_served Draining = true
+has_served Dropped = false
+
+-- the row is of this number, and has served
+abbrev pub has_served_as : ℕ → GenRow → Bool
+has_served_as number row = (row.number == number) && has_served row.status
+
+-- what a picture in use shows, or a connection is open on, is a generation that has served
+abbrev pub UsesServed : World → Type 0
+UsesServed world = (number : ℕ) → IsTrue (is_in_use world number) → IsTrue (list_any (has_served_as number) world.rows)
+
+-- the numbers of the generations that all pictures so far show
+abbrev pub numbers_published : World → List ℕ
+numbers_published world = flat_map numbers_shown world.pictures
+
+-- a picture so far shows the generation of this number, or a connection is open on it
+abbrev pub is_seen : World → ℕ → Bool
+is_seen world number = is_in_use_by (numbers_published world) world.opened number
+
+-- the row is of this number, and warms or was dropped
+abbrev pub is_unserved_as : ℕ → GenRow → Bool
+is_unserved_as number row = (row.number == number) && not (has_served row.status)
+
+-- a generation that warms, or was dropped, is in no picture and has no connection
+abbrev pub HidesUnserved : World → Type 0
+HidesUnserved world = (number : ℕ) → IsTrue (is_seen world number) → list_any (is_unserved_as number) world.rows ≡ false
+
+-- each worker holds the version of a picture that was published
+abbrev pub HoldsPublished : World → Type 0
+HoldsPublished world = (worker : ℕ) → version_held world worker < length world.pictures
+
+-- no generation that warms is ready: what was due serves
+abbrev pub NothingIsDue : World → Type 0
+NothingIsDue world = (row : GenRow) → Contains world.rows row → is_due world.arrivals world.results row ≡ false
+
+-- the numbers that reapings among these entries have named
+abbrev pub numbers_gone : List Entry → List ℕ
+numbers_gone entries = flat_map (λ (entry : Entry). numbers_reaped entry.answer) entries
+
+-- all numbers that rows have, pictures show and reapings have named were drawn; no two rows share one, and none that was reaped is a row's
+pub record DrawnOnce (world : World) (gone : List ℕ) : Type 0 where
+  pub rows : IsNumbered world
+  pub shown : (number : ℕ) → IsTrue (has_number number (numbers_published world)) → number ≤ world.made
+  pub reaped : (number : ℕ) → IsTrue (has_number number gone) → number ≤ world.made
+  pub away : (number : ℕ) → IsTrue (has_number number gone) → list_any (λ (row : GenRow). row.number == number) world.rows ≡ false
+
+-- it is so after the first k entries, with what these have reaped
+abbrev pub NumbersAreDrawnOnce : Told → ℕ → Type 0
+NumbersAreDrawnOnce told k = DrawnOnce (world_told told k) (numbers_gone (take k told.journal))
+
+-- after the first k entries each worker holds the version on which it has settled last, or 0
+abbrev pub HoldsSettled : Told → ℕ → Type 0
+HoldsSettled told k =
+    (worker : ℕ) → worker < told.workers → version_held (world_told told k) worker ≡ last_settled (take k told.journal) (Worker worker)
+
+-- the actor's connection of this number is open on the generation
+abbrev pub is_open_for : Actor → ℕ → ℕ → OpenMember → Bool
+is_open_for actor connection number member =
+    actor_same actor (Worker member.worker) && (member.connection == connection) && is_open_on number member
+
+-- a connection that an accept before place k opened on a generation is open on it, or was closed between
+abbrev pub StaysOpen : Told → ℕ → Type 0
+StaysOpen told k =
+    (j : ℕ) (actor : Actor) (number connection : ℕ) → j < k → Opened told j actor number connection
+    → IsClosedBetween told j k actor connection ⊎ IsTrue (list_any (is_open_for actor connection number) (world_told told k).opened)
+
+-- after the first k entries the generation is a draining listener, and its drain timeout came when it was draining already
+pub record HasExpired (told : Told) (number k : ℕ) : Type 0 where
+  pub name : List ℕ
+  pub draining : StandsAt told k number Lds name Draining
+  pub waited : HasWaited told number name k
+
+-- each number that is marked as expired is one of a draining listener whose drain timeout came
+abbrev pub ExpiresDraining : Told → ℕ → Type 0
+ExpiresDraining told k = (number : ℕ) → IsTrue (has_number number (world_told told k).expired) → HasExpired told number k
+
+-- what every run has after its first k entries
+pub record HasParts (told : Told) (k : ℕ) : Type 0 where
+  pub workers : length (world_told told k).held ≡ told.workers
+  pub uses : UsesServed (world_told told k)
+  pub hides : HidesUnserved (world_told told k)
+  pub holds : HoldsPublished (world_told told k)
+  pub settled : HoldsSettled told k
+  pub stays : StaysOpen told k
+  pub expires : ExpiresDraining told k
+  pub due : NothingIsDue (world_told told k)
+  pub drawn : NumbersAreDrawnOnce told k

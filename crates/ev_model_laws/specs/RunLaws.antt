@@ -1,0 +1,29 @@
+-- Laws of every run, in both formats.
+use Rattle.ev_model.specs.Runs.{IsRun}
+use Rattle.ev_model.specs.Laws.{Told, Forward, Unused, Once, Waited}
+use Rattle.ev_model_laws.specs.Kept.{HasParts}
+use Rattle.std.specs.Prelude.{ℕ, ◌≤◌, length}
+
+-- the journal is a run
+abbrev pub IsRunTold : Told → Type 0
+IsRunTold told = IsRun told.format told.workers told.node told.journal
+
+-- every run has the parts after any first entries
+abbrev pub RunsHaveParts : Type 0
+RunsHaveParts = (told : Told) → IsRunTold told → (k : ℕ) → k ≤ length told.journal → HasParts told k
+
+-- no worker's snapshot goes back
+abbrev pub RunsGoForward : Type 0
+RunsGoForward = (told : Told) → IsRunTold told → Forward told
+
+-- a generation is destroyed only when no connection is open on it and no worker's snapshot holds it
+abbrev pub RunsReapUnused : Type 0
+RunsReapUnused = (told : Told) → IsRunTold told → Unused told
+
+-- a generation is destroyed once
+abbrev pub RunsReapOnce : Type 0
+RunsReapOnce = (told : Told) → IsRunTold told → Once told
+
+-- in format 2 a listener that has served is destroyed only when its drain timeout has come
+abbrev pub RunsWait : Type 0
+RunsWait = (told : Told) → IsRunTold told → Waited told

@@ -1,0 +1,29 @@
+ghost use Rattle.ev_model_laws.specs.RunLaws.{RunsHaveParts, RunsGoForward, RunsReapUnused, RunsReapOnce, RunsWait};
+
+/// Of every run, in both formats: the parts that each event keeps hold after any first entries. It does nothing.
+pub fn runs_keep_their_parts()
+    ensures { RunsHaveParts }
+{}
+
+/// A law of every run, in both formats: no worker's snapshot goes back. It does nothing.
+pub fn snapshots_never_go_back()
+    ensures { RunsGoForward }
+{}
+
+/// A law of every run, in both formats: a generation is destroyed only when no connection is open on it and no worker's
+/// snapshot holds it. It does nothing.
+pub fn reaped_generations_are_unused()
+    ensures { RunsReapUnused }
+{}
+
+/// A law of every run, in both formats: a generation is destroyed once. A reaping names each once, and no later entry
+/// destroys it again, accepts a connection on it or publishes a picture that shows it. It does nothing.
+pub fn generations_are_reaped_once()
+    ensures { RunsReapOnce }
+{}
+
+/// A law of every run in format 2: a listener that has served is destroyed only when its drain timeout has come. It does
+/// nothing.
+pub fn drained_listeners_have_waited()
+    ensures { RunsWait }
+{}
