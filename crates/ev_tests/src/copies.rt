@@ -1,7 +1,7 @@
 use ev_app::render_journal;
 use ev_types::{
-    Actor, Answer, Ask, Entry, Event, FetchTimeout, Format, Gen, Host, Kind, Name, Op, Row, Seq, Text,
-    TryCopy,
+    Actor, Answer, Ask, Entry, Event, FetchTimeout, Format, Gen, Host, Kind, Name, Op, Row, Seq,
+    Text, TryCopy,
 };
 use std::alloc::Global;
 use std::test::Fail;
@@ -183,7 +183,10 @@ fn copies_tell_the_same(rt: HostRuntime) -> Result<(), Fail> {
         answer: Answer::Version(9),
     };
     let copy = row.copy(rt.alloc())?;
-    assert_eq!(rt; (copy.actor, copy.at, copy.step, copy.op), (Actor::Timer, 2, 1, Op::Publish));
+    assert_eq!(rt;
+        (copy.actor, copy.at, copy.step, copy.op),
+        (Actor::Timer, 2, 1, Op::Publish)
+    );
     assert!(rt; matches!(&copy.answer, Answer::Version(9)));
     Ok(())
 }

@@ -1,5 +1,7 @@
 use ev_model::{Picture, Routing, ServedCluster, ServedListener, Shown};
-use ev_types::{Assignment, Gen, Host, HostRow, Name, RouteTable, Seq, Shared, Target, Text, TryCopy};
+use ev_types::{
+    Assignment, Gen, Host, HostRow, Name, RouteTable, Seq, Shared, Target, Text, TryCopy,
+};
 use std::alloc::Global;
 use std::test::Fail;
 

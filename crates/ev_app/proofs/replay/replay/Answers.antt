@@ -42,8 +42,8 @@ loop-worker-preserved c = record {
   node = search rules;
   order = rw c.in_ok-apply-2.ensures.entry (settled_more c.args.script.now c.loop-worker.worker c.loop-worker.registry.journal _ (ap (λ (s : ScriptParts). last_settle s c.loop-worker.worker) c.script.view_is) c.loop-worker.invariant.order);
   numbered =
-    let drawn : (world_now c.apply-in-loop-worker.new.self).made ≤ (world_now c.loop-worker.registry).made + 0 = c.in_ok-apply-2.ensures.drawn in
-    omega (arith, drawn, c.loop-worker.invariant.numbered);
+      let drawn : (world_now c.apply-in-loop-worker.new.self).made ≤ (world_now c.loop-worker.registry).made + 0 = c.in_ok-apply-2.ensures.drawn in
+      omega (arith, drawn, c.loop-worker.invariant.numbered);
 }
 
 -- the numbers suffice for the next line
