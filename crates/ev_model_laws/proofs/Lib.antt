@@ -31,6 +31,8 @@ pub mod RisingOperations
 pub mod BatchLemmas
 pub mod ReplayLemmas
 pub mod AcknowledgeLemmas
+pub mod VerdictLemmas
+pub mod RefusedLemmas
 pub mod DeedLemmas
 pub mod FindingDeeds
 pub mod FindingRows

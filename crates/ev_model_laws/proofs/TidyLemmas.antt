@@ -37,7 +37,7 @@ use Rattle.ev_model_laws.specs.Tidying.{TidiesOnce}
 use Rattle.ev_model_laws.proofs.TidyLists.{all_of, any_at, any_none, all_agree, map_same, filter_within, filter_twice, any_of_map}
 
 -- what is depended on is watched
-abbrev IsKept : List Live → Option Dependency → Type 0
+abbrev pub IsKept : List Live → Option Dependency → Type 0
 IsKept lives None = ⊤
 IsKept lives (Some d) = is_watched lives d.kind d.name ≡ true
 
@@ -54,11 +54,11 @@ kept_by world row (Some d) is there live =
     (simp (live, is) (own_dependency d))
 
 -- what a live row depends on is watched
-kept : (world : World) (row : GenRow) → Contains world.rows row → is_live row.status ≡ true → IsKept (lives_of world) (dependency_of row.content)
+pub kept : (world : World) (row : GenRow) → Contains world.rows row → is_live row.status ≡ true → IsKept (lives_of world) (dependency_of row.content)
 kept world row there live = kept_by world row (dependency_of row.content) refl there live
 
 -- what came for a watched name stays, in order
-came_same : (lives : List Live) (arrivals : List Arrived) (kind : Kind) (name : List ℕ) → is_watched lives kind name ≡ true
+pub came_same : (lives : List Live) (arrivals : List Arrived) (kind : Kind) (name : List ℕ) → is_watched lives kind name ≡ true
     → came_for (arrivals_watched lives arrivals) kind name ≡ came_for arrivals kind name
 came_same lives arrivals kind name watched =
     ap (map (λ (a : Arrived). a.arrival))
@@ -91,7 +91,7 @@ hosts_same lives arrivals (a_listener listener) watched = refl
 hosts_same lives arrivals (routes table) watched = refl
 
 -- a row whose dependency is watched is ready without what isn't watched where it is ready with it
-watched_ready : (lives : List Live) (arrivals : List Arrived) (results : List HealthResult) (row : GenRow)
+pub watched_ready : (lives : List Live) (arrivals : List Arrived) (results : List HealthResult) (row : GenRow)
     → IsKept lives (dependency_of row.content)
     → is_ready_by (arrivals_watched lives arrivals) results row ≡ is_ready_by arrivals results row
 watched_ready lives arrivals results row watched =
@@ -136,7 +136,7 @@ all_results_same arrivals rows results row there live =
     result_same arrivals rows results row h.host there live (own_host (assignment_by arrivals row.content) h among))
 
 -- a live row is ready without old results where it is ready with them
-results_ready : (arrivals : List Arrived) (rows : List GenRow) (results : List HealthResult) (row : GenRow)
+pub results_ready : (arrivals : List Arrived) (rows : List GenRow) (results : List HealthResult) (row : GenRow)
     → Contains rows row → is_live row.status ≡ true
     → is_ready_by arrivals (filter (is_result_due arrivals rows) results) row ≡ is_ready_by arrivals results row
 results_ready arrivals rows results row there live =
@@ -183,7 +183,7 @@ none_due world row there =
     none_by (has_successor world.arrivals world.results world.rows r) (is_ready_by world.arrivals world.results r) r.status)))
     there
 
-status_kept : (succeeded ready : Bool) (status : RowStatus) → succeeded ≡ false → (is_warming status && ready) ≡ false
+pub status_kept : (succeeded ready : Bool) (status : RowStatus) → succeeded ≡ false → (is_warming status && ready) ≡ false
     → status_by succeeded ready status ≡ status
 status_kept succeeded ready Warming alone none = simp none refl
 status_kept succeeded ready Active alone none = simp alone refl

@@ -1,6 +1,6 @@
 -- Laws of every run, in both formats.
 use Rattle.ev_model.specs.Runs.{IsRun}
-use Rattle.ev_model.specs.Laws.{Told, Forward, Unused, Once, Waited}
+use Rattle.ev_model.specs.Laws.{Told, Forward, Unused, Once, Stays, Waited}
 use Rattle.ev_model_laws.specs.Kept.{HasParts}
 use Rattle.std.specs.Prelude.{ℕ, ◌≤◌, length}
 
@@ -23,6 +23,10 @@ RunsReapUnused = (told : Told) → IsRunTold told → Unused told
 -- a generation is destroyed once
 abbrev pub RunsReapOnce : Type 0
 RunsReapOnce = (told : Told) → IsRunTold told → Once told
+
+-- a refused update takes nothing away
+abbrev pub RunsKeepRefused : Type 0
+RunsKeepRefused = (told : Told) → IsRunTold told → Stays told
 
 -- in format 2 a listener that has served is destroyed only when its drain timeout has come
 abbrev pub RunsWait : Type 0

@@ -1,4 +1,4 @@
-ghost use Rattle.ev_model_laws.specs.RunLaws.{RunsHaveParts, RunsGoForward, RunsReapUnused, RunsReapOnce, RunsWait};
+ghost use Rattle.ev_model_laws.specs.RunLaws.{RunsHaveParts, RunsGoForward, RunsReapUnused, RunsReapOnce, RunsKeepRefused, RunsWait};
 
 /// Of every run, in both formats: the parts that each event keeps hold after any first entries. It does nothing.
 pub fn runs_keep_their_parts()
@@ -20,6 +20,13 @@ pub fn reaped_generations_are_unused()
 /// destroys it again, accepts a connection on it or publishes a picture that shows it. It does nothing.
 pub fn generations_are_reaped_once()
     ensures { RunsReapOnce }
+{}
+
+/// A law of every run, in both formats: a refused update takes nothing away. The generations and the version of a refused
+/// cluster or listener stay as they were, and so do the value and the version of refused endpoints or routes, or they aren't
+/// watched any more. It does nothing.
+pub fn refused_updates_take_nothing_away()
+    ensures { RunsKeepRefused }
 {}
 
 /// A law of every run in format 2: a listener that has served is destroyed only when its drain timeout has come. It does
