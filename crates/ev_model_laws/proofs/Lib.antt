@@ -22,9 +22,11 @@ pub mod SettledLemmas
 pub mod OpenedLemmas
 pub mod ExpiredLemmas
 pub mod RunParts
+pub mod WarmedLemmas
 pub mod LawLemmas
 pub mod WaitedLemmas
 pub mod OnceLemmas
+pub mod AllLaws
 pub mod OperationLists
 pub mod ScriptOperations
 pub mod RisingOperations
@@ -32,6 +34,11 @@ pub mod BatchLemmas
 pub mod ReplayLemmas
 pub mod AcknowledgeLemmas
 pub mod VerdictLemmas
+pub mod EventLemmas
+pub mod MadeLemmas
+pub mod CameLemmas
+pub mod ServesLemmas
+pub mod ShownLemmas
 pub mod RefusedLemmas
 pub mod DeedLemmas
 pub mod FindingDeeds

@@ -1,7 +1,7 @@
 -- The parts that every event keeps hold after any first entries of a run.
 use Rattle.std.proofs.Common.{◌≡◌, ℕ, ◌+◌, ◌<◌, ◌≤◌, ◌⊎◌, inl, inr, zero, suc, get_or, length, take, Some, None, sym, ap, ◌∙◌, subst, subst₂, add-one, arith}
 use Rattle.std.specs.Prelude.{slice_get}
-use Rattle.std.proofs.lemmas.Bool.{false≢true}
+use Rattle.std.proofs.lemmas.Bool.{false≢true, both_ways}
 use Rattle.std.proofs.lemmas.List.{length-replicate, get_or-replicate}
 use Rattle.std.proofs.lemmas.Option.{slice_get_cases}
 use Rattle.ev_types.specs.Events.{MayMake}
@@ -10,11 +10,11 @@ use Rattle.ev_types.specs.declared.events.Actor.TheVariants.{Stream, Health as h
 use Rattle.ev_types.specs.declared.events.Event.{Event}
 use Rattle.ev_types.specs.declared.events.Event.TheVariants.{Connect, Disconnect, Response, Health, FetchTimeout, DrainTimeout, TtlExpired, Publish, Reap, Accept, Close, Settle}
 use Rattle.ev_types.specs.declared.events.Entry.{Entry}
-use Rattle.ev_model.specs.World.{World}
+use Rattle.ev_model.specs.World.{World, opening}
 use Rattle.ev_model.specs.Step.{step}
 use Rattle.ev_model.specs.Laws.{Told, world_told, IsEntryAt}
 use Rattle.ev_model.proofs.RunLemmas.{length-held}
-use Rattle.ev_model_laws.specs.Kept.{numbers_gone, UsesServed, HidesUnserved, HoldsPublished, NothingIsDue, DrawnOnce, HasParts}
+use Rattle.ev_model_laws.specs.Kept.{numbers_gone, UsesServed, HidesUnserved, HoldsPublished, NothingIsDue, DrawnOnce, HasParts, AreMade, ComesByEntries}
 use Rattle.ev_model_laws.proofs.PlaceLemmas.{IsAnswered, Runs, entry_answered, world_next, gone_next}
 use Rattle.ev_model_laws.proofs.HeldLemmas.{opens_held, step-held}
 use Rattle.ev_model_laws.proofs.SettledLemmas.{settled_next}
@@ -24,6 +24,12 @@ use Rattle.ev_model_laws.proofs.PromotionLemmas.{opens_due, step-due}
 use Rattle.ev_model_laws.proofs.MemberLemmas.{IsKnown, opens_uses, step-uses}
 use Rattle.ev_model_laws.proofs.DrawnLemmas.{opens_drawn, step-drawn}
 use Rattle.ev_model_laws.proofs.HiddenLemmas.{opens_hidden, step-hidden}
+use Rattle.ev_model_laws.proofs.MadeLemmas.{opens_made, made_next}
+use Rattle.ev_model_laws.proofs.CameLemmas.{opens_come, come_next}
+use Rattle.ev_model_laws.proofs.ServesLemmas.{serves_next}
+use Rattle.ev_model_laws.proofs.ShownLemmas.{opens_shows, shows_next}
+use Rattle.ev_model.specs.Picture.{is_shown}
+use Rattle.ev_model.specs.Dead.{shown_at}
 
 -- who may make an event is no worker, or one of so many
 pub may_known : (workers : ℕ) (actor : Actor) (event : Event) → MayMake workers actor event → IsKnown workers actor
@@ -50,6 +56,8 @@ parts_next told k entry run there parts =
     let world : World = world_told told k in
     let next : world_told told (k + 1) ≡ (step told.format world entry.actor entry.event).0 = world_next told k entry there in
     let answered : IsAnswered told k entry = entry_answered told k entry run there in
+    let made : AreMade (world_told told (k + 1)) (take (k + 1) told.journal) = made_next told k entry there answered parts.made in
+    let come : ComesByEntries (world_told told (k + 1)) (take (k + 1) told.journal) = come_next told k entry there answered parts.come in
     let known : IsKnown (length world.held) entry.actor =
     subst (λ n. IsKnown n entry.actor) (sym parts.workers) (may_known told.workers entry.actor entry.event answered.may) in
     record {
@@ -64,6 +72,10 @@ parts_next told k entry run there parts =
       due = subst NothingIsDue (sym next) (step-due told.format world entry.actor entry.event parts.due);
       drawn = subst₂ DrawnOnce (sym next) (sym (gone_next told k entry there answered))
           (step-drawn told.format world entry.actor entry.event (numbers_gone (take k told.journal)) parts.drawn);
+      made = made;
+      come = come;
+      serves = serves_next told k entry there parts.serves made come;
+      shows = shows_next told k entry there answered parts.serves parts.shows;
     }
 
 next_by : (told : Told) (k : ℕ) → Runs told → suc k ≤ length told.journal
@@ -85,6 +97,10 @@ parts_kept told run zero le = record {
   expires = λ number h. absurd (false≢true h);
   due = opens_due told.workers told.node;
   drawn = opens_drawn told.workers told.node;
+  made = opens_made told.workers told.node;
+  come = opens_come told.workers told.node;
+  serves = λ row there active. absurd (omega (arith, there.1));
+  shows = λ version number shown. absurd (both_ways (is_shown number (shown_at (opening told.workers told.node) version)) (opens_shows told.workers told.node version number) shown);
 }
 parts_kept told run (suc k) le =
     next_by told k run le (slice_get_cases told.journal k).1 (parts_kept told run k (omega arith))

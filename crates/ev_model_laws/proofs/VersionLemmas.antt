@@ -81,7 +81,7 @@ module _ (P : List KeptVersion → Type 0) (new kept : KeptVersion) (others : Li
       cond_both (is_before new.name kept.name) (new ∷ kept ∷ others) (kept ∷ with_version new others) P
       in_front (further other))
 
-all_with : (P : KeptVersion → Type 0) (new : KeptVersion) (versions : List KeptVersion)
+pub all_with : (P : KeptVersion → Type 0) (new : KeptVersion) (versions : List KeptVersion)
     → P new → ByRecursion P versions → ByRecursion P (with_version new versions)
 all_with P new [] here all = (here, tt)
 all_with P new (kept ∷ others) here all =

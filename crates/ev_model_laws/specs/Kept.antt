@@ -1,21 +1,25 @@
 -- What every event of a run keeps, and the opening has: the parts from which the laws of runs follow. This project's own. Some
 -- speak of one world, and some of a journal's first entries, since they tell how that world came about.
-use Rattle.std.specs.Prelude.{ℕ, ◌≡◌, ◌≤◌, ◌<◌, ◌⊎◌, Bool, true, false, not, ◌&&◌, ◌==◌, IsTrue, List, length, take, Contains}
+use Rattle.std.specs.Prelude.{ℕ, ◌≡◌, ◌≤◌, ◌<◌, ◌⊎◌, Bool, true, false, not, ◌&&◌, ◌==◌, if◌then◌else◌, IsTrue, List, length, take, Contains, All, Some}
 use Rattle.std.specs.List.{list_any, flat_map}
+use Rattle.ev_types.specs.declared.contents.Kind.{Kind}
 use Rattle.ev_types.specs.declared.contents.Kind.TheVariants.{Lds}
+use Rattle.ev_types.specs.declared.rows.KeptVersion.{KeptVersion}
 use Rattle.ev_types.specs.declared.rows.RowStatus.{RowStatus}
 use Rattle.ev_types.specs.declared.rows.RowStatus.TheVariants.{Warming, Active, Draining, Dropped}
 use Rattle.ev_types.specs.declared.rows.GenRow.{GenRow}
 use Rattle.ev_types.specs.declared.events.Actor.{Actor}
 use Rattle.ev_types.specs.declared.events.Actor.TheVariants.{Worker}
 use Rattle.ev_types.specs.declared.events.Entry.{Entry}
-use Rattle.ev_model.specs.World.{World, OpenMember}
-use Rattle.ev_model.specs.Picture.{has_number, numbers_shown}
-use Rattle.ev_model.specs.Dead.{version_held, is_open_on, is_in_use, is_in_use_by}
+use Rattle.ev_model.specs.World.{World, Arrived, OpenMember}
+use Rattle.ev_model.specs.Picture.{has_number, is_shown, numbers_shown}
+use Rattle.ev_model.specs.Watching.{is_by_name}
+use Rattle.ev_model.specs.Warming.{is_word}
+use Rattle.ev_model.specs.Dead.{shown_at, version_held, is_open_on, is_in_use, is_in_use_by}
 use Rattle.ev_model.specs.Operations.{actor_same}
 use Rattle.ev_model.specs.Tidy.{is_due}
-use Rattle.ev_model.specs.Entries.{last_settled, numbers_reaped}
-use Rattle.ev_model.specs.Laws.{Told, world_told, Opened, IsClosedBetween, StandsAt, HasWaited}
+use Rattle.ev_model.specs.Entries.{MadeRow, made_rows, made_of, tells_of_name, times_out, last_settled, numbers_reaped}
+use Rattle.ev_model.specs.Laws.{Told, world_told, HadWarmed, WasWarm, Opened, IsClosedBetween, StandsAt, HasWaited}
 use Rattle.ev_model_laws.specs.Numbers.{IsNumbered}
 
 -- it serves, or drains since it has served
@@ -98,6 +102,42 @@ pub record HasExpired (told : Told) (number k : ℕ) : Type 0 where
 abbrev pub ExpiresDraining : Told → ℕ → Type 0
 ExpiresDraining told k = (number : ℕ) → IsTrue (has_number number (world_told told k).expired) → HasExpired told number k
 
+-- the generation as its resource made it
+abbrev pub made_as : GenRow → MadeRow
+made_as row = record { kind = row.kind; name = row.name; content = row.content }
+
+-- each generation has the kind, name and content that the resource of its number brought; as many were made as numbers were drawn
+pub record AreMade (world : World) (entries : List Entry) : Type 0 where
+  pub rows : All (λ (row : GenRow). made_of entries row.number ≡ Some (made_as row)) world.rows
+  pub drawn : length (made_rows entries) ≡ world.made
+
+-- one of these entries has told of the name: by a resource that was kept or refused, or by its removal
+abbrev pub was_told : List Entry → Kind → List ℕ → Bool
+was_told entries kind name = list_any (λ (entry : Entry). tells_of_name kind name entry.event entry.answer) entries
+
+-- by one of these entries the wait for the name timed out
+abbrev pub was_timed : List Entry → Kind → List ℕ → Bool
+was_timed entries kind name = list_any (λ (entry : Entry). times_out kind name entry.event entry.answer) entries
+
+-- one of these entries is why it came: it has told of the name or, where a timeout came, was that
+abbrev pub has_come_by : List Entry → Arrived → Bool
+has_come_by entries a = if is_word a.arrival then was_told entries a.kind a.name else was_timed entries a.kind a.name
+
+-- all that came for names was said by the control plane or timed out, and a version of endpoints or routes is kept only of a
+-- name that was told of; so the value that the end of a time to live puts in its place is one of a name that was told of, too
+pub record ComesByEntries (world : World) (entries : List Entry) : Type 0 where
+  pub arrivals : All (λ (a : Arrived). IsTrue (has_come_by entries a)) world.arrivals
+  pub versions : All (λ (kept : KeptVersion). is_by_name kept.kind ≡ true → IsTrue (was_told entries kept.kind kept.name)) world.versions
+
+-- after the first k entries each generation that serves had warmed
+abbrev pub ServesWarmed : Told → ℕ → Type 0
+ServesWarmed told k = (row : GenRow) → Contains (world_told told k).rows row → row.status ≡ Active → HadWarmed told row.number k
+
+-- after the first k entries what each picture so far shows had warmed before its publication
+abbrev pub ShowsWarmed : Told → ℕ → Type 0
+ShowsWarmed told k =
+    (version number : ℕ) → IsTrue (is_shown number (shown_at (world_told told k) version)) → WasWarm told number version k
+
 -- what every run has after its first k entries
 pub record HasParts (told : Told) (k : ℕ) : Type 0 where
   pub workers : length (world_told told k).held ≡ told.workers
@@ -109,3 +149,7 @@ pub record HasParts (told : Told) (k : ℕ) : Type 0 where
   pub expires : ExpiresDraining told k
   pub due : NothingIsDue (world_told told k)
   pub drawn : NumbersAreDrawnOnce told k
+  pub made : AreMade (world_told told k) (take k told.journal)
+  pub come : ComesByEntries (world_told told k) (take k told.journal)
+  pub serves : ServesWarmed told k
+  pub shows : ShowsWarmed told k

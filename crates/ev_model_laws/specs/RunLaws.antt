@@ -1,6 +1,6 @@
 -- Laws of every run, in both formats.
 use Rattle.ev_model.specs.Runs.{IsRun}
-use Rattle.ev_model.specs.Laws.{Told, Forward, Unused, Once, Stays, Waited}
+use Rattle.ev_model.specs.Laws.{Told, Warmed, Forward, Unused, Once, Stays, Waited}
 use Rattle.ev_model_laws.specs.Kept.{HasParts}
 use Rattle.std.specs.Prelude.{ℕ, ◌≤◌, length}
 
@@ -11,6 +11,10 @@ IsRunTold told = IsRun told.format told.workers told.node told.journal
 -- every run has the parts after any first entries
 abbrev pub RunsHaveParts : Type 0
 RunsHaveParts = (told : Told) → IsRunTold told → (k : ℕ) → k ≤ length told.journal → HasParts told k
+
+-- connections go only to warmed generations
+abbrev pub RunsOpenWarmed : Type 0
+RunsOpenWarmed = (told : Told) → IsRunTold told → Warmed told
 
 -- no worker's snapshot goes back
 abbrev pub RunsGoForward : Type 0

@@ -1,8 +1,16 @@
-ghost use Rattle.ev_model_laws.specs.RunLaws.{RunsHaveParts, RunsGoForward, RunsReapUnused, RunsReapOnce, RunsKeepRefused, RunsWait};
+ghost use Rattle.ev_model_laws.specs.RunLaws.{RunsHaveParts, RunsOpenWarmed, RunsGoForward, RunsReapUnused, RunsReapOnce, RunsKeepRefused, RunsWait};
+ghost use Rattle.ev_model.specs.Laws.{RunsHaveLaws};
 
 /// Of every run, in both formats: the parts that each event keeps hold after any first entries. It does nothing.
 pub fn runs_keep_their_parts()
     ensures { RunsHaveParts }
+{}
+
+/// A law of every run, in both formats: connections go only to warmed generations. What an accept names served and was ready
+/// after some entry before the picture was published that its worker holds, and an entry not after that one had answered what
+/// it waits for. It does nothing.
+pub fn connections_go_to_warmed_generations()
+    ensures { RunsOpenWarmed }
 {}
 
 /// A law of every run, in both formats: no worker's snapshot goes back. It does nothing.
@@ -33,4 +41,9 @@ pub fn refused_updates_take_nothing_away()
 /// nothing.
 pub fn drained_listeners_have_waited()
     ensures { RunsWait }
+{}
+
+/// Every run has the six laws, in both formats. It does nothing.
+pub fn runs_have_the_laws()
+    ensures { RunsHaveLaws }
 {}

@@ -1,0 +1,333 @@
+-- What came for names was said by the control plane, or timed out, and a version of endpoints or routes is kept only of a name
+-- that was told of.
+use Rattle.std.proofs.Common.{◌≡◌, ℕ, ◌+◌, Bool, true, false, ◌&&◌, ◌||◌, cond, List, [], ◌∷◌, ◌++◌, take, map, filter, Option, Some, refl, sym, ap, ap₂, ◌∙◌, subst, subst₂}
+use Rattle.std.specs.Prelude.{unwrap_or, option_map}
+use Rattle.std.specs.List.{All, Contains, AllByRecursion as ByRecursion, fold, zip}
+use Rattle.std.specs.Str.{bytes_eq}
+use Rattle.std.specs.Cmp.{first_so, second_so}
+use Rattle.std.proofs.lemmas.Bool.{false≢true, both_ways, cond_both, and_from, or_left, or_right}
+use Rattle.std.proofs.lemmas.List.Elements.{All-nil, All-append, All-map, All-weaker, All-filter, All-push, All-contains, All-from_recursion, recursion_from_All}
+use Rattle.ev_types.specs.Items.{ItemParts, ResponseParts}
+use Rattle.ev_types.specs.Kinds.{kind_same, kind_decides}
+use Rattle.ev_types.specs.Same.{bytes_decide}
+use Rattle.ev_types.specs.Timeouts.{TimeoutParts}
+use Rattle.ev_types.specs.declared.contents.Kind.{Kind}
+use Rattle.ev_types.specs.declared.contents.Kind.TheVariants.{Cds, Eds, Lds, Rds}
+use Rattle.ev_types.specs.declared.contents.Body.{Body}
+use Rattle.ev_types.specs.declared.contents.Body.TheVariants.{Good, Bad, Beat}
+use Rattle.ev_types.specs.declared.contents.Request.{Request}
+use Rattle.ev_types.specs.declared.events.Answer.{Answer}
+use Rattle.ev_types.specs.declared.events.Answer.TheVariants.{Ignored, Replied, Moved}
+use Rattle.ev_types.specs.declared.events.Entry.{Entry}
+use Rattle.ev_types.specs.declared.events.Event.{Event}
+use Rattle.ev_types.specs.declared.events.Event.TheVariants.{Response, FetchTimeout}
+use Rattle.ev_types.specs.declared.events.Verdict.{Verdict}
+use Rattle.ev_types.specs.declared.events.Verdict.TheVariants.{New, Same, Kept, Unasked, Renewed, Refused}
+use Rattle.ev_types.specs.declared.journals.Format.{Format}
+use Rattle.ev_types.specs.declared.rows.Arrival.TheVariants.{Value, Absent, Bad as bad, TimedOut}
+use Rattle.ev_types.specs.declared.rows.KeptVersion.{KeptVersion}
+use Rattle.ev_model.specs.World.{World, Arrived, opening}
+use Rattle.ev_model.specs.Live.{lives_of}
+use Rattle.ev_model.specs.Versions.{is_version_of, is_bounded, bounded_as, with_version}
+use Rattle.ev_model.specs.Verdicts.{is_removed, lives_left, verdicts_for}
+use Rattle.ev_model.specs.Watching.{is_by_name, is_watched}
+use Rattle.ev_model.specs.Warming.{is_word}
+use Rattle.ev_model.specs.Rows.{is_version_left, arrived, absent_names, with_absences, with_removals, version_in, keep_version, add_row, keep_value, with_content, told_of_refusal, refuse, renew, add_item, add_items, made_names, with_first}
+use Rattle.ev_model.specs.Tidy.{promoted, is_version_due, tidy}
+use Rattle.ev_model.specs.Signals.{no_hosts, no_routes, with_end, forget_version}
+use Rattle.ev_model.specs.Step.{step, answered}
+use Rattle.ev_model.specs.Entries.{is_word_on, has_word_on, is_response_of, tells_of_name, times_out}
+use Rattle.ev_model.specs.Laws.{Told, world_told, IsEntryAt}
+use Rattle.ev_model_laws.specs.Kept.{was_told, was_timed, has_come_by, ComesByEntries}
+use Rattle.ev_model_laws.proofs.TidyLists.{all_of, any_at}
+use Rattle.ev_model_laws.proofs.AnyLemmas.{any_first, any_second, any_found}
+use Rattle.ev_model_laws.proofs.VersionLemmas.{all_with}
+use Rattle.ev_model_laws.proofs.ExpiredLemmas.{passed}
+use Rattle.ev_model_laws.proofs.VerdictLemmas.{fits, judged_by, verdict_fits}
+use Rattle.ev_model_laws.proofs.EventLemmas.{step-leads}
+use Rattle.ev_model_laws.proofs.PlaceLemmas.{take_one, IsAnswered, world_next}
+
+-- it is one of endpoints or routes of a name that was told of, or one of clusters or listeners
+abbrev IsVersionTold : List Entry → KeptVersion → Type 0
+IsVersionTold entries kept = is_by_name kept.kind ≡ true → was_told entries kept.kind kept.name ≡ true
+
+module _ (entries : List Entry) where
+  version_told : (new : KeptVersion) (world : World) → IsVersionTold entries new → ComesByEntries world entries
+      → ComesByEntries (record world { versions = with_version new world.versions }) entries
+  version_told new world told come = record {
+    arrivals = come.arrivals;
+    versions = All-from_recursion (IsVersionTold entries) (with_version new world.versions)
+        (all_with (IsVersionTold entries) new world.versions told (recursion_from_All (IsVersionTold entries) world.versions come.versions));
+  }
+
+  versions_filtered : (test : KeptVersion → Bool) (world : World) → ComesByEntries world entries
+      → ComesByEntries (record world { versions = filter test world.versions }) entries
+  versions_filtered test world come = record { arrivals = come.arrivals; versions = All-filter test (IsVersionTold entries) world.versions come.versions }
+
+  marked_told : (marks : Bool) (kept : KeptVersion) → IsVersionTold entries kept → IsVersionTold entries (cond marks (record kept { bounded = true }) kept)
+  marked_told true kept told = told
+  marked_told false kept told = told
+
+  versions_renewed : (kind : Kind) (name : List ℕ) (world : World) → ComesByEntries world entries → ComesByEntries (renew kind name world) entries
+  versions_renewed kind name world come = record {
+    arrivals = come.arrivals;
+    versions = All-map (IsVersionTold entries) (bounded_as kind name) world.versions
+        (All-weaker (IsVersionTold entries) (λ (kept : KeptVersion). IsVersionTold entries (bounded_as kind name kept))
+        (λ (kept : KeptVersion). marked_told (is_version_of kind name kept) kept) world.versions come.versions);
+  }
+
+  one_came : (a : Arrived) (world : World) → has_come_by entries a ≡ true → ComesByEntries world entries
+      → ComesByEntries (record world { arrivals = world.arrivals ++ a ∷ [] }) entries
+  one_came a world by come = record {
+    arrivals = All-push (λ (b : Arrived). has_come_by entries b ≡ true) world.arrivals a come.arrivals by;
+    versions = come.versions;
+  }
+
+  tidied_come : (world : World) → ComesByEntries world entries → ComesByEntries (tidy world) entries
+  tidied_come world come = record {
+    arrivals = All-filter (λ (a : Arrived). is_watched (lives_of (promoted world)) a.kind a.name) (λ (a : Arrived). has_come_by entries a ≡ true) world.arrivals come.arrivals;
+    versions = All-filter (is_version_due (lives_of (promoted world))) (IsVersionTold entries) world.versions come.versions;
+  }
+
+  -- what a response does, whose words and removals the entries have told
+  module _ (kind : Kind) (told : List ℕ → Bool) (so : (name : List ℕ) → told name ≡ true → was_told entries kind name ≡ true) where
+    absences_come : (names : List (List ℕ)) → ByRecursion (λ name. told name ≡ true) names
+        → ByRecursion (λ (a : Arrived). has_come_by entries a ≡ true) (map (arrived kind Absent) names)
+    absences_come [] each = tt
+    absences_come (name ∷ names) each = (so name each.0, absences_come names each.1)
+
+    absent_come : (response : ResponseParts) (world : World) → ((name : List ℕ) → is_removed response name ≡ true → told name ≡ true)
+        → ComesByEntries world entries → ComesByEntries (with_absences kind response world) entries
+    absent_come response world removed come =
+        let names : List (List ℕ) = absent_names kind response world in
+        let test : List ℕ → Bool = λ name. is_removed response name && is_watched (lives_of world) kind name in
+        let each : All (λ name. told name ≡ true) names =
+        all_of (λ name. told name ≡ true) names
+        (λ name there. removed name (first_so (is_removed response name) (is_watched (lives_of world) kind name) (passed test response.removed name there))) in
+        record {
+          arrivals = All-append (λ (a : Arrived). has_come_by entries a ≡ true) world.arrivals (map (arrived kind Absent) names) come.arrivals
+              (All-from_recursion (λ (a : Arrived). has_come_by entries a ≡ true) (map (arrived kind Absent) names)
+              (absences_come names (recursion_from_All (λ name. told name ≡ true) names each)));
+          versions = All-filter (is_version_left kind response) (IsVersionTold entries) world.versions come.versions;
+        }
+
+    new_come : (item : ItemParts) (body : Body) (world : World) → is_by_name kind ≡ false → ComesByEntries world entries
+        → ComesByEntries (with_content (add_row kind item) body world) entries
+    new_come item (Good content) world isnt come =
+        version_told (version_in kind item) _ (λ is. absurd (both_ways (is_by_name kind) isnt is)) (record { arrivals = come.arrivals; versions = come.versions })
+    new_come item (Bad rule) world isnt come = come
+    new_come item Beat world isnt come = come
+
+    same_come : (item : ItemParts) (body : Body) (world : World) → is_by_name kind ≡ false → ComesByEntries world entries
+        → ComesByEntries (with_content (λ content. keep_version kind item) body world) entries
+    same_come item (Good content) world isnt come =
+        version_told (version_in kind item) world (λ is. absurd (both_ways (is_by_name kind) isnt is)) come
+    same_come item (Bad rule) world isnt come = come
+    same_come item Beat world isnt come = come
+
+    value_come : (item : ItemParts) (body : Body) (world : World) → told item.name ≡ true → ComesByEntries world entries
+        → ComesByEntries (with_content (keep_value kind item) body world) entries
+    value_come item (Good content) world is come =
+        version_told (version_in kind item) (record world { arrivals = world.arrivals ++ arrived kind (Value content) item.name ∷ [] })
+        (λ by_name. so item.name is) (one_came (arrived kind (Value content) item.name) world (so item.name is) come)
+    value_come item (Bad rule) world is come = come
+    value_come item Beat world is come = come
+
+    refusal_come : (name : List ℕ) (world : World) → told name ≡ true → ComesByEntries world entries → ComesByEntries (told_of_refusal kind name world) entries
+    refusal_come name world is come =
+        cond_both (is_watched (lives_of world) kind name) (record world { arrivals = world.arrivals ++ arrived kind bad name ∷ [] }) world
+        (λ (w : World). ComesByEntries w entries) (λ watched. one_came (arrived kind bad name) world (so name is) come) (λ unwatched. come)
+
+by_name_not : (kind : Kind) → fits kind New ≡ true → is_by_name kind ≡ false
+by_name_not Cds fit = refl
+by_name_not Eds fit = absurd (false≢true fit)
+by_name_not Lds fit = refl
+by_name_not Rds fit = absurd (false≢true fit)
+
+by_name_not_same : (kind : Kind) → fits kind Same ≡ true → is_by_name kind ≡ false
+by_name_not_same Cds fit = refl
+by_name_not_same Eds fit = absurd (false≢true fit)
+by_name_not_same Lds fit = refl
+by_name_not_same Rds fit = absurd (false≢true fit)
+
+own_name : (name : List ℕ) → bytes_eq name name ≡ true
+own_name name = (bytes_decide name name).1 refl
+
+module _ (entries : List Entry) (kind : Kind) (told : List ℕ → Bool) (so : (name : List ℕ) → told name ≡ true → was_told entries kind name ≡ true) where
+  refuse_come : (of : Kind) → kind ≡ of → (name : List ℕ) (world : World) → told name ≡ true → ComesByEntries world entries → ComesByEntries (refuse of name world) entries
+  refuse_come Cds is name world h come = come
+  refuse_come Eds is name world h come = refusal_come entries Eds told (λ n t. subst (λ (k : Kind). was_told entries k n ≡ true) is (so n t)) name world h come
+  refuse_come Lds is name world h come = come
+  refuse_come Rds is name world h come = refusal_come entries Rds told (λ n t. subst (λ (k : Kind). was_told entries k n ≡ true) is (so n t)) name world h come
+
+  item_come : (verdict : Verdict) (item : ItemParts) (world : World) → fits kind verdict ≡ true
+      → ((name : List ℕ) → is_word_on name verdict item ≡ true → told name ≡ true)
+      → ComesByEntries world entries → ComesByEntries (add_item kind verdict item world) entries
+  item_come New item world fit word come = new_come entries kind told so item item.body world (by_name_not kind fit) come
+  item_come Same item world fit word come = same_come entries kind told so item item.body world (by_name_not_same kind fit) come
+  item_come Kept item world fit word come = value_come entries kind told so item item.body world (word item.name (own_name item.name)) come
+  item_come Unasked item world fit word come = come
+  item_come Renewed item world fit word come = versions_renewed entries kind item.name world come
+  item_come (Refused rule) item world fit word come = refuse_come kind refl item.name world (word item.name (own_name item.name)) come
+
+  items_come : (judged : List (Verdict × ItemParts)) (world : World) → ByRecursion (λ (one : Verdict × ItemParts). fits kind one.0 ≡ true) judged
+      → ByRecursion (λ (one : Verdict × ItemParts). (name : List ℕ) → is_word_on name one.0 one.1 ≡ true → told name ≡ true) judged
+      → ComesByEntries world entries
+      → ComesByEntries (fold (λ (w : World) (one : Verdict × ItemParts). add_item kind one.0 one.1 w) world judged) entries
+  items_come [] world fit word come = come
+  items_come (one ∷ judged) world fit word come =
+      items_come judged (add_item kind one.0 one.1 world) fit.1 word.1 (item_come one.0 one.1 world fit.0 word.0 come)
+
+removals_come : (entries : List Entry) (kind : Kind) (told : List ℕ → Bool) (response : ResponseParts) (world : World)
+    → ((name : List ℕ) → told name ≡ true → was_told entries kind name ≡ true)
+    → ((name : List ℕ) → is_removed response name ≡ true → told name ≡ true)
+    → ComesByEntries world entries → ComesByEntries (with_removals kind response world) entries
+removals_come entries Cds told response world so removed come =
+    record { arrivals = come.arrivals; versions = All-filter (is_version_left Cds response) (IsVersionTold entries) world.versions come.versions }
+removals_come entries Eds told response world so removed come = absent_come entries Eds told so response world removed come
+removals_come entries Lds told response world so removed come =
+    record { arrivals = come.arrivals; versions = All-filter (is_version_left Lds response) (IsVersionTold entries) world.versions come.versions }
+removals_come entries Rds told response world so removed come = absent_come entries Rds told so response world removed come
+
+first_come : (entries : List Entry) (kind : Kind) (names : List (List ℕ)) (world : World) → ComesByEntries world entries
+    → ComesByEntries (with_first kind names world) entries
+first_come entries Cds names world come = record { arrivals = come.arrivals; versions = come.versions }
+first_come entries Eds names world come = come
+first_come entries Lds names world come = record { arrivals = come.arrivals; versions = come.versions }
+first_come entries Rds names world come = come
+
+-- a name that a response has a word on, or removes
+abbrev tells : ResponseParts → List Verdict → List ℕ → Bool
+tells response verdicts name = has_word_on name verdicts response.items || is_removed response name
+
+answered_come : (entries : List Entry) (kind : Kind) (response : ResponseParts) (world : World)
+    → ((name : List ℕ) → tells response (verdicts_for kind (lives_of world) world.versions response) name ≡ true → was_told entries kind name ≡ true)
+    → ComesByEntries world entries
+    → ComesByEntries (answered kind response (verdicts_for kind (lives_of world) world.versions response) world).0 entries
+answered_come entries kind response world so come =
+    let verdicts : List Verdict = verdicts_for kind (lives_of world) world.versions response in
+    let judged : List (Verdict × ItemParts) = zip verdicts response.items in
+    let told : List ℕ → Bool = tells response verdicts in
+    let left : World = with_removals kind response world in
+    let words : All (λ (one : Verdict × ItemParts). (name : List ℕ) → is_word_on name one.0 one.1 ≡ true → told name ≡ true) judged =
+    all_of (λ (one : Verdict × ItemParts). (name : List ℕ) → is_word_on name one.0 one.1 ≡ true → told name ≡ true) judged
+    (λ (one : Verdict × ItemParts) there name is.
+    or_left (has_word_on name verdicts response.items) (is_removed response name)
+    (any_at (λ (other : Verdict × ItemParts). is_word_on name other.0 other.1) judged one there is)) in
+    tidied_come entries (with_first kind (made_names verdicts response.items) (add_items kind verdicts response.items left))
+    (first_come entries kind (made_names verdicts response.items) (add_items kind verdicts response.items left)
+    (items_come entries kind told so judged left
+    (judged_by (λ (one : Verdict × ItemParts). fits kind one.0 ≡ true) kind response world.versions
+    (λ lives (item : ItemParts). verdict_fits kind response lives world.versions item) (lives_left kind response (lives_of world)) response.items)
+    (recursion_from_All (λ (one : Verdict × ItemParts). (name : List ℕ) → is_word_on name one.0 one.1 ≡ true → told name ≡ true) judged words)
+    (removals_come entries kind told response world so (λ name is. or_right (has_word_on name verdicts response.items) (is_removed response name) is) come)))
+
+-- a bounded life is that of a version that is kept, so its name was told of
+bounded_told : (entries : List Entry) (kind : Kind) (name : List ℕ) (world : World) → is_by_name kind ≡ true → is_bounded world.versions kind name ≡ true
+    → ComesByEntries world entries → was_told entries kind name ≡ true
+bounded_told entries kind name world by_name bounded come =
+    let found : (kept : KeptVersion) × Contains world.versions kept × ((is_version_of kind name kept && kept.bounded) ≡ true) =
+    any_found (λ (kept : KeptVersion). is_version_of kind name kept && kept.bounded) world.versions bounded in
+    let kept : KeptVersion = found.0 in
+    let is : is_version_of kind name kept ≡ true = first_so (is_version_of kind name kept) kept.bounded found.2 in
+    let of : kept.kind ≡ kind = (kind_decides kept.kind kind).0 (first_so (kind_same kept.kind kind) (bytes_eq kept.name name) is) in
+    let named : kept.name ≡ name = (bytes_decide kept.name name).0 (second_so (kind_same kept.kind kind) (bytes_eq kept.name name) is) in
+    sym (ap₂ (was_told entries) of named)
+    ∙ All-contains (IsVersionTold entries) world.versions kept come.versions found.1 (ap is_by_name of ∙ by_name)
+
+end_come : (entries : List Entry) (kind : Kind) (name : List ℕ) (world : World) → (is_by_name kind ≡ true → was_told entries kind name ≡ true)
+    → ComesByEntries world entries → ComesByEntries (with_end kind name world) entries
+end_come entries Cds name world told come = record { arrivals = come.arrivals; versions = come.versions }
+end_come entries Eds name world told come = one_came entries (arrived Eds (Value no_hosts) name) world (told refl) come
+end_come entries Lds name world told come = record { arrivals = come.arrivals; versions = come.versions }
+end_come entries Rds name world told come = one_came entries (arrived Rds (Value no_routes) name) world (told refl) come
+
+own_kind : (kind : Kind) (response : ResponseParts) → response.kind ≡ Some kind → is_response_of kind response ≡ true
+own_kind kind response typed =
+    ap (λ (of : Option Kind). unwrap_or (option_map (kind_same kind) of) false) typed ∙ (kind_decides kind kind).1 refl
+
+by_answer : (word told timed more late : Bool) → (told ≡ true → more ≡ true) → (timed ≡ true → late ≡ true) → cond word told timed ≡ true → cond word more late ≡ true
+by_answer true told timed more late so also h = so h
+by_answer false told timed more late so also h = also h
+
+module _ (before : List Entry) (entry : Entry) (format : Format) (world : World) (come : ComesByEntries world before) where
+  -- the entries with one more, which is answered so
+  abbrev with_answer : Answer → List Entry
+  with_answer answer = before ++ record entry { answer = answer } ∷ []
+
+  -- what came before came by the entries with one more
+  still_come : (answer : Answer) → ComesByEntries world (with_answer answer)
+  still_come answer = record {
+    arrivals = All-weaker (λ (a : Arrived). has_come_by before a ≡ true) (λ (a : Arrived). has_come_by (with_answer answer) a ≡ true)
+        (λ (a : Arrived).
+        by_answer (is_word a.arrival) (was_told before a.kind a.name) (was_timed before a.kind a.name) (was_told (with_answer answer) a.kind a.name)
+        (was_timed (with_answer answer) a.kind a.name)
+        (any_first (λ (e : Entry). tells_of_name a.kind a.name e.event e.answer) before (record entry { answer = answer } ∷ []))
+        (any_first (λ (e : Entry). times_out a.kind a.name e.event e.answer) before (record entry { answer = answer } ∷ [])))
+        world.arrivals come.arrivals;
+    versions = All-weaker (IsVersionTold before) (IsVersionTold (with_answer answer))
+        (λ (kept : KeptVersion) told by_name.
+        any_first (λ (e : Entry). tells_of_name kept.kind kept.name e.event e.answer) before (record entry { answer = answer } ∷ []) (told by_name))
+        world.versions come.versions;
+  }
+
+  abbrev ComesBy : World × Answer → Type 0
+  ComesBy did = ComesByEntries did.0 (with_answer did.1)
+
+  told_now : (kind : Kind) (response : ResponseParts) (requests : List Request) (verdicts : List Verdict) (name : List ℕ) → entry.event ≡ Response response
+      → response.kind ≡ Some kind → tells response verdicts name ≡ true → was_told (with_answer (Replied requests verdicts)) kind name ≡ true
+  told_now kind response requests verdicts name is typed told =
+      any_second (λ (e : Entry). tells_of_name kind name e.event e.answer) before (record entry { answer = Replied requests verdicts } ∷ [])
+      (or_left (tells_of_name kind name entry.event (Replied requests verdicts)) false
+      (ap (λ (e : Event). tells_of_name kind name e (Replied requests verdicts)) is
+      ∙ and_from (is_response_of kind response) (tells response verdicts name) (own_kind kind response typed) told))
+
+  timed_now : (timeout : TimeoutParts) (name : List ℕ) (requests : List Request) → entry.event ≡ FetchTimeout timeout → timeout.name ≡ Some name
+      → was_timed (with_answer (Moved requests)) timeout.kind name ≡ true
+  timed_now timeout name requests is named =
+      any_second (λ (e : Entry). times_out timeout.kind name e.event e.answer) before (record entry { answer = Moved requests } ∷ [])
+      (or_left (times_out timeout.kind name entry.event (Moved requests)) false
+      (ap (λ (e : Event). times_out timeout.kind name e (Moved requests)) is
+      ∙ and_from (kind_same timeout.kind timeout.kind) (unwrap_or (option_map (bytes_eq name) timeout.name) false)
+      ((kind_decides timeout.kind timeout.kind).1 refl)
+      (ap (λ (o : Option (List ℕ)). unwrap_or (option_map (bytes_eq name) o) false) named ∙ own_name name)))
+
+  -- an event keeps it
+  step-come : ComesBy (step format world entry.actor entry.event)
+  step-come = step-leads ComesBy format world entry.actor entry.event (record {
+    ignored = still_come Ignored;
+    connected = λ is. tidied_come _ _ (record { arrivals = (still_come _).arrivals; versions = (still_come _).versions });
+    disconnected = λ is. tidied_come _ _ (record { arrivals = (still_come _).arrivals; versions = (still_come _).versions });
+    replied = λ kind response is typed.
+        answered_come _ kind response world
+        (λ name. told_now kind response _ (verdicts_for kind (lives_of world) world.versions response) name is typed) (still_come _);
+    resulted = λ cluster host healthy rows is. tidied_come _ _ (record { arrivals = (still_come _).arrivals; versions = (still_come _).versions });
+    timed = λ timeout name is named.
+        tidied_come _ _ (one_came _ (arrived timeout.kind TimedOut name) world (timed_now timeout name _ is named) (still_come _));
+    clusters_late = λ timeout is. tidied_come _ _ (record { arrivals = (still_come _).arrivals; versions = (still_come _).versions });
+    listeners_late = λ timeout is. tidied_come _ _ (record { arrivals = (still_come _).arrivals; versions = (still_come _).versions });
+    expired = λ name numbers is. tidied_come _ _ (record { arrivals = (still_come _).arrivals; versions = (still_come _).versions });
+    ended = λ kind name is bounded.
+        tidied_come _ _
+        (end_come _ kind name (forget_version kind name world) (λ by_name. bounded_told _ kind name world by_name bounded (still_come _))
+        (versions_filtered _ _ world (still_come _)));
+    unchanged = λ is. still_come _;
+    published = λ is. record { arrivals = (still_come _).arrivals; versions = (still_come _).versions };
+    reaped = λ is. record { arrivals = (still_come _).arrivals; versions = (still_come _).versions };
+    accepted = λ ask worker is by. record { arrivals = (still_come _).arrivals; versions = (still_come _).versions };
+    closed = λ connection worker is by. record { arrivals = (still_come _).arrivals; versions = (still_come _).versions };
+    settled = λ worker is by. record { arrivals = (still_come _).arrivals; versions = (still_come _).versions };
+  })
+
+-- an entry keeps it
+pub come_next : (told : Told) (k : ℕ) (entry : Entry) → IsEntryAt told k entry → IsAnswered told k entry
+    → ComesByEntries (world_told told k) (take k told.journal) → ComesByEntries (world_told told (k + 1)) (take (k + 1) told.journal)
+come_next told k entry there answered come =
+    let world : World = world_told told k in
+    let before : List Entry = take k told.journal in
+    subst₂ ComesByEntries (sym (world_next told k entry there))
+    (ap (λ (answer : Answer). before ++ record entry { answer = answer } ∷ []) (sym answered.answer) ∙ sym (take_one told.journal k entry there))
+    (step-come before entry told.format world come)
+
+pub opens_come : (workers : ℕ) (node : List ℕ) → ComesByEntries (opening workers node) []
+opens_come workers node = record { arrivals = All-nil _; versions = All-nil _ }
