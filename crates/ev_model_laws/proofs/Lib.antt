@@ -33,10 +33,12 @@ pub mod RisingOperations
 pub mod BatchLemmas
 pub mod ReplayLemmas
 pub mod AcknowledgeLemmas
+pub mod FilterLemmas
 pub mod VerdictLemmas
 pub mod EventLemmas
 pub mod MadeLemmas
 pub mod CameLemmas
+pub mod AnsweredLemmas
 pub mod ServesLemmas
 pub mod ShownLemmas
 pub mod RefusedLemmas

@@ -61,7 +61,7 @@ removed_warming true Draining h = h
 removed_warming true Dropped h = h
 removed_warming false status h = h
 
-removed_active : (test : Bool) (status : RowStatus) → is_active (cond test (removed_status status) status) ≡ true → is_active status ≡ true
+pub removed_active : (test : Bool) (status : RowStatus) → is_active (cond test (removed_status status) status) ≡ true → is_active status ≡ true
 removed_active true Warming h = h
 removed_active true Active h = refl
 removed_active true Draining h = h
@@ -83,7 +83,7 @@ replaced_warming : (test : Bool) (status : RowStatus) → is_warming (cond test 
 replaced_warming true status h = absurd (false≢true h)
 replaced_warming false status h = h
 
-replaced_active : (test : Bool) (status : RowStatus) → is_active (cond test Dropped status) ≡ true → is_active status ≡ true
+pub replaced_active : (test : Bool) (status : RowStatus) → is_active (cond test Dropped status) ≡ true → is_active status ≡ true
 replaced_active true status h = absurd (false≢true h)
 replaced_active false status h = h
 

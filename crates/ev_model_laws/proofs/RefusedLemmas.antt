@@ -6,7 +6,7 @@ use Rattle.std.specs.List.{AllByRecursion as ByRecursion, Contains, fold, zip, l
 use Rattle.std.specs.Str.{bytes_eq}
 use Rattle.std.proofs.lemmas.Bool.{false≢true, both_ways, cond_both, cases_Bool, and_from, and_left, and_right, or_left, or_right, not_from_false, false_from_ne_true, cond-true, cond-false}
 use Rattle.std.proofs.lemmas.List.{map-append}
-use Rattle.std.proofs.lemmas.List.Elements.{filter-append, filter_map-append, recursion_from_All, All-contains, All-from_recursion}
+use Rattle.std.proofs.lemmas.List.Elements.{filter-append, filter_map-append}
 use Rattle.ev_types.specs.Items.{ItemParts, ResponseParts}
 use Rattle.ev_types.specs.Kinds.{kind_same, kind_decides}
 use Rattle.ev_types.specs.Same.{bytes_decide}
@@ -26,7 +26,7 @@ use Rattle.ev_types.specs.declared.rows.RowStatus.TheVariants.{Dropped}
 use Rattle.ev_types.specs.declared.rows.KeptVersion.{KeptVersion}
 use Rattle.ev_model.specs.World.{World, Arrived, HealthResult}
 use Rattle.ev_model.specs.Live.{lives_of}
-use Rattle.ev_model.specs.Versions.{is_version_of, is_before, with_version, bounded_as, renewed}
+use Rattle.ev_model.specs.Versions.{is_version_of, with_version, bounded_as, renewed}
 use Rattle.ev_model.specs.Watching.{is_by_name, is_watched}
 use Rattle.ev_model.specs.Warming.{came_for, content_in, value_by, value_of, is_ready_by}
 use Rattle.ev_model.specs.Verdicts.{is_removed, lives_left, verdicts_for, verdicts_by, verdicts_of}
@@ -35,7 +35,7 @@ use Rattle.ev_model.specs.Tidy.{is_due, has_successor, promoted_status, promoted
 use Rattle.ev_model.specs.Laws.{rows_named, versions_named, KeepsRows, KeepsValue, Keeps, Told, world_told, Stays}
 use Rattle.ev_model_laws.specs.Acknowledging.{is_refused}
 use Rattle.ev_model_laws.specs.Kept.{NothingIsDue, HasParts}
-use Rattle.ev_model_laws.proofs.TidyLists.{all_of, any_none, filter_within}
+use Rattle.ev_model_laws.proofs.TidyLists.{any_none, filter_within}
 use Rattle.ev_model_laws.proofs.TidyLemmas.{came_same, status_kept}
 use Rattle.ev_model_laws.proofs.PromotionLemmas.{each_left}
 use Rattle.ev_model_laws.proofs.VerdictLemmas.{fits, IsRefusedOf, stands_unremoved, judged_by, verdict_fits, name_refused}
@@ -49,22 +49,8 @@ use Rattle.ev_types.specs.declared.events.Entry.{Entry}
 use Rattle.ev_model_laws.proofs.PlaceLemmas.{Runs, IsAnswered, entry_answered, world_next}
 use Rattle.ev_model_laws.proofs.RunParts.{parts_kept}
 use Rattle.std.proofs.lemmas.Option.{slice_get_within}
-
-changed_one : {X : Type 0} (p : X → Bool) (f : X → X) (x : X) (xs : List X) (passes : Bool) → p x ≡ passes → p (f x) ≡ p x
-    → (p x ≡ true → f x ≡ x) → filter p (map f xs) ≡ filter p xs → filter p (f x ∷ map f xs) ≡ filter p (x ∷ xs)
-changed_one p f x xs true is same stays more = simp (same ∙ is, is) (λ i. stays is i ∷ more i)
-changed_one p f x xs false is same stays more = simp (same ∙ is, is) more
-
-changed_by : {X : Type 0} (p : X → Bool) (f : X → X) (xs : List X) → ((x : X) → p (f x) ≡ p x) → ByRecursion (λ x. p x ≡ true → f x ≡ x) xs
-    → filter p (map f xs) ≡ filter p xs
-changed_by p f [] same stays = refl
-changed_by p f (x ∷ xs) same stays = changed_one p f x xs (p x) refl (same x) stays.0 (changed_by p f xs same stays.1)
-
--- a change of elements that leaves those that pass a test
-pub filter_changed : {X : Type 0} (p : X → Bool) (f : X → X) (xs : List X) → ((x : X) → p (f x) ≡ p x)
-    → ((x : X) → Contains xs x → p x ≡ true → f x ≡ x) → filter p (map f xs) ≡ filter p xs
-filter_changed p f xs same stays =
-    changed_by p f xs same (recursion_from_All (λ x. p x ≡ true → f x ≡ x) xs (all_of (λ x. p x ≡ true → f x ≡ x) xs stays))
+use Rattle.ev_model_laws.proofs.VersionLemmas.{mark_same, placed}
+use Rattle.ev_model_laws.proofs.FilterLemmas.{filter_changed, each_passing}
 
 -- what is of one name isn't of another
 other_name : (kind : Kind) (name other row : List ℕ) (of : Kind) → bytes_eq other name ≡ false → (kind_same of kind && bytes_eq row name) ≡ true
@@ -87,24 +73,14 @@ with_other : (kind : Kind) (name : List ℕ) (new : KeptVersion) (versions : Lis
 with_other kind name new [] apart = simp (and_right (kind_same new.kind kind) (bytes_eq new.name name) apart) refl
 with_other kind name new (kept ∷ others) apart =
     let isnt : is_version_of kind name new ≡ false = and_right (kind_same new.kind kind) (bytes_eq new.name name) apart in
-    cond_both (is_version_of new.kind new.name kept) (new ∷ others)
-    (cond (is_before new.name kept.name) (new ∷ kept ∷ others) (kept ∷ with_version new others))
-    (λ (versions : List KeptVersion). filter (is_version_of kind name) versions ≡ filter (is_version_of kind name) (kept ∷ others))
+    placed (λ (versions : List KeptVersion). filter (is_version_of kind name) versions ≡ filter (is_version_of kind name) (kept ∷ others)) new kept others
     (λ same.
     let named : kept.name ≡ new.name = (bytes_decide kept.name new.name).0 (second_so (kind_same kept.kind new.kind) (bytes_eq kept.name new.name) same) in
     let also : is_version_of kind name kept ≡ false =
     and_right (kind_same kept.kind kind) (bytes_eq kept.name name) (ap (λ n. bytes_eq n name) named ∙ apart) in
     simp (isnt, also) refl)
-    (λ other.
-    cond_both (is_before new.name kept.name) (new ∷ kept ∷ others) (kept ∷ with_version new others)
-    (λ (versions : List KeptVersion). filter (is_version_of kind name) versions ≡ filter (is_version_of kind name) (kept ∷ others))
     (λ before. simp isnt refl)
-    (λ behind. behind_other kind name new kept others (is_version_of kind name kept) refl (with_other kind name new others apart)))
-
-marked_of : (marks : Bool) (kind : Kind) (name : List ℕ) (kept : KeptVersion)
-    → is_version_of kind name (cond marks (record kept { bounded = true }) kept) ≡ is_version_of kind name kept
-marked_of true kind name kept = refl
-marked_of false kind name kept = refl
+    (λ other behind. behind_other kind name new kept others (is_version_of kind name kept) refl (with_other kind name new others apart))
 
 unmarked : (marks : Bool) (kept : KeptVersion) → marks ≡ false → cond marks (record kept { bounded = true }) kept ≡ kept
 unmarked true kept isnt = absurd (false≢true (sym isnt))
@@ -115,7 +91,7 @@ renewed_other : (kind : Kind) (name other : List ℕ) (versions : List KeptVersi
     → filter (is_version_of kind name) (renewed kind other versions) ≡ filter (is_version_of kind name) versions
 renewed_other kind name other versions apart =
     filter_changed (is_version_of kind name) (bounded_as kind other) versions
-    (λ (kept : KeptVersion). marked_of (is_version_of kind other kept) kind name kept)
+    (λ (kept : KeptVersion). mark_same (is_version_of kind other kept) kind name kept)
     (λ (kept : KeptVersion) there is.
     unmarked (is_version_of kind other kept) kept
     (and_right (kind_same kept.kind kind) (bytes_eq kept.name other) (other_name kind name other kept.name kept.kind apart is)))
@@ -330,21 +306,6 @@ module _ (name : List ℕ) (response : ResponseParts) (stands : is_removed respo
   removals_left Eds world = absences_left Eds world refl
   removals_left Lds world = rows_removed Lds world
   removals_left Rds world = absences_left Rds world refl
-
-filtered_by : {X : Type 0} (p : X → Bool) (P : X → Type 0) (xs : List X) → ByRecursion P (filter p xs) → ByRecursion (λ x. p x ≡ true → P x) xs
-filtered_by p P [] all = tt
-filtered_by p P (x ∷ xs) all =
-    cond_both (p x) (x ∷ filter p xs) (filter p xs) (λ ys. ByRecursion P ys → (p x ≡ true → P x) × ByRecursion (λ y. p y ≡ true → P y) xs)
-    (λ is each. (λ h. each.0, filtered_by p P xs each.1))
-    (λ isnt each. (λ h. absurd (both_ways (p x) isnt h), filtered_by p P xs each))
-    all
-
--- what holds of each element that a filter leaves holds of each that passes
-pub each_passing : {X : Type 0} (p : X → Bool) (P : X → Type 0) (xs : List X) → ((x : X) → Contains (filter p xs) x → P x)
-    → (x : X) → Contains xs x → p x ≡ true → P x
-each_passing p P xs each x there =
-    All-contains (λ y. p y ≡ true → P y) xs x
-    (All-from_recursion (λ y. p y ≡ true → P y) xs (filtered_by p P xs (recursion_from_All P (filter p xs) (all_of P (filter p xs) each)))) there
 
 -- where none of the rows of a name is due, tidying leaves them
 module _ (kind : Kind) (name : List ℕ) (w : World)

@@ -1,15 +1,13 @@
 -- A generation that serves behind an event served before it, or the event has made it serve: it is ready then.
-use Rattle.std.proofs.Common.{◌≡◌, ℕ, ◌<◌, ◌≤◌, ◌+◌, ◌⊎◌, inl, inr, Bool, true, false, not, ◌&&◌, ◌||◌, ◌==◌, cond, List, [], ◌∷◌, ◌++◌, take, drop, filter, Option, Some, None, refl, sym, ap, ◌∙◌, subst, arith, ap₂}
-use Rattle.std.specs.Prelude.{unwrap_or, option_map}
+use Rattle.std.proofs.Common.{◌≡◌, ℕ, ◌<◌, ◌≤◌, ◌+◌, ◌⊎◌, inl, inr, Bool, true, false, ◌&&◌, ◌==◌, List, [], ◌∷◌, ◌++◌, take, drop, Some, refl, sym, ap, ◌∙◌, subst, arith}
 use Rattle.std.specs.Cmp.{first_so, second_so}
 use Rattle.std.specs.List.{Contains, fold, zip, list_any}
-use Rattle.std.specs.Str.{bytes_eq}
-use Rattle.std.proofs.lemmas.Bool.{false≢true, cond_both, and_from, or_left, or_right}
+use Rattle.std.proofs.lemmas.Bool.{false≢true, cond_both, and_from}
 use Rattle.std.proofs.lemmas.List.Elements.{All-map, All-contains}
 use Rattle.std.proofs.lemmas.List.{take-append-drop}
 use Rattle.ev_types.specs.Items.{ItemParts, ResponseParts}
-use Rattle.ev_types.specs.Kinds.{kind_same, kind_decides}
-use Rattle.ev_types.specs.Same.{bytes_decide, numbers_decide}
+use Rattle.ev_types.specs.Kinds.{kind_same}
+use Rattle.ev_types.specs.Same.{numbers_decide}
 use Rattle.ev_types.specs.Statuses.{is_active, is_live, is_warming}
 use Rattle.ev_types.specs.declared.contents.Kind.{Kind}
 use Rattle.ev_types.specs.declared.contents.Kind.TheVariants.{Cds, Eds, Lds, Rds}
@@ -22,32 +20,31 @@ use Rattle.ev_types.specs.declared.events.Event.{Event}
 use Rattle.ev_types.specs.declared.events.Verdict.{Verdict}
 use Rattle.ev_types.specs.declared.events.Verdict.TheVariants.{New, Same, Kept, Unasked, Renewed, Refused}
 use Rattle.ev_types.specs.declared.journals.Format.{Format}
-use Rattle.ev_types.specs.declared.rows.Arrival.{Arrival}
-use Rattle.ev_types.specs.declared.rows.Arrival.TheVariants.{Value, Absent, Bad as bad, TimedOut}
+use Rattle.ev_types.specs.declared.rows.Arrival.TheVariants.{Bad as bad}
 use Rattle.ev_types.specs.declared.rows.GenRow.{GenRow}
 use Rattle.ev_types.specs.declared.rows.RowStatus.{RowStatus}
 use Rattle.ev_types.specs.declared.rows.RowStatus.TheVariants.{Warming, Active, Draining, Dropped}
 use Rattle.ev_model.specs.World.{World, Arrived}
 use Rattle.ev_model.specs.Live.{lives_of}
 use Rattle.ev_model.specs.Verdicts.{verdicts_for, is_removed}
-use Rattle.ev_model.specs.Watching.{Dependency, dependency_of, is_watched, is_limited}
-use Rattle.ev_model.specs.Warming.{came_for, is_word, is_timeout, is_told_by, is_timed_by, has_answer, is_answered_by, is_checked, has_all_results, assignment_by, is_ready_by, is_ready}
-use Rattle.ev_model.specs.Rows.{is_row_of, removed_status, with_statuses, status_left, with_removals, replaced_status, new_row, add_row, keep_value, keep_version, with_content, told_of_refusal, refuse, add_item, add_items, made_names, with_first}
+use Rattle.ev_model.specs.Watching.{dependency_of, is_watched}
+use Rattle.ev_model.specs.Warming.{is_ready_by, is_ready}
+use Rattle.ev_model.specs.Rows.{is_row_of, with_statuses, status_left, with_removals, replaced_status, new_row, add_row, keep_value, keep_version, with_content, told_of_refusal, refuse, add_item, add_items, made_names, with_first}
 use Rattle.ev_model.specs.Tidy.{has_successor, status_by, promoted_status, promoted, arrivals_watched, tidy}
 use Rattle.ev_model.specs.Signals.{ended_status, with_end, forget_version}
 use Rattle.ev_model.specs.Step.{step}
-use Rattle.ev_model.specs.Entries.{MadeRow, made_of, answers_wait, has_arrived_for, tells_of_name, times_out}
-use Rattle.ev_model.specs.Laws.{Told, world_told, IsEntryAt, IsServing, HasBeenAnswered, HadWarmed}
-use Rattle.ev_model_laws.specs.Kept.{made_as, was_told, was_timed, has_come_by, AreMade, ComesByEntries, ServesWarmed}
+use Rattle.ev_model.specs.Entries.{made_of}
+use Rattle.ev_model.specs.Laws.{Told, world_told, IsEntryAt, IsServing, HadWarmed}
+use Rattle.ev_model_laws.specs.Kept.{made_as, AreMade, ComesByEntries, ServesWarmed}
 use Rattle.ev_model_laws.proofs.TidyLists.{all_of, any_at}
 use Rattle.ev_model_laws.proofs.TidyLemmas.{kept, watched_ready, results_ready}
-use Rattle.ev_model_laws.proofs.AnyLemmas.{or_so, any_so, any_behind, any_left, any_mapped, any_found, any_only}
-use Rattle.ev_model_laws.proofs.ExpiredLemmas.{passed}
-use Rattle.ev_model_laws.proofs.PromotionLemmas.{each_left}
+use Rattle.ev_model_laws.proofs.AnyLemmas.{any_so, any_behind, any_left, any_mapped, any_found, any_only}
 use Rattle.ev_model_laws.proofs.PictureLemmas.{serves_numbered}
 use Rattle.ev_model_laws.proofs.EventLemmas.{step-leads}
 use Rattle.ev_model_laws.proofs.MadeLemmas.{made_more}
 use Rattle.ev_model_laws.proofs.PlaceLemmas.{world_next}
+use Rattle.ev_model_laws.proofs.OneANameLemmas.{removed_active, replaced_active}
+use Rattle.ev_model_laws.proofs.AnsweredLemmas.{answered_by, ready_answered}
 
 -- what serves in the one world serves in the other
 abbrev ServesWithin : World → World → Type 0
@@ -63,24 +60,13 @@ statuses_within number status_of rows stays h =
     (stays row (second_so (row.number == number) (is_active (status_of row)) is)))
     (sym (any_mapped (serves_numbered number) (λ (row : GenRow). record row { status = status_of row }) rows) ∙ h)
 
-removed_serves : (goes : Bool) (status : RowStatus) → is_active (cond goes (removed_status status) status) ≡ true → is_active status ≡ true
-removed_serves true Warming h = absurd (false≢true h)
-removed_serves true Active h = refl
-removed_serves true Draining h = absurd (false≢true h)
-removed_serves true Dropped h = absurd (false≢true h)
-removed_serves false status h = h
-
-replaced_serves : (gone : Bool) (status : RowStatus) → is_active (cond gone Dropped status) ≡ true → is_active status ≡ true
-replaced_serves true status h = absurd (false≢true h)
-replaced_serves false status h = h
-
 module _ (before : World) where
   removals_serve : (kind : Kind) (response : ResponseParts) (world : World) → ServesWithin before world → ServesWithin before (with_removals kind response world)
   removals_serve Cds response world within number h =
-      within number (statuses_within number (status_left Cds response) world.rows (λ (row : GenRow). removed_serves (kind_same row.kind Cds && is_removed response row.name) row.status) h)
+      within number (statuses_within number (status_left Cds response) world.rows (λ (row : GenRow). removed_active (kind_same row.kind Cds && is_removed response row.name) row.status) h)
   removals_serve Eds response world within number h = within number h
   removals_serve Lds response world within number h =
-      within number (statuses_within number (status_left Lds response) world.rows (λ (row : GenRow). removed_serves (kind_same row.kind Lds && is_removed response row.name) row.status) h)
+      within number (statuses_within number (status_left Lds response) world.rows (λ (row : GenRow). removed_active (kind_same row.kind Lds && is_removed response row.name) row.status) h)
   removals_serve Rds response world within number h = within number h
 
   new_serves : (kind : Kind) (item : ItemParts) (body : Body) (world : World) → ServesWithin before world
@@ -90,7 +76,7 @@ module _ (before : World) where
       any_behind (serves_numbered number) (with_statuses (replaced_status kind item.name) world.rows) (new ∷ [])
       (λ olds. within number
       (statuses_within number (replaced_status kind item.name) world.rows
-      (λ (row : GenRow). replaced_serves (is_row_of kind item.name row && is_warming row.status) row.status) olds))
+      (λ (row : GenRow). replaced_active (is_row_of kind item.name row && is_warming row.status) row.status) olds))
       (λ is. absurd (false≢true (second_so (world.made + 1 == number) false (any_only (serves_numbered number) new is))))
   new_serves kind item (Bad rule) world within number = within number
   new_serves kind item Beat world within number = within number
@@ -139,10 +125,10 @@ module _ (before : World) where
 
   end_serves : (kind : Kind) (name : List ℕ) (world : World) → ServesWithin before world → ServesWithin before (with_end kind name world)
   end_serves Cds name world within number h =
-      within number (statuses_within number (ended_status Cds name) world.rows (λ (row : GenRow). removed_serves (is_row_of Cds name row) row.status) h)
+      within number (statuses_within number (ended_status Cds name) world.rows (λ (row : GenRow). removed_active (is_row_of Cds name row) row.status) h)
   end_serves Eds name world within number h = within number h
   end_serves Lds name world within number h =
-      within number (statuses_within number (ended_status Lds name) world.rows (λ (row : GenRow). removed_serves (is_row_of Lds name row) row.status) h)
+      within number (statuses_within number (ended_status Lds name) world.rows (λ (row : GenRow). removed_active (is_row_of Lds name row) row.status) h)
   end_serves Rds name world within number h = within number h
 
 -- it served, or is ready
@@ -245,85 +231,6 @@ step-serves format world actor event =
       closed = λ connection worker is by number h. inl h;
       settled = λ worker is by number h. inl h;
     })
-
--- a test of what came for a name holds of something that came for it
-came_one : (test : Arrival → Bool) (arrivals : List Arrived) (kind : Kind) (name : List ℕ) → list_any test (came_for arrivals kind name) ≡ true
-    → (a : Arrived) × Contains arrivals a × ((kind_same a.kind kind && bytes_eq a.name name) ≡ true) × (test a.arrival ≡ true)
-came_one test arrivals kind name h =
-    let of : Arrived → Bool = λ (a : Arrived). kind_same a.kind kind && bytes_eq a.name name in
-    let found : (a : Arrived) × Contains (filter of arrivals) a × (test a.arrival ≡ true) =
-    any_found (λ (a : Arrived). test a.arrival) (filter of arrivals) (sym (any_mapped test (λ (a : Arrived). a.arrival) (filter of arrivals)) ∙ h) in
-    (found.0, each_left (Contains arrivals) of arrivals (λ a there. there) found.0 found.1, passed of arrivals found.0 found.1, found.2)
-
-word_told : (word told timed : Bool) → word ≡ true → cond word told timed ≡ true → told ≡ true
-word_told true told timed is h = h
-word_told false told timed is h = absurd (false≢true is)
-
-no_word : (arrival : Arrival) → is_timeout arrival ≡ true → is_word arrival ≡ false
-no_word (Value content) h = absurd (false≢true h)
-no_word Absent h = absurd (false≢true h)
-no_word bad h = absurd (false≢true h)
-no_word TimedOut h = refl
-
-timeout_timed : (word told timed : Bool) → word ≡ false → cond word told timed ≡ true → timed ≡ true
-timeout_timed true told timed isnt h = absurd (false≢true (sym isnt))
-timeout_timed false told timed isnt h = h
-
-module _ (entries : List Entry) (world : World) (come : ComesByEntries world entries) (kind : Kind) (name : List ℕ) where
-  -- the entry that has told of the name, or was its timeout, is of this kind and name
-  same_kind : (a : Arrived) → (kind_same a.kind kind && bytes_eq a.name name) ≡ true → (a.kind ≡ kind) × (a.name ≡ name)
-  same_kind a is = (
-    (kind_decides a.kind kind).0 (first_so (kind_same a.kind kind) (bytes_eq a.name name) is),
-    (bytes_decide a.name name).0 (second_so (kind_same a.kind kind) (bytes_eq a.name name) is),
-  )
-
-  told_entries : is_told_by world.arrivals kind name ≡ true → was_told entries kind name ≡ true
-  told_entries h =
-      let one : (a : Arrived) × Contains world.arrivals a × ((kind_same a.kind kind && bytes_eq a.name name) ≡ true) × (is_word a.arrival ≡ true) =
-      came_one is_word world.arrivals kind name h in
-      let same : (one.0.kind ≡ kind) × (one.0.name ≡ name) = same_kind one.0 one.2 in
-      sym (ap₂ (was_told entries) same.0 same.1)
-      ∙ word_told (is_word one.0.arrival) (was_told entries one.0.kind one.0.name) (was_timed entries one.0.kind one.0.name) one.3
-      (All-contains (λ (a : Arrived). has_come_by entries a ≡ true) world.arrivals one.0 come.arrivals one.1)
-
-  timed_entries : is_timed_by world.arrivals kind name ≡ true → was_timed entries kind name ≡ true
-  timed_entries h =
-      let one : (a : Arrived) × Contains world.arrivals a × ((kind_same a.kind kind && bytes_eq a.name name) ≡ true) × (is_timeout a.arrival ≡ true) =
-      came_one is_timeout world.arrivals kind name h in
-      let same : (one.0.kind ≡ kind) × (one.0.name ≡ name) = same_kind one.0 one.2 in
-      sym (ap₂ (was_timed entries) same.0 same.1)
-      ∙ timeout_timed (is_word one.0.arrival) (was_told entries one.0.kind one.0.name) (was_timed entries one.0.kind one.0.name) (no_word one.0.arrival one.3)
-      (All-contains (λ (a : Arrived). has_come_by entries a ≡ true) world.arrivals one.0 come.arrivals one.1)
-
--- an entry has arrived for a generation that is answered
-answered_by : (entries : List Entry) (world : World) (row : MadeRow) (dependency : Option Dependency) → ComesByEntries world entries
-    → dependency_of row.content ≡ dependency → has_answer world.arrivals (is_limited row.content) dependency ≡ true
-    → HasBeenAnswered dependency row entries
-answered_by entries world row None come is h = tt
-answered_by entries world row (Some d) come is h =
-    let arrives : (entry : Entry) → answers_wait (is_limited row.content) d entry ≡ true → has_arrived_for row entry ≡ true =
-    λ (entry : Entry) waits.
-    ap (λ (o : Option Dependency). unwrap_or (option_map (λ (d : Dependency). answers_wait (is_limited row.content) d entry) o) false) is ∙ waits in
-    or_so (is_told_by world.arrivals d.kind d.name) (is_timed_by world.arrivals d.kind d.name && is_limited row.content)
-    (λ told.
-    any_so (λ (entry : Entry). tells_of_name d.kind d.name entry.event entry.answer) (has_arrived_for row) entries
-    (λ (entry : Entry) tells.
-    arrives entry (or_left (tells_of_name d.kind d.name entry.event entry.answer) (is_limited row.content && times_out d.kind d.name entry.event entry.answer) tells))
-    (told_entries entries world come d.kind d.name told))
-    (λ timed.
-    any_so (λ (entry : Entry). times_out d.kind d.name entry.event entry.answer) (has_arrived_for row) entries
-    (λ (entry : Entry) comes.
-    arrives entry
-    (or_right (tells_of_name d.kind d.name entry.event entry.answer) (is_limited row.content && times_out d.kind d.name entry.event entry.answer)
-    (and_from (is_limited row.content) (times_out d.kind d.name entry.event entry.answer)
-    (second_so (is_timed_by world.arrivals d.kind d.name) (is_limited row.content) timed) comes)))
-    (timed_entries entries world come d.kind d.name (first_so (is_timed_by world.arrivals d.kind d.name) (is_limited row.content) timed)))
-    h
-
-ready_answered : (world : World) (row : GenRow) → is_ready world row ≡ true → is_answered_by world.arrivals row.content ≡ true
-ready_answered world row ready =
-    first_so (is_answered_by world.arrivals row.content)
-    (not (is_checked row.content) || has_all_results world.results row.number (assignment_by world.arrivals row.content)) ready
 
 -- a generation that had warmed before a place had before a later one
 pub warmed_later : (told : Told) (number j k : ℕ) → j ≤ k → HadWarmed told number j → HadWarmed told number k

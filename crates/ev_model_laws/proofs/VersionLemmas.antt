@@ -69,7 +69,7 @@ left_by_name test (kept ∷ others) by_name =
 
 -- a new version takes the first one's place, or stands before it, or behind it
 module _ (P : List KeptVersion → Type 0) (new kept : KeptVersion) (others : List KeptVersion) where
-  placed : (is_version_of new.kind new.name kept ≡ true → P (new ∷ others))
+  pub placed : (is_version_of new.kind new.name kept ≡ true → P (new ∷ others))
       → (is_before new.name kept.name ≡ true → P (new ∷ kept ∷ others))
       → (is_version_of new.kind new.name kept ≡ false → is_before new.name kept.name ≡ false → P (kept ∷ with_version new others))
       → P (with_version new (kept ∷ others))
@@ -195,7 +195,7 @@ mark_name : (marks : Bool) (kept : KeptVersion) → (cond marks (record kept { b
 mark_name true kept = refl
 mark_name false kept = refl
 
-mark_same : (marks : Bool) (kind : Kind) (name : List ℕ) (kept : KeptVersion)
+pub mark_same : (marks : Bool) (kind : Kind) (name : List ℕ) (kept : KeptVersion)
     → is_version_of kind name (cond marks (record kept { bounded = true }) kept) ≡ is_version_of kind name kept
 mark_same true kind name kept = refl
 mark_same false kind name kept = refl
