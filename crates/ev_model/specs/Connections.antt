@@ -126,4 +126,4 @@ close connection worker world = with_worked world (closed connection worker worl
 abbrev pub settle : ℕ → World → World × Answer
 settle worker world =
     with_worked (record world { held = slice_set world.held worker (last_version world) })
-        (settled world.expired (last_version world) worker world.opened)
+    (settled world.expired (last_version world) worker world.opened)

@@ -78,7 +78,7 @@ is_dead_at Dropped held = true
 abbrev pub is_dead_by : Format → List ℕ → List OpenMember → List ℕ → GenRow → Bool
 is_dead_by format shown opened expired row =
     is_dead_at row.status
-        (is_in_use_by shown opened row.number || (waits_for_timer format row.kind && not (has_number row.number expired)))
+    (is_in_use_by shown opened row.number || (waits_for_timer format row.kind && not (has_number row.number expired)))
 
 -- nothing holds the generation any more
 abbrev pub is_dead : Format → World → GenRow → Bool

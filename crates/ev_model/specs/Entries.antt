@@ -1,5 +1,5 @@
 -- What an entry of a journal tells by itself. This project's own.
-use Rattle.std.specs.Prelude.{ℕ, zero, suc, ◌++◌, Bool, true, false, ◌&&◌, ◌||◌, ◌==◌, if◌then◌else◌, List, [], ◌∷◌, filter_map, Option, Some, None, unwrap_or, slice_get, option_map, option_and_then}
+use Rattle.std.specs.Prelude.{ℕ, zero, suc, Bool, true, false, ◌&&◌, ◌||◌, ◌==◌, if◌then◌else◌, List, [], ◌∷◌, filter_map, Option, Some, None, unwrap_or, slice_get, option_map, option_and_then}
 use Rattle.std.specs.List.{flat_map, last_or, list_any, zip}
 use Rattle.std.specs.Str.{bytes_eq}
 use Rattle.ev_types.specs.Items.{ItemParts, ResponseParts}

@@ -1,5 +1,5 @@
 -- What is found of a journal that is held against its script, by the rules of its format. This project's own.
-use Rattle.std.specs.Prelude.{ℕ, ◌+◌, Bool, true, false, not, ◌&&◌, ◌||◌, ◌==◌, nat_lt, if◌then◌else◌, List, [], ◌∷◌, filter, filter_map, find, take, length, Option, Some, None, option_map, option_and_then, slice_get, unwrap_or}
+use Rattle.std.specs.Prelude.{ℕ, ◌+◌, Bool, true, false, not, ◌&&◌, ◌||◌, ◌==◌, nat_lt, if◌then◌else◌, List, filter, filter_map, find, take, length, Option, Some, None, option_map, option_and_then, slice_get, unwrap_or}
 use Rattle.std.specs.List.{list_any, list_all, last_or, prefix_len, range_with_len}
 use Rattle.ev_types.specs.Events.{op_of, op_same}
 use Rattle.ev_types.specs.SameAnswers.{answer_same}
@@ -11,7 +11,7 @@ use Rattle.ev_types.specs.declared.journals.Format.TheVariants.{One, Two}
 use Rattle.ev_types.specs.declared.journals.Row.{Row}
 use Rattle.ev_types.specs.declared.journals.Finding.{Finding}
 use Rattle.ev_types.specs.declared.journals.Finding.TheVariants.{Legal, IllegalAt, NotTheScript}
-use Rattle.ev_model.specs.World.{World, opening}
+use Rattle.ev_model.specs.World.{opening}
 use Rattle.ev_model.specs.Step.{step}
 use Rattle.ev_model.specs.Runs.{world_after, is_batched}
 use Rattle.ev_model.specs.Operations.{Operation, Deed, actor_same, is_settle, is_earlier, all_operations, operations_of, entries_of, entry_of, deeds_of}

@@ -17,5 +17,8 @@ pub mod Realistic
 pub mod Automatic
 pub mod Domains
 pub mod Weights
+pub mod Ttl
+pub mod TtlOfEndpoints
+pub mod DrainedListenersWait
 pub mod FullBatch
 pub mod Findings

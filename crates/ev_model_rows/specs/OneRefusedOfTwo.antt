@@ -1,5 +1,5 @@
 -- One resource of two is refused: the response is, and the good one is applied.
-use Rattle.std.specs.Prelude.{◌≡◌, List, [], ◌∷◌, codes}
+use Rattle.std.specs.Prelude.{◌≡◌, List, [], ◌∷◌, false, codes}
 use Rattle.ev_types.specs.declared.contents.Kind.TheVariants.{Cds, Lds}
 use Rattle.ev_types.specs.declared.events.Answer.TheVariants.{Moved, Replied}
 use Rattle.ev_types.specs.declared.events.Verdict.TheVariants.{New, Refused}
@@ -9,7 +9,7 @@ use Rattle.ev_model_rows.specs.Words.{Deed, answers_to, host_row, static_cluster
 
 -- a cluster of type EDS without its config
 abbrev pub refused : ItemParts
-refused = record { name = codes "b"; version = codes "v1"; body = Bad 8 }
+refused = record { name = codes "b"; version = codes "v1"; ttl = false; body = Bad 8 }
 
 -- the lines, from the second on
 abbrev pub deeds : List Deed

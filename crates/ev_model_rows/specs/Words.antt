@@ -6,7 +6,7 @@ use Rattle.ev_types.specs.Scripts.{ScriptParts}
 use Rattle.ev_types.specs.declared.hosts.Host.{Host}
 use Rattle.ev_types.specs.declared.contents.Kind.{Kind}
 use Rattle.ev_types.specs.declared.contents.Kind.TheVariants.{Cds}
-use Rattle.ev_types.specs.declared.contents.Body.TheVariants.{Good}
+use Rattle.ev_types.specs.declared.contents.Body.TheVariants.{Good, Beat}
 use Rattle.ev_types.specs.declared.contents.Content.TheVariants.{Cluster, Assignment, Listener, Routes}
 use Rattle.ev_types.specs.declared.contents.Request.{Request}
 use Rattle.ev_types.specs.declared.clusters.Discovery.{Discovery}
@@ -18,12 +18,14 @@ use Rattle.ev_types.specs.declared.routes.RouteTable.{RouteTable}
 use Rattle.ev_types.specs.declared.events.Actor.{Actor}
 use Rattle.ev_types.specs.declared.events.Actor.TheVariants.{Stream, Health as health_checker, Timer, Main, Worker}
 use Rattle.ev_types.specs.declared.events.Event.{Event}
-use Rattle.ev_types.specs.declared.events.Event.TheVariants.{Connect, Disconnect, Response, Health, FetchTimeout, DrainTimeout, Publish, Reap, Accept, Close, Settle}
+use Rattle.ev_types.specs.declared.events.Event.TheVariants.{Connect, Disconnect, Response, Health, FetchTimeout, DrainTimeout, TtlExpired, Publish, Reap, Accept, Close, Settle}
 use Rattle.ev_types.specs.declared.events.Answer.{Answer}
 use Rattle.ev_types.specs.declared.events.Answer.TheVariants.{Served, Settled}
 use Rattle.ev_types.specs.declared.events.Entry.{Entry}
 use Rattle.ev_types.specs.declared.events.Line.{Line}
-use Rattle.ev_model.specs.declared.pictures.Picture.{Picture}
+use Rattle.ev_types.specs.declared.journals.Format.{Format}
+use Rattle.ev_types.specs.declared.journals.Format.TheVariants.{Two}
+use Rattle.ev_model.specs.declared.pictures.Shown.{Shown}
 use Rattle.ev_model.specs.declared.pictures.ServedCluster.{ServedCluster}
 use Rattle.ev_model.specs.declared.pictures.ServedListener.{ServedListener}
 use Rattle.ev_model.specs.World.{opening}
@@ -43,6 +45,7 @@ abbrev pub cluster_of : List ℕ → Discovery → Bool → ItemParts
 cluster_of name discovery checked = record {
   name = name;
   version = codes "v1";
+  ttl = false;
   body = Good (Cluster (record { name = name; discovery = discovery; checked = checked }));
 }
 
@@ -64,13 +67,14 @@ checked_cluster name = cluster_of name (by_eds name true) true
 
 -- the hosts of a service
 abbrev pub hosts_of : List ℕ → List HostRowParts → ItemParts
-hosts_of name hosts = record { name = name; version = codes "e1"; body = Good (Assignment hosts) }
+hosts_of name hosts = record { name = name; version = codes "e1"; ttl = false; body = Good (Assignment hosts) }
 
 -- a listener at 10.1.0.1 and a port
 abbrev pub listener_at : List ℕ → ℕ → Serve → ItemParts
 listener_at name port serve = record {
   name = name;
   version = codes "v1";
+  ttl = false;
   body = Good (Listener (record { name = name; address = record { address = codes "10.1.0.1"; port = port }; serve = serve }));
 }
 
@@ -84,7 +88,15 @@ rds_listener name port routes = listener_at name port (by_rds routes true)
 
 -- the routes of a name
 abbrev pub routes_of : List ℕ → RouteTable → ItemParts
-routes_of name table = record { name = name; version = codes "v1"; body = Good (Routes table) }
+routes_of name table = record { name = name; version = codes "v1"; ttl = false; body = Good (Routes table) }
+
+-- the same resource with a time to live
+abbrev pub with_ttl : ItemParts → ItemParts
+with_ttl item = record item { ttl = true }
+
+-- a heartbeat under a version
+abbrev pub beat : List ℕ → List ℕ → ItemParts
+beat name version = record { name = name; version = version; ttl = true; body = Beat }
 
 -- what an actor does at a line
 pub record Deed : Type 0 where
@@ -115,6 +127,10 @@ fetch_timeout kind name = record { actor = Timer; event = FetchTimeout (record {
 -- the drain timeout of a listener's old generations comes
 abbrev pub drain_timeout : List ℕ → Deed
 drain_timeout listener = record { actor = Timer; event = DrainTimeout listener }
+
+-- the time to live of a resource comes to its end
+abbrev pub ttl_expired : Kind → List ℕ → Deed
+ttl_expired kind name = record { actor = Timer; event = TtlExpired kind name }
 
 -- the main thread publishes
 abbrev pub publish : Deed
@@ -171,9 +187,13 @@ script_of deeds = script_with 1 false (codes "warmgate") deeds
 abbrev pub told : Entry → ℕ × Answer
 told entry = (entry.at, entry.answer)
 
--- what a replay of a script answers, each answer with its line, in the order of the journal
+-- what a replay of a script answers by the rules of a format, each answer with its line, in the order of the journal
+abbrev pub answers_by : Format → ScriptParts → List (ℕ × Answer)
+answers_by format script = map told (replay_order format script)
+
+-- the same by those of format 2
 abbrev pub answers_in : ScriptParts → List (ℕ × Answer)
-answers_in script = map told (replay_order script)
+answers_in script = answers_by Two script
 
 -- what a replay of these deeds answers
 abbrev pub answers_to : List Deed → List (ℕ × Answer)
@@ -184,12 +204,12 @@ abbrev pub cluster_shown : ServedCluster → ℕ × List (List ℕ)
 cluster_shown cluster = (cluster.number, map (λ (h : HostRowParts). h.host.address) cluster.hosts)
 
 -- what a picture shows: its clusters with their hosts, and its listeners
-abbrev pub picture_shown : Picture → List (ℕ × List (List ℕ)) × List ℕ
-picture_shown picture = (map cluster_shown picture.clusters, map (λ (l : ServedListener). l.number) picture.listeners)
+abbrev pub picture_shown : Shown → List (ℕ × List (List ℕ)) × List ℕ
+picture_shown shown = (map cluster_shown shown.clusters, map (λ (l : ServedListener). l.number) shown.listeners)
 
 -- the pictures after a replay of a script, from the empty one on
 abbrev pub pictures_in : ScriptParts → List (List (ℕ × List (List ℕ)) × List ℕ)
-pictures_in script = map picture_shown (world_after (opening script.workers script.node) (replay_order script)).pictures
+pictures_in script = map picture_shown (world_after Two (opening script.workers script.node) (replay_order Two script)).pictures
 
 -- the pictures after a replay of these deeds
 abbrev pub pictures_of : List Deed → List (List (ℕ × List (List ℕ)) × List ℕ)

@@ -16,6 +16,9 @@ ghost use Rattle.ev_model_rows.specs.Realistic.{Answers as RealisticAnswers, Pic
 ghost use Rattle.ev_model_rows.specs.Automatic.{Answers as AutomaticAnswers, Pictures as AutomaticPictures};
 ghost use Rattle.ev_model_rows.specs.Domains.{Answers as DomainsAnswers, Pictures as DomainsPictures};
 ghost use Rattle.ev_model_rows.specs.Weights.{Answers as WeightsAnswers, Pictures as WeightsPictures};
+ghost use Rattle.ev_model_rows.specs.Ttl.{Answers as TtlAnswers};
+ghost use Rattle.ev_model_rows.specs.TtlOfEndpoints.{Answers as TtlOfEndpointsAnswers, Pictures as TtlOfEndpointsPictures};
+ghost use Rattle.ev_model_rows.specs.DrainedListenersWait.{Answers as DrainedListenersWaitAnswers, AnswersOfFormat1};
 ghost use Rattle.ev_model_rows.specs.FullBatch.{IsFull};
 ghost use Rattle.ev_model_rows.specs.Findings.{Found};
 
@@ -120,6 +123,23 @@ pub fn domains()
 pub fn weights()
     ensures answers { WeightsAnswers }
     ensures pictures { WeightsPictures }
+{}
+
+/// A heartbeat renews the version that is kept, one of another version is refused, and the end of a time to live removes. It does nothing.
+pub fn ttl()
+    ensures answers { TtlAnswers }
+{}
+
+/// At the end of their time to live a cluster's endpoints become none, and the cluster stays. It does nothing.
+pub fn ttl_of_endpoints()
+    ensures answers { TtlOfEndpointsAnswers }
+    ensures pictures { TtlOfEndpointsPictures }
+{}
+
+/// A drained listener waits for its drain timeout in format 2, and not in format 1. It does nothing.
+pub fn drained_listeners_wait()
+    ensures answers { DrainedListenersWaitAnswers }
+    ensures answers_of_format_1 { AnswersOfFormat1 }
 {}
 
 /// A batch is full with 256 lines: a settle is forced behind the 256th, and not behind its neighbours. It does nothing.

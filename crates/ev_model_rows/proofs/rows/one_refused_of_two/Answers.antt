@@ -1,5 +1,6 @@
 use Rattle.std.proofs.Common.{refl}
 use Rattle.std.specs.Fmt.{digits}
+use Rattle.std.specs.Fmt.{digits}
 use Rattle.ev_model.specs.Phase.{has_come}
 use Rattle.ev_model_rows.proofs.rows.one_refused_of_two.Goals as goal
 
