@@ -1,5 +1,4 @@
 pub mod Input
-pub mod Lines
 pub mod Members
 pub mod Script
 pub mod Rendering

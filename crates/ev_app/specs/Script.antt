@@ -14,8 +14,8 @@ use Rattle.ev_types.specs.declared.events.Event.TheVariants.{Connect, Response}
 use Rattle.ev_registry.specs.Built.{is_built, IsBuilt}
 use Rattle.ev_wire.specs.Responses.{response_of}
 use Rattle.ev_app.specs.declared.script.Header.{Header}
-use Rattle.ev_app.specs.Input.{max_input_bytes}
-use Rattle.ev_app.specs.Lines.{lines_of}
+use Rattle.ev_io.specs.declared.limits.TheConstants.{MAX_INPUT_BYTES}
+use Rattle.ev_io.specs.Lines.{lines_of}
 use Rattle.ev_app.specs.Members.{tree_of, has_only, whole_within, name_of, or_default}
 
 -- the header: `workers` of 1 to 16, and `node`, which is `warmgate` where it isn't given
@@ -77,7 +77,7 @@ script_from (first ∷ texts) = option_and_then (script_with texts) (option_and_
 
 -- the script that bytes are, where they are one
 abbrev pub script_of : List ℕ → Option ScriptParts
-script_of bytes = if nat_le (length bytes) max_input_bytes then script_from (lines_of bytes) else None
+script_of bytes = if nat_le (length bytes) MAX_INPUT_BYTES then script_from (lines_of bytes) else None
 
 -- what every header keeps
 pub record IsHeader (header : Header) : Type 0 where

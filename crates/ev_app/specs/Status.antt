@@ -4,7 +4,8 @@ use Rattle.std.specs.Io.KnownBytes.{append_known, IsAtEnd}
 use Rattle.ev_io.specs.Outside.{Rose, AppendsPrefix, Takes}
 use Rattle.ev_app.specs.declared.program.Status.{Status}
 use Rattle.ev_app.specs.declared.program.Status.TheVariants.{Done, Usage, BadScript, ReadFault, WriteFault, OutOfMemory}
-use Rattle.ev_app.specs.Input.{max_input_bytes, TakesUpTo, TakesInput}
+use Rattle.ev_io.specs.declared.limits.TheConstants.{MAX_INPUT_BYTES}
+use Rattle.ev_app.specs.Input.{TakesUpTo, TakesInput}
 use Rattle.ev_app.specs.Script.{script_of}
 use Rattle.ev_app.specs.Replay.{IsReplayText}
 
@@ -81,7 +82,7 @@ pub record Refuses (outside : Outside) : Type 0 where
 -- a read failed before the end of the input and before the byte beyond the longest script, and nothing is written
 pub record FailsToRead (outside : Outside) : Type 0 where
   pub rose : Rose outside.reads_before outside.reads_after
-  pub takes : TakesUpTo outside.left_before outside.left_after max_input_bytes
+  pub takes : TakesUpTo outside.left_before outside.left_after MAX_INPUT_BYTES
   pub written : WritesNothing outside
 
 -- the input is a script, a write failed, and a prefix of the text of its replay is appended
@@ -93,7 +94,7 @@ pub record FailsToWrite (outside : Outside) : Type 0 where
 
 -- there was no memory: the source was read without a fault, no further than in the other cases, and nothing is written
 pub record LacksMemory (outside : Outside) : Type 0 where
-  pub takes : TakesUpTo outside.left_before outside.left_after (max_input_bytes + 1)
+  pub takes : TakesUpTo outside.left_before outside.left_after (MAX_INPUT_BYTES + 1)
   pub reads : ReadsWell outside
   pub written : WritesNothing outside
 

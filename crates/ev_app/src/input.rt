@@ -1,15 +1,9 @@
 ghost use Rattle.std.specs.Prelude.{◌≡◌, ◌+◌, ◌≤◌, length, vec_len, IfOk, OnOk};
 ghost use Rattle.ev_io.specs.Outside.{Rose};
-ghost use Rattle.ev_app.specs.Input.{TakesInput, TakesUpTo, max_input_bytes};
+ghost use Rattle.ev_app.specs.Input.{TakesInput, TakesUpTo};
 
-use ev_io::{Failed, Source};
+use ev_io::{Failed, MAX_INPUT_BYTES, MAX_PIECE_BYTES, Source};
 use std::alloc::{AllocError, Global};
-
-// The most bytes that a script has.
-pub(crate) const MAX_INPUT_BYTES: usize = 67_108_864;
-
-// The most bytes that one read asks for.
-const MAX_PIECE: usize = 65_536;
 
 // Why the input couldn't be taken.
 #[derive(Clone, Copy, Debug, PartialEq, Eq)]
@@ -37,17 +31,17 @@ impl From<AllocError> for InputFault {
 pub(crate) fn read_input<S: Source>(alloc: Global, source: &mut S) -> Result<Vec<u8>, InputFault>
     ensures input { IfOk result (λ bytes. TakesInput (S.left source.old) (S.left source.new) bytes.items) }
     ensures failed { result ≡ Err InputFault.ReadFailed → Rose (S.faults source.old) (S.faults source.new) }
-    ensures before_end { result ≡ Err InputFault.ReadFailed → TakesUpTo (S.left source.old) (S.left source.new) max_input_bytes }
-    ensures no_memory { result ≡ Err InputFault.OutOfMemory → TakesUpTo (S.left source.old) (S.left source.new) (max_input_bytes + 1) }
+    ensures before_end { result ≡ Err InputFault.ReadFailed → TakesUpTo (S.left source.old) (S.left source.new) MAX_INPUT_BYTES }
+    ensures no_memory { result ≡ Err InputFault.OutOfMemory → TakesUpTo (S.left source.old) (S.left source.new) (MAX_INPUT_BYTES + 1) }
     ensures well { OnOk result (S.faults source.new ≡ S.faults source.old) }
     ensures no_fault { result ≡ Err InputFault.OutOfMemory → S.faults source.new ≡ S.faults source.old }
     ensures count { S.faults source.old ≤ S.faults source.new }
 {
     let mut taken = Vec::new(alloc);
-    let mut buffer = buffer_of(alloc, MAX_PIECE)?;
+    let mut buffer = buffer_of(alloc, MAX_PIECE_BYTES)?;
     let piece = buffer.as_mut_slice();
     'pieces: while taken.len() <= MAX_INPUT_BYTES {
-        let most = MAX_PIECE.min(MAX_INPUT_BYTES + 1 - taken.len());
+        let most = MAX_PIECE_BYTES.min(MAX_INPUT_BYTES + 1 - taken.len());
         let count = match source.read(&mut piece[..most]) {
             Ok(count) => count,
             Err(Failed) => return Err(InputFault::ReadFailed),

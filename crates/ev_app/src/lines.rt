@@ -1,6 +1,6 @@
 ghost use Rattle.std.specs.Prelude.{◌≡◌, ℕ, List, ◌<◌, [], ◌∷◌, length, slice_index, MatchOption};
 ghost use Rattle.std.specs.Iterator.{YieldsFirstBy, item_count};
-ghost use Rattle.ev_app.specs.Lines.{lines_of, HasNoFeed};
+ghost use Rattle.ev_io.specs.Lines.{lines_of, HasNoFeed};
 
 use std::marker::Model;
 

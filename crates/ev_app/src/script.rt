@@ -9,9 +9,9 @@ ghost use Rattle.ev_registry.specs.Built.{is_built, is_built_body, is_of_cluster
 ghost use Rattle.ev_app.specs.Script.{header_of, line_of, line_by, connect_line, response_line, response_at, built, lines_from, script_of, IsHeader, IsTaken};
 ghost use Rattle.ev_wire.specs.Responses.{response_of};
 
-use crate::input::MAX_INPUT_BYTES;
 use crate::lines::Lines;
 use crate::members::{has_only, name_of, read_tree, whole_within};
+use ev_io::MAX_INPUT_BYTES;
 use ev_types::{
     Actor, Body, Cluster, Content, Discovery, Event, Item, Kind, Line, Response, Script, Seq, Text,
 };
