@@ -138,13 +138,13 @@ module _ (entries : List Entry) where
         cond_both (is_watched (lives_of world) kind name) (record world { arrivals = world.arrivals ++ arrived kind bad name ∷ [] }) world
         (λ (w : World). ComesByEntries w entries) (λ watched. one_came (arrived kind bad name) world (so name is) come) (λ unwatched. come)
 
-by_name_not : (kind : Kind) → fits kind New ≡ true → is_by_name kind ≡ false
+pub by_name_not : (kind : Kind) → fits kind New ≡ true → is_by_name kind ≡ false
 by_name_not Cds fit = refl
 by_name_not Eds fit = absurd (false≢true fit)
 by_name_not Lds fit = refl
 by_name_not Rds fit = absurd (false≢true fit)
 
-by_name_not_same : (kind : Kind) → fits kind Same ≡ true → is_by_name kind ≡ false
+pub by_name_not_same : (kind : Kind) → fits kind Same ≡ true → is_by_name kind ≡ false
 by_name_not_same Cds fit = refl
 by_name_not_same Eds fit = absurd (false≢true fit)
 by_name_not_same Lds fit = refl

@@ -38,6 +38,7 @@ pub mod VerdictLemmas
 pub mod EventLemmas
 pub mod MadeLemmas
 pub mod CameLemmas
+pub mod WatchedLemmas
 pub mod AnsweredLemmas
 pub mod ServesLemmas
 pub mod ShownLemmas

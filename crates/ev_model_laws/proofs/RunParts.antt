@@ -14,7 +14,7 @@ use Rattle.ev_model.specs.World.{World, opening}
 use Rattle.ev_model.specs.Step.{step}
 use Rattle.ev_model.specs.Laws.{Told, world_told, IsEntryAt}
 use Rattle.ev_model.proofs.RunLemmas.{length-held}
-use Rattle.ev_model_laws.specs.Kept.{numbers_gone, UsesServed, HidesUnserved, HoldsPublished, NothingIsDue, DrawnOnce, HasParts, AreMade, ComesByEntries}
+use Rattle.ev_model_laws.specs.Kept.{numbers_gone, UsesServed, HidesUnserved, HoldsPublished, NothingIsDue, DrawnOnce, HasParts, AreMade, ComesByEntries, KeepsWatched}
 use Rattle.ev_model_laws.proofs.PlaceLemmas.{IsAnswered, Runs, entry_answered, world_next, gone_next}
 use Rattle.ev_model_laws.proofs.HeldLemmas.{opens_held, step-held}
 use Rattle.ev_model_laws.proofs.SettledLemmas.{settled_next}
@@ -30,6 +30,7 @@ use Rattle.ev_model_laws.proofs.ServesLemmas.{serves_next}
 use Rattle.ev_model_laws.proofs.ShownLemmas.{opens_shows, shows_next}
 use Rattle.ev_model.specs.Picture.{is_shown}
 use Rattle.ev_model.specs.Dead.{shown_at}
+use Rattle.ev_model_laws.proofs.WatchedLemmas.{opens_watched, step-watched}
 
 -- who may make an event is no worker, or one of so many
 pub may_known : (workers : ℕ) (actor : Actor) (event : Event) → MayMake workers actor event → IsKnown workers actor
@@ -74,6 +75,7 @@ parts_next told k entry run there parts =
           (step-drawn told.format world entry.actor entry.event (numbers_gone (take k told.journal)) parts.drawn);
       made = made;
       come = come;
+      watched = subst KeepsWatched (sym next) (step-watched told.format world entry.actor entry.event parts.watched);
       serves = serves_next told k entry there parts.serves made come;
       shows = shows_next told k entry there answered parts.serves parts.shows;
     }
@@ -99,6 +101,7 @@ parts_kept told run zero le = record {
   drawn = opens_drawn told.workers told.node;
   made = opens_made told.workers told.node;
   come = opens_come told.workers told.node;
+  watched = opens_watched told.workers told.node;
   serves = λ row there active. absurd (omega (arith, there.1));
   shows = λ version number shown. absurd (both_ways (is_shown number (shown_at (opening told.workers told.node) version)) (opens_shows told.workers told.node version number) shown);
 }

@@ -13,8 +13,9 @@ use Rattle.ev_types.specs.declared.events.Actor.TheVariants.{Worker}
 use Rattle.ev_types.specs.declared.events.Entry.{Entry}
 use Rattle.ev_model.specs.World.{World, Arrived, OpenMember}
 use Rattle.ev_model.specs.Picture.{has_number, is_shown, numbers_shown}
-use Rattle.ev_model.specs.Watching.{is_by_name}
-use Rattle.ev_model.specs.Warming.{is_word}
+use Rattle.ev_model.specs.Live.{lives_of}
+use Rattle.ev_model.specs.Watching.{is_by_name, is_watched}
+use Rattle.ev_model.specs.Warming.{is_word, is_told}
 use Rattle.ev_model.specs.Dead.{shown_at, version_held, is_open_on, is_in_use, is_in_use_by}
 use Rattle.ev_model.specs.Operations.{actor_same}
 use Rattle.ev_model.specs.Tidy.{is_due}
@@ -129,6 +130,11 @@ pub record ComesByEntries (world : World) (entries : List Entry) : Type 0 where
   pub arrivals : All (λ (a : Arrived). IsTrue (has_come_by entries a)) world.arrivals
   pub versions : All (λ (kept : KeptVersion). is_by_name kept.kind ≡ true → IsTrue (was_told entries kept.kind kept.name)) world.versions
 
+-- what came for names is kept only of names that are watched, and a version of endpoints or routes only of one that was told of
+pub record KeepsWatched (world : World) : Type 0 where
+  pub arrivals : All (λ (a : Arrived). IsTrue (is_watched (lives_of world) a.kind a.name)) world.arrivals
+  pub versions : All (λ (kept : KeptVersion). is_by_name kept.kind ≡ true → IsTrue (is_told world kept.kind kept.name)) world.versions
+
 -- after the first k entries each generation that serves had warmed
 abbrev pub ServesWarmed : Told → ℕ → Type 0
 ServesWarmed told k = (row : GenRow) → Contains (world_told told k).rows row → row.status ≡ Active → HadWarmed told row.number k
@@ -151,5 +157,6 @@ pub record HasParts (told : Told) (k : ℕ) : Type 0 where
   pub drawn : NumbersAreDrawnOnce told k
   pub made : AreMade (world_told told k) (take k told.journal)
   pub come : ComesByEntries (world_told told k) (take k told.journal)
+  pub watched : KeepsWatched (world_told told k)
   pub serves : ServesWarmed told k
   pub shows : ShowsWarmed told k
