@@ -1,196 +1,342 @@
--- The journal that rows give: it holds a front of each actor's operations, and where it is as long as all operations, all of
--- each. The rows of a journal that holds each actor's operations give that journal.
-use Rattle.std.proofs.Common.{◌≡◌, ◌≤◌, ◌<◌, ℕ, ◌+◌, ◌==◌, Bool, true, false, ◌&&◌, if◌then◌else◌, List, [], ◌∷◌, ◌++◌, map, filter, length, Option, Some, None, refl, ap, sym, ◌∙◌, subst, append-nil, append_assoc, length-append, arith}
-use Rattle.std.specs.Prelude.{slice_get, option_and_then}
+-- One row more: what a row that may come next tells of, and that nothing is found of the rows of a run.
+use Rattle.std.proofs.Common.{◌≡◌, inl, inr, ℕ, ◌==◌, Bool, true, false, not, ◌&&◌, ◌||◌, if◌then◌else◌, nat_lt, List, [], ◌∷◌, ◌++◌, map, Option, Some, None, refl, ap, sym, ◌∙◌, subst, append-nil}
+use Rattle.std.specs.Prelude.{⊤, find, option_map, unwrap_or}
+use Rattle.std.specs.List.{last_or, list_any, cons_option}
 use Rattle.std.specs.Cmp.{first_so, second_so}
-use Rattle.std.proofs.lemmas.List.{length-map, map-append, nil_from_length}
-use Rattle.std.proofs.lemmas.List.Elements.{All-get_or, filter-append, filter_passes}
-use Rattle.std.proofs.lemmas.Option.{slice_get_within, get_or_from_slice_get}
+use Rattle.std.proofs.lemmas.List.{map-append}
+use Rattle.std.proofs.lemmas.List.Elements.{filter_map-append, recursion_from_All}
+use Rattle.std.proofs.lemmas.Bool.{both_ways}
 use Rattle.ev_types.specs.Events.{op_of, op_same, op_decides}
 use Rattle.ev_types.specs.Same.{numbers_decide}
-use Rattle.ev_types.specs.Scripts.{ScriptParts}
+use Rattle.ev_types.specs.SameAnswers.{answer_same, answer_decides}
+use Rattle.ev_types.specs.Scripts.{ScriptParts, IsScript}
 use Rattle.ev_types.specs.declared.events.Actor.{Actor}
 use Rattle.ev_types.specs.declared.events.Entry.{Entry}
+use Rattle.ev_types.specs.declared.journals.Format.{Format}
 use Rattle.ev_types.specs.declared.journals.Row.{Row}
-use Rattle.ev_model.specs.Operations.{Operation, actor_same, all_operations, operations_of, operation_of, entries_of, entry_of, actor_decides}
-use Rattle.ev_model.specs.Finding.{next_operation, tells_of, entry_told, entry_for, going_on, journal_of}
-use Rattle.ev_model_laws.specs.LegalFindings.{row_of}
-use Rattle.ev_model_laws.proofs.FindingCounts.{made_by, made_first, as_many}
+use Rattle.ev_types.specs.declared.journals.Finding.{Finding}
+use Rattle.ev_types.specs.declared.journals.Finding.TheVariants.{IllegalAt, NotTheScript}
+use Rattle.ev_model.specs.Step.{step}
+use Rattle.ev_model.specs.Runs.{RunsFrom, world_after, is_batched, GoesOnWith, IsUnbroken}
+use Rattle.ev_model.specs.Operations.{Operation, AreDone, actor_same, actor_decides, is_earlier, all_operations, operations_of, operation_of, entry_of}
+use Rattle.ev_model.specs.Finding.{row_of, tells_of, entry_told, journal_told, next_operations, is_stray, breaks_batch, is_wrong, is_illegal, row_finding}
+use Rattle.ev_model.proofs.RunLemmas.{world_after-more, RunsFrom-more}
+use Rattle.ev_model_laws.proofs.OperationLists.{IsIn, at_in, in_filter, in_back}
+use Rattle.ev_model_laws.proofs.ScriptOperations.{IsAllowed, all_allowed}
+use Rattle.ev_model_laws.proofs.RisingOperations.{Earlier, IsRising, not_itself, operations_rise}
+use Rattle.ev_model_laws.proofs.DeedLemmas.{ops, rest_after, left_by, next_by, IsNext, IsFound, IsDoneTo, one_more_done, others_done, done_next, next_found, found_next}
+use Rattle.ev_model_laws.proofs.FindingDeeds.{eased, deed_at, marks, start, rests_at, left_at, marks_append, marks_own, marks_other, next_is}
 
--- what entries hold for an actor, one list after another
-entries_append : (before more : List Entry) (actor : Actor) → entries_of (before ++ more) actor ≡ entries_of before actor ++ entries_of more actor
-entries_append before more actor =
-    ap (made_by actor) (map-append operation_of before more)
-    ∙ filter-append (λ (o : Operation). actor_same o.actor actor) (map operation_of before) (map operation_of more)
+-- what it is that a row tells of an operation
+record IsTold (row : Row) (o : Operation) : Type 0 where
+  at : row.at ≡ o.at
+  step_same : row.step ≡ o.step
+  word : row.op ≡ op_of o.event
 
--- the element behind a front
-got_behind : {X : Type 0} (xs : List X) (x : X) (ys : List X) → slice_get (xs ++ x ∷ ys) (length xs) ≡ Some x
-got_behind [] x ys = refl
-got_behind (first ∷ xs) x ys = got_behind xs x ys
+told : (row : Row) (o : Operation) → tells_of row o ≡ true → IsTold row o
+told row o h =
+    let numbers : ((row.at == o.at) && (row.step == o.step)) ≡ true =
+    first_so ((row.at == o.at) && (row.step == o.step)) (op_same row.op (op_of o.event)) h in
+    record {
+      at = (numbers_decide row.at o.at).0 (first_so (row.at == o.at) (row.step == o.step) numbers);
+      step_same = (numbers_decide row.step o.step).0 (second_so (row.at == o.at) (row.step == o.step) numbers);
+      word = (op_decides row.op (op_of o.event)).0 (second_so ((row.at == o.at) && (row.step == o.step)) (op_same row.op (op_of o.event)) h);
+    }
 
--- the next entry is told by its row
-told_next : (script : ScriptParts) (before : List Entry) (entry : Entry) (rest : List Entry)
-    → ((actor : Actor) → entries_of (before ++ entry ∷ rest) actor ≡ operations_of script actor)
-    → entry_for script before (row_of entry) ≡ Some entry
-told_next script before entry rest holds =
-    let next : next_operation script before entry.actor ≡ Some (operation_of entry) =
-    ap (λ os. slice_get os (length (entries_of before entry.actor)))
-    (sym (holds entry.actor) ∙ entries_append before (entry ∷ rest) entry.actor
-    ∙ ap (λ os. entries_of before entry.actor ++ os) (made_first entry.actor (operation_of entry) (map operation_of rest) refl))
-    ∙ got_behind (entries_of before entry.actor) (operation_of entry) (entries_of rest entry.actor) in
+tells_itself : (entry : Entry) → tells_of (row_of entry) (operation_of entry) ≡ true
+tells_itself entry =
     let at : (entry.at == entry.at) ≡ true = (numbers_decide entry.at entry.at).1 refl in
     let steps : (entry.step == entry.step) ≡ true = (numbers_decide entry.step entry.step).1 refl in
     let word : op_same (op_of entry.event) (op_of entry.event) ≡ true = (op_decides (op_of entry.event) (op_of entry.event)).1 refl in
-    ap (option_and_then (entry_told (row_of entry))) next ∙ simp (at, steps, word) refl
+    simp (at, steps, word) refl
 
--- so the rows of a journal give the journal
-pub told_back : (script : ScriptParts) (before rest : List Entry)
-    → ((actor : Actor) → entries_of (before ++ rest) actor ≡ operations_of script actor)
-    → journal_of script before (map row_of rest) ≡ before ++ rest
-told_back script before [] holds = sym (append-nil before)
-told_back script before (entry ∷ rest) holds =
-    ap (going_on before (λ (e : Entry). journal_of script (before ++ e ∷ []) (map row_of rest))) (told_next script before entry rest holds)
-    ∙ told_back script (before ++ entry ∷ []) rest (λ actor. ap (λ j. entries_of j actor) (append_assoc before (entry ∷ []) rest) ∙ holds actor)
-    ∙ append_assoc before (entry ∷ []) rest
+-- two that a row tells of are at one place
+at_one_place : (row : Row) (a b : Operation) → tells_of row a ≡ true → tells_of row b ≡ true → is_earlier a b ≡ false
+at_one_place row a b one other =
+    let here : IsTold row a = told row a one in
+    let there : IsTold row b = told row b other in
+    let at : a.at ≡ b.at = sym here.at ∙ there.at in
+    let steps : a.step ≡ b.step = sym here.step_same ∙ there.step_same in
+    let same : is_earlier a b ≡ is_earlier b b =
+    λ i. nat_lt (at i) b.at || ((at i == b.at) && nat_lt (steps i) b.step) in
+    same ∙ not_itself b
 
--- an operation that a filter lets through passes its test
-got_passes : {X : Type 0} (p : X → Bool) (xs : List X) (k : ℕ) (x : X) → slice_get (filter p xs) k ≡ Some x → p x ≡ true
-got_passes p xs k x h =
-    ap p (sym (get_or_from_slice_get (filter p xs) k x x h))
-    ∙ All-get_or (λ y. p y ≡ true) (filter p xs) k x (slice_get_within (filter p xs) k x h) (filter_passes p xs)
+find_by : (row : Row) (x o : Operation) (os : List Operation) (tells : Bool) → tells_of row x ≡ tells
+    → (tells_of row x ≡ true → ⊥) → find (tells_of row) os ≡ Some o → (if tells then Some x else find (tells_of row) os) ≡ Some o
+find_by row x o os true h never e = absurd (never h)
+find_by row x o os false h never e = e
 
-some_same : {X : Type 0} (x y : X) → Some x ≡ Some y → x ≡ y
-some_same x y h = cc
+-- of rising operations a row tells of one alone
+find_told : (row : Row) (o : Operation) (os : List Operation) → IsRising os → IsIn o os → tells_of row o ≡ true → find (tells_of row) os ≡ Some o
+find_told row o [] rising is h = absurd is
+find_told row o (x ∷ os) rising (inl e) h =
+    ap (λ b. if b then Some x else find (tells_of row) os) (ap (tells_of row) e ∙ h) ∙ ap Some e
+find_told row o (x ∷ os) rising (inr is) h =
+    find_by row x o os (tells_of row x) refl
+    (λ t. both_ways (is_earlier x o) (at_one_place row x o t h) (at_in (Earlier x) o os rising.0 is))
+    (find_told row o os rising.1 is h)
 
--- what an entry that a row is tells of the row and of the operation
-abbrev IsToldBy : Row → Option Operation → Entry → Type 0
-IsToldBy row next entry = (row_of entry ≡ row) × (next ≡ Some (operation_of entry))
+-- the entry that a row is, by its operation
+entry_is : (script : ScriptParts) → IsScript script → (row : Row) (o : Operation) → IsIn o (operations_of script row.actor) → tells_of row o ≡ true
+    → entry_told script row ≡ Some (entry_of o row.answer)
+entry_is script kept row o is h =
+    ap (option_map (λ (p : Operation). entry_of p row.answer)) (find_told row o (operations_of script row.actor) (operations_rise script row.actor kept) is h)
 
-told_if : (row : Row) (o : Operation) (entry : Entry) (tells : Bool) → tells_of row o ≡ tells → o.actor ≡ row.actor
-    → (if tells then Some (entry_of o row.answer) else None) ≡ Some entry → IsToldBy row (Some o) entry
-told_if row o entry true h actor found =
-    let same : entry_of o row.answer ≡ entry = some_same (entry_of o row.answer) entry found in
-    let numbers : ((row.at == o.at) && (row.step == o.step)) ≡ true =
-    first_so ((row.at == o.at) && (row.step == o.step)) (op_same row.op (op_of o.event)) h in
-    let at : row.at ≡ o.at = (numbers_decide row.at o.at).0 (first_so (row.at == o.at) (row.step == o.step) numbers) in
-    let steps : row.step ≡ o.step = (numbers_decide row.step o.step).0 (second_so (row.at == o.at) (row.step == o.step) numbers) in
-    let word : row.op ≡ op_of o.event =
-    (op_decides row.op (op_of o.event)).0 (second_so ((row.at == o.at) && (row.step == o.step)) (op_same row.op (op_of o.event)) h) in (
-      ap row_of (sym same)
-          ∙ (λ i. record { actor = actor i; at = sym at i; step = sym steps i; op = sym word i; answer = row.answer }),
-      ap (λ (e : Entry). Some (operation_of e)) same,
-    )
-told_if row o entry false h actor found = cc
+-- what may come next is the script's
+next_in : (rests : Bool) (os done : List Operation) (o : Operation) → IsNext rests (left_by os done) o → IsIn o os
+next_in rests os done o next =
+    (in_filter _ o os (subst (IsIn o) next.whole (in_back o next.skipped (o ∷ next.behind) (inl refl)))).0
 
-told_by : (script : ScriptParts) (row : Row) (next : Option Operation) (entry : Entry)
-    → ((o : Operation) → next ≡ Some o → o.actor ≡ row.actor)
-    → option_and_then (entry_told row) next ≡ Some entry → IsToldBy row next entry
-told_by script row None entry actor found = cc
-told_by script row (Some o) entry actor found = told_if row o entry (tells_of row o) refl (actor o refl) found
+-- no entry breaks into the batch of the one before it
+abbrev Joins : Entry → List Entry → Type 0
+Joins before [] = ⊤
+Joins before (entry ∷ entries) = is_batched before.event ≡ true → entry.actor ≡ before.actor
 
--- the entry that a row is: it gives the row, and is its actor's next operation
-entry_tells : (script : ScriptParts) (before : List Entry) (row : Row) (entry : Entry) → entry_for script before row ≡ Some entry
-    → IsToldBy row (next_operation script before row.actor) entry
-entry_tells script before row entry found =
-    told_by script row (next_operation script before row.actor) entry
-    (λ (o : Operation) h.
-    (actor_decides o.actor row.actor).0
-    (got_passes (λ (o : Operation). actor_same o.actor row.actor) (all_operations script) (length (entries_of before row.actor)) o h))
-    found
+abbrev pub AreJoined : List Entry → Type 0
+AreJoined [] = ⊤
+AreJoined (entry ∷ entries) = Joins entry entries × AreJoined entries
 
--- a journal of these rows has no more entries than they are, and where it has as many it is theirs
-abbrev pub Tells : List Entry → List Row → List Entry → Type 0
-Tells before rows journal =
-    (length journal ≤ length before + length rows)
-    × (length journal ≡ length before + length rows → map row_of journal ≡ map row_of before ++ rows)
+kept_by : (batched same : Bool) → (batched && not same) ≡ false → batched ≡ true → same ≡ true
+kept_by true true h is = refl
+kept_by true false h is = sym h
+kept_by false same h is = cc
 
-tells_by : (script : ScriptParts) (before : List Entry) (row : Row) (rows : List Row) (found : Option Entry)
-    → entry_for script before row ≡ found
-    → ((entry : Entry) → Tells (before ++ entry ∷ []) rows (journal_of script (before ++ entry ∷ []) rows))
-    → Tells before (row ∷ rows) (going_on before (λ (entry : Entry). journal_of script (before ++ entry ∷ []) rows) found)
-tells_by script before row rows None h more = (omega arith, λ long. absurd (omega arith))
-tells_by script before row rows (Some entry) h more =
-    let long : length (before ++ entry ∷ []) ≡ length before + 1 = length-append before (entry ∷ []) in
-    let least : length (journal_of script (before ++ entry ∷ []) rows) ≤ length (before ++ entry ∷ []) + length rows = (more entry).0 in
-    let row_same : row_of entry ≡ row = (entry_tells script before row entry h).0 in (
-      omega arith,
-      λ all.
-          (more entry).1 (omega arith)
-          ∙ ap (λ rs. rs ++ rows) (map-append row_of before (entry ∷ []) ∙ ap (λ r. map row_of before ++ r ∷ []) row_same)
-          ∙ append_assoc (map row_of before) (row ∷ []) rows,
-    )
+joined_more : (journal : List Entry) (entry : Entry) → AreJoined journal → breaks_batch (last_or None journal) entry ≡ false → AreJoined (journal ++ entry ∷ [])
+joined_more [] entry joined h = (tt, tt)
+joined_more (first ∷ []) entry joined h = (
+  λ is. (actor_decides entry.actor first.actor).0 (kept_by (is_batched first.event) (actor_same entry.actor first.actor) h is),
+  (tt, tt),
+)
+joined_more (first ∷ next ∷ journal) entry joined h = (joined.0, joined_more (next ∷ journal) entry joined.1 h)
 
-pub tells : (script : ScriptParts) (before : List Entry) (rows : List Row) → Tells before rows (journal_of script before rows)
-tells script before [] = (omega arith, λ h. sym (append-nil (map row_of before)))
-tells script before (row ∷ rows) =
-    tells_by script before row rows (entry_for script before row) refl (λ (entry : Entry). tells script (before ++ entry ∷ []) rows)
+-- the journal of these rows, so far: it is a run, breaks no batch, and each actor's deeds are done so far
+pub record IsSoFar (format : Format) (script : ScriptParts) (rows : List Row) (journal : List Entry) : Type 0 where
+  pub rows_are : map row_of journal ≡ rows
+  pub run : RunsFrom format script.workers (start script) journal
+  pub joined : AreJoined journal
+  pub done : (actor : Actor) → IsDoneTo (eased format true) (operations_of script actor) (marks format (start script) journal actor)
 
--- a list begins with another
-abbrev BeginsWith : List Operation → List Operation → Type 0
-BeginsWith os front = (rest : List Operation) × (front ++ rest ≡ os)
+none_parts : (stray illegal : Bool) (a b : Finding) → (if stray then Some a else (if illegal then Some b else None)) ≡ None → (stray ≡ false) × (illegal ≡ false)
+none_parts true illegal a b h = cc
+none_parts false true a b h = cc
+none_parts false false a b h = (refl, refl)
 
-goes_on_by : (os front : List Operation) (next : Operation) (rest : List Operation) → front ++ rest ≡ os
-    → slice_get os (length front) ≡ Some next → BeginsWith os (front ++ next ∷ [])
-goes_on_by os front next [] whole h =
-    let within : length front < length os = slice_get_within os (length front) next h in
-    let long : length front ≡ length os = ap length (sym (append-nil front) ∙ whole) in
-    absurd (omega arith)
-goes_on_by os front next (o ∷ rest) whole h =
-    let same : o ≡ next = some_same o next (sym (got_behind front o rest) ∙ ap (λ xs. slice_get xs (length front)) whole ∙ h) in
-    (rest, append_assoc front (next ∷ []) rest ∙ ap (λ n. front ++ n ∷ rest) (sym same) ∙ whole)
+legal_parts : (answered breaks : Bool) → (not answered || breaks) ≡ false → (answered ≡ true) × (breaks ≡ false)
+legal_parts true breaks h = (refl, h)
+legal_parts false breaks h = cc
 
--- the entries are a front of each actor's operations
-abbrev pub AreFronts : ScriptParts → List Entry → Type 0
-AreFronts script journal = (actor : Actor) → BeginsWith (operations_of script actor) (entries_of journal actor)
+is_so : (b : Bool) → not b ≡ false → b ≡ true
+is_so true h = refl
+is_so false h = sym h
 
-front_by : (script : ScriptParts) (before : List Entry) (entry : Entry) (actor : Actor) (same : Bool) → actor_same entry.actor actor ≡ same
-    → AreFronts script before → next_operation script before entry.actor ≡ Some (operation_of entry)
-    → BeginsWith (operations_of script actor) (entries_of before actor ++ entries_of (entry ∷ []) actor)
-front_by script before entry actor true h fronts next =
+-- a row of which nothing is found: its operation may come next, and its entry is answered as the machine answers it
+record IsRight (format : Format) (script : ScriptParts) (journal : List Entry) (row : Row) : Type 0 where
+  o : Operation
+  tells : tells_of row o ≡ true
+  next : IsNext (rests_at format script journal row.actor) (left_at format script journal row.actor) o
+  is_entry : entry_told script row ≡ Some (entry_of o row.answer)
+  answered : row.answer ≡ (step format (world_after format (start script) journal) o.actor o.event).1
+  unbroken : breaks_batch (last_or None journal) (entry_of o row.answer) ≡ false
+
+right : (format : Format) (script : ScriptParts) → IsScript script → (journal : List Entry) (number : ℕ) (row : Row)
+    → row_finding format script journal number row ≡ None → IsRight format script journal row
+right format script kept journal number row h =
+    let parts : (is_stray format script journal row ≡ false) × (is_illegal format script journal row ≡ false) =
+    none_parts (is_stray format script journal row) (is_illegal format script journal row) (NotTheScript number) (IllegalAt number) h in
+    let any : list_any (tells_of row) (next_operations format script journal row.actor) ≡ true =
+    is_so (list_any (tells_of row) (next_operations format script journal row.actor)) parts.0 in
+    let found : IsFound (tells_of row) (rests_at format script journal row.actor) (left_at format script journal row.actor) =
+    next_found (tells_of row) (rests_at format script journal row.actor) (left_at format script journal row.actor)
+    (ap (list_any (tells_of row)) (sym (next_is format script journal row.actor)) ∙ any) in
+    let there : IsIn found.found (operations_of script row.actor) =
+    next_in (rests_at format script journal row.actor) (operations_of script row.actor) (ops (marks format (start script) journal row.actor)) found.found found.next in
+    let is_entry : entry_told script row ≡ Some (entry_of found.found row.answer) = entry_is script kept row found.found there found.passes in
+    let legal : is_wrong format script journal (entry_of found.found row.answer) ≡ false =
+    ap (λ (e : Option Entry). unwrap_or (option_map (is_wrong format script journal) e) false) (sym is_entry) ∙ parts.1 in
+    let both : (answer_same row.answer (step format (world_after format (start script) journal) found.found.actor found.found.event).1 ≡ true)
+    × (breaks_batch (last_or None journal) (entry_of found.found row.answer) ≡ false) =
+    legal_parts (answer_same row.answer (step format (world_after format (start script) journal) found.found.actor found.found.event).1)
+    (breaks_batch (last_or None journal) (entry_of found.found row.answer)) legal in
+    record {
+      o = found.found;
+      tells = found.passes;
+      next = found.next;
+      is_entry = is_entry;
+      answered = (answer_decides row.answer (step format (world_after format (start script) journal) found.found.actor found.found.event).1).0 both.0;
+      unbroken = both.1;
+    }
+
+-- the deeds so far of one actor, with one entry more
+done_by : (format : Format) (script : ScriptParts) → IsScript script → (journal : List Entry) (entry : Entry) (actor : Actor) (same : Bool)
+    → actor_same entry.actor actor ≡ same
+    → IsNext (rests_at format script journal entry.actor) (left_at format script journal entry.actor) (operation_of entry)
+    → IsDoneTo (eased format true) (operations_of script actor) (marks format (start script) journal actor)
+    → IsDoneTo (eased format true) (operations_of script actor) (marks format (start script) (journal ++ entry ∷ []) actor)
+done_by format script kept journal entry actor true h next done =
     let is : entry.actor ≡ actor = (actor_decides entry.actor actor).0 h in
-    let front : BeginsWith (operations_of script actor) (entries_of before actor) = fronts actor in
-    simp h
-    (goes_on_by (operations_of script actor) (entries_of before actor) (operation_of entry) front.0 front.1
-    (ap (next_operation script before) (sym is) ∙ next))
-front_by script before entry actor false h fronts next =
-    let front : BeginsWith (operations_of script actor) (entries_of before actor) = fronts actor in
-    simp h (front.0, ap (λ os. os ++ front.0) (append-nil (entries_of before actor)) ∙ front.1)
+    let here : IsNext (rests_at format script journal actor) (left_at format script journal actor) (operation_of entry) =
+    subst (λ a. IsNext (rests_at format script journal a) (left_at format script journal a) (operation_of entry)) is next in
+    subst (IsDoneTo (eased format true) (operations_of script actor))
+    (sym
+    (marks_append format (start script) journal (entry ∷ []) actor
+    ∙ ap (λ ds. marks format (start script) journal actor ++ ds) (marks_own format (world_after format (start script) journal) entry [] actor h)))
+    (one_more_done (eased format true) (operations_of script actor) (marks format (start script) journal actor)
+    (deed_at format (world_after format (start script) journal) entry) (operations_rise script actor kept) done here)
+done_by format script kept journal entry actor false h next done =
+    subst (IsDoneTo (eased format true) (operations_of script actor))
+    (sym
+    (marks_append format (start script) journal (entry ∷ []) actor
+    ∙ ap (λ ds. marks format (start script) journal actor ++ ds) (marks_other format (world_after format (start script) journal) entry [] actor h)
+    ∙ append-nil (marks format (start script) journal actor)))
+    done
 
-fronts_by : (script : ScriptParts) (before : List Entry) (row : Row) (rows : List Row) (found : Option Entry)
-    → entry_for script before row ≡ found → AreFronts script before
-    → ((entry : Entry) → AreFronts script (before ++ entry ∷ []) → AreFronts script (journal_of script (before ++ entry ∷ []) rows))
-    → AreFronts script (going_on before (λ (entry : Entry). journal_of script (before ++ entry ∷ []) rows) found)
-fronts_by script before row rows None h fronts more = fronts
-fronts_by script before row rows (Some entry) h fronts more =
-    let told : IsToldBy row (next_operation script before row.actor) entry = entry_tells script before row entry h in
-    let next : next_operation script before entry.actor ≡ Some (operation_of entry) =
-    ap (λ (r : Row). next_operation script before r.actor) told.0 ∙ told.1 in
-    more entry
-    (λ actor.
-    subst (λ os. BeginsWith (operations_of script actor) os) (sym (entries_append before (entry ∷ []) actor))
-    (front_by script before entry actor (actor_same entry.actor actor) refl fronts next))
+-- the journal of rows and one row more
+pub told_more : (script : ScriptParts) (rows : List Row) (row : Row) (journal : List Entry) (entry : Entry) → journal_told script rows ≡ journal
+    → entry_told script row ≡ Some entry → journal_told script (rows ++ row ∷ []) ≡ journal ++ entry ∷ []
+told_more script rows row journal entry told is =
+    filter_map-append (entry_told script) rows (row ∷ [])
+    ∙ ap (λ es. es ++ cons_option (entry_told script row) []) told
+    ∙ ap (λ (e : Option Entry). journal ++ cons_option e []) is
 
--- the entries of a journal of rows are a front of each actor's operations
-pub fronts_of : (script : ScriptParts) (before : List Entry) (rows : List Row) → AreFronts script before → AreFronts script (journal_of script before rows)
-fronts_of script before [] fronts = fronts
-fronts_of script before (row ∷ rows) fronts =
-    fronts_by script before row rows (entry_for script before row) refl fronts
-    (λ (entry : Entry) more. fronts_of script (before ++ entry ∷ []) rows more)
+-- so far, with a row of which nothing is found
+pub more_so_far : (format : Format) (script : ScriptParts) → IsScript script → (rows : List Row) (number : ℕ) (row : Row)
+    → IsSoFar format script rows (journal_told script rows) → row_finding format script (journal_told script rows) number row ≡ None
+    → IsSoFar format script (rows ++ row ∷ []) (journal_told script (rows ++ row ∷ []))
+more_so_far format script kept rows number row so_far none =
+    let journal : List Entry = journal_told script rows in
+    let r : IsRight format script (journal_told script rows) row = right format script kept (journal_told script rows) number row none in
+    let there : IsIn r.o (operations_of script row.actor) =
+    next_in (rests_at format script journal row.actor) (operations_of script row.actor) (ops (marks format (start script) journal row.actor)) r.o r.next in
+    let parts : IsIn r.o (all_operations script) × (actor_same r.o.actor row.actor ≡ true) = in_filter (λ (o : Operation). actor_same o.actor row.actor) r.o (all_operations script) there in
+    let actor : r.o.actor ≡ row.actor = (actor_decides r.o.actor row.actor).0 parts.1 in
+    let t : IsTold row r.o = told row r.o r.tells in
+    let same : row_of (entry_of r.o row.answer) ≡ row =
+    λ i. record { actor = actor i; at = sym t.at i; step = sym t.step_same i; op = sym t.word i; answer = row.answer } in
+    let more : IsSoFar format script (rows ++ row ∷ []) (journal ++ entry_of r.o row.answer ∷ []) = record {
+      rows_are = map-append row_of journal (entry_of r.o row.answer ∷ []) ∙ ap (λ rs. rs ++ row_of (entry_of r.o row.answer) ∷ []) so_far.rows_are ∙ ap (λ x. rows ++ x ∷ []) same;
+      run =
+          RunsFrom-more format script.workers (start script) journal (entry_of r.o row.answer) so_far.run
+          (at_in (IsAllowed script.workers) r.o (all_operations script) (recursion_from_All (IsAllowed script.workers) (all_operations script) (all_allowed script kept)) parts.0)
+          r.answered;
+      joined = joined_more journal (entry_of r.o row.answer) so_far.joined r.unbroken;
+      done = λ a.
+          done_by format script kept journal (entry_of r.o row.answer) a (actor_same r.o.actor a) refl
+          (subst (λ b. IsNext (rests_at format script journal b) (left_at format script journal b) r.o) (sym actor) r.next)
+          (so_far.done a);
+    } in
+    subst (IsSoFar format script (rows ++ row ∷ [])) (sym (told_more script rows row journal (entry_of r.o row.answer) refl r.is_entry)) more
 
-whole_by : (os front rest : List Operation) → front ++ rest ≡ os → length front ≡ length os → front ≡ os
-whole_by os front rest whole long =
-    let both : length front + length rest ≡ length os = sym (length-append front rest) ∙ ap length whole in
-    sym (append-nil front) ∙ ap (λ r. front ++ r) (sym (nil_from_length rest (omega arith))) ∙ whole
+-- behind an accept or close goes an entry of its actor
+abbrev pub Follows : Option Entry → List Entry → Type 0
+Follows None entries = ⊤
+Follows (Some before) entries = is_batched before.event ≡ true → GoesOnWith before.actor entries
 
--- fronts that are as long as all operations together are each actor's whole
-pub fronts_hold : (script : ScriptParts) (journal : List Entry) → AreFronts script journal → length journal ≡ length (all_operations script)
-    → (actor : Actor) → entries_of journal actor ≡ operations_of script actor
-fronts_hold script journal fronts long actor =
-    whole_by (operations_of script actor) (entries_of journal actor) (fronts actor).0 (fronts actor).1
-    (as_many (map operation_of journal) (all_operations script)
-    (λ a.
-    let both : length (entries_of journal a) + length (fronts a).0 ≡ length (operations_of script a) =
-    sym (length-append (entries_of journal a) (fronts a).0) ∙ ap length (fronts a).1 in
-    omega arith)
-    (length-map journal operation_of ∙ long)
-    actor)
+breaks_by : (batched same : Bool) → (batched ≡ true → same ≡ true) → (batched && not same) ≡ false
+breaks_by true same so = ap not (so refl)
+breaks_by false same so = refl
+
+breaks_none : (before : Option Entry) (entry : Entry) (entries : List Entry) → Follows before (entry ∷ entries) → breaks_batch before entry ≡ false
+breaks_none None entry entries follows = refl
+breaks_none (Some before) entry entries follows =
+    breaks_by (is_batched before.event) (actor_same entry.actor before.actor) (λ h. (actor_decides entry.actor before.actor).1 (follows h))
+
+-- what is left of a run behind these entries: it goes on as the machine does, and each actor's deeds are done of what is left
+pub record IsAhead (format : Format) (script : ScriptParts) (before after : List Entry) : Type 0 where
+  pub run : RunsFrom format script.workers (world_after format (start script) before) after
+  pub follows : Follows (last_or None before) after
+  pub unbroken : IsUnbroken after
+  pub done : (actor : Actor)
+      → AreDone (rests_at format script before actor) (left_at format script before actor)
+      (marks format (world_after format (start script) before) after actor)
+
+last_is : (before : Option Entry) (entries : List Entry) (entry : Entry) → last_or before (entries ++ entry ∷ []) ≡ Some entry
+last_is before [] entry = refl
+last_is before (first ∷ entries) entry = last_is (Some first) entries entry
+
+-- the entry that comes next may come next
+ahead_next : (format : Format) (script : ScriptParts) (before : List Entry) (entry : Entry) (after : List Entry) → IsAhead format script before (entry ∷ after)
+    → IsNext (rests_at format script before entry.actor) (left_at format script before entry.actor) (operation_of entry)
+ahead_next format script before entry after ahead =
+    (done_next (rests_at format script before entry.actor) (left_at format script before entry.actor) (deed_at format (world_after format (start script) before) entry)
+    (marks format (step format (world_after format (start script) before) entry.actor entry.event).0 after entry.actor)
+    (subst (AreDone (rests_at format script before entry.actor) (left_at format script before entry.actor))
+    (marks_own format (world_after format (start script) before) entry after entry.actor ((actor_decides entry.actor entry.actor).1 refl))
+    (ahead.done entry.actor))).next
+
+-- its row gives it
+pub ahead_entry : (format : Format) (script : ScriptParts) → IsScript script → (before : List Entry) (entry : Entry) (after : List Entry)
+    → IsAhead format script before (entry ∷ after) → entry_told script (row_of entry) ≡ Some entry
+ahead_entry format script kept before entry after ahead =
+    entry_is script kept (row_of entry) (operation_of entry)
+    (next_in (rests_at format script before entry.actor) (operations_of script entry.actor) (ops (marks format (start script) before entry.actor))
+    (operation_of entry) (ahead_next format script before entry after ahead))
+    (tells_itself entry)
+
+-- nothing is found of its row
+pub ahead_none : (format : Format) (script : ScriptParts) → IsScript script → (before : List Entry) (entry : Entry) (after : List Entry) (number : ℕ)
+    → IsAhead format script before (entry ∷ after) → row_finding format script before number (row_of entry) ≡ None
+ahead_none format script kept before entry after number ahead =
+    let next : IsNext (rests_at format script before entry.actor) (left_at format script before entry.actor) (operation_of entry) =
+    ahead_next format script before entry after ahead in
+    let any : list_any (tells_of (row_of entry)) (next_operations format script before entry.actor) ≡ true =
+    ap (list_any (tells_of (row_of entry))) (next_is format script before entry.actor)
+    ∙ ap (λ os. list_any (tells_of (row_of entry)) (next_by (rests_at format script before entry.actor) os)) (sym next.whole)
+    ∙ found_next (tells_of (row_of entry)) (rests_at format script before entry.actor) next.skipped next.behind (operation_of entry) (tells_itself entry) next.passes in
+    let stray : is_stray format script before (row_of entry) ≡ false = ap not any in
+    let answered : answer_same entry.answer (step format (world_after format (start script) before) entry.actor entry.event).1 ≡ true =
+    (answer_decides entry.answer (step format (world_after format (start script) before) entry.actor entry.event).1).1 ahead.run.1 in
+    let legal : is_illegal format script before (row_of entry) ≡ false =
+    ap (λ (e : Option Entry). unwrap_or (option_map (is_wrong format script before) e) false) (ahead_entry format script kept before entry after ahead)
+    ∙ ap (λ b. not b || breaks_batch (last_or None before) entry) answered
+    ∙ breaks_none (last_or None before) entry after ahead.follows in
+    ap (λ b. if b then Some (NotTheScript number) else (if is_illegal format script before (row_of entry) then Some (IllegalAt number) else None)) stray
+    ∙ ap (λ b. if b then Some (IllegalAt number) else None) legal
+
+-- the deeds of one actor ahead, behind the next entry
+ahead_by : (format : Format) (script : ScriptParts) → IsScript script → (before : List Entry) (entry : Entry) (after : List Entry) (actor : Actor) (same : Bool)
+    → actor_same entry.actor actor ≡ same
+    → AreDone (rests_at format script before actor) (left_at format script before actor) (marks format (world_after format (start script) before) (entry ∷ after) actor)
+    → AreDone (rests_at format script (before ++ entry ∷ []) actor) (left_at format script (before ++ entry ∷ []) actor)
+    (marks format (step format (world_after format (start script) before) entry.actor entry.event).0 after actor)
+ahead_by format script kept before entry after actor true h done =
+    subst
+    (λ ds.
+    AreDone (rest_after (eased format true) ds) (left_by (operations_of script actor) (ops ds))
+    (marks format (step format (world_after format (start script) before) entry.actor entry.event).0 after actor))
+    (sym
+    (marks_append format (start script) before (entry ∷ []) actor
+    ∙ ap (λ ds. marks format (start script) before actor ++ ds) (marks_own format (world_after format (start script) before) entry [] actor h)))
+    (others_done (eased format true) (operations_of script actor) (marks format (start script) before actor)
+    (deed_at format (world_after format (start script) before) entry)
+    (marks format (step format (world_after format (start script) before) entry.actor entry.event).0 after actor)
+    (operations_rise script actor kept)
+    (subst (AreDone (rests_at format script before actor) (left_at format script before actor))
+    (marks_own format (world_after format (start script) before) entry after actor h) done))
+ahead_by format script kept before entry after actor false h done =
+    subst
+    (λ ds.
+    AreDone (rest_after (eased format true) ds) (left_by (operations_of script actor) (ops ds))
+    (marks format (step format (world_after format (start script) before) entry.actor entry.event).0 after actor))
+    (sym
+    (marks_append format (start script) before (entry ∷ []) actor
+    ∙ ap (λ ds. marks format (start script) before actor ++ ds) (marks_other format (world_after format (start script) before) entry [] actor h)
+    ∙ append-nil (marks format (start script) before actor)))
+    (subst (AreDone (rests_at format script before actor) (left_at format script before actor))
+    (marks_other format (world_after format (start script) before) entry after actor h) done)
+
+-- so the run goes on behind it
+pub ahead_more : (format : Format) (script : ScriptParts) → IsScript script → (before : List Entry) (entry : Entry) (after : List Entry)
+    → IsAhead format script before (entry ∷ after) → IsAhead format script (before ++ entry ∷ []) after
+ahead_more format script kept before entry after ahead =
+    let moved : (step format (world_after format (start script) before) entry.actor entry.event).0 ≡ world_after format (start script) (before ++ entry ∷ []) =
+    sym (world_after-more format (start script) before entry) in
+    record {
+      run = subst (λ world. RunsFrom format script.workers world after) moved ahead.run.2;
+      follows = subst (λ last. Follows last after) (sym (last_is None before entry)) ahead.unbroken.0;
+      unbroken = ahead.unbroken.1;
+      done = λ actor.
+          subst
+          (λ world.
+          AreDone (rests_at format script (before ++ entry ∷ []) actor) (left_at format script (before ++ entry ∷ []) actor) (marks format world after actor))
+          moved (ahead_by format script kept before entry after actor (actor_same entry.actor actor) refl (ahead.done actor));
+    }

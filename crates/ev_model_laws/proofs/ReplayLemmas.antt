@@ -1,26 +1,23 @@
--- Why a script has a replay: behind each accept or close stands an operation of the same worker, the last settle at least, so
--- that in the order of a replay such an operation stands directly behind.
-use Rattle.std.proofs.Common.{◌≡◌, ℕ, zero, suc, ◌+◌, ◌<◌, ◌≤◌, ◌==◌, Bool, true, false, ◌||◌, List, [], ◌∷◌, ◌++◌, map, refl, ap, ◌∙◌, arith}
+-- Why a script has one replay, and why it holds each actor's operations. In the order of a replay an accept or close stands in
+-- a batch of its actor, which another operation ends.
+use Rattle.std.proofs.Common.{◌≡◌, inl, inr, ℕ, Bool, true, false, not, List, [], ◌∷◌, ◌++◌, map, filter, refl, ap, sym, ◌∙◌, subst}
 use Rattle.std.specs.Prelude.{⊤}
-use Rattle.std.specs.List.{AllByRecursion as ByRecursion, list_any, range_with_len, flat_map}
-use Rattle.std.proofs.lemmas.Bool.{cond_both, or_right}
+use Rattle.std.specs.List.{AllByRecursion as ByRecursion, flat_map}
 use Rattle.std.proofs.lemmas.List.Elements.{recursion_from_All}
-use Rattle.std.proofs.lemmas.List.Folds.{list_any-append}
-use Rattle.ev_types.specs.Same.{numbers_decide}
-use Rattle.ev_types.specs.Events.{IsWorkerOf}
 use Rattle.ev_types.specs.Scripts.{ScriptParts}
 use Rattle.ev_types.specs.declared.events.Actor.{Actor}
-use Rattle.ev_types.specs.declared.events.Actor.TheVariants.{Stream, Health, Timer, Main, Worker}
+use Rattle.ev_types.specs.declared.events.Answer.{Answer}
+use Rattle.ev_types.specs.declared.events.Entry.{Entry}
+use Rattle.ev_types.specs.declared.journals.Format.{Format}
+use Rattle.ev_types.specs.declared.journals.Format.TheVariants.{One, Two}
 use Rattle.ev_model.specs.World.{World, opening}
 use Rattle.ev_model.specs.Step.{step}
 use Rattle.ev_model.specs.Runs.{RunsFrom, is_batched, GoesOnWith, IsUnbroken}
-use Rattle.ev_model.specs.Operations.{Operation, line_operations, last_settle, actor_same, actor_decides, all_operations, put_before_next, with_batches, replay_operations, operation_of, journal_from}
-use Rattle.ev_model_laws.specs.OneReplay.{HasReplay}
-use Rattle.ev_model_laws.proofs.ScriptOperations.{IsAllowed, all_allowed, of_worker}
-
--- one of these operations is the actor's
-abbrev has_one : Actor → List Operation → Bool
-has_one actor os = list_any (λ (o : Operation). actor_same o.actor actor) os
+use Rattle.ev_model.specs.Operations.{Operation, Deed, Fits, AreDone, actor_same, is_in_batch, with_batch, all_operations, operations_of, replay_operations, operation_of, entry_of, entries_of, journal_from, deeds_from, deeds_of}
+use Rattle.ev_model_laws.specs.OneReplay.{HasReplay, HasOneReplay, HoldsOperations, ReplayIsRunOf}
+use Rattle.ev_model_laws.proofs.OperationLists.{IsIn, at_in, each_in, in_filter, each_append, each_flat, map_filter}
+use Rattle.ev_model_laws.proofs.ScriptOperations.{IsAllowed, all_allowed, made_by}
+use Rattle.ev_model_laws.proofs.BatchLemmas.{batch_own, replay_keeps}
 
 -- the actor's is the first of these operations
 abbrev Begins : Actor → List Operation → Type 0
@@ -32,154 +29,135 @@ abbrev AreUnbroken : List Operation → Type 0
 AreUnbroken [] = ⊤
 AreUnbroken (o ∷ os) = (is_batched o.event ≡ true → Begins o.actor os) × AreUnbroken os
 
--- somewhere behind each accept or close stands an operation of its actor
-abbrev AreEnded : List Operation → Type 0
-AreEnded [] = ⊤
-AreEnded (o ∷ os) = (is_batched o.event ≡ true → has_one o.actor os ≡ true) × AreEnded os
+begins_append : (actor : Actor) (os others : List Operation) → Begins actor os → Begins actor (os ++ others)
+begins_append actor [] others begins = absurd begins
+begins_append actor (o ∷ os) others begins = begins
 
-or_else : (b c : Bool) → (b ≡ false → c ≡ true) → (b || c) ≡ true
-or_else true c h = refl
-or_else false c h = h refl
+unbroken_append : (os others : List Operation) → AreUnbroken os → AreUnbroken others → AreUnbroken (os ++ others)
+unbroken_append [] others one other = other
+unbroken_append (o ∷ os) others one other = (λ h. begins_append o.actor os others (one.0 h), unbroken_append os others one.1 other)
 
-or_so : (b c : Bool) → (b || c) ≡ true → b ≡ false → c ≡ true
-or_so true c h other = cc
-or_so false c h other = h
+batch_begins : (actor : Actor) (batch : List Operation) (last : Operation) → ((o : Operation) → IsIn o (batch ++ last ∷ []) → o.actor ≡ actor)
+    → Begins actor (batch ++ last ∷ [])
+batch_begins actor [] last own = own last (inl refl)
+batch_begins actor (o ∷ batch) last own = own o (inl refl)
 
-or_more : (b c d : Bool) → (c ≡ true → d ≡ true) → (b || c) ≡ true → (b || d) ≡ true
-or_more true c d more h = refl
-or_more false c d more h = more h
-
-or_later : (a b c d : Bool) → ((a || c) ≡ true → d ≡ true) → (a || (b || c)) ≡ true → (b || d) ≡ true
-or_later a true c d more h = refl
-or_later true false c d more h = more refl
-or_later false false c d more h = more h
-
--- an operation that is put among others stands there, and they do
-put_has : (actor : Actor) (o : Operation) (os : List Operation) → has_one actor (o ∷ os) ≡ true → has_one actor (put_before_next o os) ≡ true
-put_has actor o [] h = h
-put_has actor o (next ∷ os) h =
-    cond_both (actor_same next.actor o.actor) (o ∷ next ∷ os) (next ∷ put_before_next o os) (λ others. has_one actor others ≡ true)
-    (λ same. h)
-    (λ other. or_later (actor_same o.actor actor) (actor_same next.actor actor) (has_one actor os) (has_one actor (put_before_next o os)) (put_has actor o os) h)
-
-batches_have : (actor : Actor) (os : List Operation) → has_one actor os ≡ true → has_one actor (with_batches os) ≡ true
-batches_have actor [] h = h
-batches_have actor (o ∷ os) h =
-    let there : has_one actor (o ∷ with_batches os) ≡ true =
-    or_more (actor_same o.actor actor) (has_one actor os) (has_one actor (with_batches os)) (batches_have actor os) h in
-    cond_both (is_batched o.event) (put_before_next o (with_batches os)) (o ∷ with_batches os) (λ others. has_one actor others ≡ true)
-    (λ batched. put_has actor o (with_batches os) there)
-    (λ alone. there)
-
-put_all : (P : Operation → Type 0) (o : Operation) (os : List Operation) → P o → ByRecursion P os → ByRecursion P (put_before_next o os)
-put_all P o [] here all = (here, tt)
-put_all P o (next ∷ os) here all =
-    cond_both (actor_same next.actor o.actor) (o ∷ next ∷ os) (next ∷ put_before_next o os) (ByRecursion P)
-    (λ same. (here, all))
-    (λ other. (all.0, put_all P o os here all.1))
-
--- what holds of all operations holds of them in another order
-batches_all : (P : Operation → Type 0) (os : List Operation) → ByRecursion P os → ByRecursion P (with_batches os)
-batches_all P [] all = all
-batches_all P (o ∷ os) all =
-    cond_both (is_batched o.event) (put_before_next o (with_batches os)) (o ∷ with_batches os) (ByRecursion P)
-    (λ batched. put_all P o (with_batches os) all.0 (batches_all P os all.1))
-    (λ alone. (all.0, batches_all P os all.1))
-
--- an operation that is put among others of another actor leaves their first
-put_begins : (actor : Actor) (o : Operation) (os : List Operation) → actor_same actor o.actor ≡ false → Begins actor os
-    → Begins actor (put_before_next o os)
-put_begins actor o [] apart begins = absurd begins
-put_begins actor o (next ∷ os) apart begins =
-    cond_both (actor_same next.actor o.actor) (o ∷ next ∷ os) (next ∷ put_before_next o os) (Begins actor)
-    (λ same. let differs : actor_same next.actor o.actor ≡ false = ap (λ a. actor_same a o.actor) begins ∙ apart in cc)
-    (λ other. begins)
-
-put_unbroken : (o : Operation) (os : List Operation) → has_one o.actor os ≡ true → AreUnbroken os → AreUnbroken (put_before_next o os)
-put_unbroken o [] has unbroken = cc
-put_unbroken o (next ∷ os) has unbroken =
-    cond_both (actor_same next.actor o.actor) (o ∷ next ∷ os) (next ∷ put_before_next o os) AreUnbroken
-    (λ same. (λ batched. (actor_decides next.actor o.actor).0 same, unbroken))
-    (λ other. (
-      λ batched. put_begins next.actor o os other (unbroken.0 batched),
-      put_unbroken o os (or_so (actor_same next.actor o.actor) (has_one o.actor os) has other) unbroken.1,
-    ))
-
-batches_unbroken : (os : List Operation) → AreEnded os → AreUnbroken (with_batches os)
-batches_unbroken [] ended = tt
-batches_unbroken (o ∷ os) ended =
-    cond_both (is_batched o.event) (put_before_next o (with_batches os)) (o ∷ with_batches os) AreUnbroken
-    (λ batched. put_unbroken o (with_batches os) (batches_have o.actor os (ended.0 batched)) (batches_unbroken os ended.1))
-    (λ alone. (λ batched. cc, batches_unbroken os ended.1))
-
-has_behind : (actor : Actor) (os others : List Operation) → has_one actor others ≡ true → has_one actor (os ++ others) ≡ true
-has_behind actor os others h =
-    list_any-append (λ (o : Operation). actor_same o.actor actor) os others ∙ or_right (has_one actor os) (has_one actor others) h
-
--- operations end where others behind them end, and hold one of each worker
-ended_before : (workers : ℕ) (os others : List Operation) → ((actor : Actor) → IsWorkerOf workers actor → has_one actor others ≡ true)
-    → AreEnded others → ByRecursion (IsAllowed workers) (os ++ others) → AreEnded (os ++ others)
-ended_before workers [] others each ended allowed = ended
-ended_before workers (o ∷ os) others each ended allowed = (
-  λ batched. has_behind o.actor os others (each o.actor (of_worker workers o.actor o.event allowed.0 batched)),
-  ended_before workers os others each ended allowed.1,
+-- operations of one actor, the last of which is no accept or close, are unbroken
+batch_unbroken : (actor : Actor) (batch : List Operation) (last : Operation) → ((o : Operation) → IsIn o (batch ++ last ∷ []) → o.actor ≡ actor)
+    → is_batched last.event ≡ false → AreUnbroken (batch ++ last ∷ [])
+batch_unbroken actor [] last own ends = (λ h. cc, tt)
+batch_unbroken actor (o ∷ batch) last own ends = (
+  λ h. subst (λ a. Begins a (batch ++ last ∷ [])) (sym (own o (inl refl))) (batch_begins actor batch last (λ x is. own x (inr is))),
+  batch_unbroken actor batch last (λ x is. own x (inr is)) ends,
 )
 
--- each of these workers settles once more
-settles_have : (script : ScriptParts) (worker start n : ℕ) → start ≤ worker → worker < start + n
-    → has_one (Worker worker) (map (last_settle script) (range_with_len start n)) ≡ true
-settles_have script worker start zero least most = absurd (omega arith)
-settles_have script worker start (suc n) least most =
-    or_else (start == worker) (has_one (Worker worker) (map (last_settle script) (range_with_len (start + 1) n)))
-    (λ apart.
-    let other : start ≡ worker → ⊥ = λ e. let same : (start == worker) ≡ true = (numbers_decide start worker).1 e in cc in
-    settles_have script worker (start + 1) n (omega arith) (omega arith))
+not_so : (b : Bool) → not b ≡ true → b ≡ false
+not_so true h = sym h
+not_so false h = refl
 
-workers_settle : (script : ScriptParts) (actor : Actor) → IsWorkerOf script.workers actor
-    → has_one actor (map (last_settle script) (range_with_len 0 script.workers)) ≡ true
-workers_settle script Stream is = absurd is
-workers_settle script Health is = absurd is
-workers_settle script Timer is = absurd is
-workers_settle script Main is = absurd is
-workers_settle script (Worker worker) is = settles_have script worker 0 script.workers (omega arith) (omega arith)
+batches_unbroken : (os some : List Operation) → ((o : Operation) → IsIn o some → not (is_batched o.event) ≡ true) → AreUnbroken (flat_map (with_batch os) some)
+batches_unbroken os [] ended = tt
+batches_unbroken os (last ∷ some) ended =
+    unbroken_append (with_batch os last) (flat_map (with_batch os) some)
+    (batch_unbroken last.actor (filter (is_in_batch os last) os) last (λ x is. batch_own os last x is) (not_so (is_batched last.event) (ended last (inl refl))))
+    (batches_unbroken os some (λ x is. ended x (inr is)))
 
-settles_ended : (script : ScriptParts) (start n : ℕ) → AreEnded (map (last_settle script) (range_with_len start n))
-settles_ended script start zero = tt
-settles_ended script start (suc n) = (λ batched. cc, settles_ended script (start + 1) n)
+-- what holds of all operations holds of them in the order of a replay
+replay_all : (P : Operation → Type 0) (script : ScriptParts) → ByRecursion P (all_operations script) → ByRecursion P (replay_operations script)
+replay_all P script all =
+    let os : List Operation = all_operations script in
+    each_flat P (with_batch os) (filter (λ (o : Operation). not (is_batched o.event)) os)
+    (each_in (λ (o : Operation). ByRecursion P (with_batch os o)) (filter (λ (o : Operation). not (is_batched o.event)) os)
+    (λ last is.
+    each_append P (filter (is_in_batch os last) os) (last ∷ [])
+    (each_in P (filter (is_in_batch os last) os) (λ o there. at_in P o os all (in_filter (is_in_batch os last) o os there).0))
+    (at_in P last os all (in_filter (λ (o : Operation). not (is_batched o.event)) last os is).0, tt)))
 
-journal_begins : (world : World) (actor : Actor) (os : List Operation) → Begins actor os → GoesOnWith actor (journal_from world os)
-journal_begins world actor [] begins = begins
-journal_begins world actor (o ∷ os) begins = begins
+journal_begins : (format : Format) (world : World) (actor : Actor) (os : List Operation) → Begins actor os → GoesOnWith actor (journal_from format world os)
+journal_begins format world actor [] begins = begins
+journal_begins format world actor (o ∷ os) begins = begins
 
-journal_unbroken : (world : World) (os : List Operation) → AreUnbroken os → IsUnbroken (journal_from world os)
-journal_unbroken world [] unbroken = tt
-journal_unbroken world (o ∷ os) unbroken = (
-  λ batched. journal_begins (step world o.actor o.event).0 o.actor os (unbroken.0 batched),
-  journal_unbroken (step world o.actor o.event).0 os unbroken.1,
+journal_unbroken : (format : Format) (world : World) (os : List Operation) → AreUnbroken os → IsUnbroken (journal_from format world os)
+journal_unbroken format world [] unbroken = tt
+journal_unbroken format world (o ∷ os) unbroken = (
+  λ batched. journal_begins format (step format world o.actor o.event).0 o.actor os (unbroken.0 batched),
+  journal_unbroken format (step format world o.actor o.event).0 os unbroken.1,
 )
 
 -- operations that are allowed, one after another, are answered as the machine answers them
-journal_runs : (workers : ℕ) (world : World) (os : List Operation) → ByRecursion (IsAllowed workers) os → RunsFrom workers world (journal_from world os)
-journal_runs workers world [] allowed = tt
-journal_runs workers world (o ∷ os) allowed = (allowed.0, refl, journal_runs workers (step world o.actor o.event).0 os allowed.1)
+journal_runs : (format : Format) (workers : ℕ) (world : World) (os : List Operation) → ByRecursion (IsAllowed workers) os
+    → RunsFrom format workers world (journal_from format world os)
+journal_runs format workers world [] allowed = tt
+journal_runs format workers world (o ∷ os) allowed =
+    (allowed.0, refl, journal_runs format workers (step format world o.actor o.event).0 os allowed.1)
 
-journal_holds : (world : World) (os : List Operation) → map operation_of (journal_from world os) ≡ os
-journal_holds world [] = refl
-journal_holds world (o ∷ os) = ap (λ others. o ∷ others) (journal_holds (step world o.actor o.event).0 os)
+journal_holds : (format : Format) (world : World) (os : List Operation) → map operation_of (journal_from format world os) ≡ os
+journal_holds format world [] = refl
+journal_holds format world (o ∷ os) = ap (λ others. o ∷ others) (journal_holds format (step format world o.actor o.event).0 os)
 
 pub has_replay : HasReplay
-has_replay script kept =
-    let allowed : ByRecursion (IsAllowed script.workers) (all_operations script) =
-    recursion_from_All (IsAllowed script.workers) (all_operations script) (all_allowed script kept) in
-    let settles : List Operation = map (last_settle script) (range_with_len 0 script.workers) in
-    let ended : AreEnded (all_operations script) =
-    ended_before script.workers (flat_map (line_operations script) script.lines) settles (workers_settle script)
-    (settles_ended script 0 script.workers) allowed in
+has_replay format script kept =
+    let os : List Operation = all_operations script in
     let start : World = opening script.workers script.node in
     record {
       run = record {
-        answers = journal_runs script.workers start (replay_operations script) (batches_all (IsAllowed script.workers) (all_operations script) allowed);
-        batches = journal_unbroken start (replay_operations script) (batches_unbroken (all_operations script) ended);
+        answers =
+            journal_runs format script.workers start (replay_operations script)
+            (replay_all (IsAllowed script.workers) script (recursion_from_All (IsAllowed script.workers) os (all_allowed script kept)));
+        batches =
+            journal_unbroken format start (replay_operations script)
+            (batches_unbroken os (filter (λ (o : Operation). not (is_batched o.event)) os)
+            (λ o is. (in_filter (λ (p : Operation). not (is_batched p.event)) o os is).1));
       };
-      order = journal_holds start (replay_operations script);
+      order = journal_holds format start (replay_operations script);
     }
+
+-- a run is the journal of its own operations
+run_is : (format : Format) (workers : ℕ) (world : World) (journal : List Entry) → RunsFrom format workers world journal
+    → journal ≡ journal_from format world (map operation_of journal)
+run_is format workers world [] run = refl
+run_is format workers world (entry ∷ entries) run =
+    let first : entry ≡ entry_of (operation_of entry) (step format world entry.actor entry.event).1 =
+    ap (λ (answer : Answer). entry_of (operation_of entry) answer) run.1 in
+    let rest : entries ≡ journal_from format (step format world entry.actor entry.event).0 (map operation_of entries) =
+    run_is format workers (step format world entry.actor entry.event).0 entries run.2 in
+    λ i. first i ∷ rest i
+
+pub one_replay : HasOneReplay
+one_replay format script journal replay =
+    run_is format script.workers (opening script.workers script.node) journal replay.run.answers
+    ∙ ap (λ (os : List Operation). journal_from format (opening script.workers script.node) os) replay.order
+
+-- the operations of deeds are those of their entries
+all_deeds_hold : (format : Format) (world : World) (entries : List Entry)
+    → map (λ (d : Deed). d.operation) (deeds_from format world entries) ≡ map operation_of entries
+all_deeds_hold format world [] = refl
+all_deeds_hold format world (entry ∷ entries) =
+    ap (λ os. operation_of entry ∷ os) (all_deeds_hold format (step format world entry.actor entry.event).0 entries)
+
+pub deeds_hold : (format : Format) (script : ScriptParts) (journal : List Entry) (actor : Actor)
+    → map (λ (d : Deed). d.operation) (deeds_of format script journal actor) ≡ entries_of journal actor
+deeds_hold format script journal actor =
+    map_filter (λ (d : Deed). d.operation) (λ (o : Operation). actor_same o.actor actor) (deeds_from format (opening script.workers script.node) journal)
+    ∙ ap (made_by actor) (all_deeds_hold format (opening script.workers script.node) journal)
+
+-- deeds are done where they are the operations
+pub done_whole : (rests : Bool) (deeds : List Deed) → AreDone rests (map (λ (d : Deed). d.operation) deeds) deeds
+done_whole rests [] = tt
+done_whole rests (deed ∷ deeds) = inl (refl, done_whole deed.rests deeds)
+
+fits_whole : (format : Format) (script : ScriptParts) (journal : List Entry) (actor : Actor) → entries_of journal actor ≡ operations_of script actor
+    → Fits format script journal actor
+fits_whole One script journal actor e = e
+fits_whole Two script journal actor e =
+    subst (λ os. AreDone true os (deeds_of Two script journal actor)) (deeds_hold Two script journal actor ∙ e)
+    (done_whole true (deeds_of Two script journal actor))
+
+pub holds : HoldsOperations
+holds format script journal kept replay actor = ap (made_by actor) replay.order ∙ replay_keeps script kept actor
+
+pub is_run_of : ReplayIsRunOf
+is_run_of format script journal kept replay = record {
+  run = replay.run;
+  fits = λ actor. fits_whole format script journal actor (holds format script journal kept replay actor);
+}

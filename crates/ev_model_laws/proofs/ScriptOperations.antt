@@ -1,5 +1,5 @@
 -- The operations of a script: each may be made by its actor, and those of each worker end with a settle.
-use Rattle.std.proofs.Common.{◌≡◌, ◌≤◌, ◌<◌, ℕ, zero, suc, ◌+◌, ◌==◌, ◌⊎◌, inl, inr, Bool, true, false, ◌&&◌, if◌then◌else◌, List, [], ◌∷◌, ◌++◌, map, refl, ap, sym, ◌∙◌, subst, arith}
+use Rattle.std.proofs.Common.{◌≡◌, ◌≤◌, ◌<◌, ℕ, zero, suc, ◌+◌, ◌==◌, ◌⊎◌, inl, inr, Bool, true, false, ◌&&◌, if◌then◌else◌, List, [], ◌∷◌, ◌++◌, map, filter, refl, ap, ◌∙◌, subst, arith}
 use Rattle.std.specs.List.{All, AllByRecursion as ByRecursion, flat_map, range_with_len}
 use Rattle.std.specs.Cmp.{first_so, second_so}
 use Rattle.std.proofs.lemmas.List.Concat.{flat_map-cons}
@@ -10,11 +10,18 @@ use Rattle.ev_types.specs.Scripts.{ScriptParts, IsScript}
 use Rattle.ev_types.specs.declared.events.Actor.{Actor}
 use Rattle.ev_types.specs.declared.events.Actor.TheVariants.{Stream, Health, Timer, Main, Worker}
 use Rattle.ev_types.specs.declared.events.Event.{Event}
-use Rattle.ev_types.specs.declared.events.Event.TheVariants.{Connect, Disconnect, Response, Health as health, FetchTimeout, DrainTimeout, Publish, Reap, Accept, Close, Settle}
+use Rattle.ev_types.specs.declared.events.Event.TheVariants.{Connect, Disconnect, Response, Health as health, FetchTimeout, DrainTimeout, TtlExpired, Publish, Reap, Accept, Close, Settle}
 use Rattle.ev_types.specs.declared.events.Line.{Line}
 use Rattle.ev_model.specs.Runs.{is_batched}
-use Rattle.ev_model.specs.Operations.{Operation, line_operation, step_behind, last_settle, actor_same, is_automatic, is_full_at, followers, line_operations, all_operations, operations_of}
-use Rattle.ev_model_laws.proofs.FindingCounts.{made_by, made_first}
+use Rattle.ev_model.specs.Operations.{Operation, line_operation, step_behind, last_settle, actor_same, is_automatic, is_full_at, followers, line_operations, actor_decides, all_operations, operations_of}
+
+-- the operations of an actor, in order
+abbrev pub made_by : Actor → List Operation → List Operation
+made_by actor os = filter (λ (o : Operation). actor_same o.actor actor) os
+
+-- an operation by an actor and what follows, by that actor
+pub made_first : (actor : Actor) (o : Operation) (os : List Operation) → o.actor ≡ actor → made_by actor (o ∷ os) ≡ o ∷ made_by actor os
+made_first actor o os h = simp ((actor_decides o.actor actor).1 h) refl
 
 -- the operation's actor may make its event
 abbrev pub IsAllowed : ℕ → Operation → Type 0
@@ -35,6 +42,7 @@ of_worker workers actor (Response response) may h = cc
 of_worker workers actor (health cluster host healthy) may h = cc
 of_worker workers actor (FetchTimeout timeout) may h = cc
 of_worker workers actor (DrainTimeout listener) may h = cc
+of_worker workers actor (TtlExpired kind name) may h = cc
 of_worker workers actor Publish may h = cc
 of_worker workers actor Reap may h = cc
 of_worker workers actor (Accept ask) may h = may
@@ -100,7 +108,7 @@ abbrev pub ends_batched : Bool → List Operation → Bool
 ends_batched batched [] = batched
 ends_batched batched (o ∷ os) = ends_batched (is_batched o.event) os
 
-ends_append : (batched : Bool) (os others : List Operation) → ends_batched batched (os ++ others) ≡ ends_batched (ends_batched batched os) others
+pub ends_append : (batched : Bool) (os others : List Operation) → ends_batched batched (os ++ others) ≡ ends_batched (ends_batched batched os) others
 ends_append batched [] others = refl
 ends_append batched (o ∷ os) others = ends_append (is_batched o.event) os others
 
@@ -131,7 +139,7 @@ settles_end script worker start (suc n) batched among =
     settle_ends_by script worker start n (start == worker) batched refl among (settles_end script worker (start + 1) n)
 
 -- so the operations of each worker end with a settle
-worker_settles : (script : ScriptParts) (actor : Actor) (batched : Bool) → IsWorkerOf script.workers actor
+pub worker_settles : (script : ScriptParts) (actor : Actor) (batched : Bool) → IsWorkerOf script.workers actor
     → ends_batched batched (operations_of script actor) ≡ false
 worker_settles script Stream batched is = absurd is
 worker_settles script Health batched is = absurd is
@@ -178,22 +186,20 @@ open_batch workers [] batched allowed ends = inl (refl, ends)
 open_batch workers (o ∷ os) batched allowed ends =
     inr (open_by workers o os allowed.0 (open_batch workers os (is_batched o.event) allowed.1 ends))
 
-none_open : (script : ScriptParts) (os : List Operation) → ((actor : Actor) → made_by actor os ≡ operations_of script actor)
-    → ((os ≡ []) × (false ≡ true)) ⊎ HasOpenBatch script.workers os → ⊥
-none_open script os holds (inl last) = cc
-none_open script os holds (inr batch) =
-    let settled : ends_batched false (operations_of script batch.actor) ≡ false = worker_settles script batch.actor false batch.worker in
-    let opened : ends_batched false (operations_of script batch.actor) ≡ true =
-    ap (ends_batched false) (sym (holds batch.actor)) ∙ batch.ends false in
-    cc
+none_open : (workers : ℕ) (os : List Operation)
+    → ((actor : Actor) → IsWorkerOf workers actor → ends_batched false (made_by actor os) ≡ true → ⊥)
+    → ((os ≡ []) × (false ≡ true)) ⊎ HasOpenBatch workers os → ⊥
+none_open workers os none (inl last) = cc
+none_open workers os none (inr batch) = none batch.actor batch.worker (batch.ends false)
 
-no_open_batch_by : (script : ScriptParts) (os : List Operation) (ends : Bool) → ends_batched false os ≡ ends
-    → ((actor : Actor) → made_by actor os ≡ operations_of script actor) → ByRecursion (IsAllowed script.workers) os
-    → ends_batched false os ≡ false
-no_open_batch_by script os true h holds allowed = absurd (none_open script os holds (open_batch script.workers os false allowed h))
-no_open_batch_by script os false h holds allowed = h
+no_open_batch_by : (workers : ℕ) (os : List Operation) (ends : Bool) → ends_batched false os ≡ ends
+    → ((actor : Actor) → IsWorkerOf workers actor → ends_batched false (made_by actor os) ≡ true → ⊥)
+    → ByRecursion (IsAllowed workers) os → ends_batched false os ≡ false
+no_open_batch_by workers os true h none allowed = absurd (none_open workers os none (open_batch workers os false allowed h))
+no_open_batch_by workers os false h none allowed = h
 
--- operations that are a script's, actor by actor, don't end with an accept or a close
-pub no_open_batch : (script : ScriptParts) (os : List Operation) → ((actor : Actor) → made_by actor os ≡ operations_of script actor)
-    → ByRecursion (IsAllowed script.workers) os → ends_batched false os ≡ false
-no_open_batch script os holds allowed = no_open_batch_by script os (ends_batched false os) refl holds allowed
+-- operations that end with no worker's accept or close don't end with one
+pub no_open_batch : (workers : ℕ) (os : List Operation)
+    → ((actor : Actor) → IsWorkerOf workers actor → ends_batched false (made_by actor os) ≡ true → ⊥)
+    → ByRecursion (IsAllowed workers) os → ends_batched false os ≡ false
+no_open_batch workers os none allowed = no_open_batch_by workers os (ends_batched false os) refl none allowed

@@ -14,7 +14,7 @@ pub use legal_findings::legal_exactly;
 pub use nothing_done::nothing_done_leaves_the_world;
 pub use numbers::numbers_are_drawn_once;
 pub use one_a_name::one_warms_and_one_serves;
-pub use one_replay::has_a_replay;
+pub use one_replay::{has_a_replay, has_one_replay, replay_holds_operations, replay_is_a_run_of_its_script};
 pub use phase_forward::phase_never_goes_back;
 pub use tidying::tidies_once;
 pub use versions_kept::versions_are_kept_once;
