@@ -1,35 +1,329 @@
 -- What no part of a step breaks holds after a step.
-use Rattle.std.proofs.Common.{ℕ, ◌+◌, Bool, true, false, cond, List, [], ◌∷◌, ◌++◌, filter, Option, Some, None}
+use Rattle.std.proofs.Common.{◌≡◌, refl, ℕ, ◌+◌, Bool, true, false, ◌&&◌, cond, List, [], ◌∷◌, ◌++◌, filter, Option, Some, None}
+use Rattle.std.specs.List.{fold, zip}
+use Rattle.std.proofs.lemmas.Bool.{false≢true}
 use Rattle.ev_types.specs.Items.{ItemParts, ResponseParts}
+use Rattle.ev_types.specs.Kinds.{kind_same}
 use Rattle.ev_types.specs.declared.contents.Kind.{Kind}
 use Rattle.ev_types.specs.declared.contents.Kind.TheVariants.{Cds, Eds, Lds, Rds}
 use Rattle.ev_types.specs.declared.contents.Content.{Content}
 use Rattle.ev_types.specs.declared.contents.Body.{Body}
-use Rattle.ev_types.specs.declared.contents.Body.TheVariants.{Good, Bad}
+use Rattle.ev_types.specs.declared.contents.Body.TheVariants.{Good, Bad, Beat}
 use Rattle.ev_types.specs.declared.hosts.Host.{Host}
 use Rattle.ev_types.specs.declared.rows.GenRow.{GenRow}
 use Rattle.ev_types.specs.declared.rows.KeptVersion.{KeptVersion}
+use Rattle.ev_types.specs.declared.rows.Arrival.TheVariants.{TimedOut}
 use Rattle.ev_types.specs.declared.rows.Phase.{Phase}
+use Rattle.ev_types.specs.declared.rows.RowStatus.{RowStatus}
+use Rattle.ev_types.specs.declared.journals.Format.{Format}
 use Rattle.ev_types.specs.declared.events.Answer.{Answer}
+use Rattle.ev_types.specs.declared.events.Answer.TheVariants.{Ignored}
 use Rattle.ev_types.specs.declared.events.Ask.{Ask}
 use Rattle.ev_types.specs.declared.events.Verdict.{Verdict}
-use Rattle.ev_types.specs.declared.events.Verdict.TheVariants.{New, Same, Kept, Unasked, Refused}
+use Rattle.ev_types.specs.declared.events.Verdict.TheVariants.{New, Same, Kept, Unasked, Renewed, Refused}
 use Rattle.ev_types.specs.declared.events.Actor.{Actor}
 use Rattle.ev_types.specs.declared.events.Actor.TheVariants.{Stream, Health as health_checker, Timer, Main, Worker}
 use Rattle.ev_types.specs.declared.events.Event.{Event}
-use Rattle.ev_types.specs.declared.events.Event.TheVariants.{Connect, Disconnect, Response, Health, FetchTimeout, DrainTimeout, Publish, Reap, Accept, Close, Settle}
+use Rattle.ev_types.specs.declared.events.Event.TheVariants.{Connect, Disconnect, Response, Health, FetchTimeout, DrainTimeout, TtlExpired, Publish, Reap, Accept, Close, Settle}
 use Rattle.ev_types.specs.declared.events.Entry.{Entry}
-use Rattle.ev_model.specs.World.{World}
+use Rattle.ev_model.specs.declared.pictures.Shown.{Shown}
+use Rattle.ev_model.specs.World.{World, OpenMember}
 use Rattle.ev_model.specs.Live.{lives_of}
-use Rattle.ev_model.specs.Verdicts.{verdicts_of}
-use Rattle.ev_model.specs.Versions.{with_version}
-use Rattle.ev_model.specs.Rows.{with_statuses, status_left, is_version_left, without_rows, with_removals, replaced_status, new_row, add_row, keep_version, keep_value, with_content, told_of_refusal, refuse, add_item, add_items, made_names, with_first}
+use Rattle.ev_model.specs.Verdicts.{verdicts_of, is_removed}
+use Rattle.ev_model.specs.Versions.{with_version, renewed}
+use Rattle.ev_model.specs.Rows.{with_statuses, removed_status, is_row_of, arrived, status_left, is_version_left, without_rows, with_removals, rows_with_new, add_row, keep_version, keep_value, with_content, told_of_refusal, refuse, renew, add_item, add_items, made_names, with_first}
 use Rattle.ev_model.specs.Tidy.{tidy}
-use Rattle.ev_model.specs.Signals.{health_of, rows_meant, fetch_timeout, name_timeout_of, expire, unexpired}
-use Rattle.ev_model.specs.Publishing.{publish}
+use Rattle.ev_model.specs.Signals.{with_results, health_of, rows_meant, fetch_timeout, name_timeout_of, expire, unexpired, rows_ended, with_end, forget_version, ttl_expired}
+use Rattle.ev_model.specs.Publishing.{publish, reap}
 use Rattle.ev_model.specs.Connections.{accept, close, settle}
 use Rattle.ev_model.specs.Step.{step, connect, disconnect, responded, respond_by, respond, of_worker}
 use Rattle.ev_model.specs.Runs.{world_after}
+
+-- what workers see and do: the pictures, the versions that they hold, and the connections that are open
+pub record Seen : Type 0 where
+  pub pictures : List Shown
+  pub held : List ℕ
+  pub opened : List OpenMember
+
+-- what they see and do in this world
+abbrev pub seen_of : World → Seen
+seen_of world = record { pictures = world.pictures; held = world.held; opened = world.opened }
+
+-- a fact on the rows, the count of numbers, the phase, the versions and what workers see
+abbrev pub HoldsWith : (List GenRow → ℕ → Phase → List KeptVersion → Seen → Type 0) → World → Type 0
+HoldsWith Fact world = Fact world.rows world.made world.phase world.versions (seen_of world)
+
+-- the event is for the managers: it comes from the stream, the health checker or the timers
+abbrev pub is_for_managers : Event → Bool
+is_for_managers Connect = true
+is_for_managers Disconnect = true
+is_for_managers (Response response) = true
+is_for_managers (Health cluster host healthy) = true
+is_for_managers (FetchTimeout timeout) = true
+is_for_managers (DrainTimeout listener) = true
+is_for_managers (TtlExpired kind name) = true
+is_for_managers Publish = false
+is_for_managers Reap = false
+is_for_managers (Accept ask) = false
+is_for_managers (Close connection) = false
+is_for_managers Settle = false
+
+-- a row's status where those go that the test names, as if their resources were removed
+abbrev pub removed_where : (GenRow → Bool) → GenRow → RowStatus
+removed_where goes row = cond (goes row) (removed_status row.status) row.status
+
+-- the ways in which managers change a world keep the fact, and by tidying it gives what holds between events
+pub record KeepsTidied (Fact : List GenRow → ℕ → Phase → List KeptVersion → Seen → Type 0) (After : World → Type 0) : Type 0 where
+  pub removed : (goes : GenRow → Bool) (rows : List GenRow) (made : ℕ) (phase : Phase) (versions : List KeptVersion) (seen : Seen)
+      → Fact rows made phase versions seen → Fact (with_statuses (removed_where goes) rows) made phase versions seen
+  pub added : (kind : Kind) (name : List ℕ) (content : Content) (rows : List GenRow) (made : ℕ) (phase : Phase) (versions : List KeptVersion) (seen : Seen)
+      → Fact rows made phase versions seen → Fact (rows_with_new kind made name content rows) (made + 1) phase versions seen
+  pub version_added : (new : KeptVersion) (rows : List GenRow) (made : ℕ) (phase : Phase) (versions : List KeptVersion) (seen : Seen)
+      → Fact rows made phase versions seen → Fact rows made phase (with_version new versions) seen
+  pub version_renewed : (kind : Kind) (name : List ℕ) (rows : List GenRow) (made : ℕ) (phase : Phase) (versions : List KeptVersion) (seen : Seen)
+      → Fact rows made phase versions seen → Fact rows made phase (renewed kind name versions) seen
+  pub versions_left : (test : KeptVersion → Bool) (rows : List GenRow) (made : ℕ) (phase : Phase) (versions : List KeptVersion) (seen : Seen)
+      → Fact rows made phase versions seen → Fact rows made phase (filter test versions) seen
+  pub untidied : (world : World) → After world → HoldsWith Fact world
+  pub tidied : (world : World) → HoldsWith Fact world → After (tidy world)
+
+-- a response of this kind removes the row
+abbrev goes_with : Kind → ResponseParts → GenRow → Bool
+goes_with kind response row = kind_same row.kind kind && is_removed response row.name
+
+-- what holds of the worlds of both branches of a test
+pub either : (P : World → Type 0) (test : Bool) (this that : World × Answer) → P this.0 → P that.0 → P (cond test this that).0
+either P true this that holds other = holds
+either P false this that holds other = other
+
+module _ (Fact : List GenRow → ℕ → Phase → List KeptVersion → Seen → Type 0) (After : World → Type 0) (keeps : KeepsTidied Fact After) where
+  either_world : (test : Bool) (this that : World) → HoldsWith Fact this → HoldsWith Fact that → HoldsWith Fact (cond test this that)
+  either_world true this that holds other = holds
+  either_world false this that holds other = other
+
+  versions_left-keeps : (test : KeptVersion → Bool) (world : World)
+      → HoldsWith Fact world → HoldsWith Fact (record world { versions = filter test world.versions })
+  versions_left-keeps test world holds = keeps.versions_left test world.rows world.made world.phase world.versions (seen_of world) holds
+
+  without_rows-keeps : (kind : Kind) (response : ResponseParts) (world : World)
+      → HoldsWith Fact world → HoldsWith Fact (without_rows kind response world)
+  without_rows-keeps kind response world holds =
+      versions_left-keeps (is_version_left kind response) (record world { rows = with_statuses (status_left kind response) world.rows })
+      (keeps.removed (goes_with kind response) world.rows world.made world.phase world.versions (seen_of world) holds)
+
+  with_removals-keeps : (kind : Kind) (response : ResponseParts) (world : World)
+      → HoldsWith Fact world → HoldsWith Fact (with_removals kind response world)
+  with_removals-keeps Cds response world holds = without_rows-keeps Cds response world holds
+  with_removals-keeps Eds response world holds = versions_left-keeps (is_version_left Eds response) world holds
+  with_removals-keeps Lds response world holds = without_rows-keeps Lds response world holds
+  with_removals-keeps Rds response world holds = versions_left-keeps (is_version_left Rds response) world holds
+
+  keep_version-keeps : (kind : Kind) (item : ItemParts) (world : World) → HoldsWith Fact world → HoldsWith Fact (keep_version kind item world)
+  keep_version-keeps kind item world holds = keeps.version_added _ world.rows world.made world.phase world.versions (seen_of world) holds
+
+  add_row-keeps : (kind : Kind) (item : ItemParts) (body : Body) (world : World)
+      → HoldsWith Fact world → HoldsWith Fact (with_content (add_row kind item) body world)
+  add_row-keeps kind item (Good content) world holds =
+      keep_version-keeps kind item (record world { rows = rows_with_new kind world.made item.name content world.rows; made = world.made + 1 })
+      (keeps.added kind item.name content world.rows world.made world.phase world.versions (seen_of world) holds)
+  add_row-keeps kind item (Bad rule) world holds = holds
+  add_row-keeps kind item Beat world holds = holds
+
+  same_row-keeps : (kind : Kind) (item : ItemParts) (body : Body) (world : World)
+      → HoldsWith Fact world → HoldsWith Fact (with_content (λ content. keep_version kind item) body world)
+  same_row-keeps kind item (Good content) world holds = keep_version-keeps kind item world holds
+  same_row-keeps kind item (Bad rule) world holds = holds
+  same_row-keeps kind item Beat world holds = holds
+
+  keep_value-keeps : (kind : Kind) (item : ItemParts) (body : Body) (world : World)
+      → HoldsWith Fact world → HoldsWith Fact (with_content (keep_value kind item) body world)
+  keep_value-keeps kind item (Good content) world holds = keep_version-keeps kind item world holds
+  keep_value-keeps kind item (Bad rule) world holds = holds
+  keep_value-keeps kind item Beat world holds = holds
+
+  told-keeps : (kind : Kind) (name : List ℕ) (world : World) → HoldsWith Fact world → HoldsWith Fact (told_of_refusal kind name world)
+  told-keeps kind name world holds = either_world _ _ _ holds holds
+
+  refuse-keeps : (kind : Kind) (name : List ℕ) (world : World) → HoldsWith Fact world → HoldsWith Fact (refuse kind name world)
+  refuse-keeps Cds name world holds = holds
+  refuse-keeps Eds name world holds = told-keeps Eds name world holds
+  refuse-keeps Lds name world holds = holds
+  refuse-keeps Rds name world holds = told-keeps Rds name world holds
+
+  renew-keeps : (kind : Kind) (name : List ℕ) (world : World) → HoldsWith Fact world → HoldsWith Fact (renew kind name world)
+  renew-keeps kind name world holds = keeps.version_renewed kind name world.rows world.made world.phase world.versions (seen_of world) holds
+
+  add_item-keeps : (kind : Kind) (verdict : Verdict) (item : ItemParts) (world : World)
+      → HoldsWith Fact world → HoldsWith Fact (add_item kind verdict item world)
+  add_item-keeps kind New item world holds = add_row-keeps kind item item.body world holds
+  add_item-keeps kind Same item world holds = same_row-keeps kind item item.body world holds
+  add_item-keeps kind Kept item world holds = keep_value-keeps kind item item.body world holds
+  add_item-keeps kind Unasked item world holds = holds
+  add_item-keeps kind Renewed item world holds = renew-keeps kind item.name world holds
+  add_item-keeps kind (Refused rule) item world holds = refuse-keeps kind item.name world holds
+
+  judged-keeps : (kind : Kind) (judged : List (Verdict × ItemParts)) (world : World)
+      → HoldsWith Fact world → HoldsWith Fact (fold (λ (w : World) (one : Verdict × ItemParts). add_item kind one.0 one.1 w) world judged)
+  judged-keeps kind [] world holds = holds
+  judged-keeps kind (one ∷ judged) world holds =
+      judged-keeps kind judged (add_item kind one.0 one.1 world) (add_item-keeps kind one.0 one.1 world holds)
+
+  add_items-keeps : (kind : Kind) (verdicts : List Verdict) (items : List ItemParts) (world : World)
+      → HoldsWith Fact world → HoldsWith Fact (add_items kind verdicts items world)
+  add_items-keeps kind verdicts items world holds = judged-keeps kind (zip verdicts items) world holds
+
+  with_first-keeps : (kind : Kind) (names : List (List ℕ)) (world : World) → HoldsWith Fact world → HoldsWith Fact (with_first kind names world)
+  with_first-keeps Cds names world holds = holds
+  with_first-keeps Eds names world holds = holds
+  with_first-keeps Lds names world holds = holds
+  with_first-keeps Rds names world holds = holds
+
+  responded-keeps : (kind : Kind) (response : ResponseParts) (verdicts : List Verdict) (world : World)
+      → After world → After (responded kind response verdicts world)
+  responded-keeps kind response verdicts world after =
+      let left = with_removals kind response world in
+      let filled = add_items kind verdicts response.items left in
+      let names = made_names verdicts response.items in
+      keeps.tidied (with_first kind names filled)
+      (with_first-keeps kind names filled
+      (add_items-keeps kind verdicts response.items left (with_removals-keeps kind response world (keeps.untidied world after))))
+
+  respond_by-keeps : (kind : Option Kind) (response : ResponseParts) (world : World)
+      → After world → After (respond_by kind response world).0
+  respond_by-keeps None response world after = after
+  respond_by-keeps (Some kind) response world after = responded-keeps kind response (verdicts_of (lives_of world) world.versions response) world after
+
+  connect-keeps : (world : World) → After world → After (connect world).0
+  connect-keeps world after = either After _ _ _ after (keeps.tidied (record world { stream = true }) (keeps.untidied world after))
+
+  disconnect-keeps : (world : World) → After world → After (disconnect world).0
+  disconnect-keeps world after = either After _ _ _ (keeps.tidied (record world { stream = false }) (keeps.untidied world after)) after
+
+  respond-keeps : (response : ResponseParts) (world : World) → After world → After (respond response world).0
+  respond-keeps response world after = either After _ _ _ (respond_by-keeps response.kind response world after) after
+
+  health-keeps : (host : Host) (healthy : Bool) (rows : List GenRow) (world : World)
+      → After world → After (health_of host healthy rows world).0
+  health-keeps host healthy [] world after = after
+  health-keeps host healthy (row ∷ rows) world after =
+      keeps.tidied (with_results host healthy (row ∷ rows) world) (keeps.untidied world after)
+
+  name_timeout-keeps : (kind : Kind) (name : Option (List ℕ)) (world : World)
+      → After world → After (name_timeout_of kind name world).0
+  name_timeout-keeps kind None world after = after
+  name_timeout-keeps kind (Some name) world after =
+      either After _ _ _
+      (keeps.tidied (record world { arrivals = world.arrivals ++ arrived kind TimedOut name ∷ [] }) (keeps.untidied world after)) after
+
+  fetch_timeout-keeps : (kind : Kind) (name : Option (List ℕ)) (world : World)
+      → After world → After (fetch_timeout kind name world).0
+  fetch_timeout-keeps Cds name world after =
+      either After _ _ _ after (keeps.tidied (record world { late_clusters = true }) (keeps.untidied world after))
+  fetch_timeout-keeps Eds name world after = name_timeout-keeps Eds name world after
+  fetch_timeout-keeps Lds name world after =
+      either After _ _ _ after (keeps.tidied (record world { late_listeners = true }) (keeps.untidied world after))
+  fetch_timeout-keeps Rds name world after = name_timeout-keeps Rds name world after
+
+  expire-keeps : (numbers : List ℕ) (world : World) → After world → After (expire numbers world).0
+  expire-keeps [] world after = after
+  expire-keeps (number ∷ numbers) world after =
+      keeps.tidied (record world { expired = world.expired ++ number ∷ numbers }) (keeps.untidied world after)
+
+  forget_version-keeps : (kind : Kind) (name : List ℕ) (world : World) → HoldsWith Fact world → HoldsWith Fact (forget_version kind name world)
+  forget_version-keeps kind name world holds = versions_left-keeps _ world holds
+
+  rows_ended-keeps : (kind : Kind) (name : List ℕ) (world : World)
+      → HoldsWith Fact world → HoldsWith Fact (record world { rows = rows_ended kind name world.rows })
+  rows_ended-keeps kind name world holds =
+      keeps.removed (is_row_of kind name) world.rows world.made world.phase world.versions (seen_of world) holds
+
+  with_end-keeps : (kind : Kind) (name : List ℕ) (world : World) → HoldsWith Fact world → HoldsWith Fact (with_end kind name world)
+  with_end-keeps Cds name world holds = rows_ended-keeps Cds name world holds
+  with_end-keeps Eds name world holds = holds
+  with_end-keeps Lds name world holds = rows_ended-keeps Lds name world holds
+  with_end-keeps Rds name world holds = holds
+
+  ttl_expired-keeps : (kind : Kind) (name : List ℕ) (world : World) → After world → After (ttl_expired kind name world).0
+  ttl_expired-keeps kind name world after =
+      let forgotten : World = forget_version kind name world in
+      either After _ _ _
+      (keeps.tidied (with_end kind name forgotten)
+      (with_end-keeps kind name forgotten (forget_version-keeps kind name world (keeps.untidied world after))))
+      after
+
+  -- what holds between events holds after an event for the managers
+  pub managed-keeps : (format : Format) (world : World) (actor : Actor) (event : Event) → is_for_managers event ≡ true
+      → After world → After (step format world actor event).0
+  managed-keeps format world actor Connect is after = connect-keeps world after
+  managed-keeps format world actor Disconnect is after = disconnect-keeps world after
+  managed-keeps format world actor (Response response) is after = respond-keeps response world after
+  managed-keeps format world actor (Health cluster host healthy) is after =
+      health-keeps host healthy (rows_meant world.arrivals cluster host world.rows) world after
+  managed-keeps format world actor (FetchTimeout timeout) is after = fetch_timeout-keeps timeout.kind timeout.name world after
+  managed-keeps format world actor (DrainTimeout listener) is after = expire-keeps (unexpired world.expired listener world.rows) world after
+  managed-keeps format world actor (TtlExpired kind name) is after = ttl_expired-keeps kind name world after
+  managed-keeps format world actor Publish is after = absurd (false≢true is)
+  managed-keeps format world actor Reap is after = absurd (false≢true is)
+  managed-keeps format world actor (Accept ask) is after = absurd (false≢true is)
+  managed-keeps format world actor (Close connection) is after = absurd (false≢true is)
+  managed-keeps format world actor Settle is after = absurd (false≢true is)
+
+-- what holds of what a worker's change does, and of nothing done, since no other actor makes it
+of_worker-keeps : (P : World × Answer → Type 0) (change : ℕ → World → World × Answer) (actor : Actor) (world : World)
+    → ((worker : ℕ) → actor ≡ Worker worker → P (change worker world)) → P (world, Ignored) → P (of_worker change actor world)
+of_worker-keeps P change Stream world changed ignored = ignored
+of_worker-keeps P change health_checker world changed ignored = ignored
+of_worker-keeps P change Timer world changed ignored = ignored
+of_worker-keeps P change Main world changed ignored = ignored
+of_worker-keeps P change (Worker worker) world changed ignored = changed worker refl
+
+-- what each kind of event does at a world has the fact
+pub record HoldsOfEach (P : World × Answer → Type 0) (format : Format) (world : World) (actor : Actor) : Type 0 where
+  pub ignored : P (world, Ignored)
+  pub managed : (event : Event) → is_for_managers event ≡ true → P (step format world actor event)
+  pub published : P (publish world)
+  pub reaped : P (reap format world)
+  pub accepted : (ask : Ask) (worker : ℕ) → actor ≡ Worker worker → P (accept ask worker world)
+  pub closed : (connection worker : ℕ) → actor ≡ Worker worker → P (close connection worker world)
+  pub settled : (worker : ℕ) → actor ≡ Worker worker → P (settle worker world)
+
+-- so what any event does has it
+pub step-holds : (P : World × Answer → Type 0) (format : Format) (world : World) (actor : Actor) (event : Event)
+    → HoldsOfEach P format world actor → P (step format world actor event)
+step-holds P format world actor Connect each = each.managed Connect refl
+step-holds P format world actor Disconnect each = each.managed Disconnect refl
+step-holds P format world actor (Response response) each = each.managed (Response response) refl
+step-holds P format world actor (Health cluster host healthy) each = each.managed (Health cluster host healthy) refl
+step-holds P format world actor (FetchTimeout timeout) each = each.managed (FetchTimeout timeout) refl
+step-holds P format world actor (DrainTimeout listener) each = each.managed (DrainTimeout listener) refl
+step-holds P format world actor (TtlExpired kind name) each = each.managed (TtlExpired kind name) refl
+step-holds P format world actor Publish each = each.published
+step-holds P format world actor Reap each = each.reaped
+step-holds P format world actor (Accept ask) each = of_worker-keeps P (accept ask) actor world (each.accepted ask) each.ignored
+step-holds P format world actor (Close connection) each = of_worker-keeps P (close connection) actor world (each.closed connection) each.ignored
+step-holds P format world actor Settle each = of_worker-keeps P settle actor world each.settled each.ignored
+
+-- the world that each kind of event leads to has the fact
+pub record KeepsEach (P : World → Type 0) (format : Format) (world : World) (actor : Actor) : Type 0 where
+  pub managed : (event : Event) → is_for_managers event ≡ true → P (step format world actor event).0
+  pub published : P (publish world).0
+  pub reaped : P (reap format world).0
+  pub accepted : (ask : Ask) (worker : ℕ) → actor ≡ Worker worker → P (accept ask worker world).0
+  pub closed : (connection worker : ℕ) → actor ≡ Worker worker → P (close connection worker world).0
+  pub settled : (worker : ℕ) → actor ≡ Worker worker → P (settle worker world).0
+
+-- so the world has it after any event
+pub step-each : (P : World → Type 0) (format : Format) (world : World) (actor : Actor) (event : Event)
+    → P world → KeepsEach P format world actor → P (step format world actor event).0
+step-each P format world actor event holds each = step-holds (λ done. P done.0) format world actor event (record {
+  ignored = holds;
+  managed = each.managed;
+  published = each.published;
+  reaped = each.reaped;
+  accepted = each.accepted;
+  closed = each.closed;
+  settled = each.settled;
+})
 
 -- a fact on the rows, the count of numbers, the phase and the versions of a world
 abbrev pub Holds : (List GenRow → ℕ → Phase → List KeptVersion → Type 0) → World → Type 0
@@ -37,179 +331,50 @@ Holds Fact world = Fact world.rows world.made world.phase world.versions
 
 -- the ways in which a step changes them keep the fact
 pub record KeepsAll (Fact : List GenRow → ℕ → Phase → List KeptVersion → Type 0) : Type 0 where
-  pub removed : (kind : Kind) (response : ResponseParts) (rows : List GenRow) (made : ℕ) (phase : Phase) (versions : List KeptVersion)
-      → Fact rows made phase versions → Fact (with_statuses (status_left kind response) rows) made phase versions
+  pub removed : (goes : GenRow → Bool) (rows : List GenRow) (made : ℕ) (phase : Phase) (versions : List KeptVersion)
+      → Fact rows made phase versions → Fact (with_statuses (removed_where goes) rows) made phase versions
   pub added : (kind : Kind) (name : List ℕ) (content : Content) (rows : List GenRow) (made : ℕ) (phase : Phase) (versions : List KeptVersion)
-      → Fact rows made phase versions
-      → Fact (with_statuses (replaced_status kind name) rows ++ new_row kind made name content ∷ []) (made + 1) phase versions
+      → Fact rows made phase versions → Fact (rows_with_new kind made name content rows) (made + 1) phase versions
   pub left : (test : GenRow → Bool) (rows : List GenRow) (made : ℕ) (phase : Phase) (versions : List KeptVersion)
       → Fact rows made phase versions → Fact (filter test rows) made phase versions
   pub version_added : (new : KeptVersion) (rows : List GenRow) (made : ℕ) (phase : Phase) (versions : List KeptVersion)
       → Fact rows made phase versions → Fact rows made phase (with_version new versions)
+  pub version_renewed : (kind : Kind) (name : List ℕ) (rows : List GenRow) (made : ℕ) (phase : Phase) (versions : List KeptVersion)
+      → Fact rows made phase versions → Fact rows made phase (renewed kind name versions)
   pub versions_left : (test : KeptVersion → Bool) (rows : List GenRow) (made : ℕ) (phase : Phase) (versions : List KeptVersion)
       → Fact rows made phase versions → Fact rows made phase (filter test versions)
   pub tidied : (world : World) → Holds Fact world → Holds Fact (tidy world)
 
 module _ (Fact : List GenRow → ℕ → Phase → List KeptVersion → Type 0) (keeps : KeepsAll Fact) where
-  either : (test : Bool) (this that : World × Answer) → Holds Fact this.0 → Holds Fact that.0 → Holds Fact (cond test this that).0
-  either true this that holds other = holds
-  either false this that holds other = other
+  keeps_tidied : KeepsTidied (λ rows made phase versions seen. Fact rows made phase versions) (Holds Fact)
+  keeps_tidied = record {
+    removed = λ goes rows made phase versions seen holds. keeps.removed goes rows made phase versions holds;
+    added = λ kind name content rows made phase versions seen holds. keeps.added kind name content rows made phase versions holds;
+    version_added = λ new rows made phase versions seen holds. keeps.version_added new rows made phase versions holds;
+    version_renewed = λ kind name rows made phase versions seen holds. keeps.version_renewed kind name rows made phase versions holds;
+    versions_left = λ test rows made phase versions seen holds. keeps.versions_left test rows made phase versions holds;
+    untidied = λ world holds. holds;
+    tidied = keeps.tidied;
+  }
 
-  either_world : (test : Bool) (this that : World) → Holds Fact this → Holds Fact that → Holds Fact (cond test this that)
-  either_world true this that holds other = holds
-  either_world false this that holds other = other
+  pub step-keeps-all : (format : Format) (world : World) (actor : Actor) (event : Event)
+      → Holds Fact world → Holds Fact (step format world actor event).0
+  step-keeps-all format world actor event holds = step-each (Holds Fact) format world actor event holds (record {
+    managed = λ event is.
+        managed-keeps (λ rows made phase versions seen. Fact rows made phase versions) (Holds Fact) keeps_tidied format world actor event is holds;
+    published = either (Holds Fact) _ _ _ holds holds;
+    reaped = keeps.left _ world.rows world.made world.phase world.versions holds;
+    accepted = λ ask worker is. holds;
+    closed = λ connection worker is. holds;
+    settled = λ worker is. holds;
+  })
 
-  versions_left-keeps : (test : KeptVersion → Bool) (world : World)
-      → Holds Fact world → Holds Fact (record world { versions = filter test world.versions })
-  versions_left-keeps test world holds = keeps.versions_left test world.rows world.made world.phase world.versions holds
-
-  without_rows-keeps : (kind : Kind) (response : ResponseParts) (world : World)
-      → Holds Fact world → Holds Fact (without_rows kind response world)
-  without_rows-keeps kind response world holds =
-      versions_left-keeps (is_version_left kind response) (record world { rows = with_statuses (status_left kind response) world.rows })
-      (keeps.removed kind response world.rows world.made world.phase world.versions holds)
-
-  with_removals-keeps : (kind : Kind) (response : ResponseParts) (world : World)
-      → Holds Fact world → Holds Fact (with_removals kind response world)
-  with_removals-keeps Cds response world holds = without_rows-keeps Cds response world holds
-  with_removals-keeps Eds response world holds = versions_left-keeps (is_version_left Eds response) world holds
-  with_removals-keeps Lds response world holds = without_rows-keeps Lds response world holds
-  with_removals-keeps Rds response world holds = versions_left-keeps (is_version_left Rds response) world holds
-
-  keep_version-keeps : (kind : Kind) (item : ItemParts) (world : World) → Holds Fact world → Holds Fact (keep_version kind item world)
-  keep_version-keeps kind item world holds = keeps.version_added _ world.rows world.made world.phase world.versions holds
-
-  add_row-keeps : (kind : Kind) (item : ItemParts) (body : Body) (world : World)
-      → Holds Fact world → Holds Fact (with_content (add_row kind item) body world)
-  add_row-keeps kind item (Good content) world holds =
-      keep_version-keeps kind item (record world {
-        rows = with_statuses (replaced_status kind item.name) world.rows ++ new_row kind world.made item.name content ∷ [];
-        made = world.made + 1;
-      })
-      (keeps.added kind item.name content world.rows world.made world.phase world.versions holds)
-  add_row-keeps kind item (Bad rule) world holds = holds
-
-  same_row-keeps : (kind : Kind) (item : ItemParts) (body : Body) (world : World)
-      → Holds Fact world → Holds Fact (with_content (λ content. keep_version kind item) body world)
-  same_row-keeps kind item (Good content) world holds = keep_version-keeps kind item world holds
-  same_row-keeps kind item (Bad rule) world holds = holds
-
-  keep_value-keeps : (kind : Kind) (item : ItemParts) (body : Body) (world : World)
-      → Holds Fact world → Holds Fact (with_content (keep_value kind item) body world)
-  keep_value-keeps kind item (Good content) world holds = keep_version-keeps kind item world holds
-  keep_value-keeps kind item (Bad rule) world holds = holds
-
-  told-keeps : (kind : Kind) (name : List ℕ) (world : World) → Holds Fact world → Holds Fact (told_of_refusal kind name world)
-  told-keeps kind name world holds = either_world _ _ _ holds holds
-
-  refuse-keeps : (kind : Kind) (name : List ℕ) (world : World) → Holds Fact world → Holds Fact (refuse kind name world)
-  refuse-keeps Cds name world holds = holds
-  refuse-keeps Eds name world holds = told-keeps Eds name world holds
-  refuse-keeps Lds name world holds = holds
-  refuse-keeps Rds name world holds = told-keeps Rds name world holds
-
-  add_item-keeps : (kind : Kind) (verdict : Verdict) (item : ItemParts) (world : World)
-      → Holds Fact world → Holds Fact (add_item kind verdict item world)
-  add_item-keeps kind New item world holds = add_row-keeps kind item item.body world holds
-  add_item-keeps kind Same item world holds = same_row-keeps kind item item.body world holds
-  add_item-keeps kind Kept item world holds = keep_value-keeps kind item item.body world holds
-  add_item-keeps kind Unasked item world holds = holds
-  add_item-keeps kind (Refused rule) item world holds = refuse-keeps kind item.name world holds
-
-  add_items-keeps : (kind : Kind) (verdicts : List Verdict) (items : List ItemParts) (world : World)
-      → Holds Fact world → Holds Fact (add_items kind verdicts items world)
-  add_items-keeps kind [] items world holds = holds
-  add_items-keeps kind (verdict ∷ verdicts) [] world holds = holds
-  add_items-keeps kind (verdict ∷ verdicts) (item ∷ items) world holds =
-      add_items-keeps kind verdicts items (add_item kind verdict item world) (add_item-keeps kind verdict item world holds)
-
-  with_first-keeps : (kind : Kind) (names : List (List ℕ)) (world : World) → Holds Fact world → Holds Fact (with_first kind names world)
-  with_first-keeps Cds names world holds = holds
-  with_first-keeps Eds names world holds = holds
-  with_first-keeps Lds names world holds = holds
-  with_first-keeps Rds names world holds = holds
-
-  responded-keeps : (kind : Kind) (response : ResponseParts) (verdicts : List Verdict) (world : World)
-      → Holds Fact world → Holds Fact (responded kind response verdicts world)
-  responded-keeps kind response verdicts world holds =
-      let after = with_removals kind response world in
-      let filled = add_items kind verdicts response.items after in
-      let names = made_names verdicts response.items in
-      keeps.tidied (with_first kind names filled)
-      (with_first-keeps kind names filled
-      (add_items-keeps kind verdicts response.items after (with_removals-keeps kind response world holds)))
-
-  respond_by-keeps : (kind : Option Kind) (response : ResponseParts) (world : World)
-      → Holds Fact world → Holds Fact (respond_by kind response world).0
-  respond_by-keeps None response world holds = holds
-  respond_by-keeps (Some kind) response world holds = responded-keeps kind response (verdicts_of (lives_of world) response) world holds
-
-  connect-keeps : (world : World) → Holds Fact world → Holds Fact (connect world).0
-  connect-keeps world holds = either _ _ _ holds (keeps.tidied _ holds)
-
-  disconnect-keeps : (world : World) → Holds Fact world → Holds Fact (disconnect world).0
-  disconnect-keeps world holds = either _ _ _ (keeps.tidied _ holds) holds
-
-  respond-keeps : (response : ResponseParts) (world : World) → Holds Fact world → Holds Fact (respond response world).0
-  respond-keeps response world holds = either _ _ _ (respond_by-keeps response.kind response world holds) holds
-
-  health-keeps : (host : Host) (healthy : Bool) (rows : List GenRow) (world : World)
-      → Holds Fact world → Holds Fact (health_of host healthy rows world).0
-  health-keeps host healthy [] world holds = holds
-  health-keeps host healthy (row ∷ rows) world holds = keeps.tidied _ holds
-
-  name_timeout-keeps : (kind : Kind) (name : Option (List ℕ)) (world : World)
-      → Holds Fact world → Holds Fact (name_timeout_of kind name world).0
-  name_timeout-keeps kind None world holds = holds
-  name_timeout-keeps kind (Some name) world holds = either _ _ _ (keeps.tidied _ holds) holds
-
-  fetch_timeout-keeps : (kind : Kind) (name : Option (List ℕ)) (world : World)
-      → Holds Fact world → Holds Fact (fetch_timeout kind name world).0
-  fetch_timeout-keeps Cds name world holds = either _ _ _ holds (keeps.tidied _ holds)
-  fetch_timeout-keeps Eds name world holds = name_timeout-keeps Eds name world holds
-  fetch_timeout-keeps Lds name world holds = either _ _ _ holds (keeps.tidied _ holds)
-  fetch_timeout-keeps Rds name world holds = name_timeout-keeps Rds name world holds
-
-  expire-keeps : (numbers : List ℕ) (world : World) → Holds Fact world → Holds Fact (expire numbers world).0
-  expire-keeps [] world holds = holds
-  expire-keeps (number ∷ numbers) world holds = keeps.tidied _ holds
-
-  publish-keeps : (world : World) → Holds Fact world → Holds Fact (publish world).0
-  publish-keeps world holds = either _ _ _ holds holds
-
-  of_worker-keeps : (change : ℕ → World → World × Answer) (actor : Actor) (world : World)
-      → ((worker : ℕ) → Holds Fact (change worker world).0) → Holds Fact world → Holds Fact (of_worker change actor world).0
-  of_worker-keeps change Stream world changed holds = holds
-  of_worker-keeps change health_checker world changed holds = holds
-  of_worker-keeps change Timer world changed holds = holds
-  of_worker-keeps change Main world changed holds = holds
-  of_worker-keeps change (Worker worker) world changed holds = changed worker
-
-  accept-keeps : (ask : Ask) (worker : ℕ) (world : World) → Holds Fact world → Holds Fact (accept ask worker world).0
-  accept-keeps ask worker world holds = either _ _ _ holds holds
-
-  close-keeps : (connection : ℕ) (worker : ℕ) (world : World) → Holds Fact world → Holds Fact (close connection worker world).0
-  close-keeps connection worker world holds = either _ _ _ holds holds
-
-  pub step-keeps-all : (world : World) (actor : Actor) (event : Event) → Holds Fact world → Holds Fact (step world actor event).0
-  step-keeps-all world actor Connect holds = connect-keeps world holds
-  step-keeps-all world actor Disconnect holds = disconnect-keeps world holds
-  step-keeps-all world actor (Response response) holds = respond-keeps response world holds
-  step-keeps-all world actor (Health cluster host healthy) holds = health-keeps host healthy (rows_meant world cluster host) world holds
-  step-keeps-all world actor (FetchTimeout timeout) holds = fetch_timeout-keeps timeout.kind timeout.name world holds
-  step-keeps-all world actor (DrainTimeout listener) holds = expire-keeps (unexpired world listener) world holds
-  step-keeps-all world actor Publish holds = publish-keeps world holds
-  step-keeps-all world actor Reap holds = keeps.left _ world.rows world.made world.phase world.versions holds
-  step-keeps-all world actor (Accept ask) holds =
-      of_worker-keeps (accept ask) actor world (λ worker. accept-keeps ask worker world holds) holds
-  step-keeps-all world actor (Close connection) holds =
-      of_worker-keeps (close connection) actor world (λ worker. close-keeps connection worker world holds) holds
-  step-keeps-all world actor Settle holds = of_worker-keeps settle actor world (λ worker. holds) holds
-
-  pub run-keeps-all : (world : World) (entries : List Entry) → Holds Fact world → Holds Fact (world_after world entries)
-  run-keeps-all world [] holds = holds
-  run-keeps-all world (entry ∷ entries) holds =
-      run-keeps-all (step world entry.actor entry.event).0 entries (step-keeps-all world entry.actor entry.event holds)
+  pub run-keeps-all : (format : Format) (world : World) (entries : List Entry)
+      → Holds Fact world → Holds Fact (world_after format world entries)
+  run-keeps-all format world [] holds = holds
+  run-keeps-all format world (entry ∷ entries) holds =
+      run-keeps-all format (step format world entry.actor entry.event).0 entries
+      (step-keeps-all format world entry.actor entry.event holds)
 
 -- a fact on the rows, the count of numbers and the phase alone
 abbrev OnRows : (List GenRow → ℕ → Phase → Type 0) → List GenRow → ℕ → Phase → List KeptVersion → Type 0
@@ -217,11 +382,10 @@ OnRows Fact rows made phase versions = Fact rows made phase
 
 -- the four ways in which a step changes rows, numbers and the phase keep the fact
 pub record Keeps (Fact : List GenRow → ℕ → Phase → Type 0) : Type 0 where
-  pub removed : (kind : Kind) (response : ResponseParts) (rows : List GenRow) (made : ℕ) (phase : Phase)
-      → Fact rows made phase → Fact (with_statuses (status_left kind response) rows) made phase
+  pub removed : (goes : GenRow → Bool) (rows : List GenRow) (made : ℕ) (phase : Phase)
+      → Fact rows made phase → Fact (with_statuses (removed_where goes) rows) made phase
   pub added : (kind : Kind) (name : List ℕ) (content : Content) (rows : List GenRow) (made : ℕ) (phase : Phase)
-      → Fact rows made phase
-      → Fact (with_statuses (replaced_status kind name) rows ++ new_row kind made name content ∷ []) (made + 1) phase
+      → Fact rows made phase → Fact (rows_with_new kind made name content rows) (made + 1) phase
   pub left : (test : GenRow → Bool) (rows : List GenRow) (made : ℕ) (phase : Phase)
       → Fact rows made phase → Fact (filter test rows) made phase
   pub tidied : (world : World) → Holds (OnRows Fact) world → Holds (OnRows Fact) (tidy world)
@@ -229,17 +393,19 @@ pub record Keeps (Fact : List GenRow → ℕ → Phase → Type 0) : Type 0 wher
 module _ (Fact : List GenRow → ℕ → Phase → Type 0) (keeps : Keeps Fact) where
   keeps_on_rows : KeepsAll (OnRows Fact)
   keeps_on_rows = record {
-    removed = λ kind response rows made phase versions holds. keeps.removed kind response rows made phase holds;
+    removed = λ goes rows made phase versions holds. keeps.removed goes rows made phase holds;
     added = λ kind name content rows made phase versions holds. keeps.added kind name content rows made phase holds;
     left = λ test rows made phase versions holds. keeps.left test rows made phase holds;
     version_added = λ new rows made phase versions holds. holds;
+    version_renewed = λ kind name rows made phase versions holds. holds;
     versions_left = λ test rows made phase versions holds. holds;
     tidied = keeps.tidied;
   }
 
-  pub step-keeps : (world : World) (actor : Actor) (event : Event)
-      → Holds (OnRows Fact) world → Holds (OnRows Fact) (step world actor event).0
-  step-keeps world actor event holds = step-keeps-all (OnRows Fact) keeps_on_rows world actor event holds
+  pub step-keeps : (format : Format) (world : World) (actor : Actor) (event : Event)
+      → Holds (OnRows Fact) world → Holds (OnRows Fact) (step format world actor event).0
+  step-keeps format world actor event holds = step-keeps-all (OnRows Fact) keeps_on_rows format world actor event holds
 
-  pub run-keeps : (world : World) (entries : List Entry) → Holds (OnRows Fact) world → Holds (OnRows Fact) (world_after world entries)
-  run-keeps world entries holds = run-keeps-all (OnRows Fact) keeps_on_rows world entries holds
+  pub run-keeps : (format : Format) (world : World) (entries : List Entry)
+      → Holds (OnRows Fact) world → Holds (OnRows Fact) (world_after format world entries)
+  run-keeps format world entries holds = run-keeps-all (OnRows Fact) keeps_on_rows format world entries holds

@@ -16,3 +16,13 @@ pub mod DeedLemmas
 pub mod FindingDeeds
 pub mod FindingRows
 pub mod FindingLemmas
+pub mod SeenLemmas
+pub mod PromotionLemmas
+pub mod HeldLemmas
+pub mod ChoiceLemmas
+pub mod AnyLemmas
+pub mod PictureLemmas
+pub mod MemberLemmas
+pub mod AnswerLemmas
+pub mod DrawnLemmas
+pub mod HiddenLemmas

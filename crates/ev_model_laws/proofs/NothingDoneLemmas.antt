@@ -1,24 +1,26 @@
 -- Events that are answered as having done nothing, by cases on the event and the tests in it.
-use Rattle.std.proofs.Common.{◌≡◌, ℕ, Bool, true, false, ◌||◌, if◌then◌else◌, List, [], ◌∷◌, Option, Some, None, is_some, refl, IsTrue}
+use Rattle.std.proofs.Common.{◌≡◌, ℕ, Bool, true, false, ◌||◌, if◌then◌else◌, List, [], ◌∷◌, Option, Some, None, is_some, refl, ap, IsTrue}
 use Rattle.ev_types.specs.Items.{ResponseParts}
 use Rattle.ev_types.specs.declared.hosts.Host.{Host}
 use Rattle.ev_types.specs.declared.contents.Kind.{Kind}
 use Rattle.ev_types.specs.declared.contents.Kind.TheVariants.{Cds, Eds, Lds, Rds}
 use Rattle.ev_types.specs.declared.events.Actor.{Actor}
 use Rattle.ev_types.specs.declared.events.Actor.TheVariants.{Stream, Health as health_checker, Timer, Main, Worker}
-use Rattle.ev_types.specs.declared.events.Event.TheVariants.{Connect, Disconnect, Response, Health, FetchTimeout, DrainTimeout, Publish, Reap, Accept, Close, Settle}
+use Rattle.ev_types.specs.declared.events.Event.TheVariants.{Connect, Disconnect, Response, Health, FetchTimeout, DrainTimeout, TtlExpired, Publish, Reap, Accept, Close, Settle}
 use Rattle.ev_types.specs.declared.events.Answer.{Answer}
+use Rattle.ev_types.specs.declared.events.Ask.{Ask}
 use Rattle.ev_types.specs.declared.rows.GenRow.{GenRow}
 use Rattle.ev_model.specs.declared.pictures.Picture.{Picture}
 use Rattle.ev_model.specs.declared.pictures.Choice.{Choice}
 use Rattle.ev_model.specs.declared.pictures.Choice.TheVariants.{NoListener, NoRoute, Local, Redirect, NoCluster, NoEndpoint, Served}
-use Rattle.ev_model.specs.World.{World}
+use Rattle.ev_model.specs.World.{World, OpenMember, last_version}
 use Rattle.ev_model.specs.Choice.{choice_of}
-use Rattle.ev_model.specs.Picture.{picture_of, picture_same}
-use Rattle.ev_model.specs.Dead.{last_picture, picture_held}
+use Rattle.ev_model.specs.Picture.{shown_of, shown_same}
+use Rattle.ev_model.specs.Dead.{shown_at, picture_held}
+use Rattle.ev_model.specs.Versions.{is_bounded}
 use Rattle.ev_model.specs.Phase.{is_clusters}
 use Rattle.ev_model.specs.Signals.{rows_meant, health_of, is_awaited, name_timeout_of, fetch_timeout, unexpired, expire}
-use Rattle.ev_model.specs.Connections.{is_open, host_at, served_by, answer_of, opened_by, accept, close, settle}
+use Rattle.ev_model.specs.Connections.{Worked, is_open, host_at, served_by, answer_of, opened_by, accepted, closed, with_worked, accept, close, settle}
 use Rattle.ev_model.specs.Step.{connect, disconnect, respond_by, of_worker}
 use Rattle.ev_model_laws.specs.NothingDone.{is_nothing_done, LeavesAsItWas}
 
@@ -48,7 +50,7 @@ health_leaves host healthy (row ∷ rows) world h = cc
 
 name_leaves : (kind : Kind) (name : Option (List ℕ)) (world : World) → Leaves world (name_timeout_of kind name world)
 name_leaves kind None world = λ h. refl
-name_leaves kind (Some name) world = leaves_if (is_awaited world kind name) world _ _ (λ h. cc) (λ h. refl)
+name_leaves kind (Some name) world = leaves_if (is_awaited world.arrivals world.rows kind name) world _ _ (λ h. cc) (λ h. refl)
 
 timeout_leaves : (kind : Kind) (name : Option (List ℕ)) (world : World) → Leaves world (fetch_timeout kind name world)
 timeout_leaves Cds name world = leaves_if (is_some world.first_clusters || world.late_clusters) world _ _ (λ h. refl) (λ h. cc)
@@ -75,9 +77,32 @@ choice_done picture (NoCluster listener) = refl
 choice_done picture (NoEndpoint listener) = refl
 choice_done picture (Served listener cluster place) = served_done listener cluster (host_at picture cluster place)
 
-opened_leaves : (worker connection : ℕ) (choice : Choice) (world : World) → Leaves world (opened_by worker connection choice world)
-opened_leaves worker connection choice world h =
-    let done : is_nothing_done (answer_of (picture_held world worker) choice) ≡ false = choice_done (picture_held world worker) choice in cc
+-- where nothing is done by a worker's answer, the connections are as they were
+abbrev IsLeft : List OpenMember → Worked → Type 0
+IsLeft opened worked = IsTrue (is_nothing_done worked.answer) → worked.opened ≡ opened
+
+left_if : (test : Bool) (opened : List OpenMember) (one other : Worked) → IsLeft opened one → IsLeft opened other
+    → IsLeft opened (if test then one else other)
+left_if true opened one other by_one by_other = by_one
+left_if false opened one other by_one by_other = by_other
+
+opened_left : (picture : Picture) (worker connection : ℕ) (choice : Choice) (opened : List OpenMember)
+    → IsLeft opened (opened_by picture worker connection choice opened)
+opened_left picture worker connection choice opened h =
+    let done : is_nothing_done (answer_of picture choice) ≡ false = choice_done picture choice in cc
+
+accepted_left : (picture : Picture) (ask : Ask) (worker : ℕ) (opened : List OpenMember)
+    → IsLeft opened (accepted picture ask worker opened)
+accepted_left picture ask worker opened =
+    left_if (is_open opened worker ask.conn) opened _ _ (λ h. refl)
+    (opened_left picture worker ask.conn (choice_of picture ask) opened)
+
+closed_left : (connection worker : ℕ) (opened : List OpenMember) → IsLeft opened (closed connection worker opened)
+closed_left connection worker opened = left_if (is_open opened worker connection) opened _ _ (λ h. cc) (λ h. refl)
+
+-- so is the world
+worked_leaves : (world : World) (worked : Worked) → IsLeft world.opened worked → Leaves world (with_worked world worked)
+worked_leaves world worked left h = ap (λ opened. record world { opened = opened }) (left h)
 
 worker_leaves : (change : ℕ → World → World × Answer) (actor : Actor) (world : World) → ((worker : ℕ) → Leaves world (change worker world))
     → Leaves world (of_worker change actor world)
@@ -88,19 +113,21 @@ worker_leaves change Main world each h = refl
 worker_leaves change (Worker worker) world each h = each worker h
 
 pub left_as_it_was : LeavesAsItWas
-left_as_it_was world actor Connect = connect_leaves world
-left_as_it_was world actor Disconnect = disconnect_leaves world
-left_as_it_was world actor (Response response) =
+left_as_it_was format world actor Connect = connect_leaves world
+left_as_it_was format world actor Disconnect = disconnect_leaves world
+left_as_it_was format world actor (Response response) =
     leaves_if world.stream world _ _ (respond_by_leaves response.kind response world) (λ h. refl)
-left_as_it_was world actor (Health cluster host healthy) = health_leaves host healthy (rows_meant world cluster host) world
-left_as_it_was world actor (FetchTimeout timeout) = timeout_leaves timeout.kind timeout.name world
-left_as_it_was world actor (DrainTimeout listener) = expire_leaves (unexpired world listener) world
-left_as_it_was world actor Publish = leaves_if (picture_same (picture_of world) (last_picture world)) world _ _ (λ h. refl) (λ h. cc)
-left_as_it_was world actor Reap = λ h. cc
-left_as_it_was world actor (Accept ask) =
+left_as_it_was format world actor (Health cluster host healthy) = health_leaves host healthy (rows_meant world.arrivals cluster host world.rows) world
+left_as_it_was format world actor (FetchTimeout timeout) = timeout_leaves timeout.kind timeout.name world
+left_as_it_was format world actor (DrainTimeout listener) = expire_leaves (unexpired world.expired listener world.rows) world
+left_as_it_was format world actor (TtlExpired kind name) =
+    leaves_if (is_bounded world.versions kind name) world _ _ (λ h. cc) (λ h. refl)
+left_as_it_was format world actor Publish =
+    leaves_if (shown_same (shown_of world) (shown_at world (last_version world))) world _ _ (λ h. refl) (λ h. cc)
+left_as_it_was format world actor Reap = λ h. cc
+left_as_it_was format world actor (Accept ask) =
     worker_leaves (accept ask) actor world
-    (λ worker. leaves_if (is_open world worker ask.conn) world _ _ (λ h. refl)
-    (opened_leaves worker ask.conn (choice_of (picture_held world worker) ask) world))
-left_as_it_was world actor (Close connection) =
-    worker_leaves (close connection) actor world (λ worker. leaves_if (is_open world worker connection) world _ _ (λ h. cc) (λ h. refl))
-left_as_it_was world actor Settle = worker_leaves settle actor world (λ worker h. cc)
+    (λ worker. worked_leaves world _ (accepted_left (picture_held world worker) ask worker world.opened))
+left_as_it_was format world actor (Close connection) =
+    worker_leaves (close connection) actor world (λ worker. worked_leaves world _ (closed_left connection worker world.opened))
+left_as_it_was format world actor Settle = worker_leaves settle actor world (λ worker h. cc)

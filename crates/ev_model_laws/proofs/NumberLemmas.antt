@@ -4,13 +4,13 @@ use Rattle.ev_types.specs.declared.rows.GenRow.{GenRow}
 use Rattle.ev_types.specs.declared.rows.RowStatus.{RowStatus}
 use Rattle.ev_types.specs.declared.rows.Phase.{Phase}
 use Rattle.ev_model.specs.World.{World, opening}
-use Rattle.ev_model.specs.Rows.{with_statuses, status_left, replaced_status, new_row}
+use Rattle.ev_model.specs.Rows.{with_statuses, replaced_status, new_row}
 use Rattle.ev_model.specs.Tidy.{promoted_status}
 use Rattle.ev_model_laws.specs.Numbers.{RiseWithin, IsAmong, AreOldOrNew, DrawsInOrder}
-use Rattle.ev_model_laws.proofs.KeepLemmas.{Keeps, step-keeps, run-keeps}
+use Rattle.ev_model_laws.proofs.KeepLemmas.{removed_where, Keeps, step-keeps, run-keeps}
 
 -- the numbers of these rows
-abbrev numbers : List GenRow → List ℕ
+abbrev pub numbers : List GenRow → List ℕ
 numbers rows = map (λ (row : GenRow). row.number) rows
 
 -- other statuses leave the numbers
@@ -42,19 +42,19 @@ added-rise : (low : ℕ) (rows : List GenRow) (new : GenRow) (high : ℕ) → ne
 added-rise low [] new high is rise = (omega arith, omega arith)
 added-rise low (row ∷ rows) new high is rise = (rise.0, added-rise row.number rows new high is rise.1)
 
-keeps_numbered : Keeps (λ rows made phase. RiseWithin 0 (numbers rows) made)
+pub keeps_numbered : Keeps (λ rows made phase. RiseWithin 0 (numbers rows) made)
 keeps_numbered = record {
-  removed = λ kind response rows made phase rise. statuses-rise (status_left kind response) 0 rows made rise;
+  removed = λ goes rows made phase rise. statuses-rise (removed_where goes) 0 rows made rise;
   added = λ kind name content rows made phase rise.
       added-rise 0 (with_statuses (replaced_status kind name) rows) (new_row kind made name content) made refl
       (statuses-rise (replaced_status kind name) 0 rows made rise);
   left = λ test rows made phase rise. filter-rise test 0 rows made rise;
-  tidied = λ world rise. statuses-rise (promoted_status world) 0 world.rows world.made rise;
+  tidied = λ world rise. statuses-rise (promoted_status world.arrivals world.results world.rows) 0 world.rows world.made rise;
 }
 
-keeps_count : (least : ℕ) → Keeps (λ (rows : List GenRow) made (phase : Phase). least ≤ made)
+pub keeps_count : (least : ℕ) → Keeps (λ (rows : List GenRow) made (phase : Phase). least ≤ made)
 keeps_count least = record {
-  removed = λ kind response rows made phase le. le;
+  removed = λ goes rows made phase le. le;
   added = λ kind name content rows made phase le. omega arith;
   left = λ test rows made phase le. le;
   tidied = λ world le. le;
@@ -105,14 +105,14 @@ all-drawn world (row ∷ rows) within = (
 
 keeps_drawn : (world : World) → Keeps (λ rows made phase. AreOldOrNew world rows × (world.made ≤ made))
 keeps_drawn world = record {
-  removed = λ kind response rows made phase fact. (statuses-drawn world (status_left kind response) rows fact.0, fact.1);
+  removed = λ goes rows made phase fact. (statuses-drawn world (removed_where goes) rows fact.0, fact.1);
   added = λ kind name content rows made phase fact. (
     added-drawn world (with_statuses (replaced_status kind name) rows) (new_row kind made name content) (omega (arith, fact.1))
         (statuses-drawn world (replaced_status kind name) rows fact.0),
     omega (arith, fact.1),
   );
   left = λ test rows made phase fact. (filter-drawn world test rows fact.0, fact.1);
-  tidied = λ other fact. (statuses-drawn world (promoted_status other) other.rows fact.0, fact.1);
+  tidied = λ other fact. (statuses-drawn world (promoted_status other.arrivals other.results other.rows) other.rows fact.0, fact.1);
 }
 
 -- at the start all rows are old, and no number is above those drawn
@@ -122,9 +122,9 @@ start-drawn world = (all-drawn world world.rows (λ row among. among), omega ari
 pub draws_in_order : DrawsInOrder
 draws_in_order = record {
   opens = λ workers node. omega arith;
-  steps = λ world actor event rise. step-keeps _ keeps_numbered world actor event rise;
-  runs = λ workers node entries. run-keeps _ keeps_numbered (opening workers node) entries (omega arith);
-  counts = λ world actor event. step-keeps _ (keeps_count world.made) world actor event (omega arith);
-  draws = λ world actor event. (step-keeps _ (keeps_drawn world) world actor event (start-drawn world)).0;
-  stays_gone = λ world entries. (run-keeps _ (keeps_drawn world) world entries (start-drawn world)).0;
+  steps = λ format world actor event rise. step-keeps _ keeps_numbered format world actor event rise;
+  runs = λ format workers node entries. run-keeps _ keeps_numbered format (opening workers node) entries (omega arith);
+  counts = λ format world actor event. step-keeps _ (keeps_count world.made) format world actor event (omega arith);
+  draws = λ format world actor event. (step-keeps _ (keeps_drawn world) format world actor event (start-drawn world)).0;
+  stays_gone = λ format world entries. (run-keeps _ (keeps_drawn world) format world entries (start-drawn world)).0;
 }

@@ -14,13 +14,13 @@ use Rattle.ev_types.specs.declared.rows.GenRow.{GenRow}
 use Rattle.ev_types.specs.declared.rows.RowStatus.{RowStatus}
 use Rattle.ev_types.specs.declared.rows.RowStatus.TheVariants.{Warming, Active, Draining, Dropped}
 use Rattle.ev_types.specs.declared.rows.Phase.{Phase}
-use Rattle.ev_model.specs.World.{World, opening}
-use Rattle.ev_model.specs.Warming.{is_ready}
-use Rattle.ev_model.specs.Rows.{is_row_of, removed_status, with_statuses, status_left, replaced_status, new_row}
-use Rattle.ev_model.specs.Tidy.{is_due, has_successor, status_by, promoted_status}
+use Rattle.ev_model.specs.World.{Arrived, HealthResult, opening}
+use Rattle.ev_model.specs.Warming.{is_ready_by}
+use Rattle.ev_model.specs.Rows.{is_row_of, removed_status, with_statuses, replaced_status, new_row, rows_with_new}
+use Rattle.ev_model.specs.Tidy.{is_due, has_successor, status_by, promoted_status, promoted_rows}
 use Rattle.ev_model_laws.specs.OneAName.{warms_as, serves_as, AreSingle, StaysSingle}
 use Rattle.ev_model_laws.proofs.CountLemmas.{count, fewer_by_one, fewer_left}
-use Rattle.ev_model_laws.proofs.KeepLemmas.{Keeps, step-keeps, run-keeps}
+use Rattle.ev_model_laws.proofs.KeepLemmas.{removed_where, Keeps, step-keeps, run-keeps}
 
 -- where no row is barred, and a row passes the one test with its new status only if it passes the other or is barred, no
 -- more pass the one test with their new statuses than pass the other
@@ -129,7 +129,7 @@ one_behind test rows new none one =
     omega (arith, counted_behind test rows new, last_counted (test new) new (count test rows) none one)
 
 added_single : (kind : Kind) (name : List ℕ) (content : Content) (rows : List GenRow) (made : ℕ)
-    → AreSingle rows → AreSingle (with_statuses (replaced_status kind name) rows ++ new_row kind made name content ∷ [])
+    → AreSingle rows → AreSingle (rows_with_new kind made name content rows)
 added_single kind name content rows made single =
     let left : AreSingle (with_statuses (replaced_status kind name) rows) =
     removed_single (replaced_status kind name) rows
@@ -171,48 +171,50 @@ waiting_active true succeeded ready Draining h free = h
 waiting_active true succeeded ready Dropped h free = h
 waiting_active false succeeded ready status h free = h
 
--- the row is of this kind and name, and due
-abbrev due_as : World → Kind → List ℕ → GenRow → Bool
-due_as world kind name row = is_row_of kind name row && is_due world row
+module _ (arrivals : List Arrived) (results : List HealthResult) where
+  -- the row is of this kind and name, and due
+  abbrev due_as : Kind → List ℕ → GenRow → Bool
+  due_as kind name row = is_row_of kind name row && is_due arrivals results row
 
-succeeded_as : (world : World) (kind : Kind) (name : List ℕ) (row : GenRow)
-    → list_any (due_as world kind name) world.rows ≡ true → is_row_of kind name row ≡ true → has_successor world row ≡ true
-succeeded_as world kind name row due named =
-    ap₂ (λ (k : Kind) (n : List ℕ). list_any (due_as world k n) world.rows)
-    ((kind_decides row.kind kind).0 (first_so _ _ named)) ((bytes_decide row.name name).0 (second_so _ _ named))
-    ∙ due
+  succeeded_as : (rows : List GenRow) (kind : Kind) (name : List ℕ) (row : GenRow)
+      → list_any (due_as kind name) rows ≡ true → is_row_of kind name row ≡ true → has_successor arrivals results rows row ≡ true
+  succeeded_as rows kind name row due named =
+      ap₂ (λ (k : Kind) (n : List ℕ). list_any (due_as k n) rows)
+      ((kind_decides row.kind kind).0 (first_so _ _ named)) ((bytes_decide row.name name).0 (second_so _ _ named))
+      ∙ due
 
-promoted_serves : (world : World) (kind : Kind) (name : List ℕ) (due : Bool) → list_any (due_as world kind name) world.rows ≡ due
-    → AreSingle world.rows → count (serves_as kind name) (with_statuses (promoted_status world) world.rows) ≤ 1
-promoted_serves world kind name true is single =
-    le_trans (fewer_after (serves_as kind name) (warms_as kind name) (promoted_status world) world.rows
-    (λ row serves. let named : is_row_of kind name row ≡ true = first_so _ _ serves in
-    and_from _ _ named (succeeded_active (has_successor world row) (is_ready world row) row.status
-    (succeeded_as world kind name row is named) (second_so _ _ serves))))
-    (single.one_warms kind name)
-promoted_serves world kind name false is single =
-    le_trans (fewer (serves_as kind name) (serves_as kind name) (due_as world kind name) (promoted_status world) world.rows is
-    (λ row. waiting_active (is_row_of kind name row) (has_successor world row) (is_ready world row) row.status))
-    (single.one_serves kind name)
+  promoted_serves : (rows : List GenRow) (kind : Kind) (name : List ℕ) (due : Bool) → list_any (due_as kind name) rows ≡ due
+      → AreSingle rows → count (serves_as kind name) (promoted_rows arrivals results rows) ≤ 1
+  promoted_serves rows kind name true is single =
+      le_trans (fewer_after (serves_as kind name) (warms_as kind name) (promoted_status arrivals results rows) rows
+      (λ row serves. let named : is_row_of kind name row ≡ true = first_so _ _ serves in
+      and_from _ _ named (succeeded_active (has_successor arrivals results rows row) (is_ready_by arrivals results row) row.status
+      (succeeded_as rows kind name row is named) (second_so _ _ serves))))
+      (single.one_warms kind name)
+  promoted_serves rows kind name false is single =
+      le_trans (fewer (serves_as kind name) (serves_as kind name) (due_as kind name) (promoted_status arrivals results rows) rows is
+      (λ row. waiting_active (is_row_of kind name row) (has_successor arrivals results rows row) (is_ready_by arrivals results row) row.status))
+      (single.one_serves kind name)
 
-promoted_single : (world : World) → AreSingle world.rows → AreSingle (with_statuses (promoted_status world) world.rows)
-promoted_single world single = record {
-  one_warms = λ kind name. le_trans (fewer_after (warms_as kind name) (warms_as kind name) (promoted_status world) world.rows
-      (λ row. and_so (is_row_of kind name row) _ _ (promoted_warming (has_successor world row) (is_ready world row) row.status)))
-      (single.one_warms kind name);
-  one_serves = λ kind name. promoted_serves world kind name (list_any (due_as world kind name) world.rows) refl single;
-}
+  promoted_single : (rows : List GenRow) → AreSingle rows → AreSingle (promoted_rows arrivals results rows)
+  promoted_single rows single = record {
+    one_warms = λ kind name. le_trans (fewer_after (warms_as kind name) (warms_as kind name) (promoted_status arrivals results rows) rows
+        (λ row. and_so (is_row_of kind name row) _ _
+        (promoted_warming (has_successor arrivals results rows row) (is_ready_by arrivals results row) row.status)))
+        (single.one_warms kind name);
+    one_serves = λ kind name. promoted_serves rows kind name (list_any (due_as kind name) rows) refl single;
+  }
 
 keeps_single : Keeps (λ rows (made : ℕ) (phase : Phase). AreSingle rows)
 keeps_single = record {
-  removed = λ kind response rows made phase single. removed_single (status_left kind response) rows
+  removed = λ goes rows made phase single. removed_single (removed_where goes) rows
       (λ row. removed_warming _ row.status) (λ row. removed_active _ row.status) single;
   added = λ kind name content rows made phase single. added_single kind name content rows made single;
   left = λ test rows made phase single. record {
     one_warms = λ kind name. le_trans (fewer_left (warms_as kind name) test rows) (single.one_warms kind name);
     one_serves = λ kind name. le_trans (fewer_left (serves_as kind name) test rows) (single.one_serves kind name);
   };
-  tidied = λ world single. promoted_single world single;
+  tidied = λ world single. promoted_single world.arrivals world.results world.rows single;
 }
 
 opens_single : AreSingle []
@@ -221,6 +223,6 @@ opens_single = record { one_warms = λ kind name. omega arith; one_serves = λ k
 pub stays_single : StaysSingle
 stays_single = record {
   opens = λ workers node. opens_single;
-  steps = λ world actor event single. step-keeps _ keeps_single world actor event single;
-  runs = λ workers node entries. run-keeps _ keeps_single (opening workers node) entries opens_single;
+  steps = λ format world actor event single. step-keeps _ keeps_single format world actor event single;
+  runs = λ format workers node entries. run-keeps _ keeps_single format (opening workers node) entries opens_single;
 }

@@ -3,7 +3,6 @@ use Rattle.std.proofs.Common.{ℕ, ◌≤◌, Bool, true, false, cond, List, ari
 use Rattle.ev_types.specs.declared.rows.GenRow.{GenRow}
 use Rattle.ev_types.specs.declared.rows.Phase.{Phase}
 use Rattle.ev_types.specs.declared.rows.Phase.TheVariants.{Clusters, Listeners, Serving}
-use Rattle.ev_model.specs.World.{World}
 use Rattle.ev_model.specs.Phase.{phase_from}
 use Rattle.ev_model_laws.specs.PhaseForward.{rank, NeverGoesBack}
 use Rattle.ev_model_laws.proofs.KeepLemmas.{Keeps, step-keeps}
@@ -14,18 +13,18 @@ both_far least true this that far other = far
 both_far least false this that far other = other
 
 -- a phase moves on forwards
-phase_from-forward : (phase : Phase) (world : World) → rank phase ≤ rank (phase_from phase world)
-phase_from-forward Clusters world = omega arith
-phase_from-forward Listeners world = both_far 1 _ Serving Listeners (omega arith) (omega arith)
-phase_from-forward Serving world = omega arith
+phase_from-forward : (clusters listeners : Bool) (phase : Phase) → rank phase ≤ rank (phase_from clusters listeners phase)
+phase_from-forward clusters listeners Clusters = omega arith
+phase_from-forward clusters listeners Listeners = both_far 1 listeners Serving Listeners (omega arith) (omega arith)
+phase_from-forward clusters listeners Serving = omega arith
 
 keeps_far : (least : ℕ) → Keeps (λ (rows : List GenRow) made phase. least ≤ rank phase)
 keeps_far least = record {
-  removed = λ kind response rows made phase far. far;
+  removed = λ goes rows made phase far. far;
   added = λ kind name content rows made phase far. far;
   left = λ test rows made phase far. far;
-  tidied = λ world far. le_trans far (phase_from-forward world.phase _);
+  tidied = λ world far. le_trans far (phase_from-forward _ _ world.phase);
 }
 
 pub never_goes_back : NeverGoesBack
-never_goes_back world actor event = step-keeps _ (keeps_far (rank world.phase)) world actor event (omega arith)
+never_goes_back format world actor event = step-keeps _ (keeps_far (rank world.phase)) format world actor event (omega arith)

@@ -1,8 +1,8 @@
 -- Why tidying a world that was tidied changes nothing: no row that warms is ready any more, since neither what goes with names
 -- that aren't watched nor the results that go are of a live row, and what is filtered was filtered by the same tests.
-use Rattle.std.proofs.Common.{◌≡◌, ℕ, Bool, true, false, not, ◌&&◌, ◌||◌, ◌==◌, List, map, filter_map, Option, Some, None, refl, ap, sym, ◌∙◌}
+use Rattle.std.proofs.Common.{◌≡◌, ℕ, Bool, true, false, not, ◌&&◌, ◌||◌, ◌==◌, List, map, filter, filter_map, Option, Some, None, refl, ap, sym, ◌∙◌}
 use Rattle.std.specs.Bool.{⊤}
-use Rattle.std.specs.List.{Contains, list_any, list_all, last_or}
+use Rattle.std.specs.List.{Contains, list_any, last_or}
 use Rattle.std.specs.Str.{bytes_eq}
 use Rattle.std.specs.Cmp.{first_so, second_so}
 use Rattle.std.proofs.lemmas.List.Elements.{All-map, All-contains}
@@ -28,24 +28,25 @@ use Rattle.ev_types.specs.declared.rows.Live.{Live}
 use Rattle.ev_model.specs.World.{World, Arrived, HealthResult}
 use Rattle.ev_model.specs.Live.{lives_of, live_of}
 use Rattle.ev_model.specs.Watching.{Dependency, dependency_of, discovery_dependency, is_dependency, is_watched, is_limited}
-use Rattle.ev_model.specs.Warming.{came_for, content_in, rows_in, is_word, is_timeout, has_answer, is_answered, discovered, hosts_of, assignment_of, is_checked, is_result_of, has_result, has_all_results, is_ready}
-use Rattle.ev_model.specs.Rows.{is_row_of, with_statuses}
+use Rattle.ev_model.specs.Warming.{came_for, content_in, rows_in, is_word, is_timeout, has_answer, is_answered_by, discovered, assignment_by, is_checked, is_result_of, has_result, has_all_results, is_ready_by}
+use Rattle.ev_model.specs.Rows.{is_row_of}
 use Rattle.ev_model.specs.Phase.{phase_from, phase_after, clusters_have_come, listeners_have_come}
-use Rattle.ev_model.specs.Tidy.{is_due, has_successor, status_by, promoted_status, promoted, is_version_due, without_unwatched, has_host, is_result_due, without_old_results, with_phase, tidy}
+use Rattle.ev_model.specs.Tidy.{is_due, has_successor, status_by, promoted_status, promoted_rows, promoted, arrivals_watched, is_version_due, without_unwatched, has_host, is_result_due, without_old_results, with_phase, tidy}
+use Rattle.ev_model_laws.specs.Kept.{NothingIsDue}
 use Rattle.ev_model_laws.specs.Tidying.{TidiesOnce}
 use Rattle.ev_model_laws.proofs.TidyLists.{all_of, any_at, any_none, all_agree, map_same, filter_within, filter_twice, any_of_map}
 
 -- what is depended on is watched
-abbrev IsKept : World → Option Dependency → Type 0
-IsKept world None = ⊤
-IsKept world (Some d) = is_watched (lives_of world) d.kind d.name ≡ true
+abbrev IsKept : List Live → Option Dependency → Type 0
+IsKept lives None = ⊤
+IsKept lives (Some d) = is_watched lives d.kind d.name ≡ true
 
 -- a dependency is of its own kind and name
 own_dependency : (d : Dependency) → is_dependency d.kind d.name (Some d) ≡ true
 own_dependency d = simp ((kind_decides d.kind d.kind).1 refl, (bytes_decide d.name d.name).1 refl) refl
 
 kept_by : (world : World) (row : GenRow) (dependency : Option Dependency) → dependency_of row.content ≡ dependency
-    → Contains world.rows row → is_live row.status ≡ true → IsKept world dependency
+    → Contains world.rows row → is_live row.status ≡ true → IsKept (lives_of world) dependency
 kept_by world row None is there live = tt
 kept_by world row (Some d) is there live =
     any_of_map (λ (l : Live). is_dependency d.kind d.name (dependency_of l.content)) live_of (λ (r : GenRow). is_live r.status) world.rows
@@ -53,87 +54,94 @@ kept_by world row (Some d) is there live =
     (simp (live, is) (own_dependency d))
 
 -- what a live row depends on is watched
-kept : (world : World) (row : GenRow) → Contains world.rows row → is_live row.status ≡ true → IsKept world (dependency_of row.content)
+kept : (world : World) (row : GenRow) → Contains world.rows row → is_live row.status ≡ true → IsKept (lives_of world) (dependency_of row.content)
 kept world row there live = kept_by world row (dependency_of row.content) refl there live
 
 -- what came for a watched name stays, in order
-came_same : (world : World) (kind : Kind) (name : List ℕ) → is_watched (lives_of world) kind name ≡ true
-    → came_for (without_unwatched world) kind name ≡ came_for world kind name
-came_same world kind name watched =
+came_same : (lives : List Live) (arrivals : List Arrived) (kind : Kind) (name : List ℕ) → is_watched lives kind name ≡ true
+    → came_for (arrivals_watched lives arrivals) kind name ≡ came_for arrivals kind name
+came_same lives arrivals kind name watched =
     ap (map (λ (a : Arrived). a.arrival))
-    (filter_within (λ (a : Arrived). kind_same a.kind kind && bytes_eq a.name name) (λ (a : Arrived). is_watched (lives_of world) a.kind a.name)
+    (filter_within (λ (a : Arrived). kind_same a.kind kind && bytes_eq a.name name) (λ (a : Arrived). is_watched lives a.kind a.name)
     (λ (a : Arrived) h.
-    ap (λ k. is_watched (lives_of world) k a.name) ((kind_decides a.kind kind).0 (first_so (kind_same a.kind kind) (bytes_eq a.name name) h))
-    ∙ ap (is_watched (lives_of world) kind) ((bytes_decide a.name name).0 (second_so (kind_same a.kind kind) (bytes_eq a.name name) h))
+    ap (λ k. is_watched lives k a.name) ((kind_decides a.kind kind).0 (first_so (kind_same a.kind kind) (bytes_eq a.name name) h))
+    ∙ ap (is_watched lives kind) ((bytes_decide a.name name).0 (second_so (kind_same a.kind kind) (bytes_eq a.name name) h))
     ∙ watched)
-    world.arrivals)
+    arrivals)
 
 -- so whether the control plane has answered for it
-answer_same : (world : World) (limited : Bool) (dependency : Option Dependency) → IsKept world dependency
-    → has_answer (without_unwatched world) limited dependency ≡ has_answer world limited dependency
-answer_same world limited None watched = refl
-answer_same world limited (Some d) watched =
-    ap (λ came. list_any is_word came || (list_any is_timeout came && limited)) (came_same world d.kind d.name watched)
+answer_same : (lives : List Live) (arrivals : List Arrived) (limited : Bool) (dependency : Option Dependency) → IsKept lives dependency
+    → has_answer (arrivals_watched lives arrivals) limited dependency ≡ has_answer arrivals limited dependency
+answer_same lives arrivals limited None watched = refl
+answer_same lives arrivals limited (Some d) watched =
+    ap (λ came. list_any is_word came || (list_any is_timeout came && limited)) (came_same lives arrivals d.kind d.name watched)
 
 -- and so the hosts of a content whose dependency is watched
-discovered_same : (world : World) (discovery : Discovery) → IsKept world (discovery_dependency discovery)
-    → discovered (without_unwatched world) discovery ≡ discovered world discovery
-discovered_same world (Static rows) watched = refl
-discovered_same world (by_eds service limited) watched =
-    ap (λ came. rows_in (last_or None (filter_map content_in came))) (came_same world Eds service watched)
+discovered_same : (lives : List Live) (arrivals : List Arrived) (discovery : Discovery) → IsKept lives (discovery_dependency discovery)
+    → discovered (arrivals_watched lives arrivals) discovery ≡ discovered arrivals discovery
+discovered_same lives arrivals (Static rows) watched = refl
+discovered_same lives arrivals (by_eds service limited) watched =
+    ap (λ came. rows_in (last_or None (filter_map content_in came))) (came_same lives arrivals Eds service watched)
 
-hosts_same : (world : World) (content : Content) → IsKept world (dependency_of content)
-    → hosts_of (without_unwatched world) content ≡ hosts_of world content
-hosts_same world (a_cluster cluster) watched = discovered_same world cluster.discovery watched
-hosts_same world (an_assignment rows) watched = refl
-hosts_same world (a_listener listener) watched = refl
-hosts_same world (routes table) watched = refl
+hosts_same : (lives : List Live) (arrivals : List Arrived) (content : Content) → IsKept lives (dependency_of content)
+    → assignment_by (arrivals_watched lives arrivals) content ≡ assignment_by arrivals content
+hosts_same lives arrivals (a_cluster cluster) watched = discovered_same lives arrivals cluster.discovery watched
+hosts_same lives arrivals (an_assignment rows) watched = refl
+hosts_same lives arrivals (a_listener listener) watched = refl
+hosts_same lives arrivals (routes table) watched = refl
 
--- a live row is ready without what isn't watched where it is ready with it
-watched_ready : (world : World) (row : GenRow) → Contains world.rows row → is_live row.status ≡ true
-    → is_ready (without_unwatched world) row ≡ is_ready world row
-watched_ready world row there live =
-    let watched : IsKept world (dependency_of row.content) = kept world row there live in
-    ap (λ answered. answered && (not (is_checked row.content) || has_all_results (without_unwatched world) row))
-    (answer_same world (is_limited row.content) (dependency_of row.content) watched)
-    ∙ ap (λ hosts. is_answered world row && (not (is_checked row.content) || list_all (λ (h : HostRowParts). has_result world row.number h.host) hosts))
-    (hosts_same world row.content watched)
+-- a row whose dependency is watched is ready without what isn't watched where it is ready with it
+watched_ready : (lives : List Live) (arrivals : List Arrived) (results : List HealthResult) (row : GenRow)
+    → IsKept lives (dependency_of row.content)
+    → is_ready_by (arrivals_watched lives arrivals) results row ≡ is_ready_by arrivals results row
+watched_ready lives arrivals results row watched =
+    ap (λ answered. answered && (not (is_checked row.content)
+    || has_all_results results row.number (assignment_by (arrivals_watched lives arrivals) row.content)))
+    (answer_same lives arrivals (is_limited row.content) (dependency_of row.content) watched)
+    ∙ ap (λ hosts. is_answered_by arrivals row.content && (not (is_checked row.content) || has_all_results results row.number hosts))
+    (hosts_same lives arrivals row.content watched)
 
 -- a live row's results for hosts of its assignment stay: the row itself is why
-due_result : (world : World) (row : GenRow) (result : HealthResult) → Contains world.rows row → is_live row.status ≡ true
-    → result.number ≡ row.number → has_host result.host (assignment_of world row) ≡ true → is_result_due world result ≡ true
-due_result world row result there live number host =
-    any_at (λ (r : GenRow). is_live r.status && (r.number == result.number) && has_host result.host (assignment_of world r)) world.rows row there
+due_result : (arrivals : List Arrived) (rows : List GenRow) (row : GenRow) (result : HealthResult) → Contains rows row → is_live row.status ≡ true
+    → result.number ≡ row.number → has_host result.host (assignment_by arrivals row.content) ≡ true → is_result_due arrivals rows result ≡ true
+due_result arrivals rows row result there live number host =
+    any_at (λ (r : GenRow). is_live r.status && (r.number == result.number) && has_host result.host (assignment_by arrivals r.content)) rows row there
     (simp (live, (numbers_decide row.number result.number).1 (sym number), host) refl)
 
-result_same : (world : World) (row : GenRow) (host : Host) → Contains world.rows row → is_live row.status ≡ true
-    → has_host host (assignment_of world row) ≡ true
-    → has_result (without_old_results world) row.number host ≡ has_result world row.number host
-result_same world row host there live among =
-    any-filter_same (is_result_of row.number host) (is_result_due world) true
+result_same : (arrivals : List Arrived) (rows : List GenRow) (results : List HealthResult) (row : GenRow) (host : Host)
+    → Contains rows row → is_live row.status ≡ true → has_host host (assignment_by arrivals row.content) ≡ true
+    → has_result (filter (is_result_due arrivals rows) results) row.number host ≡ has_result results row.number host
+result_same arrivals rows results row host there live among =
+    any-filter_same (is_result_of row.number host) (is_result_due arrivals rows) true
     (λ (r : HealthResult) h.
-    due_result world row r there live
+    due_result arrivals rows row r there live
     ((numbers_decide r.number row.number).0 (first_so (r.number == row.number) (host_same r.host host) h))
-    (ap (λ t. has_host t (assignment_of world row)) ((host_decides r.host host).0 (second_so (r.number == row.number) (host_same r.host host) h)) ∙ among))
-    world.results
+    (ap (λ t. has_host t (assignment_by arrivals row.content)) ((host_decides r.host host).0 (second_so (r.number == row.number) (host_same r.host host) h)) ∙ among))
+    results
 
 -- the hosts of a list stand in it
 own_host : (hosts : List HostRowParts) (h : HostRowParts) → Contains hosts h → has_host h.host hosts ≡ true
 own_host hosts h there =
     any_at (λ (other : HostRowParts). host_same other.host h.host) hosts h there ((host_decides h.host h.host).1 refl)
 
-all_results_same : (world : World) (row : GenRow) → Contains world.rows row → is_live row.status ≡ true
-    → has_all_results (without_old_results world) row ≡ has_all_results world row
-all_results_same world row there live =
-    all_agree (λ (h : HostRowParts). has_result (without_old_results world) row.number h.host) (λ (h : HostRowParts). has_result world row.number h.host)
-    (assignment_of world row)
-    (λ (h : HostRowParts) among. result_same world row h.host there live (own_host (assignment_of world row) h among))
+all_results_same : (arrivals : List Arrived) (rows : List GenRow) (results : List HealthResult) (row : GenRow)
+    → Contains rows row → is_live row.status ≡ true
+    → has_all_results (filter (is_result_due arrivals rows) results) row.number (assignment_by arrivals row.content)
+    ≡ has_all_results results row.number (assignment_by arrivals row.content)
+all_results_same arrivals rows results row there live =
+    all_agree (λ (h : HostRowParts). has_result (filter (is_result_due arrivals rows) results) row.number h.host)
+    (λ (h : HostRowParts). has_result results row.number h.host)
+    (assignment_by arrivals row.content)
+    (λ (h : HostRowParts) among.
+    result_same arrivals rows results row h.host there live (own_host (assignment_by arrivals row.content) h among))
 
 -- a live row is ready without old results where it is ready with them
-results_ready : (world : World) (row : GenRow) → Contains world.rows row → is_live row.status ≡ true
-    → is_ready (without_old_results world) row ≡ is_ready world row
-results_ready world row there live =
-    ap (λ resulted. is_answered world row && (not (is_checked row.content) || resulted)) (all_results_same world row there live)
+results_ready : (arrivals : List Arrived) (rows : List GenRow) (results : List HealthResult) (row : GenRow)
+    → Contains rows row → is_live row.status ≡ true
+    → is_ready_by arrivals (filter (is_result_due arrivals rows) results) row ≡ is_ready_by arrivals results row
+results_ready arrivals rows results row there live =
+    ap (λ resulted. is_answered_by arrivals row.content && (not (is_checked row.content) || resulted))
+    (all_results_same arrivals rows results row there live)
 
 due_by : (status : RowStatus) (a b : Bool) → (is_live status ≡ true → a ≡ b) → (is_warming status && a) ≡ (is_warming status && b)
 due_by Warming a b same = same refl
@@ -141,12 +149,20 @@ due_by Active a b same = refl
 due_by Draining a b same = refl
 due_by Dropped a b same = refl
 
+-- the row is due in this world
+abbrev is_due_in : World → GenRow → Bool
+is_due_in world row = is_due world.arrivals world.results row
+
 -- so no row comes to be due by what goes
 due_same : (world : World) (row : GenRow) → Contains world.rows row
-    → is_due (without_old_results (without_unwatched world)) row ≡ is_due world row
+    → is_due_in (without_old_results (without_unwatched world)) row ≡ is_due_in world row
 due_same world row there =
-    due_by row.status (is_ready (without_old_results (without_unwatched world)) row) (is_ready world row)
-    (λ live. results_ready (without_unwatched world) row there live ∙ watched_ready world row there live)
+    let watched : List Arrived = arrivals_watched (lives_of world) world.arrivals in
+    due_by row.status (is_ready_by watched (filter (is_result_due watched world.rows) world.results) row)
+    (is_ready_by world.arrivals world.results row)
+    (λ live.
+    results_ready watched world.rows world.results row there live
+    ∙ watched_ready (lives_of world) world.arrivals world.results row (kept world row there live))
 
 none_by : (succeeded ready : Bool) (status : RowStatus) → (is_warming (status_by succeeded ready status) && ready) ≡ false
 none_by succeeded true Warming = refl
@@ -156,17 +172,15 @@ none_by false ready Active = refl
 none_by succeeded ready Draining = refl
 none_by succeeded ready Dropped = refl
 
--- no row is due
-abbrev NoneDue : World → Type 0
-NoneDue world = (row : GenRow) → Contains world.rows row → is_due world row ≡ false
-
 -- once all that are due serve, none is due
-none_due : (world : World) → NoneDue (promoted world)
+none_due : (world : World) → NothingIsDue (promoted world)
 none_due world row there =
-    All-contains (λ (r : GenRow). is_due (promoted world) r ≡ false) (promoted world).rows row
-    (All-map (λ (row : GenRow). is_due (promoted world) row ≡ false) (λ (row : GenRow). record row { status = promoted_status world row }) world.rows
-    (all_of (λ (row : GenRow). is_due (promoted world) (record row { status = promoted_status world row }) ≡ false) world.rows
-    (λ (r : GenRow) among. none_by (has_successor world r) (is_ready world r) r.status)))
+    let status_of : GenRow → RowStatus = promoted_status world.arrivals world.results world.rows in
+    All-contains (λ (r : GenRow). is_due_in world r ≡ false) (promoted world).rows row
+    (All-map (λ (r : GenRow). is_due_in world r ≡ false) (λ (r : GenRow). record r { status = status_of r }) world.rows
+    (all_of (λ (r : GenRow). is_due_in world (record r { status = status_of r }) ≡ false) world.rows
+    (λ (r : GenRow) among.
+    none_by (has_successor world.arrivals world.results world.rows r) (is_ready_by world.arrivals world.results r) r.status)))
     there
 
 status_kept : (succeeded ready : Bool) (status : RowStatus) → succeeded ≡ false → (is_warming status && ready) ≡ false
@@ -180,36 +194,35 @@ and_false : (a b : Bool) → b ≡ false → (a && b) ≡ false
 and_false true b h = h
 and_false false b h = refl
 
-no_successor : (world : World) (row : GenRow) → NoneDue world → has_successor world row ≡ false
+no_successor : (world : World) (row : GenRow) → NothingIsDue world → has_successor world.arrivals world.results world.rows row ≡ false
 no_successor world row none =
-    any_none (λ (other : GenRow). is_row_of row.kind row.name other && is_due world other) world.rows
-    (λ (other : GenRow) there. and_false (is_row_of row.kind row.name other) (is_due world other) (none other there))
+    any_none (λ (other : GenRow). is_row_of row.kind row.name other && is_due_in world other) world.rows
+    (λ (other : GenRow) there. and_false (is_row_of row.kind row.name other) (is_due_in world other) (none other there))
 
 -- where none is due, each row keeps its status
-promotes_nothing : (world : World) → NoneDue world → promoted world ≡ world
+promotes_nothing : (world : World) → NothingIsDue world → promoted world ≡ world
 promotes_nothing world none =
-    let rows : with_statuses (promoted_status world) world.rows ≡ world.rows =
-    map_same (λ (row : GenRow). record row { status = promoted_status world row }) world.rows
+    let rows : promoted_rows world.arrivals world.results world.rows ≡ world.rows =
+    map_same (λ (row : GenRow). record row { status = promoted_status world.arrivals world.results world.rows row }) world.rows
     (λ (row : GenRow) there.
     ap (λ (status : RowStatus). record row { status = status })
-    (status_kept (has_successor world row) (is_ready world row) row.status (no_successor world row none) (none row there))) in
+    (status_kept (has_successor world.arrivals world.results world.rows row) (is_ready_by world.arrivals world.results row) row.status
+    (no_successor world row none) (none row there))) in
     λ i. record world { rows = rows i }
 
 -- a phase that moved on as far as it can stays
-phase_stays : (world : World) (phase next : Phase) (clusters listeners : Bool)
-    → clusters_have_come world ≡ clusters → listeners_have_come world ≡ listeners
-    → phase_from (phase_from phase world) (record world { phase = next }) ≡ phase_from phase world
-phase_stays world Clusters next true true hc hl = simp (hc, hl) refl
-phase_stays world Clusters next true false hc hl = simp (hc, hl) refl
-phase_stays world Clusters next false listeners hc hl = simp hc refl
-phase_stays world Listeners next clusters true hc hl = simp hl refl
-phase_stays world Listeners next clusters false hc hl = simp hl refl
-phase_stays world Serving next clusters listeners hc hl = refl
+phase_stays : (clusters listeners : Bool) (phase : Phase) → phase_from clusters listeners (phase_from clusters listeners phase) ≡ phase_from clusters listeners phase
+phase_stays true true Clusters = refl
+phase_stays true false Clusters = refl
+phase_stays false listeners Clusters = refl
+phase_stays clusters true Listeners = refl
+phase_stays clusters false Listeners = refl
+phase_stays clusters listeners Serving = refl
 
 phased_once : (world : World) → with_phase (with_phase world) ≡ with_phase world
 phased_once world =
     let phase : phase_after (with_phase world) ≡ phase_after world =
-    phase_stays world world.phase (phase_after world) (clusters_have_come world) (listeners_have_come world) refl refl in
+    phase_stays (clusters_have_come world) (listeners_have_come world) world.phase in
     λ i. record world { phase = phase i }
 
 -- what is filtered already stays
@@ -225,10 +238,11 @@ nothing_unwatched world =
 nothing_old : (world : World) → without_old_results (tidy world) ≡ tidy world
 nothing_old world =
     let before : World = without_unwatched (promoted world) in
-    let results : (without_old_results (tidy world)).results ≡ (tidy world).results = filter_twice (is_result_due before) before.results in
+    let results : (without_old_results (tidy world)).results ≡ (tidy world).results = filter_twice (is_result_due before.arrivals before.rows) before.results in
     λ i. record (tidy world) { results = results i }
 
-nothing_due : (world : World) → NoneDue (tidy world)
+-- where a world was tidied no row is due
+pub nothing_due : (world : World) → NothingIsDue (tidy world)
 nothing_due world row there = due_same (promoted world) row there ∙ none_due world row there
 
 pub tidied_once : TidiesOnce

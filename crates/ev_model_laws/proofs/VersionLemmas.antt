@@ -1,6 +1,6 @@
 -- Of each kind and name at most one version is kept, and the versions stand in the order of their names: a new one takes the
 -- place of that of its kind and name, or stands before the first whose name is greater.
-use Rattle.std.proofs.Common.{◌≡◌, ℕ, ◌≤◌, Bool, true, false, cond, List, [], ◌∷◌, filter, refl, sym, ap, Ordering, Less, Equal, Greater, ◌∙◌, subst, le_trans, arith}
+use Rattle.std.proofs.Common.{◌≡◌, ℕ, ◌≤◌, Bool, true, false, cond, List, [], ◌∷◌, map, filter, refl, sym, ap, Ordering, Less, Equal, Greater, ◌∙◌, subst, le_trans, arith}
 use Rattle.std.specs.Bool.{Decides}
 use Rattle.std.specs.List.{AllByRecursion as ByRecursion}
 use Rattle.std.specs.Ordering.{is_lt, nat_cmp, ordering_reverse}
@@ -14,7 +14,7 @@ use Rattle.ev_types.specs.declared.rows.GenRow.{GenRow}
 use Rattle.ev_types.specs.declared.rows.KeptVersion.{KeptVersion}
 use Rattle.ev_types.specs.declared.rows.Phase.{Phase}
 use Rattle.ev_model.specs.World.{opening}
-use Rattle.ev_model.specs.Versions.{is_version_of, is_before, with_version}
+use Rattle.ev_model.specs.Versions.{is_version_of, is_before, with_version, renewed}
 use Rattle.ev_model_laws.specs.VersionsKept.{AreByName, AreKeptOnce, KeepsVersions}
 use Rattle.ev_model_laws.proofs.CountLemmas.{count, fewer_by_one, one_more, fewer_left}
 use Rattle.ev_model_laws.proofs.KeepLemmas.{KeepsAll, step-keeps-all, run-keeps-all}
@@ -191,12 +191,58 @@ left_kept test versions kept = record {
   by_name = left_by_name test versions kept.by_name;
 }
 
+mark_name : (marks : Bool) (kept : KeptVersion) → (cond marks (record kept { bounded = true }) kept).name ≡ kept.name
+mark_name true kept = refl
+mark_name false kept = refl
+
+mark_same : (marks : Bool) (kind : Kind) (name : List ℕ) (kept : KeptVersion)
+    → is_version_of kind name (cond marks (record kept { bounded = true }) kept) ≡ is_version_of kind name kept
+mark_same true kind name kept = refl
+mark_same false kind name kept = refl
+
+-- the mark of a bounded life leaves the names of versions
+all_marked : (marks : KeptVersion → Bool) (name : List ℕ) (versions : List KeptVersion)
+    → ByRecursion (λ (other : KeptVersion). is_before other.name name ≡ false) versions
+    → ByRecursion (λ (other : KeptVersion). is_before other.name name ≡ false)
+    (map (λ (kept : KeptVersion). cond (marks kept) (record kept { bounded = true }) kept) versions)
+all_marked marks name [] all = tt
+all_marked marks name (kept ∷ others) all =
+    (ap (λ n. is_before n name) (mark_name (marks kept) kept) ∙ all.0, all_marked marks name others all.1)
+
+marked_by_name : (marks : KeptVersion → Bool) (versions : List KeptVersion)
+    → AreByName versions → AreByName (map (λ (kept : KeptVersion). cond (marks kept) (record kept { bounded = true }) kept) versions)
+marked_by_name marks [] by_name = tt
+marked_by_name marks (kept ∷ others) by_name = (
+  subst (λ name. ByRecursion (λ (other : KeptVersion). is_before other.name name ≡ false)
+      (map (λ (kept : KeptVersion). cond (marks kept) (record kept { bounded = true }) kept) others))
+      (sym (mark_name (marks kept) kept)) (all_marked marks kept.name others by_name.0),
+  marked_by_name marks others by_name.1,
+)
+
+-- and how many are of a kind and name
+marked_count : (marks : KeptVersion → Bool) (kind : Kind) (name : List ℕ) (versions : List KeptVersion)
+    → count (is_version_of kind name) (map (λ (kept : KeptVersion). cond (marks kept) (record kept { bounded = true }) kept) versions)
+    ≤ count (is_version_of kind name) versions
+marked_count marks kind name [] = omega arith
+marked_count marks kind name (kept ∷ others) =
+    fewer_by_one (is_version_of kind name (cond (marks kept) (record kept { bounded = true }) kept)) (is_version_of kind name kept)
+    (cond (marks kept) (record kept { bounded = true }) kept) kept _ _
+    (λ passes. sym (mark_same (marks kept) kind name kept) ∙ passes)
+    (marked_count marks kind name others)
+
+renewed_kept : (kind : Kind) (name : List ℕ) (versions : List KeptVersion) → AreKeptOnce versions → AreKeptOnce (renewed kind name versions)
+renewed_kept kind name versions kept = record {
+  once = λ asked wanted. le_trans (marked_count (is_version_of kind name) asked wanted versions) (kept.once asked wanted);
+  by_name = marked_by_name (is_version_of kind name) versions kept.by_name;
+}
+
 keeps_kept : KeepsAll (λ (rows : List GenRow) (made : ℕ) (phase : Phase) versions. AreKeptOnce versions)
 keeps_kept = record {
-  removed = λ kind response rows made phase versions kept. kept;
+  removed = λ goes rows made phase versions kept. kept;
   added = λ kind name content rows made phase versions kept. kept;
   left = λ test rows made phase versions kept. kept;
   version_added = λ new rows made phase versions kept. with_kept new versions kept;
+  version_renewed = λ kind name rows made phase versions kept. renewed_kept kind name versions kept;
   versions_left = λ test rows made phase versions kept. left_kept test versions kept;
   tidied = λ world kept. left_kept _ world.versions kept;
 }
@@ -207,6 +253,6 @@ opens_kept = record { once = λ kind name. omega arith; by_name = tt }
 pub keeps_versions : KeepsVersions
 keeps_versions = record {
   opens = λ workers node. opens_kept;
-  steps = λ world actor event kept. step-keeps-all _ keeps_kept world actor event kept;
-  runs = λ workers node entries. run-keeps-all _ keeps_kept (opening workers node) entries opens_kept;
+  steps = λ format world actor event kept. step-keeps-all _ keeps_kept format world actor event kept;
+  runs = λ format workers node entries. run-keeps-all _ keeps_kept format (opening workers node) entries opens_kept;
 }

@@ -6,3 +6,4 @@ pub mod Numbers
 pub mod OneAName
 pub mod OneReplay
 pub mod VersionsKept
+pub mod Kept

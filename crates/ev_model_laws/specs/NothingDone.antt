@@ -4,6 +4,7 @@ use Rattle.ev_types.specs.declared.events.Actor.{Actor}
 use Rattle.ev_types.specs.declared.events.Event.{Event}
 use Rattle.ev_types.specs.declared.events.Answer.{Answer}
 use Rattle.ev_types.specs.declared.events.Answer.TheVariants.{Ignored, Done, Moved, Replied, Version, Unchanged, Reaped, InUse, NoListener, NoRoute, Redirect, NoCluster, NoEndpoint, Local, Served, NotOpen, Settled}
+use Rattle.ev_types.specs.declared.journals.Format.{Format}
 use Rattle.ev_model.specs.World.{World}
 use Rattle.ev_model.specs.Step.{step}
 
@@ -30,4 +31,5 @@ is_nothing_done (Settled closed version) = false
 -- where the answer says that nothing was done, the world stays as it was
 abbrev pub LeavesAsItWas : Type 0
 LeavesAsItWas =
-    (world : World) (actor : Actor) (event : Event) → IsTrue (is_nothing_done (step world actor event).1) → (step world actor event).0 ≡ world
+    (format : Format) (world : World) (actor : Actor) (event : Event)
+    → IsTrue (is_nothing_done (step format world actor event).1) → (step format world actor event).0 ≡ world

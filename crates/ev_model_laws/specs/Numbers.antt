@@ -4,6 +4,7 @@ use Rattle.ev_types.specs.declared.rows.GenRow.{GenRow}
 use Rattle.ev_types.specs.declared.events.Actor.{Actor}
 use Rattle.ev_types.specs.declared.events.Event.{Event}
 use Rattle.ev_types.specs.declared.events.Entry.{Entry}
+use Rattle.ev_types.specs.declared.journals.Format.{Format}
 use Rattle.ev_model.specs.World.{World, opening}
 use Rattle.ev_model.specs.Step.{step}
 use Rattle.ev_model.specs.Runs.{world_after}
@@ -39,12 +40,17 @@ pub record DrawsInOrder : Type 0 where
   -- at the start the rows are numbered in order, since there are none
   pub opens : (workers : ℕ) (node : List ℕ) → IsNumbered (opening workers node)
   -- each event leaves them so
-  pub steps : (world : World) (actor : Actor) (event : Event) → IsNumbered world → IsNumbered (step world actor event).0
+  pub steps : (format : Format) (world : World) (actor : Actor) (event : Event)
+      → IsNumbered world → IsNumbered (step format world actor event).0
   -- so they are after any entries
-  pub runs : (workers : ℕ) (node : List ℕ) (entries : List Entry) → IsNumbered (world_after (opening workers node) entries)
+  pub runs : (format : Format) (workers : ℕ) (node : List ℕ) (entries : List Entry)
+      → IsNumbered (world_after format (opening workers node) entries)
   -- no number that was drawn is given back
-  pub counts : (world : World) (actor : Actor) (event : Event) → world.made ≤ (step world actor event).0.made
+  pub counts : (format : Format) (world : World) (actor : Actor) (event : Event)
+      → world.made ≤ (step format world actor event).0.made
   -- a row after an event is of a generation from before it, or has a number that wasn't drawn before it
-  pub draws : (world : World) (actor : Actor) (event : Event) → AreOldOrNew world (step world actor event).0.rows
+  pub draws : (format : Format) (world : World) (actor : Actor) (event : Event)
+      → AreOldOrNew world (step format world actor event).0.rows
   -- the same after any entries: a number whose generation is gone never comes back
-  pub stays_gone : (world : World) (entries : List Entry) → AreOldOrNew world (world_after world entries).rows
+  pub stays_gone : (format : Format) (world : World) (entries : List Entry)
+      → AreOldOrNew world (world_after format world entries).rows

@@ -6,6 +6,7 @@ use Rattle.ev_types.specs.declared.rows.GenRow.{GenRow}
 use Rattle.ev_types.specs.declared.events.Actor.{Actor}
 use Rattle.ev_types.specs.declared.events.Event.{Event}
 use Rattle.ev_types.specs.declared.events.Entry.{Entry}
+use Rattle.ev_types.specs.declared.journals.Format.{Format}
 use Rattle.ev_model.specs.World.{World, opening}
 use Rattle.ev_model.specs.Rows.{is_row_of}
 use Rattle.ev_model.specs.Step.{step}
@@ -31,5 +32,7 @@ IsSingle world = AreSingle world.rows
 -- it is so at the start, after each event, and after any entries
 pub record StaysSingle : Type 0 where
   pub opens : (workers : ℕ) (node : List ℕ) → IsSingle (opening workers node)
-  pub steps : (world : World) (actor : Actor) (event : Event) → IsSingle world → IsSingle (step world actor event).0
-  pub runs : (workers : ℕ) (node : List ℕ) (entries : List Entry) → IsSingle (world_after (opening workers node) entries)
+  pub steps : (format : Format) (world : World) (actor : Actor) (event : Event)
+      → IsSingle world → IsSingle (step format world actor event).0
+  pub runs : (format : Format) (workers : ℕ) (node : List ℕ) (entries : List Entry)
+      → IsSingle (world_after format (opening workers node) entries)

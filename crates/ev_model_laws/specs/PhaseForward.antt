@@ -4,6 +4,7 @@ use Rattle.ev_types.specs.declared.rows.Phase.{Phase}
 use Rattle.ev_types.specs.declared.rows.Phase.TheVariants.{Clusters, Listeners, Serving}
 use Rattle.ev_types.specs.declared.events.Actor.{Actor}
 use Rattle.ev_types.specs.declared.events.Event.{Event}
+use Rattle.ev_types.specs.declared.journals.Format.{Format}
 use Rattle.ev_model.specs.World.{World}
 use Rattle.ev_model.specs.Step.{step}
 
@@ -15,4 +16,5 @@ rank Serving = 2
 
 -- no event leads to an earlier phase
 abbrev pub NeverGoesBack : Type 0
-NeverGoesBack = (world : World) (actor : Actor) (event : Event) → rank world.phase ≤ rank (step world actor event).0.phase
+NeverGoesBack =
+    (format : Format) (world : World) (actor : Actor) (event : Event) → rank world.phase ≤ rank (step format world actor event).0.phase

@@ -6,6 +6,7 @@ use Rattle.ev_types.specs.declared.rows.KeptVersion.{KeptVersion}
 use Rattle.ev_types.specs.declared.events.Actor.{Actor}
 use Rattle.ev_types.specs.declared.events.Event.{Event}
 use Rattle.ev_types.specs.declared.events.Entry.{Entry}
+use Rattle.ev_types.specs.declared.journals.Format.{Format}
 use Rattle.ev_model.specs.World.{World, opening}
 use Rattle.ev_model.specs.Versions.{is_version_of, is_before}
 use Rattle.ev_model.specs.Step.{step}
@@ -28,5 +29,7 @@ KeepsOnce world = AreKeptOnce world.versions
 -- it is so at the start, after each event, and after any entries
 pub record KeepsVersions : Type 0 where
   pub opens : (workers : ℕ) (node : List ℕ) → KeepsOnce (opening workers node)
-  pub steps : (world : World) (actor : Actor) (event : Event) → KeepsOnce world → KeepsOnce (step world actor event).0
-  pub runs : (workers : ℕ) (node : List ℕ) (entries : List Entry) → KeepsOnce (world_after (opening workers node) entries)
+  pub steps : (format : Format) (world : World) (actor : Actor) (event : Event)
+      → KeepsOnce world → KeepsOnce (step format world actor event).0
+  pub runs : (format : Format) (workers : ℕ) (node : List ℕ) (entries : List Entry)
+      → KeepsOnce (world_after format (opening workers node) entries)

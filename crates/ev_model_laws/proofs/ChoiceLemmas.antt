@@ -1,0 +1,133 @@
+-- A choice in a picture names generations that the picture shows, and so does the connection that it opens.
+use Rattle.std.proofs.Common.{◌≡◌, ℕ, Bool, true, false, ◌||◌, ◌==◌, ◌/◌, List, [], ◌∷◌, ◌++◌, map, Option, Some, None, refl, ◌∙◌, subst}
+use Rattle.std.specs.Bool.{⊤}
+use Rattle.std.specs.List.{find, list_any}
+use Rattle.std.specs.Option.{IfSome}
+use Rattle.std.proofs.lemmas.Bool.{false≢true, cond_both, or_left, or_right}
+use Rattle.std.proofs.lemmas.Option.{IfSome_then}
+use Rattle.std.proofs.lemmas.List.Folds.{list_any-append}
+use Rattle.ev_types.specs.Same.{numbers_decide}
+use Rattle.ev_types.specs.declared.events.Ask.{Ask}
+use Rattle.ev_types.specs.declared.routes.Action.{Action}
+use Rattle.ev_types.specs.declared.routes.Action.TheVariants.{Forward, Redirect as redirect, Local as local}
+use Rattle.ev_types.specs.declared.routes.Route.{Route}
+use Rattle.ev_types.specs.declared.routes.Target.{Target}
+use Rattle.ev_types.specs.declared.routes.VirtualHost.{VirtualHost}
+use Rattle.ev_model.specs.declared.pictures.Picture.{Picture}
+use Rattle.ev_model.specs.declared.pictures.Shown.{Shown}
+use Rattle.ev_model.specs.declared.pictures.Routing.{Routing}
+use Rattle.ev_model.specs.declared.pictures.Routing.TheVariants.{Table, Tcp}
+use Rattle.ev_model.specs.declared.pictures.ServedCluster.{ServedCluster}
+use Rattle.ev_model.specs.declared.pictures.ServedListener.{ServedListener}
+use Rattle.ev_model.specs.declared.pictures.Choice.{Choice}
+use Rattle.ev_model.specs.declared.pictures.Choice.TheVariants.{NoListener, NoRoute, Local, Redirect, NoCluster, NoEndpoint, Served}
+use Rattle.ev_model.specs.Picture.{has_number, is_shown}
+use Rattle.ev_model.specs.Dead.{is_open_on}
+use Rattle.ev_model.specs.Choice.{listener_at, virtual_host_for, route_for, target_name, target_weight, cluster_named, host_place, served_at, choice_in, forwarded, acted, by_route, by_host, by_routing, by_listener, choice_of}
+use Rattle.ev_model.specs.Connections.{member_on, members_of}
+use Rattle.ev_model_laws.proofs.AnyLemmas.{or_so, any_only}
+
+-- the number of a generation that is found stands among the numbers of all
+found_number : {X : Type 0} (number_of : X → ℕ) (test : X → Bool) (xs : List X)
+    → IfSome (find test xs) (λ x. has_number (number_of x) (map number_of xs) ≡ true)
+found_number number_of test [] = tt
+found_number number_of test (x ∷ xs) =
+    cond_both (test x) (Some x) (find test xs) (λ o. IfSome o (λ y. has_number (number_of y) (map number_of (x ∷ xs)) ≡ true))
+    (λ passes. or_left (number_of x == number_of x) _ ((numbers_decide (number_of x) (number_of x)).1 refl))
+    (λ fails. IfSome_then (find test xs) (found_number number_of test xs) (λ y h. or_right (number_of x == number_of y) _ h))
+
+cluster_shown : (shown : Shown) (number : ℕ) → has_number number (map (λ (c : ServedCluster). c.number) shown.clusters) ≡ true → is_shown number shown ≡ true
+cluster_shown shown number h = list_any-append (λ n. n == number) _ _ ∙ or_left _ _ h
+
+listener_shown : (shown : Shown) (number : ℕ) → has_number number (map (λ (l : ServedListener). l.number) shown.listeners) ≡ true → is_shown number shown ≡ true
+listener_shown shown number h =
+    list_any-append (λ n. n == number) (map (λ (c : ServedCluster). c.number) shown.clusters) (map (λ (l : ServedListener). l.number) shown.listeners)
+    ∙ or_right (has_number number (map (λ (c : ServedCluster). c.number) shown.clusters)) _ h
+
+-- the generations that a choice names are shown
+abbrev pub ShowsChosen : Shown → Choice → Type 0
+ShowsChosen shown NoListener = ⊤
+ShowsChosen shown (NoRoute listener) = is_shown listener shown ≡ true
+ShowsChosen shown (Local listener status) = is_shown listener shown ≡ true
+ShowsChosen shown (Redirect listener) = is_shown listener shown ≡ true
+ShowsChosen shown (NoCluster listener) = is_shown listener shown ≡ true
+ShowsChosen shown (NoEndpoint listener) = is_shown listener shown ≡ true
+ShowsChosen shown (Served listener cluster place) = (is_shown listener shown ≡ true) × (is_shown cluster shown ≡ true)
+
+module _ (picture : Picture) (listener : ℕ) (shown : is_shown listener picture.shown ≡ true) where
+  served_chosen : (cluster : ℕ) (place : Option ℕ) → is_shown cluster picture.shown ≡ true → ShowsChosen picture.shown (served_at listener cluster place)
+  served_chosen cluster None also = shown
+  served_chosen cluster (Some place) also = (shown, also)
+
+  cluster_chosen : (cluster : Option ServedCluster) (pick : ℕ) → IfSome cluster (λ c. is_shown c.number picture.shown ≡ true)
+      → ShowsChosen picture.shown (choice_in listener cluster pick)
+  cluster_chosen None pick also = shown
+  cluster_chosen (Some cluster) pick also = served_chosen cluster.number (host_place cluster.hosts pick) also
+
+  target_chosen : (pick : ℕ) (target : Target) → ShowsChosen picture.shown (forwarded picture pick listener target)
+  target_chosen pick target =
+      cluster_chosen (cluster_named picture.shown.clusters (target_name target pick)) (pick / target_weight target)
+      (IfSome_then (cluster_named picture.shown.clusters (target_name target pick))
+      (found_number (λ (c : ServedCluster). c.number) _ picture.shown.clusters)
+      (λ (c : ServedCluster). cluster_shown picture.shown c.number))
+
+  action_chosen : (pick : ℕ) (action : Action) → ShowsChosen picture.shown (acted picture pick listener action)
+  action_chosen pick (Forward target) = target_chosen pick target
+  action_chosen pick redirect = shown
+  action_chosen pick (local status) = shown
+
+  route_chosen : (pick : ℕ) (route : Option Route) → ShowsChosen picture.shown (by_route picture pick listener route)
+  route_chosen pick None = shown
+  route_chosen pick (Some route) = action_chosen pick route.action
+
+  host_chosen : (ask : Ask) (host : Option VirtualHost) → ShowsChosen picture.shown (by_host picture ask listener host)
+  host_chosen ask None = shown
+  host_chosen ask (Some host) = route_chosen ask.pick (route_for host ask.path)
+
+  routing_chosen : (ask : Ask) (routing : Routing) → ShowsChosen picture.shown (by_routing picture ask listener routing)
+  routing_chosen ask (Table table) = host_chosen ask (virtual_host_for table ask.host)
+  routing_chosen ask (Tcp target) = target_chosen ask.pick target
+
+listener_chosen : (picture : Picture) (ask : Ask) (listener : Option ServedListener)
+    → IfSome listener (λ l. is_shown l.number picture.shown ≡ true) → ShowsChosen picture.shown (by_listener picture ask listener)
+listener_chosen picture ask None shown = tt
+listener_chosen picture ask (Some listener) shown = routing_chosen picture listener.number shown ask listener.routing
+
+-- a choice in a picture names what the picture shows
+pub choice_shown : (picture : Picture) (ask : Ask) → ShowsChosen picture.shown (choice_of picture ask)
+choice_shown picture ask =
+    listener_chosen picture ask (listener_at picture.shown.listeners ask.address)
+    (IfSome_then (listener_at picture.shown.listeners ask.address)
+    (found_number (λ (l : ServedListener). l.number) _ picture.shown.listeners)
+    (λ (l : ServedListener). listener_shown picture.shown l.number))
+
+-- a connection is open on the generations that it was opened on
+open_on : (shown : Shown) (worker connection listener number : ℕ) (cluster : Option ℕ)
+    → is_shown listener shown ≡ true → IfSome cluster (λ c. is_shown c shown ≡ true)
+    → is_open_on number (member_on worker connection listener cluster) ≡ true → is_shown number shown ≡ true
+open_on shown worker connection listener number None first second h =
+    or_so (listener == number) false (λ same. subst (λ n. is_shown n shown ≡ true) ((numbers_decide listener number).0 same) first)
+    (λ never. absurd (false≢true never)) h
+open_on shown worker connection listener number (Some cluster) first second h =
+    or_so (listener == number) (cluster == number)
+    (λ same. subst (λ n. is_shown n shown ≡ true) ((numbers_decide listener number).0 same) first)
+    (λ same. subst (λ n. is_shown n shown ≡ true) ((numbers_decide cluster number).0 same) second) h
+
+one_open_on : (shown : Shown) (worker connection listener number : ℕ) (cluster : Option ℕ)
+    → is_shown listener shown ≡ true → IfSome cluster (λ c. is_shown c shown ≡ true)
+    → list_any (is_open_on number) (member_on worker connection listener cluster ∷ []) ≡ true → is_shown number shown ≡ true
+one_open_on shown worker connection listener number cluster first second h =
+    open_on shown worker connection listener number cluster first second
+    (any_only (is_open_on number) (member_on worker connection listener cluster) h)
+
+-- what a choice opens is open on what is shown
+pub opens_shown : (shown : Shown) (worker connection number : ℕ) (choice : Choice) → ShowsChosen shown choice
+    → list_any (is_open_on number) (members_of worker connection choice) ≡ true → is_shown number shown ≡ true
+opens_shown shown worker connection number NoListener chosen h = absurd (false≢true h)
+opens_shown shown worker connection number (NoRoute listener) chosen h = one_open_on shown worker connection listener number None chosen tt h
+opens_shown shown worker connection number (Local listener status) chosen h = one_open_on shown worker connection listener number None chosen tt h
+opens_shown shown worker connection number (Redirect listener) chosen h = one_open_on shown worker connection listener number None chosen tt h
+opens_shown shown worker connection number (NoCluster listener) chosen h = one_open_on shown worker connection listener number None chosen tt h
+opens_shown shown worker connection number (NoEndpoint listener) chosen h = one_open_on shown worker connection listener number None chosen tt h
+opens_shown shown worker connection number (Served listener cluster place) chosen h =
+    one_open_on shown worker connection listener number (Some cluster) chosen.0 chosen.1 h
