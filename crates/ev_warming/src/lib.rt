@@ -1,0 +1,9 @@
+//! Warming: which generations of a name stand, which wait for which names, and which are due to serve. The kind of the rows and
+//! the kind of what they wait for are values, so that clusters and listeners share it.
+#![tactic(auto)]
+
+mod names;
+mod watches;
+
+pub use names::{Names, Standing};
+pub use watches::{Watch, Watches};
