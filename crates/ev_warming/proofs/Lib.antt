@@ -1,1 +1,4 @@
 pub mod KeptLemmas
+pub mod WhereLemmas
+pub mod ReadyLemmas
+pub mod IndexLemmas

@@ -75,14 +75,12 @@ impl Watches {
 
     /// A generation no longer depends on the name. It takes no memory.
     pub fn unwatch(&mut self, name: &Name, number: Gen)
-        requires { IsSome (lookup (bytes_eq name.now) self.old) }
         ensures { Sets unwatched self.old self.new name.now (watched_less number (watch_in self.old name.now)) }
     {
-        let Some(watch) = self.watches.get_mut(name) else {
-            unreachable!()
-        };
-        leave_out(&mut watch.rows, number);
-        leave_out(&mut watch.limited, number);
+        if let Some(watch) = self.watches.get_mut(name) {
+            leave_out(&mut watch.rows, number);
+            leave_out(&mut watch.limited, number);
+        }
     }
 
     /// Something came for the name. Without memory nothing is promised.

@@ -1,0 +1,132 @@
+ghost use Rattle.std.specs.Prelude.{◌≡◌, ◌+◌, ℕ, List, true, if◌then◌else◌, length, None, OnOk};
+ghost use Rattle.std.specs.List.{list_any};
+ghost use Rattle.ev_model.specs.Rows.{removed_status};
+ghost use Rattle.ev_types.specs.declared.rows.RowStatus.TheVariants.{Active};
+ghost use Rattle.ev_types.specs.Statuses.{is_live, is_warming};
+ghost use Rattle.ev_generations.specs.Tables.{row_in, with_status};
+ghost use Rattle.ev_warming.specs.Kept.{Sets};
+ghost use Rattle.ev_warming.specs.Watched.{unwatched, watch_in, watched_less, with_arrival};
+ghost use Rattle.ev_warming.specs.Standings.{standing_in};
+ghost use Rattle.ev_warming.specs.Ready.{name_needed};
+ghost use Rattle.ev_warming.specs.Indexes.{IsIndexed, SameMarks, depends_on, is_needed, numbers_where, status_in, name_in};
+
+use crate::{Due, Names, Standing, Watches, needed, refresh};
+use ev_endpoints::Endpoints;
+use ev_generations::{Generations, Steps};
+use ev_types::{Arrival, Content, Gen, Kind, Name};
+use std::alloc::{AllocError, Global};
+use std::sync::ledger::Ledger;
+
+/// The table of the generations of one kind, with its indexes.
+#[derive(Drop)]
+pub struct State {
+    pub kind: Kind,
+    pub table: Generations,
+    pub names: Names,
+    pub watches: Watches,
+    pub results: Endpoints,
+    pub due: Due,
+}
+
+impl State {
+    /// Something came for a watched name: it is kept, and the rows that depend on the name are looked at anew, each once.
+    /// Without memory nothing is promised of the state.
+    pub fn arrive<L: Ledger>(
+        &mut self,
+        alloc: Global,
+        name: &Name,
+        arrival: &Arrival,
+        steps: &mut Steps<L>,
+    ) -> Result<(), AllocError>
+        requires indexed { IsIndexed self.old }
+        requires watched { list_any (depends_on name.now) self.old.table.rows ≡ true }
+        ensures indexed { OnOk result (IsIndexed self.new) }
+        ensures told { OnOk result (Sets unwatched self.old.watches self.new.watches name.now (with_arrival arrival.now (watch_in self.old.watches name.now))) }
+        ensures others { OnOk result (self.new ≡ record self.old { watches = self.new.watches; due = self.new.due }) }
+        ensures steps { OnOk result (steps.new ≡ steps.old + length (numbers_where (depends_on name.now) self.old.table.rows)) }
+    {
+        self.watches.tell(alloc, name, arrival)?;
+        let Some(watch) = self.watches.get(name) else {
+            unreachable!()
+        };
+        refresh(
+            &self.table,
+            &self.watches,
+            &self.results,
+            &mut self.due,
+            watch.rows.as_slice(),
+            steps,
+        )
+    }
+
+    // A live row drains, or is dropped where it warmed.
+    fn retire<L: Ledger>(&mut self, number: Gen, steps: &mut Steps<L>)
+        requires indexed { IsIndexed self.old }
+        requires live { is_live (status_in (row_in number self.old.table.rows)) ≡ true }
+        ensures indexed { IsIndexed self.new }
+        ensures rows { self.new.table.rows ≡ with_status number (removed_status (status_in (row_in number self.old.table.rows))) self.old.table.rows }
+        ensures made { self.new.table.made ≡ self.old.table.made }
+        ensures marks { SameMarks self.old.watches self.new.watches }
+        ensures others { self.new ≡ record self.old { table = self.new.table; names = self.new.names; watches = self.new.watches; due = self.new.due } }
+        ensures steps { steps.new ≡ steps.old + 1 }
+    {
+        let Some(row) = self.table.row(number, steps) else {
+            unreachable!()
+        };
+        let standing = self.names.standing(&row.name);
+        let warms = row.status.is_warming();
+        self.names.set(&row.name, left(standing, warms));
+        unwatch(&mut self.watches, &row.content, number);
+        self.due.leave(number);
+        self.table.gone(number, warms);
+    }
+
+    // A row that warms serves; no other of its name does.
+    fn serve<L: Ledger>(&mut self, number: Gen, steps: &mut Steps<L>)
+        requires indexed { IsIndexed self.old }
+        requires warms { is_warming (status_in (row_in number self.old.table.rows)) ≡ true }
+        requires alone { (standing_in self.old.names (name_in (row_in number self.old.table.rows))).active ≡ None }
+        ensures indexed { IsIndexed self.new }
+        ensures rows { self.new.table.rows ≡ with_status number Active self.old.table.rows }
+        ensures made { self.new.table.made ≡ self.old.table.made }
+        ensures others { self.new ≡ record self.old { table = self.new.table; names = self.new.names; due = self.new.due } }
+        ensures steps { steps.new ≡ steps.old + 1 }
+    {
+        let Some(row) = self.table.row(number, steps) else {
+            unreachable!()
+        };
+        let standing = Standing {
+            active: Some(number),
+            warming: None,
+        };
+        self.names.set(&row.name, standing);
+        self.due.leave(number);
+        self.table.warm(number);
+    }
+}
+
+// What stands of a name once the one that warms, or the one that serves, is gone.
+fn left(standing: Standing, warms: bool) -> Standing
+    ensures { result ≡ (if warms then record standing { warming = None } else record standing { active = None }) }
+{
+    if warms {
+        Standing {
+            active: standing.active,
+            warming: None,
+        }
+    } else {
+        Standing {
+            active: None,
+            warming: standing.warming,
+        }
+    }
+}
+
+// A generation of this content no longer depends on anything.
+fn unwatch(watches: &mut Watches, content: &Content, number: Gen)
+    ensures { (q : List ℕ) → watch_in watches.new q ≡ (if is_needed q (name_needed content.now) then watched_less number (watch_in watches.old q) else watch_in watches.old q) }
+{
+    if let Some(name) = needed(content) {
+        watches.unwatch(name, number);
+    }
+}
