@@ -1,6 +1,6 @@
 -- What each step does to the indexes: they stay searches of the rows.
 use Rattle.std.proofs.Common.{◌≡◌, ◌∙◌, ℕ, Bool, true, false, cond, not, ◌&&◌, ◌||◌, nat_eq, List, [], ◌∷◌, Option, None, Some, IsSome, option_to_list, refl, sym, ap, subst, true≢false, Result, Ok, Err, OnOk}
-use Rattle.std.specs.List.{list_any, IsDistinct}
+use Rattle.std.specs.List.{list_any, IsDistinct, AllByRecursion}
 use Rattle.std.specs.Map.{lookup}
 use Rattle.std.specs.Str.{bytes_eq}
 use Rattle.std.proofs.lemmas.Bool.{false_from_ne_true, and_right, and_parts}
@@ -14,7 +14,7 @@ use Rattle.ev_types.specs.declared.rows.GenRow.{GenRow}
 use Rattle.ev_model.specs.Watching.{is_limited}
 use Rattle.ev_model.specs.Rows.{removed_status}
 use Rattle.ev_endpoints.specs.Results.{ResultsKept}
-use Rattle.ev_generations.specs.Tables.{GenerationsParts, IsTable, row_in, with_status, numbers_of}
+use Rattle.ev_generations.specs.Tables.{GenerationsParts, IsTable, row_in, status_with, with_status, numbers_of}
 use Rattle.ev_generations.proofs.TableLemmas.{table-with_status}
 use Rattle.ev_warming.specs.declared.names.Standing.{Standing}
 use Rattle.ev_warming.specs.declared.watches.Watch.{Watch}
@@ -26,7 +26,7 @@ use Rattle.ev_warming.specs.Watched.{WatchesKept, unwatched, watch_in, watched_l
 use Rattle.ev_warming.specs.Ready.{name_needed, is_ready_in, is_due_in, is_due_found, is_due_at}
 use Rattle.ev_warming.specs.Indexes.{IsIndexed, is_needed, depends_on, waits_limited, serves, warms, numbers_where}
 use Rattle.ev_warming.proofs.KeptLemmas.{kept_at-found}
-use Rattle.ev_warming.proofs.WhereLemmas.{row_with, among-where, where-left, where-absent, where-kept, where-one, where-some, without-one}
+use Rattle.ev_warming.proofs.WhereLemmas.{kinds-with_statuses, row_with, among-where, where-left, where-absent, where-kept, where-one, where-some, without-one}
 use Rattle.ev_warming.proofs.ReadyLemmas.{Agrees, is_ready_in-agrees, is_due_at-with_status}
 
 own_name : (name : List ℕ) → bytes_eq name name ≡ true
@@ -112,6 +112,7 @@ module _ (s : State) (name : List ℕ) (arrival : Arrival) (watches : WatchesKep
   pub indexed-arrived : IsIndexed (record s { watches = watches; due = due })
   indexed-arrived = record {
     table = x.table;
+    kinds = x.kinds;
     active = x.active;
     warming = x.warming;
     watchers = λ q. part (λ (w : Watch). w.rows) (rows-with_arrival arrival) q ∙ x.watchers q;
@@ -140,6 +141,9 @@ module _ (s : State) (number : ℕ) (row : GenRow) (status : RowStatus) (x : IsI
   table_too =
       let same : table ≡ record { rows = with_status number status s.table.rows; made = s.table.made } = λ i. record { rows = rows i; made = made i } in
       subst IsTable (sym same) (table-with_status number status s.table.rows s.table.made x.table)
+
+  kinds_too : AllByRecursion (λ (r : GenRow). r.kind ≡ s.kind) table.rows
+  kinds_too = subst (AllByRecursion (λ (r : GenRow). r.kind ≡ s.kind)) (sym rows) (kinds-with_statuses s.kind (status_with number status) s.table.rows x.kinds)
 
   -- an index that the number leaves, where it stood in it
   leaves : (test : GenRow → Bool) (o p : Option ℕ) → option_to_list o ≡ numbers_where test s.table.rows → ((r : GenRow) → test (row_with status r) ≡ false)
@@ -214,6 +218,7 @@ module _ (s : State) (number : ℕ) (row : GenRow) (status : RowStatus) (x : IsI
     pub indexed-retired : IsIndexed (record s { table = table; names = names; watches = watches; due = due })
     indexed-retired = record {
       table = table_too;
+      kinds = kinds_too;
       active = λ q.
           let a = active_left q row.status live (bytes_eq row.name q) refl in
           leaves (serves q) (standing_in s.names q).active (standing_in names q).active (x.active q) (λ r. ap (λ b. b && bytes_eq r.name q) (cold status ended).1)
@@ -254,6 +259,7 @@ module _ (s : State) (number : ℕ) (row : GenRow) (x : IsIndexed s) (found : ro
   pub indexed-served : IsIndexed (record s { table = table; names = names; due = due })
   indexed-served = record {
     table = table_too s number row Active x found table rows made;
+    kinds = kinds_too s number row Active x found table rows made;
     active = λ q. (λ i. option_to_list (stands q i).active) ∙ active_at q (bytes_eq row.name q) refl ∙ sym (ap (numbers_where (serves q)) rows);
     warming = λ q.
         leaves s number row Active x found table rows made (warms q) (standing_in s.names q).warming (standing_in names q).warming (x.warming q) (λ r. refl)

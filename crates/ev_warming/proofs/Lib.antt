@@ -2,3 +2,4 @@ pub mod KeptLemmas
 pub mod WhereLemmas
 pub mod ReadyLemmas
 pub mod IndexLemmas
+pub mod PromotionLemmas

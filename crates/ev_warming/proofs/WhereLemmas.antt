@@ -3,7 +3,9 @@ use Rattle.std.proofs.Common.{◌≡◌, ◌∙◌, ℕ, Bool, true, false, cond
 use Rattle.std.specs.List.{list_any, IsDistinct, AllByRecursion}
 use Rattle.std.proofs.lemmas.Bool.{eqb-true, eq-eqb}
 use Rattle.std.proofs.lemmas.Map.Keys.{IsDistinct-head, IsDistinct-tail}
+use Rattle.ev_types.specs.declared.contents.Kind.{Kind}
 use Rattle.ev_types.specs.declared.rows.RowStatus.{RowStatus}
+use Rattle.ev_model.specs.Rows.{with_statuses}
 use Rattle.ev_types.specs.declared.rows.GenRow.{GenRow}
 use Rattle.ev_generations.specs.Tables.{is_number, row_in, numbers_of, with_status}
 use Rattle.ev_generations.proofs.TableLemmas.{with_status-absent}
@@ -163,3 +165,9 @@ without-one number (Some n) here = by (nat_eq number n) here
     by : (b : Bool) → (b || false) ≡ true → cond (not b) (n ∷ []) [] ≡ []
     by true h = refl
     by false h = absurd (true≢false (sym h))
+
+-- statuses leave the kinds
+pub kinds-with_statuses : (kind : Kind) (f : GenRow → RowStatus) (rows : List GenRow) → AllByRecursion (λ (r : GenRow). r.kind ≡ kind) rows
+    → AllByRecursion (λ (r : GenRow). r.kind ≡ kind) (with_statuses f rows)
+kinds-with_statuses kind f [] all = tt
+kinds-with_statuses kind f (row ∷ rows) all = (all.0, kinds-with_statuses kind f rows all.1)

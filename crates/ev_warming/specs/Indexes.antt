@@ -1,5 +1,6 @@
 -- What the indexes of the table say: each look-up is a search of the rows.
 use Rattle.std.specs.Prelude.{◌≡◌, ℕ, Bool, false, ◌&&◌, List, [], Option, Some, None, filter, option_to_list}
+use Rattle.std.specs.List.{AllByRecursion}
 use Rattle.std.specs.Str.{bytes_eq}
 use Rattle.ev_types.specs.Statuses.{is_warming, is_active, is_live}
 use Rattle.ev_types.specs.declared.contents.Content.{Content}
@@ -57,6 +58,7 @@ SameMarks old new = (name : List ℕ) →
 -- each index is a search of the rows
 pub record IsIndexed (s : State) : Type 0 where
   pub table : IsTable s.table
+  pub kinds : AllByRecursion (λ (row : GenRow). row.kind ≡ s.kind) s.table.rows
   pub active : (name : List ℕ) → option_to_list (standing_in s.names name).active ≡ numbers_where (serves name) s.table.rows
   pub warming : (name : List ℕ) → option_to_list (standing_in s.names name).warming ≡ numbers_where (warms name) s.table.rows
   pub watchers : (name : List ℕ) → (watch_in s.watches name).rows ≡ numbers_where (depends_on name) s.table.rows

@@ -4,3 +4,4 @@ pub mod Watched
 pub mod Due
 pub mod Ready
 pub mod Indexes
+pub mod Promotion
