@@ -3,3 +3,4 @@ pub mod WhereLemmas
 pub mod ReadyLemmas
 pub mod IndexLemmas
 pub mod PromotionLemmas
+pub mod WayLemmas

@@ -1,7 +1,7 @@
 -- The numbers of the rows that pass a test, and what a changed status of one row does to them.
 use Rattle.std.proofs.Common.{◌≡◌, ◌∙◌, ℕ, Bool, true, false, cond, not, ◌&&◌, ◌||◌, nat_eq, List, [], ◌∷◌, ◌++◌, Option, None, Some, option_map, option_to_list, filter, refl, sym, ap, true≢false}
 use Rattle.std.specs.List.{list_any, IsDistinct, AllByRecursion}
-use Rattle.std.proofs.lemmas.Bool.{eqb-true, eq-eqb}
+use Rattle.std.proofs.lemmas.Bool.{eqb-true, eqb-false, eq-eqb, ne_eqb}
 use Rattle.std.proofs.lemmas.Map.Keys.{IsDistinct-head, IsDistinct-tail}
 use Rattle.ev_types.specs.declared.contents.Kind.{Kind}
 use Rattle.ev_types.specs.declared.rows.RowStatus.{RowStatus}
@@ -171,3 +171,110 @@ pub kinds-with_statuses : (kind : Kind) (f : GenRow → RowStatus) (rows : List 
     → AllByRecursion (λ (r : GenRow). r.kind ≡ kind) (with_statuses f rows)
 kinds-with_statuses kind f [] all = tt
 kinds-with_statuses kind f (row ∷ rows) all = (all.0, kinds-with_statuses kind f rows all.1)
+
+-- numbers compare either way
+pub flipped : (a b : ℕ) → nat_eq a b ≡ nat_eq b a
+flipped a b = by (nat_eq a b) refl
+  where
+    by : (t : Bool) → nat_eq a b ≡ t → t ≡ nat_eq b a
+    by true e = sym (eq-eqb b a (sym (eqb-true a b e)))
+    by false e = sym (ne_eqb b a (λ h. eqb-false a b e (sym h)))
+
+-- no row has the number
+far_of : (number : ℕ) (test : GenRow → Bool) (rows : List GenRow) → AllByRecursion (λ y. nat_eq number y ≡ false) (numbers_of rows) → is_among (numbers_where test rows) number ≡ false
+far_of number test [] all = refl
+far_of number test (row ∷ rows) all = by (test row) (far_of number test rows all.1)
+  where
+    by : (t : Bool) → is_among (numbers_where test rows) number ≡ false → is_among (numbers_of (cond t (row ∷ filter test rows) (filter test rows))) number ≡ false
+    by true rest = (λ i. all.0 i || is_among (numbers_where test rows) number) ∙ rest
+    by false rest = rest
+
+-- of rows with different numbers those that pass are those whose number is among theirs
+pub where-members : (test : GenRow → Bool) (rows : List GenRow) → IsDistinct nat_eq (numbers_of rows)
+    → AllByRecursion (λ (r : GenRow). is_among (numbers_where test rows) r.number ≡ test r) rows
+where-members test [] apart = tt
+where-members test (row ∷ rows) apart =
+    (first (test row), more (test row) rows (IsDistinct-head nat_eq row.number (numbers_of rows) apart) (where-members test rows (IsDistinct-tail nat_eq row.number (numbers_of rows) apart)))
+  where
+    first : (t : Bool) → is_among (numbers_of (cond t (row ∷ filter test rows) (filter test rows))) row.number ≡ t
+    first true = ap (λ b. b || is_among (numbers_where test rows) row.number) (eq-eqb row.number row.number refl)
+    first false = far_of row.number test rows (IsDistinct-head nat_eq row.number (numbers_of rows) apart)
+    one : (t : Bool) (r : GenRow) → nat_eq row.number r.number ≡ false → is_among (numbers_where test rows) r.number ≡ test r
+        → is_among (numbers_of (cond t (row ∷ filter test rows) (filter test rows))) r.number ≡ test r
+    one true r away h = (λ i. (flipped r.number row.number ∙ away) i || is_among (numbers_where test rows) r.number) ∙ h
+    one false r away h = h
+    more : (t : Bool) (rs : List GenRow) → AllByRecursion (λ y. nat_eq row.number y ≡ false) (numbers_of rs) → AllByRecursion (λ (r : GenRow). is_among (numbers_where test rows) r.number ≡ test r) rs
+        → AllByRecursion (λ (r : GenRow). is_among (numbers_of (cond t (row ∷ filter test rows) (filter test rows))) r.number ≡ test r) rs
+    more t [] far all = tt
+    more t (r ∷ rs) far all = (one t r far.0 all.0, more t rs far.1 all.1)
+
+-- a number among those that pass has a row, which passes
+pub found-where : (test : GenRow → Bool) (number : ℕ) (rows : List GenRow) → IsDistinct nat_eq (numbers_of rows) → is_among (numbers_where test rows) number ≡ true
+    → (row : GenRow) × (row_in number rows ≡ Some row) × (test row ≡ true)
+found-where test number [] apart here = absurd (true≢false (sym here))
+found-where test number (other ∷ rows) apart here =
+    by (nat_eq number other.number) refl (test other) refl here (found-where test number rows (IsDistinct-tail nat_eq other.number (numbers_of rows) apart))
+  where
+    by : (b : Bool) → nat_eq number other.number ≡ b → (t : Bool) → test other ≡ t → is_among (numbers_of (cond t (other ∷ filter test rows) (filter test rows))) number ≡ true
+        → (is_among (numbers_where test rows) number ≡ true → (row : GenRow) × (row_in number rows ≡ Some row) × (test row ≡ true))
+        → (row : GenRow) × (cond b (Some other) (row_in number rows) ≡ Some row) × (test row ≡ true)
+    by true e true f h rest = (other, refl, f)
+    by true e false f h rest =
+        absurd (true≢false (sym h ∙ (λ i. is_among (numbers_where test rows) (eqb-true number other.number e i))
+            ∙ far_of other.number test rows (IsDistinct-head nat_eq other.number (numbers_of rows) apart)))
+    by false e true f h rest = rest ((λ i. sym e i || is_among (numbers_where test rows) number) ∙ h)
+    by false e false f h rest = rest h
+
+-- a row that is found and passes
+pub any-found : (test : GenRow → Bool) (number : ℕ) (row : GenRow) (rows : List GenRow) → row_in number rows ≡ Some row → test row ≡ true → list_any test rows ≡ true
+any-found test number row [] found passes = cc
+any-found test number row (other ∷ rows) found passes = by (nat_eq number other.number) found (any-found test number row rows)
+  where
+    late : (b : Bool) → (b || true) ≡ true
+    late true = refl
+    late false = refl
+    by : (b : Bool) → cond b (Some other) (row_in number rows) ≡ Some row → (row_in number rows ≡ Some row → test row ≡ true → list_any test rows ≡ true)
+        → (test other || list_any test rows) ≡ true
+    by true at rest =
+        let same : other ≡ row = cc in
+        (λ i. (ap test same ∙ passes) i || list_any test rows)
+    by false at rest = (λ i. test other || rest at passes i) ∙ late (test other)
+
+-- the rows of a number are the one that is found
+pub all-found : (number : ℕ) (row : GenRow) (rows : List GenRow) → row_in number rows ≡ Some row → IsDistinct nat_eq (numbers_of rows)
+    → AllByRecursion (λ (r : GenRow). nat_eq number r.number ≡ true → r ≡ row) rows
+all-found number row [] found apart = tt
+all-found number row (other ∷ rows) found apart = by (nat_eq number other.number) refl found (all-found number row rows)
+  where
+    none : (rs : List GenRow) → row_in number rs ≡ None → AllByRecursion (λ (r : GenRow). nat_eq number r.number ≡ true → r ≡ row) rs
+    none [] h = tt
+    none (r ∷ rs) h = over (nat_eq number r.number) refl h (none rs)
+      where
+        over : (b : Bool) → nat_eq number r.number ≡ b → cond b (Some r) (row_in number rs) ≡ None → (row_in number rs ≡ None → AllByRecursion (λ (q : GenRow). nat_eq number q.number ≡ true → q ≡ row) rs)
+            → (nat_eq number r.number ≡ true → r ≡ row) × AllByRecursion (λ (q : GenRow). nat_eq number q.number ≡ true → q ≡ row) rs
+        over true e at rest = cc
+        over false e at rest = (λ h. absurd (true≢false (sym h ∙ e)), rest at)
+    by : (b : Bool) → nat_eq number other.number ≡ b → cond b (Some other) (row_in number rows) ≡ Some row
+        → (row_in number rows ≡ Some row → IsDistinct nat_eq (numbers_of rows) → AllByRecursion (λ (r : GenRow). nat_eq number r.number ≡ true → r ≡ row) rows)
+        → (nat_eq number other.number ≡ true → other ≡ row) × AllByRecursion (λ (r : GenRow). nat_eq number r.number ≡ true → r ≡ row) rows
+    by true e at rest =
+        let same : other ≡ row = cc in
+        (λ h. same, none rows (later_none number other rows apart e))
+    by false e at rest = (λ h. absurd (true≢false (sym h ∙ e)), rest at (IsDistinct-tail nat_eq other.number (numbers_of rows) apart))
+
+-- an option with the number is that number
+pub only : (number : ℕ) (o : Option ℕ) → is_among (option_to_list o) number ≡ true → o ≡ Some number
+only number None here = absurd (true≢false (sym here))
+only number (Some n) here = by (nat_eq number n) refl here
+  where
+    by : (b : Bool) → nat_eq number n ≡ b → (b || false) ≡ true → Some n ≡ Some number
+    by true e h = λ i. Some (sym (eqb-true number n e) i)
+    by false e h = absurd (true≢false (sym h))
+
+pub emptied : (o : Option ℕ) → option_to_list o ≡ [] → o ≡ None
+emptied None e = refl
+emptied (Some n) e = cc
+
+pub or_false : (b : Bool) → (b || false) ≡ b
+or_false true = refl
+or_false false = refl

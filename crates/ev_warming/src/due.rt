@@ -1,4 +1,4 @@
-ghost use Rattle.std.specs.Prelude.{◌≡◌, ◌||◌, ◌&&◌, not, true, false, ℕ, [], nat_eq, IfSome, IfNone, OnOk};
+ghost use Rattle.std.specs.Prelude.{◌≡◌, ◌||◌, ◌&&◌, not, true, false, if◌then◌else◌, ◌+◌, length, ℕ, [], nat_eq, IfSome, IfNone, OnOk};
 ghost use Rattle.ev_warming.specs.Due.{is_among};
 
 use ev_types::Gen;
@@ -50,7 +50,8 @@ impl Due {
 
     /// One is no longer due.
     pub fn leave(&mut self, number: Gen)
-        ensures { (n : ℕ) → is_among self.new n ≡ (not (nat_eq number n) && is_among self.old n) }
+        ensures left { (n : ℕ) → is_among self.new n ≡ (not (nat_eq number n) && is_among self.old n) }
+        ensures count { length self.new + (if is_among self.old number then 1 else 0) ≡ length self.old }
     {
         self.numbers.swap_remove(&number);
     }

@@ -1,13 +1,15 @@
-ghost use Rattle.std.specs.Prelude.{◌≡◌, ◌+◌, ℕ, List, true, if◌then◌else◌, length, None, OnOk};
+ghost use Rattle.std.specs.Prelude.{◌≡◌, ◌+◌, ◌≤◌, ◌<◌, ◌&&◌, not, nat_eq, ℕ, List, true, if◌then◌else◌, length, None, OnOk};
 ghost use Rattle.std.specs.List.{list_any};
-ghost use Rattle.ev_model.specs.Rows.{removed_status};
+ghost use Rattle.ev_model.specs.Rows.{removed_status, with_statuses};
 ghost use Rattle.ev_types.specs.declared.rows.RowStatus.TheVariants.{Active};
 ghost use Rattle.ev_types.specs.Statuses.{is_live, is_warming};
 ghost use Rattle.ev_generations.specs.Tables.{row_in, with_status};
 ghost use Rattle.ev_warming.specs.Kept.{Sets};
 ghost use Rattle.ev_warming.specs.Watched.{unwatched, watch_in, watched_less, with_arrival};
 ghost use Rattle.ev_warming.specs.Standings.{standing_in};
-ghost use Rattle.ev_warming.specs.Ready.{name_needed};
+ghost use Rattle.ev_warming.specs.Ready.{name_needed, is_ready_in};
+ghost use Rattle.ev_warming.specs.Due.{is_among};
+ghost use Rattle.ev_warming.specs.Promotion.{rows_promoted, status_drained};
 ghost use Rattle.ev_warming.specs.Indexes.{IsIndexed, SameMarks, depends_on, is_needed, numbers_where, status_in, name_in};
 
 use crate::{Due, Names, Standing, Watches, needed, refresh};
@@ -68,6 +70,8 @@ impl State {
         ensures made { self.new.table.made ≡ self.old.table.made }
         ensures marks { SameMarks self.old.watches self.new.watches }
         ensures others { self.new ≡ record self.old { table = self.new.table; names = self.new.names; watches = self.new.watches; due = self.new.due } }
+        ensures due { (n : ℕ) → is_among self.new.due n ≡ (not (nat_eq number n) && is_among self.old.due n) }
+        ensures count { length self.new.due + (if is_among self.old.due number then 1 else 0) ≡ length self.old.due }
         ensures steps { steps.new ≡ steps.old + 1 }
     {
         let Some(row) = self.table.row(number, steps) else {
@@ -90,6 +94,8 @@ impl State {
         ensures rows { self.new.table.rows ≡ with_status number Active self.old.table.rows }
         ensures made { self.new.table.made ≡ self.old.table.made }
         ensures others { self.new ≡ record self.old { table = self.new.table; names = self.new.names; due = self.new.due } }
+        ensures due { (n : ℕ) → is_among self.new.due n ≡ (not (nat_eq number n) && is_among self.old.due n) }
+        ensures count { length self.new.due + (if is_among self.old.due number then 1 else 0) ≡ length self.old.due }
         ensures steps { steps.new ≡ steps.old + 1 }
     {
         let Some(row) = self.table.row(number, steps) else {
@@ -102,6 +108,48 @@ impl State {
         self.names.set(&row.name, standing);
         self.due.leave(number);
         self.table.warm(number);
+    }
+
+    // The generation that served the name of one that warms drains, where there was one.
+    fn make_way<L: Ledger>(&mut self, number: Gen, active: Option<Gen>, steps: &mut Steps<L>)
+        requires indexed { IsIndexed self.old }
+        requires warms { is_warming (status_in (row_in number self.old.table.rows)) ≡ true }
+        requires active { active ≡ (standing_in self.old.names (name_in (row_in number self.old.table.rows))).active }
+        ensures indexed { IsIndexed self.new }
+        ensures rows { self.new.table.rows ≡ with_statuses (status_drained (name_in (row_in number self.old.table.rows))) self.old.table.rows }
+        ensures row { row_in number self.new.table.rows ≡ row_in number self.old.table.rows }
+        ensures alone { (standing_in self.new.names (name_in (row_in number self.old.table.rows))).active ≡ None }
+        ensures made { self.new.table.made ≡ self.old.table.made }
+        ensures marks { SameMarks self.old.watches self.new.watches }
+        ensures others { self.new ≡ record self.old { table = self.new.table; names = self.new.names; watches = self.new.watches; due = self.new.due } }
+        ensures due { (n : ℕ) → is_among self.new.due n ≡ is_among self.old.due n }
+        ensures count { length self.new.due ≤ length self.old.due }
+        ensures steps { steps.new ≤ steps.old + 1 }
+    {
+        if let Some(before) = active {
+            self.retire(before, steps);
+        }
+    }
+
+    // The generation of this number, which is due, serves, and the one that served its name drains.
+    fn promote_one<L: Ledger>(&mut self, number: Gen, steps: &mut Steps<L>)
+        requires indexed { IsIndexed self.old }
+        requires due { is_among self.old.due number ≡ true }
+        ensures indexed { IsIndexed self.new }
+        ensures rows { rows_promoted (is_ready_in self.old.watches self.old.results) self.new.table.rows ≡ rows_promoted (is_ready_in self.old.watches self.old.results) self.old.table.rows }
+        ensures made { self.new.table.made ≡ self.old.table.made }
+        ensures marks { SameMarks self.old.watches self.new.watches }
+        ensures others { self.new ≡ record self.old { table = self.new.table; names = self.new.names; watches = self.new.watches; due = self.new.due } }
+        ensures due { (n : ℕ) → is_among self.new.due n ≡ (not (nat_eq number n) && is_among self.old.due n) }
+        ensures count { length self.new.due < length self.old.due }
+        ensures steps { steps.new ≤ steps.old + 3 }
+    {
+        let Some(row) = self.table.row(number, steps) else {
+            unreachable!()
+        };
+        let active = self.names.standing(&row.name).active;
+        self.make_way(number, active, steps);
+        self.serve(number, steps);
     }
 }
 

@@ -36,4 +36,4 @@ returns-clause-indexed g c =
     indexed-retired s c.args.number row (cond warms Dropped Draining) c.requires.indexed (sym c.in-Some.ensures.row) c.gone.new.self c.gone.ensures.rows c.gone.ensures.made
         live (ended warms) c.set.new.self c.unwatch.new.watches c.leave.new.self
         (λ q. c.set.ensures q ∙ (λ i. cond (bytes_eq row.name q) (left i) (standing_in s.names q)))
-        c.unwatch.ensures c.leave.ensures
+        c.unwatch.ensures c.leave.ensures.left
