@@ -64,6 +64,7 @@ impl Generations {
         ensures number { IfOk result (λ number. number ≡ self.old.made + 1) }
         ensures added { OnOk result (self.new.rows ≡ self.old.rows ++ new_row kind self.old.made name content ∷ []) }
         ensures made { OnOk result (self.new.made ≡ self.old.made + 1) }
+        ensures table { OnOk result (IsTable self.new) }
         ensures err { OnErr result (self.new ≡ self.old) }
     {
         let number = self.made + 1;

@@ -127,7 +127,7 @@ module _ (s : State) (name : List ℕ) (arrival : Arrival) (watches : WatchesKep
           x.due n
           ∙ sym (elsewhere n ((λ i. is_among ((sym (x.watchers name) ∙ sym (part (λ (w : Watch). w.rows) (rows-with_arrival arrival) name)) i) n) ∙ e))
 
-is_due_at-agrees : (old new : WatchesKept) (results : ResultsKept) → ((q : List ℕ) → Agrees old new q) → (n : ℕ) (rows : List GenRow) → is_due_at new results n rows ≡ is_due_at old results n rows
+pub is_due_at-agrees : (old new : WatchesKept) (results : ResultsKept) → ((q : List ℕ) → Agrees old new q) → (n : ℕ) (rows : List GenRow) → is_due_at new results n rows ≡ is_due_at old results n rows
 is_due_at-agrees old new results agrees n rows = by (row_in n rows)
   where
     by : (o : Option GenRow) → is_due_found new results o ≡ is_due_found old results o

@@ -4,3 +4,4 @@ pub mod ReadyLemmas
 pub mod IndexLemmas
 pub mod PromotionLemmas
 pub mod WayLemmas
+pub mod AddLemmas

@@ -1,5 +1,5 @@
 -- A generation that is due makes its predecessor drain and serves: by numbers as the code does it, and by names as promotion says it.
-use Rattle.std.proofs.Common.{◌≡◌, ◌∙◌, ℕ, Bool, true, false, cond, not, ◌&&◌, ◌||◌, nat_eq, List, [], ◌∷◌, Option, None, Some, option_map, option_to_list, refl, sym, ap, subst, true≢false}
+use Rattle.std.proofs.Common.{◌≡◌, ◌∙◌, ℕ, Bool, true, false, cond, not, ◌&&◌, ◌||◌, nat_eq, List, [], ◌∷◌, ◌++◌, Option, None, Some, option_map, option_to_list, refl, sym, ap, subst, true≢false}
 use Rattle.std.specs.List.{list_any, AllByRecursion}
 use Rattle.std.specs.Str.{bytes_eq}
 use Rattle.std.proofs.lemmas.Bool.{eqb-true, eq-eqb, false_from_ne_true, and_parts, and_from}
@@ -16,10 +16,14 @@ use Rattle.ev_warming.specs.Due.{is_among}
 use Rattle.ev_warming.specs.Standings.{standing_in}
 use Rattle.ev_warming.specs.Watched.{without_number}
 use Rattle.ev_warming.specs.Ready.{is_ready_in, is_due_in, is_due_found, is_due_at}
-use Rattle.ev_warming.specs.Indexes.{IsIndexed, serves, warms, numbers_where, status_in, name_in}
+use Rattle.ev_warming.specs.Indexes.{IsIndexed, serves, warms, SameMarks, numbers_where, status_in, name_in}
 use Rattle.ev_warming.specs.Promotion.{rows_promoted, status_drained}
-use Rattle.ev_warming.proofs.WhereLemmas.{row_with, among-where, where-left, where-members, found-where, any-found, all-found, flipped, only, emptied, or_false, without-one}
-use Rattle.ev_warming.proofs.PromotionLemmas.{all_then, both_all, statuses_agree, with_statuses-twice, statuses_same, status_once, rows_once, rows_promoted-once}
+use Rattle.ev_warming.specs.Watched.{WatchesKept}
+use Rattle.ev_endpoints.specs.Results.{ResultsKept}
+use Rattle.ev_warming.proofs.ReadyLemmas.{Agrees, is_ready_in-agrees}
+use Rattle.std.proofs.lemmas.List.Folds.{list_any-append}
+use Rattle.ev_warming.proofs.WhereLemmas.{own-rows, row_with, among-where, where-left, where-members, found-where, any-found, all-found, flipped, only, emptied, or_false, without-one}
+use Rattle.ev_warming.proofs.PromotionLemmas.{all_then, both_all, statuses_agree, with_statuses-twice, statuses_same, status_once, rows_once, rows_promoted-once, rows_promoted-none}
 
 live-active : (status : RowStatus) → is_active status ≡ true → is_live status ≡ true
 live-active Active h = refl
@@ -157,3 +161,32 @@ module _ (s : State) (x : IsIndexed s) (number : ℕ) (row : GenRow) (found : ro
               (λ r (h, q) w. (λ i. is_ready_in s.watches s.results (q (key r h ∙ w) i)) ∙ ready)
               (both_all (λ (r : GenRow). is_among (numbers_where (warms row.name) s.table.rows) r.number ≡ warms row.name r) (λ (r : GenRow). nat_eq number r.number ≡ true → r ≡ row)
                   s.table.rows (where-members (warms row.name) s.table.rows x.table.apart) (all-found number row s.table.rows found x.table.apart)))
+
+-- readiness by the same marks is the same
+pub ready-same : (old new : WatchesKept) (results : ResultsKept) → SameMarks old new → is_ready_in new results ≡ is_ready_in old results
+ready-same old new results same =
+    λ i row. is_ready_in-agrees old new results row (λ q needed. record { told = (same q).0; timed = (same q).1; value = (same q).2 }) i
+
+pub marks-then : (a b c : WatchesKept) → SameMarks a b → SameMarks b c → SameMarks a c
+marks-then a b c p q = λ name. ((q name).0 ∙ (p name).0, (q name).1 ∙ (p name).1, (q name).2 ∙ (p name).2)
+
+-- where none is due, promotion does nothing
+pub promoted-done : (s : State) → IsIndexed s → s.due ≡ [] → rows_promoted (is_ready_in s.watches s.results) s.table.rows ≡ s.table.rows
+promoted-done s x none =
+    rows_promoted-none (is_ready_in s.watches s.results) s.table.rows
+        (all_then (λ (r : GenRow). row_in r.number s.table.rows ≡ Some r) (λ (r : GenRow). is_due_in s.watches s.results r ≡ false) s.table.rows
+            (λ r own. (λ i. is_due_found s.watches s.results (sym own i)) ∙ sym (x.due r.number) ∙ (λ i. is_among (none i) r.number))
+            (own-rows s.table.rows x.table.apart))
+
+-- one more of those that were due has come to serve
+pub served-more : (served due rest : List ℕ) (number n : ℕ) → is_among due number ≡ true → is_among rest n ≡ (not (nat_eq number n) && is_among due n)
+    → (is_among (served ++ number ∷ []) n || is_among rest n) ≡ (is_among served n || is_among due n)
+served-more served due rest number n there left =
+    (λ i. list_any-append (nat_eq n) served (number ∷ []) i || left i)
+    ∙ (λ i. (is_among served n || (flipped n number i || false)) || (not (nat_eq number n) && is_among due n))
+    ∙ by (is_among served n) (nat_eq number n) refl
+  where
+    by : (a b : Bool) → nat_eq number n ≡ b → ((a || (b || false)) || (not b && is_among due n)) ≡ (a || is_among due n)
+    by true b e = refl
+    by false true e = sym ((λ i. is_among due (sym (eqb-true number n e) i)) ∙ there)
+    by false false e = refl

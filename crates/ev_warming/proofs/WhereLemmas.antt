@@ -278,3 +278,15 @@ emptied (Some n) e = cc
 pub or_false : (b : Bool) → (b || false) ≡ b
 or_false true = refl
 or_false false = refl
+
+-- each row is found by its number
+pub own-rows : (rows : List GenRow) → IsDistinct nat_eq (numbers_of rows) → AllByRecursion (λ (r : GenRow). row_in r.number rows ≡ Some r) rows
+own-rows [] apart = tt
+own-rows (row ∷ rows) apart =
+    ((λ i. cond (eq-eqb row.number row.number refl i) (Some row) (row_in row.number rows)),
+        more rows (IsDistinct-head nat_eq row.number (numbers_of rows) apart) (own-rows rows (IsDistinct-tail nat_eq row.number (numbers_of rows) apart)))
+  where
+    more : (rs : List GenRow) → AllByRecursion (λ y. nat_eq row.number y ≡ false) (numbers_of rs) → AllByRecursion (λ (r : GenRow). row_in r.number rows ≡ Some r) rs
+        → AllByRecursion (λ (r : GenRow). row_in r.number (row ∷ rows) ≡ Some r) rs
+    more [] far all = tt
+    more (r ∷ rs) far all = ((λ i. cond ((flipped r.number row.number ∙ far.0) i) (Some row) (row_in r.number rows)) ∙ all.0, more rs far.1 all.1)

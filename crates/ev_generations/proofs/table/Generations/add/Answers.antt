@@ -19,3 +19,11 @@ returns-clause-added c =
     values_of-insert m (made + 1) row c.new.ensures.number (drawn_of m.entries made c.self.invariant (made + 1) (omega arith)) c.insert.new.self.entries c.in-Ok.ensures.entries
     ∙ (λ i. (c.self.view_is i).rows ++ (record (new_row c.args.kind made c.args.name c.args.content) { number = c.new.ensures.number i }) ∷ [])
     ∙ (λ i. c.args.self.now.rows ++ new_row c.args.kind (c.self.view_is i).made c.args.name c.args.content ∷ [])
+
+pub returns-clause-table : goal.returns-clause-table
+returns-clause-table c =
+    let m = c.self.inside.rows in
+    let made = c.self.inside.made in
+    let row = record (new_row c.args.kind made c.args.name c.args.content) { number = c.new.result } in
+    (stored-insert m (made + 1) row c.new.ensures.number (drawn_of m.entries made c.self.invariant (made + 1) (omega arith))
+        made (made + 1) c.insert.new.self.entries c.self.invariant (omega arith) (omega arith) c.in-Ok.ensures.entries c.insert.ensures.unique).table
