@@ -5,3 +5,4 @@ pub mod IndexLemmas
 pub mod PromotionLemmas
 pub mod WayLemmas
 pub mod AddLemmas
+pub mod WorldLemmas

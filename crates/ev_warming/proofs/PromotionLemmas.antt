@@ -24,7 +24,7 @@ status_once name row = cond (warms name row) Active (cond (serves name row) Drai
 abbrev pub rows_once : List ℕ → List GenRow → List GenRow
 rows_once name rows = with_statuses (status_once name) rows
 
-any_agrees : (f g : GenRow → Bool) (rows : List GenRow) → AllByRecursion (λ (r : GenRow). f r ≡ g r) rows → list_any f rows ≡ list_any g rows
+pub any_agrees : (f g : GenRow → Bool) (rows : List GenRow) → AllByRecursion (λ (r : GenRow). f r ≡ g r) rows → list_any f rows ≡ list_any g rows
 any_agrees f g [] all = refl
 any_agrees f g (row ∷ rows) all = λ i. all.0 i || any_agrees f g rows all.1 i
 

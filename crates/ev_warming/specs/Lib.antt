@@ -5,3 +5,4 @@ pub mod Due
 pub mod Ready
 pub mod Indexes
 pub mod Promotion
+pub mod Worlds

@@ -10,6 +10,9 @@ ghost use Rattle.ev_warming.specs.Watched.{unwatched, watch_in, watched_less, wa
 ghost use Rattle.ev_warming.specs.Standings.{standing_in};
 ghost use Rattle.ev_warming.specs.Ready.{name_needed, is_ready_in, is_due_at};
 ghost use Rattle.ev_warming.specs.Due.{is_among};
+ghost use Rattle.ev_model.specs.World.{World};
+ghost use Rattle.ev_model.specs.Tidy.{promoted};
+ghost use Rattle.ev_warming.specs.Worlds.{StandsFor};
 ghost use Rattle.ev_warming.specs.Promotion.{rows_promoted, status_drained};
 ghost use Rattle.ev_warming.specs.Indexes.{IsIndexed, SameMarks, depends_on, is_needed, numbers_where, status_in, name_in};
 
@@ -168,6 +171,8 @@ impl State {
         ensures marks { OnOk result (SameMarks self.old.watches self.new.watches) }
         ensures others { OnOk result (self.new ≡ record self.old { table = self.new.table; names = self.new.names; watches = self.new.watches; due = [] }) }
         ensures steps { IfOk result (λ numbers. steps.new ≤ steps.old + 3 * length numbers) }
+        // Whatever world the state stood for, it stands for that world with all that are due promoted.
+        ensures stands { OnOk result ((world : World) → StandsFor self.old world → StandsFor self.new (promoted world)) }
     {
         let mut served = Seq::new(alloc);
         while let Some(number) = self.due.first() {

@@ -3,6 +3,7 @@ use Rattle.ev_warming.specs.Due.{is_among}
 use Rattle.ev_warming.specs.Ready.{is_ready_in}
 use Rattle.ev_warming.specs.Promotion.{rows_promoted}
 use Rattle.ev_warming.proofs.WayLemmas.{ready-same, marks-then, promoted-done, served-more}
+use Rattle.ev_warming.proofs.WorldLemmas.{promoted-stands}
 use Rattle.ev_warming.proofs.state.State.promote.Goals as goal
 
 pub loop-number-preserved : goal.loop-number-preserved
@@ -36,3 +37,15 @@ returns-clause-rows g c =
         (λ j. is_ready_in s.watches (i.results j)) ∙ ready-same s0.watches s.watches s0.results i.marks in
     let none : s.due ≡ [] = subst (λ o. IfNone o (s.due ≡ [])) c.in_default.is c.first.ensures.none in
     sym (promoted-done s i.indexed none) ∙ (λ j. rows_promoted (same j) s.table.rows) ∙ i.rows
+
+pub returns-clause-stands : goal.returns-clause-stands
+returns-clause-stands g c =
+    let i = c.loop-number.invariant in
+    let s0 = c.args.self.now in
+    let s = c.loop-number.self in
+    let same : is_ready_in s.watches s.results ≡ is_ready_in s0.watches s0.results =
+        (λ j. is_ready_in s.watches (i.results j)) ∙ ready-same s0.watches s.watches s0.results i.marks in
+    let none : s.due ≡ [] = subst (λ o. IfNone o (s.due ≡ [])) c.in_default.is c.first.ensures.none in
+    λ world stands.
+    promoted-stands s0 s world c.requires.indexed stands i.kind i.results i.made i.marks
+        (sym (promoted-done s i.indexed none) ∙ (λ j. rows_promoted (same j) s.table.rows) ∙ i.rows)
