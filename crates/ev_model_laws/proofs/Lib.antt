@@ -7,6 +7,15 @@ pub mod NumberLemmas
 pub mod CountLemmas
 pub mod OneANameLemmas
 pub mod VersionLemmas
+pub mod OperationLists
+pub mod ScriptOperations
+pub mod RisingOperations
+pub mod BatchLemmas
+pub mod ReplayLemmas
+pub mod DeedLemmas
+pub mod FindingDeeds
+pub mod FindingRows
+pub mod FindingLemmas
 pub mod SeenLemmas
 pub mod PromotionLemmas
 pub mod HeldLemmas
@@ -27,11 +36,6 @@ pub mod LawLemmas
 pub mod WaitedLemmas
 pub mod OnceLemmas
 pub mod AllLaws
-pub mod OperationLists
-pub mod ScriptOperations
-pub mod RisingOperations
-pub mod BatchLemmas
-pub mod ReplayLemmas
 pub mod AcknowledgeLemmas
 pub mod FilterLemmas
 pub mod VerdictLemmas
@@ -43,7 +47,3 @@ pub mod AnsweredLemmas
 pub mod ServesLemmas
 pub mod ShownLemmas
 pub mod RefusedLemmas
-pub mod DeedLemmas
-pub mod FindingDeeds
-pub mod FindingRows
-pub mod FindingLemmas

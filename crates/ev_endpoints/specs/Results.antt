@@ -1,0 +1,39 @@
+-- Health results that are kept by number and host. Source: cluster manager warming of Envoy's documentation (a first result
+-- of each host is awaited).
+use Rattle.std.specs.Prelude.{◌≡◌, ℕ, Bool, not, ◌&&◌, nat_eq, if◌then◌else◌, List, [], Option, Some, None, map, unwrap_or}
+use Rattle.std.specs.Map.{lookup}
+use Rattle.std.specs.HashMap.{HashMap}
+use Rattle.ev_types.specs.SameHosts.{host_same}
+use Rattle.ev_types.specs.Hosts.{HostRowParts}
+use Rattle.ev_types.specs.declared.hosts.Host.{Host}
+use Rattle.ev_model.specs.Tidy.{has_host}
+
+-- each number with its hosts, each host with its last result
+abbrev pub ResultsKept : Type 0
+ResultsKept = List (ℕ × List (Host × Bool))
+
+-- the results of stored maps of maps
+abbrev pub results_of : {S : Type 0} → List (ℕ × HashMap Host Bool S) → ResultsKept
+results_of es = map (λ e. (e.0, e.1.entries)) es
+
+-- the hosts of a number with their results
+abbrev pub hosts_in : ResultsKept → ℕ → List (Host × Bool)
+hosts_in kept number = unwrap_or (lookup (nat_eq number) kept) []
+
+-- the result of a host for the generation of this number
+abbrev pub result_in : ResultsKept → ℕ → Host → Option Bool
+result_in kept number host = lookup (host_same host) (hosts_in kept number)
+
+-- the host has this result for this number, and every other result stays
+abbrev pub Notes : ResultsKept → ResultsKept → ℕ → Host → Bool → Type 0
+Notes old new number host healthy =
+    (n : ℕ) (h : Host) → result_in new n h ≡ (if nat_eq number n && host_same host h then Some healthy else result_in old n h)
+
+-- the number has no results any more, and every other result stays
+abbrev pub Forgets : ResultsKept → ResultsKept → ℕ → Type 0
+Forgets old new number = (n : ℕ) (h : Host) → result_in new n h ≡ (if nat_eq number n then None else result_in old n h)
+
+-- the number has no results of hosts that aren't among these rows, and every other result stays
+abbrev pub Trims : ResultsKept → ResultsKept → ℕ → List HostRowParts → Type 0
+Trims old new number rows =
+    (n : ℕ) (h : Host) → result_in new n h ≡ (if nat_eq number n && not (has_host h rows) then None else result_in old n h)

@@ -1,0 +1,147 @@
+//! Health results by generation and host, found without a walk.
+#![tactic(auto)]
+
+ghost use Rattle.std.specs.Prelude.{◌≡◌, [], ◌&&◌, ◌||◌, not, false, if◌then◌else◌, None, Some, IfOk, unwrap_or, is_some, OnOk, OnErr};
+ghost use Rattle.std.specs.List.{list_all};
+ghost use Rattle.ev_types.specs.Hosts.{HostRowParts};
+ghost use Rattle.ev_types.specs.SameHosts.{host_same};
+ghost use Rattle.ev_types.specs.declared.hosts.Host as declared;
+ghost use Rattle.indexmap.specs.IndexMap.{get};
+ghost use Rattle.ev_model.specs.Tidy.{has_host};
+ghost use Rattle.ev_endpoints.specs.Results.{result_in, Notes, Forgets, Trims};
+
+use ev_types::{Assignment, Gen, Host, HostRow, TryCopy};
+use indexmap::IndexMap;
+use std::alloc::{AllocError, Global};
+use std::marker::Model;
+
+/// The last health result of each host for each generation. Contracts see the results as a list of lists, by number and by
+/// host, and look them up by `result_in`.
+#[derive(Drop)]
+pub struct Endpoints {
+    results: IndexMap<u32, IndexMap<Host, bool>>,
+}
+
+impl Model for Endpoints {
+    ghost use Rattle.ev_endpoints.specs.Results.{ResultsKept, results_of};
+
+    ghost Value = { ResultsKept };
+
+    ghost view = { λ e. results_of e.results.entries };
+}
+
+impl Endpoints {
+    /// No result. It takes no memory.
+    pub fn new(alloc: Global) -> Endpoints
+        ensures { result ≡ [] }
+    {
+        Endpoints {
+            results: IndexMap::new(alloc),
+        }
+    }
+
+    /// Keeps a result of a host for a generation in place of an earlier one. Without memory all stays as it was.
+    pub fn note(
+        &mut self,
+        alloc: Global,
+        number: Gen,
+        host: &Host,
+        healthy: bool,
+    ) -> Result<(), AllocError>
+        ensures ok { OnOk result (Notes self.old self.new number host.now healthy) }
+        ensures err { OnErr result (self.new ≡ self.old) }
+    {
+        let host = host.copy(alloc)?;
+        let at = number.number();
+        if let Some(hosts) = self.results.get_mut(&at) {
+            let Ok(_) = hosts.insert(host, healthy) else {
+                return Err(AllocError);
+            };
+            return Ok(());
+        }
+        let mut hosts = IndexMap::new(alloc);
+        let Ok(_) = hosts.insert(host, healthy) else {
+            return Err(AllocError);
+        };
+        let Ok(_) = self.results.insert(at, hosts) else {
+            return Err(AllocError);
+        };
+        Ok(())
+    }
+
+    /// The last result of a host for a generation.
+    pub fn result(&self, number: Gen, host: &Host) -> Option<bool>
+        ensures { result ≡ result_in self.now number host.now }
+    {
+        match self.results.get(&number.number()) {
+            Some(hosts) => hosts.get(host).copied(),
+            None => None,
+        }
+    }
+
+    /// Whether each of these hosts has a result for the generation.
+    pub fn first_round_done(&self, number: Gen, rows: &Assignment) -> bool
+        ensures { result ≡ list_all (λ (row : HostRowParts). is_some (result_in self.now number row.host)) rows.now }
+    {
+        rows.rows()
+            .iter()
+            .all(|row| self.result(number, &row.host).is_some())
+    }
+
+    /// Whether a host may be chosen for the generation, where its hosts are health checked or not.
+    pub fn eligible(&self, number: Gen, checked: bool, row: &HostRow) -> bool
+        ensures { result ≡ (row.now.usable && (not checked || unwrap_or (result_in self.now number row.now.host) false)) }
+    {
+        row.usable && (!checked || self.result(number, &row.host).unwrap_or(false))
+    }
+
+    /// Forgets the results of a generation. It takes no memory.
+    pub fn forget(&mut self, number: Gen)
+        ensures { Forgets self.old self.new number }
+    {
+        self.results.swap_remove(&number.number());
+    }
+
+    /// Forgets the results of a generation for hosts that aren't among these rows. Without memory all stays as it was.
+    pub fn trim(&mut self, alloc: Global, number: Gen, rows: &Assignment) -> Result<(), AllocError>
+        ensures ok { OnOk result (Trims self.old self.new number rows.now) }
+        ensures err { OnErr result (self.new ≡ self.old) }
+    {
+        let at = number.number();
+        let Some(hosts) = self.results.get(&at) else {
+            return Ok(());
+        };
+        let kept = standing(alloc, hosts, rows.rows())?;
+        let Ok(_) = self.results.insert(at, kept) else {
+            return Err(AllocError);
+        };
+        Ok(())
+    }
+}
+
+// The results of the hosts that stand among these rows.
+fn standing(
+    alloc: Global,
+    hosts: &IndexMap<Host, bool>,
+    rows: &[HostRow],
+) -> Result<IndexMap<Host, bool>, AllocError>
+    ensures { IfOk result (λ kept. (h : declared.Host) → get host_same kept h ≡ (if has_host h rows.now then get host_same hosts.now h else None)) }
+{
+    let mut kept = IndexMap::new(alloc);
+    for row in rows {
+        if let Some(healthy) = hosts.get(&row.host) {
+            put(&mut kept, row.host.copy(alloc)?, *healthy)?;
+        }
+    }
+    Ok(kept)
+}
+
+// Keeps one more result.
+fn put(hosts: &mut IndexMap<Host, bool>, host: Host, healthy: bool) -> Result<(), AllocError>
+    ensures { OnOk result ((h : declared.Host) → get host_same hosts.new h ≡ (if host_same host h then Some healthy else get host_same hosts.old h)) }
+{
+    let Ok(_) = hosts.insert(host, healthy) else {
+        return Err(AllocError);
+    };
+    Ok(())
+}

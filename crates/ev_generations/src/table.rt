@@ -1,0 +1,174 @@
+ghost use Rattle.std.specs.Prelude.{◌≡◌, ◌+◌, ◌<◌, ◌≤◌, ◌^◌, [], ◌∷◌, ◌++◌, Some, None, IsSome, OnOk, OnErr, IfOk, if◌then◌else◌};
+ghost use Rattle.std.specs.Option.{option_copied};
+ghost use Rattle.ev_types.specs.declared.rows.RowStatus.TheVariants.{Active, Draining, Dropped};
+ghost use Rattle.ev_model.specs.Rows.{new_row};
+ghost use Rattle.ev_generations.specs.Tables.{IsTable, row_in, with_status, without_row};
+
+use crate::Steps;
+use ev_types::{Content, Gen, GenRow, Kind, Name, RowStatus, TryCopy};
+use indexmap::IndexMap;
+use std::alloc::{AllocError, Global};
+use std::marker::Model;
+use std::sync::ledger::Ledger;
+
+/// The rows of generations by number, in the order in which they were added, and how many numbers were drawn. Contracts see
+/// the list of the rows. A row is found by its number without a walk.
+#[derive(Drop)]
+pub struct Generations {
+    rows: IndexMap<u32, GenRow>,
+    made: u32,
+}
+
+impl Model for Generations {
+    ghost use Rattle.indexmap.specs.IndexMap.{values};
+    ghost use Rattle.ev_generations.specs.Tables.{GenerationsParts, IsStored};
+
+    ghost Value = { GenerationsParts };
+
+    ghost view = { λ g. record { rows = values g.rows; made = g.made } };
+
+    ghost invariant = { λ g. IsStored g.rows.entries g.made };
+}
+
+impl Generations {
+    /// No row, and no number drawn. It takes no memory.
+    pub fn new(alloc: Global) -> Generations
+        ensures rows { result.rows ≡ [] }
+        ensures made { result.made ≡ 0 }
+    {
+        Generations {
+            rows: IndexMap::new(alloc),
+            made: 0,
+        }
+    }
+
+    /// How many numbers were drawn.
+    pub fn made(&self) -> u32
+        ensures { result ≡ self.now.made }
+    {
+        self.made
+    }
+
+    /// Numbers go on after this one.
+    pub fn advance(&mut self, made: u32)
+        requires { self.old.made ≤ made }
+        ensures rows { self.new.rows ≡ self.old.rows }
+        ensures made { self.new.made ≡ made }
+    {
+        self.made = made;
+    }
+
+    /// A new row, which warms and has the next number. Without memory the table stays as it was.
+    pub fn add(&mut self, kind: Kind, name: Name, content: Content) -> Result<Gen, AllocError>
+        requires { self.old.made + 1 < 2 ^ 32 }
+        ensures number { IfOk result (λ number. number ≡ self.old.made + 1) }
+        ensures added { OnOk result (self.new.rows ≡ self.old.rows ++ new_row kind self.old.made name content ∷ []) }
+        ensures made { OnOk result (self.new.made ≡ self.old.made + 1) }
+        ensures table { OnOk result (IsTable self.new) }
+        ensures err { OnErr result (self.new ≡ self.old) }
+    {
+        let number = self.made + 1;
+        let row = GenRow {
+            kind,
+            number: Gen::new(number),
+            name,
+            content,
+            status: RowStatus::Warming,
+        };
+        let Ok(_) = self.rows.insert(number, row) else {
+            return Err(AllocError);
+        };
+        self.made = number;
+        Ok(Gen::new(number))
+    }
+
+    // One more row of a table that is copied.
+    fn put(&mut self, row: GenRow) -> Result<(), AllocError>
+        requires absent { row_in row.number self.old.rows ≡ None }
+        requires drawn { row.number ≤ self.old.made }
+        ensures added { OnOk result (self.new.rows ≡ self.old.rows ++ row ∷ []) }
+        ensures made { self.new.made ≡ self.old.made }
+    {
+        let Ok(_) = self.rows.insert(row.number.number(), row) else {
+            return Err(AllocError);
+        };
+        Ok(())
+    }
+
+    /// The row of a number, by one look-up, which is counted.
+    pub fn row<'a, L: Ledger>(&'a self, number: Gen, steps: &mut Steps<L>) -> Option<&'a GenRow>
+        ensures row { option_copied result ≡ row_in number self.now.rows }
+        ensures step { steps.new ≡ steps.old + 1 }
+        ensures table { IsTable self.now }
+    {
+        steps.tick();
+        self.rows.get(&number.number())
+    }
+
+    /// The row of this number serves.
+    pub fn warm(&mut self, number: Gen)
+        requires { IsSome (row_in number self.old.rows) }
+        ensures rows { self.new.rows ≡ with_status number Active self.old.rows }
+        ensures made { self.new.made ≡ self.old.made }
+    {
+        self.set_status(number, RowStatus::Active);
+    }
+
+    /// The row of this number drains, or is dropped where it never served.
+    pub fn gone(&mut self, number: Gen, dropped: bool)
+        requires { IsSome (row_in number self.old.rows) }
+        ensures rows { self.new.rows ≡ with_status number (if dropped then Dropped else Draining) self.old.rows }
+        ensures made { self.new.made ≡ self.old.made }
+    {
+        let status = if dropped {
+            RowStatus::Dropped
+        } else {
+            RowStatus::Draining
+        };
+        self.set_status(number, status);
+    }
+
+    // The row of this number has this status.
+    fn set_status(&mut self, number: Gen, status: RowStatus)
+        requires { IsSome (row_in number self.old.rows) }
+        ensures rows { self.new.rows ≡ with_status number status self.old.rows }
+        ensures made { self.new.made ≡ self.old.made }
+    {
+        let Some(row) = self.rows.get_mut(&number.number()) else {
+            unreachable!()
+        };
+        row.status = status;
+    }
+
+    /// Takes the row of this number out; the others keep their order.
+    pub fn remove(&mut self, number: Gen) -> GenRow
+        requires { IsSome (row_in number self.old.rows) }
+        ensures row { row_in number self.old.rows ≡ Some result }
+        ensures rows { self.new.rows ≡ without_row number self.old.rows }
+        ensures made { self.new.made ≡ self.old.made }
+    {
+        let Some(row) = self.rows.shift_remove(&number.number()) else {
+            unreachable!()
+        };
+        row
+    }
+
+    /// All rows in order, for what shows or copies the whole table. It counts no look-up.
+    pub fn rows(&self) -> &[GenRow]
+        ensures rows { result.now ≡ self.now.rows }
+        ensures table { IsTable self.now }
+    {
+        self.rows.values().as_slice()
+    }
+}
+
+impl TryCopy for Generations {
+    fn copy(&self, alloc: Global) -> Result<Generations, AllocError> {
+        let mut copied = Generations::new(alloc);
+        copied.advance(self.made);
+        for row in self.rows() {
+            copied.put(row.copy(alloc)?)?;
+        }
+        Ok(copied)
+    }
+}

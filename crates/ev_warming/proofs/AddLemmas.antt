@@ -1,0 +1,184 @@
+-- A new generation warms, and one that warmed under its name is dropped: the indexes stay searches of the rows.
+use Rattle.std.proofs.Common.{◌≡◌, ◌∙◌, ℕ, Bool, true, false, cond, not, ◌&&◌, ◌||◌, nat_eq, ◌+◌, ◌<◌, List, [], ◌∷◌, ◌++◌, Option, None, Some, option_to_list, filter, refl, sym, ap, subst, true≢false, arith, append-nil}
+use Rattle.std.specs.List.{list_any, AllByRecursion}
+use Rattle.std.specs.Option.{option_or}
+use Rattle.std.specs.Str.{bytes_eq}
+use Rattle.std.proofs.lemmas.Bool.{eq-eqb, and_parts}
+use Rattle.std.proofs.lemmas.List.Folds.{find-append}
+use Rattle.ev_types.specs.Kinds.{kind_same, kind_decides}
+use Rattle.ev_types.specs.Same.{bytes_decide}
+use Rattle.ev_types.specs.Statuses.{is_warming, is_active, is_live}
+use Rattle.ev_types.specs.declared.contents.Content.{Content}
+use Rattle.ev_types.specs.declared.contents.Kind.{Kind}
+use Rattle.ev_types.specs.declared.rows.RowStatus.{RowStatus}
+use Rattle.ev_types.specs.declared.rows.RowStatus.TheVariants.{Warming, Active, Draining, Dropped}
+use Rattle.ev_types.specs.declared.rows.GenRow.{GenRow}
+use Rattle.ev_model.specs.Rows.{removed_status, replaced_status, is_row_of, with_statuses, new_row}
+use Rattle.ev_model.specs.Watching.{is_limited}
+use Rattle.ev_generations.specs.Tables.{GenerationsParts, IsTable, is_number, row_in, status_with, with_status, numbers_of}
+use Rattle.ev_warming.specs.declared.names.Standing.{Standing}
+use Rattle.ev_warming.specs.declared.watches.Watch.{Watch}
+use Rattle.ev_warming.specs.declared.state.State.{State}
+use Rattle.ev_warming.specs.Due.{is_among}
+use Rattle.ev_warming.specs.Kept.{Sets}
+use Rattle.ev_warming.specs.Standings.{NamesKept, nobody, standing_in}
+use Rattle.ev_warming.specs.Watched.{WatchesKept, watch_in, watched_too, without_number}
+use Rattle.ev_warming.specs.Ready.{name_needed, is_due_found, is_due_at}
+use Rattle.ev_warming.specs.Indexes.{IsIndexed, is_needed, depends_on, waits_limited, serves, warms, numbers_where, status_in}
+use Rattle.ev_warming.proofs.WhereLemmas.{where-left, where-members, found-where, flipped, emptied, or_false, without-one}
+use Rattle.ev_warming.proofs.ReadyLemmas.{Agrees}
+use Rattle.ev_warming.proofs.IndexLemmas.{live-warming, is_due_at-agrees}
+use Rattle.ev_warming.proofs.PromotionLemmas.{all_then, both_all, statuses_agree, statuses_same}
+
+removed-warming : (status : RowStatus) → is_warming status ≡ true → removed_status status ≡ Dropped
+removed-warming Warming h = refl
+removed-warming Active h = absurd (true≢false (sym h))
+removed-warming Draining h = absurd (true≢false (sym h))
+removed-warming Dropped h = absurd (true≢false (sym h))
+
+swapped : (w b : Bool) → (w && b) ≡ ((true && b) && w)
+swapped true true = refl
+swapped true false = refl
+swapped false true = refl
+swapped false false = refl
+
+-- a row of the kind warms under the name
+warms_of : (kind : Kind) (name : List ℕ) (row : GenRow) → row.kind ≡ kind → warms name row ≡ (is_row_of kind name row && is_warming row.status)
+warms_of kind name row k =
+    swapped (is_warming row.status) (bytes_eq row.name name)
+    ∙ (λ i. (sym ((kind_decides kind kind).1 refl) i && bytes_eq row.name name) && is_warming row.status)
+    ∙ (λ i. (kind_same (sym k i) kind && bytes_eq row.name name) && is_warming row.status)
+
+module _ (s : State) (x : IsIndexed s) (name : List ℕ) where
+  -- none warms under the name
+  pub drop-none : (standing_in s.names name).warming ≡ None → s.table.rows ≡ with_statuses (replaced_status s.kind name) s.table.rows
+  drop-none none =
+      sym (statuses_same s.table.rows)
+      ∙ statuses_agree (λ (r : GenRow). r.status) (replaced_status s.kind name) s.table.rows
+          (all_then (λ (r : GenRow). (is_among (numbers_where (warms name) s.table.rows) r.number ≡ warms name r) × (r.kind ≡ s.kind)) (λ (r : GenRow). r.status ≡ replaced_status s.kind name r) s.table.rows
+              (λ r (h, k). λ i. cond ((sym (λ j. is_among ((sym (x.warming name) ∙ ap option_to_list none) j) r.number) ∙ h ∙ warms_of s.kind name r k) i) Dropped r.status)
+              (both_all (λ (r : GenRow). is_among (numbers_where (warms name) s.table.rows) r.number ≡ warms name r) (λ (r : GenRow). r.kind ≡ s.kind) s.table.rows
+                  (where-members (warms name) s.table.rows x.table.apart) x.kinds))
+
+  module _ (p : ℕ) (at : (standing_in s.names name).warming ≡ Some p) where
+    members : numbers_where (warms name) s.table.rows ≡ p ∷ []
+    members = sym (x.warming name) ∙ ap option_to_list at
+
+    theirs : (row : GenRow) × (row_in p s.table.rows ≡ Some row) × (warms name row ≡ true)
+    theirs = found-where (warms name) p s.table.rows x.table.apart ((λ i. is_among (members i) p) ∙ or_false (nat_eq p p) ∙ eq-eqb p p refl)
+
+    waiting : is_warming theirs.0.status ≡ true
+    waiting = (and_parts (is_warming theirs.0.status) (bytes_eq theirs.0.name name) theirs.2).0
+
+    pub drop-live : is_live (status_in (row_in p s.table.rows)) ≡ true
+    drop-live = (λ i. is_live (status_in (theirs.1 i))) ∙ live-warming theirs.0.status waiting
+
+    removed : removed_status (status_in (row_in p s.table.rows)) ≡ Dropped
+    removed = (λ i. removed_status (status_in (theirs.1 i))) ∙ removed-warming theirs.0.status waiting
+
+    pub drop-rows : with_status p (removed_status (status_in (row_in p s.table.rows))) s.table.rows ≡ with_statuses (replaced_status s.kind name) s.table.rows
+    drop-rows =
+        (λ i. with_status p (removed i) s.table.rows)
+        ∙ statuses_agree (status_with p Dropped) (replaced_status s.kind name) s.table.rows
+            (all_then (λ (r : GenRow). (is_among (numbers_where (warms name) s.table.rows) r.number ≡ warms name r) × (r.kind ≡ s.kind)) (λ (r : GenRow). status_with p Dropped r ≡ replaced_status s.kind name r) s.table.rows
+                (λ r (h, k). λ i. cond ((flipped p r.number ∙ sym (or_false (nat_eq r.number p)) ∙ (λ j. is_among (sym members j) r.number) ∙ h ∙ warms_of s.kind name r k) i) Dropped r.status)
+                (both_all (λ (r : GenRow). is_among (numbers_where (warms name) s.table.rows) r.number ≡ warms name r) (λ (r : GenRow). r.kind ≡ s.kind) s.table.rows
+                    (where-members (warms name) s.table.rows x.table.apart) x.kinds))
+
+    pub drop-alone : (t : State) → IsIndexed t → t.table.rows ≡ with_status p (removed_status (status_in (row_in p s.table.rows))) s.table.rows
+        → (standing_in t.names name).warming ≡ None
+    drop-alone t y e =
+        emptied (standing_in t.names name).warming
+            (y.warming name ∙ ap (numbers_where (warms name)) (e ∙ (λ i. with_status p (removed i) s.table.rows))
+            ∙ where-left (warms name) p Dropped (λ r. refl) s.table.rows
+            ∙ ap (without_number p) members
+            ∙ without-one p (Some p) (or_false (nat_eq p p) ∙ eq-eqb p p refl))
+
+where-push : (test : GenRow → Bool) (row : GenRow) (rows : List GenRow) → numbers_where test (rows ++ row ∷ []) ≡ numbers_where test rows ++ cond (test row) (row.number ∷ []) []
+where-push test row [] = by (test row)
+  where
+    by : (b : Bool) → numbers_of (cond b (row ∷ []) []) ≡ [] ++ cond b (row.number ∷ []) []
+    by true = refl
+    by false = refl
+where-push test row (r ∷ rows) = by (test r) (where-push test row rows)
+  where
+    by : (b : Bool) → numbers_where test (rows ++ row ∷ []) ≡ numbers_where test rows ++ cond (test row) (row.number ∷ []) []
+        → numbers_of (cond b (r ∷ filter test (rows ++ row ∷ [])) (filter test (rows ++ row ∷ []))) ≡ numbers_of (cond b (r ∷ filter test rows) (filter test rows)) ++ cond (test row) (row.number ∷ []) []
+    by true h = ap (λ ns. r.number ∷ ns) h
+    by false h = h
+
+kinds-push : (kind : Kind) (row : GenRow) (rows : List GenRow) → row.kind ≡ kind → AllByRecursion (λ (r : GenRow). r.kind ≡ kind) rows → AllByRecursion (λ (r : GenRow). r.kind ≡ kind) (rows ++ row ∷ [])
+kinds-push kind row [] k all = (k, tt)
+kinds-push kind row (r ∷ rows) k all = (all.0, kinds-push kind row rows k all.1)
+
+-- a new generation warms under a name
+module _ (s : State) (x : IsIndexed s) (name : List ℕ) (content : Content) (alone : (standing_in s.names name).warming ≡ None)
+    (table : GenerationsParts) (rows : table.rows ≡ s.table.rows ++ new_row s.kind s.table.made name content ∷ []) (tabled : IsTable table)
+    (names : NamesKept) (stands : Sets nobody s.names names name (record { active = (standing_in s.names name).active; warming = Some (s.table.made + 1) }))
+    (watches : WatchesKept)
+    (more : (q : List ℕ) → watch_in watches q ≡ cond (is_needed q (name_needed content)) (watched_too (s.table.made + 1) (is_limited content) (watch_in s.watches q)) (watch_in s.watches q))
+    (due : List ℕ) (looked : (n : ℕ) → is_among due n ≡ cond (is_among ((s.table.made + 1) ∷ []) n) (is_due_at watches s.results n table.rows) (is_among s.due n)) where
+  pushed : (test : GenRow → Bool) → numbers_where test table.rows ≡ numbers_where test s.table.rows ++ cond (test (new_row s.kind s.table.made name content)) ((s.table.made + 1) ∷ []) []
+  pushed test = ap (numbers_where test) rows ∙ where-push test (new_row s.kind s.table.made name content) s.table.rows
+
+  agrees : (q : List ℕ) → Agrees s.watches watches q
+  agrees q = record {
+    told = ap (λ (w : Watch). w.told) (more q) ∙ by (λ (w : Watch). w.told) (λ w. refl) (is_needed q (name_needed content));
+    timed = ap (λ (w : Watch). w.timed) (more q) ∙ by (λ (w : Watch). w.timed) (λ w. refl) (is_needed q (name_needed content));
+    value = ap (λ (w : Watch). w.value) (more q) ∙ by (λ (w : Watch). w.value) (λ w. refl) (is_needed q (name_needed content));
+  }
+    where
+      by : {A : Type 0} (f : Watch → A) → ((w : Watch) → f (watched_too (s.table.made + 1) (is_limited content) w) ≡ f w) → (b : Bool)
+          → f (cond b (watched_too (s.table.made + 1) (is_limited content) (watch_in s.watches q)) (watch_in s.watches q)) ≡ f (watch_in s.watches q)
+      by f stays true = stays (watch_in s.watches q)
+      by f stays false = refl
+
+  active_too : (q : List ℕ) (b : Bool) → bytes_eq name q ≡ b
+      → option_to_list (cond b (record { active = (standing_in s.names name).active; warming = Some (s.table.made + 1) }) (standing_in s.names q)).active ≡ numbers_where (serves q) s.table.rows ++ []
+  active_too q true e = (λ i. option_to_list (standing_in s.names ((bytes_decide name q).0 e i)).active) ∙ x.active q ∙ sym (append-nil (numbers_where (serves q) s.table.rows))
+  active_too q false e = x.active q ∙ sym (append-nil (numbers_where (serves q) s.table.rows))
+
+  warming_too : (q : List ℕ) (b : Bool) → bytes_eq name q ≡ b
+      → option_to_list (cond b (record { active = (standing_in s.names name).active; warming = Some (s.table.made + 1) }) (standing_in s.names q)).warming
+          ≡ numbers_where (warms q) s.table.rows ++ cond b ((s.table.made + 1) ∷ []) []
+  warming_too q true e =
+      let none : numbers_where (warms q) s.table.rows ≡ [] =
+          sym (x.warming q) ∙ (λ i. option_to_list (standing_in s.names (sym ((bytes_decide name q).0 e) i)).warming) ∙ ap option_to_list alone in
+      λ i. sym none i ++ (s.table.made + 1) ∷ []
+  warming_too q false e = x.warming q ∙ sym (append-nil (numbers_where (warms q) s.table.rows))
+
+  watchers_too : (q : List ℕ) (b : Bool) → (cond b (watched_too (s.table.made + 1) (is_limited content) (watch_in s.watches q)) (watch_in s.watches q)).rows
+      ≡ numbers_where (depends_on q) s.table.rows ++ cond b ((s.table.made + 1) ∷ []) []
+  watchers_too q true = ap (λ ns. ns ++ (s.table.made + 1) ∷ []) (x.watchers q)
+  watchers_too q false = x.watchers q ∙ sym (append-nil (numbers_where (depends_on q) s.table.rows))
+
+  limited_too : (q : List ℕ) (b l : Bool) → (cond b (watched_too (s.table.made + 1) l (watch_in s.watches q)) (watch_in s.watches q)).limited
+      ≡ numbers_where (waits_limited q) s.table.rows ++ cond (b && l) ((s.table.made + 1) ∷ []) []
+  limited_too q true true = ap (λ ns. ns ++ (s.table.made + 1) ∷ []) (x.limited q)
+  limited_too q true false = x.limited q ∙ sym (append-nil (numbers_where (waits_limited q) s.table.rows))
+  limited_too q false l = x.limited q ∙ sym (append-nil (numbers_where (waits_limited q) s.table.rows))
+
+  due_too : (n : ℕ) (b : Bool) → nat_eq n (s.table.made + 1) ≡ b
+      → cond (b || false) (is_due_at watches s.results n table.rows) (is_among s.due n) ≡ is_due_at watches s.results n table.rows
+  due_too n true e = refl
+  due_too n false e =
+      x.due n ∙ sym (is_due_at-agrees s.watches watches s.results agrees n s.table.rows)
+      ∙ sym ((λ i. is_due_found watches s.results (row_in n (rows i)))
+          ∙ (λ i. is_due_found watches s.results (find-append (is_number n) s.table.rows (new_row s.kind s.table.made name content ∷ []) i))
+          ∙ (λ i. is_due_found watches s.results (option_or (row_in n s.table.rows) (cond (e i) (Some (new_row s.kind s.table.made name content)) None)))
+          ∙ by (row_in n s.table.rows))
+    where
+      by : (o : Option GenRow) → is_due_found watches s.results (option_or o None) ≡ is_due_found watches s.results o
+      by None = refl
+      by (Some row) = refl
+
+  pub indexed-added : IsIndexed (record s { table = table; names = names; watches = watches; due = due })
+  indexed-added = record {
+    table = tabled;
+    kinds = subst (AllByRecursion (λ (r : GenRow). r.kind ≡ s.kind)) (sym rows) (kinds-push s.kind (new_row s.kind s.table.made name content) s.table.rows refl x.kinds);
+    active = λ q. (λ i. option_to_list (stands q i).active) ∙ active_too q (bytes_eq name q) refl ∙ sym (pushed (serves q));
+    warming = λ q. (λ i. option_to_list (stands q i).warming) ∙ warming_too q (bytes_eq name q) refl ∙ sym (pushed (warms q));
+    watchers = λ q. (λ i. (more q i).rows) ∙ watchers_too q (is_needed q (name_needed content)) ∙ sym (pushed (depends_on q));
+    limited = λ q. (λ i. (more q i).limited) ∙ limited_too q (is_needed q (name_needed content)) (is_limited content) ∙ sym (pushed (waits_limited q));
+    due = λ n. looked n ∙ due_too n (nat_eq n (s.table.made + 1)) refl;
+  }

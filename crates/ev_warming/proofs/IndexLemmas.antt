@@ -1,0 +1,286 @@
+-- What each step does to the indexes: they stay searches of the rows.
+use Rattle.std.proofs.Common.{◌≡◌, ◌∙◌, ℕ, Bool, true, false, cond, not, ◌&&◌, ◌||◌, nat_eq, List, [], ◌∷◌, Option, None, Some, IsSome, option_to_list, refl, sym, ap, subst, true≢false, Result, Ok, Err, OnOk}
+use Rattle.std.specs.List.{list_any, IsDistinct, AllByRecursion}
+use Rattle.std.specs.Map.{lookup}
+use Rattle.std.specs.Str.{bytes_eq}
+use Rattle.std.proofs.lemmas.Bool.{false_from_ne_true, and_right, and_parts}
+use Rattle.ev_types.specs.Same.{bytes_decide}
+use Rattle.ev_types.specs.Statuses.{is_warming, is_active, is_live}
+use Rattle.ev_types.specs.declared.rows.Arrival.{Arrival}
+use Rattle.ev_types.specs.declared.rows.Arrival.TheVariants.{Value, Absent, Bad, TimedOut}
+use Rattle.ev_types.specs.declared.rows.RowStatus.{RowStatus}
+use Rattle.ev_types.specs.declared.rows.RowStatus.TheVariants.{Warming, Active, Draining, Dropped}
+use Rattle.ev_types.specs.declared.rows.GenRow.{GenRow}
+use Rattle.ev_model.specs.Watching.{is_limited}
+use Rattle.ev_model.specs.Rows.{removed_status}
+use Rattle.ev_endpoints.specs.Results.{ResultsKept}
+use Rattle.ev_generations.specs.Tables.{GenerationsParts, IsTable, row_in, status_with, with_status, numbers_of}
+use Rattle.ev_generations.proofs.TableLemmas.{table-with_status}
+use Rattle.ev_warming.specs.declared.names.Standing.{Standing}
+use Rattle.ev_warming.specs.declared.watches.Watch.{Watch}
+use Rattle.ev_warming.specs.declared.state.State.{State}
+use Rattle.ev_warming.specs.Due.{is_among}
+use Rattle.ev_warming.specs.Kept.{kept_at, Sets}
+use Rattle.ev_warming.specs.Standings.{NamesKept, nobody, standing_in}
+use Rattle.ev_warming.specs.Watched.{WatchesKept, unwatched, watch_in, watched_less, with_arrival, without_number}
+use Rattle.ev_warming.specs.Ready.{name_needed, is_ready_in, is_due_in, is_due_found, is_due_at}
+use Rattle.ev_warming.specs.Indexes.{IsIndexed, is_needed, depends_on, waits_limited, serves, warms, numbers_where}
+use Rattle.ev_warming.proofs.KeptLemmas.{kept_at-found}
+use Rattle.ev_warming.proofs.WhereLemmas.{kinds-with_statuses, row_with, among-where, where-left, where-absent, where-kept, where-one, where-some, without-one}
+use Rattle.ev_warming.proofs.ReadyLemmas.{Agrees, is_ready_in-agrees, is_due_at-with_status}
+
+own_name : (name : List ℕ) → bytes_eq name name ≡ true
+own_name name = (bytes_decide name name).1 refl
+
+pub live-warming : (status : RowStatus) → is_warming status ≡ true → is_live status ≡ true
+live-warming Warming h = refl
+live-warming Active h = absurd (true≢false (sym h))
+live-warming Draining h = absurd (true≢false (sym h))
+live-warming Dropped h = absurd (true≢false (sym h))
+
+-- a live row's name has an entry
+pub named-live : (s : State) (number : ℕ) (row : GenRow) → IsIndexed s → row_in number s.table.rows ≡ Some row → is_live row.status ≡ true → IsSome (lookup (bytes_eq row.name) s.names)
+named-live s number row x found live = by (lookup (bytes_eq row.name) s.names) refl
+  where
+    nothing : (test : GenRow → Bool) (o : Option ℕ) → option_to_list o ≡ numbers_where test s.table.rows → o ≡ None → test row ≡ true → ⊥
+    nothing test o index none passes =
+        true≢false (sym (among-where test number row s.table.rows found passes) ∙ (λ i. is_among (sym index i) number) ∙ (λ i. is_among (option_to_list (none i)) number))
+    empty : lookup (bytes_eq row.name) s.names ≡ None → (status : RowStatus) → row.status ≡ status → is_live status ≡ true → ⊥
+    empty none Warming e h =
+        nothing (warms row.name) (standing_in s.names row.name).warming (x.warming row.name) (λ i. (kept_at-found nobody s.names row.name None none i).warming)
+            (λ i. is_warming (e i) && own_name row.name i)
+    empty none Active e h =
+        nothing (serves row.name) (standing_in s.names row.name).active (x.active row.name) (λ i. (kept_at-found nobody s.names row.name None none i).active)
+            (λ i. is_active (e i) && own_name row.name i)
+    empty none Draining e h = true≢false (sym h)
+    empty none Dropped e h = true≢false (sym h)
+    by : (o : Option Standing) → lookup (bytes_eq row.name) s.names ≡ o → IsSome o
+    by None e = absurd (empty e row.status refl live)
+    by (Some standing) e = refl
+
+-- a name that a live row depends on has an entry
+pub watched-some : (s : State) (name : List ℕ) → IsIndexed s → list_any (depends_on name) s.table.rows ≡ true → IsSome (lookup (bytes_eq name) s.watches)
+watched-some s name x any = by (lookup (bytes_eq name) s.watches) refl
+  where
+    by : (o : Option Watch) → lookup (bytes_eq name) s.watches ≡ o → IsSome o
+    by None e = absurd (where-some (depends_on name) s.table.rows any (sym (x.watchers name) ∙ (λ i. (kept_at-found unwatched s.watches name None e i).rows)))
+    by (Some watch) e = refl
+
+rows-with_arrival : (arrival : Arrival) (watch : Watch) → (with_arrival arrival watch).rows ≡ watch.rows
+rows-with_arrival (Value content) watch = refl
+rows-with_arrival Absent watch = refl
+rows-with_arrival Bad watch = refl
+rows-with_arrival TimedOut watch = refl
+
+limited-with_arrival : (arrival : Arrival) (watch : Watch) → (with_arrival arrival watch).limited ≡ watch.limited
+limited-with_arrival (Value content) watch = refl
+limited-with_arrival Absent watch = refl
+limited-with_arrival Bad watch = refl
+limited-with_arrival TimedOut watch = refl
+
+-- something came for a name, and its rows were looked at anew
+module _ (s : State) (name : List ℕ) (arrival : Arrival) (watches : WatchesKept) (due : List ℕ) (x : IsIndexed s)
+    (sets : Sets unwatched s.watches watches name (with_arrival arrival (watch_in s.watches name)))
+    (looked : (n : ℕ) → is_among due n ≡ cond (is_among (watch_in watches name).rows n) (is_due_at watches s.results n s.table.rows) (is_among s.due n)) where
+  part : {A : Type 0} (f : Watch → A) → ((watch : Watch) → f (with_arrival arrival watch) ≡ f watch) → (q : List ℕ) → f (watch_in watches q) ≡ f (watch_in s.watches q)
+  part f stays q = ap f (sets q) ∙ by (bytes_eq name q) refl
+    where
+      by : (b : Bool) → bytes_eq name q ≡ b → f (cond b (with_arrival arrival (watch_in s.watches name)) (watch_in s.watches q)) ≡ f (watch_in s.watches q)
+      by true e = stays (watch_in s.watches name) ∙ (λ i. f (watch_in s.watches ((bytes_decide name q).0 e i)))
+      by false e = refl
+
+  other : (q : List ℕ) → bytes_eq q name ≡ false → Agrees s.watches watches q
+  other q apart =
+      let far : bytes_eq name q ≡ false = false_from_ne_true (bytes_eq name q) (λ h. true≢false (sym ((bytes_decide q name).1 (sym ((bytes_decide name q).0 h))) ∙ apart)) in
+      let same : watch_in watches q ≡ watch_in s.watches q = sets q ∙ (λ i. cond (far i) (with_arrival arrival (watch_in s.watches name)) (watch_in s.watches q)) in
+      record { told = λ i. (same i).told; timed = λ i. (same i).timed; value = λ i. (same i).value }
+
+  elsewhere : (n : ℕ) → is_among (numbers_where (depends_on name) s.table.rows) n ≡ false → is_due_at watches s.results n s.table.rows ≡ is_due_at s.watches s.results n s.table.rows
+  elsewhere n away = by (row_in n s.table.rows) refl
+    where
+      over : (row : GenRow) → row_in n s.table.rows ≡ Some row → (w : Bool) → is_warming row.status ≡ w → (needs : Bool) → is_needed name (name_needed row.content) ≡ needs
+          → (w && is_ready_in watches s.results row) ≡ (w && is_ready_in s.watches s.results row)
+      over row e false cold needs f = refl
+      over row e true warm true f =
+          absurd (true≢false (sym (among-where (depends_on name) n row s.table.rows e (λ i. live-warming row.status warm i && f i)) ∙ away))
+      over row e true warm false f =
+          is_ready_in-agrees s.watches watches s.results row (λ q needed. other q (ap (is_needed name) (sym needed) ∙ f))
+      by : (o : Option GenRow) → row_in n s.table.rows ≡ o → is_due_found watches s.results o ≡ is_due_found s.watches s.results o
+      by None e = refl
+      by (Some row) e = over row e (is_warming row.status) refl (is_needed name (name_needed row.content)) refl
+
+  pub indexed-arrived : IsIndexed (record s { watches = watches; due = due })
+  indexed-arrived = record {
+    table = x.table;
+    kinds = x.kinds;
+    active = x.active;
+    warming = x.warming;
+    watchers = λ q. part (λ (w : Watch). w.rows) (rows-with_arrival arrival) q ∙ x.watchers q;
+    limited = λ q. part (λ (w : Watch). w.limited) (limited-with_arrival arrival) q ∙ x.limited q;
+    due = λ n. looked n ∙ by n (is_among (watch_in watches name).rows n) refl;
+  }
+    where
+      by : (n : ℕ) (b : Bool) → is_among (watch_in watches name).rows n ≡ b
+          → cond b (is_due_at watches s.results n s.table.rows) (is_among s.due n) ≡ is_due_at watches s.results n s.table.rows
+      by n true e = refl
+      by n false e =
+          x.due n
+          ∙ sym (elsewhere n ((λ i. is_among ((sym (x.watchers name) ∙ sym (part (λ (w : Watch). w.rows) (rows-with_arrival arrival) name)) i) n) ∙ e))
+
+pub is_due_at-agrees : (old new : WatchesKept) (results : ResultsKept) → ((q : List ℕ) → Agrees old new q) → (n : ℕ) (rows : List GenRow) → is_due_at new results n rows ≡ is_due_at old results n rows
+is_due_at-agrees old new results agrees n rows = by (row_in n rows)
+  where
+    by : (o : Option GenRow) → is_due_found new results o ≡ is_due_found old results o
+    by None = refl
+    by (Some row) = ap (λ b. is_warming row.status && b) (is_ready_in-agrees old new results row (λ q needed. agrees q))
+
+-- a row of the table gets another status
+module _ (s : State) (number : ℕ) (row : GenRow) (status : RowStatus) (x : IsIndexed s) (found : row_in number s.table.rows ≡ Some row)
+    (table : GenerationsParts) (rows : table.rows ≡ with_status number status s.table.rows) (made : table.made ≡ s.table.made) where
+  table_too : IsTable table
+  table_too =
+      let same : table ≡ record { rows = with_status number status s.table.rows; made = s.table.made } = λ i. record { rows = rows i; made = made i } in
+      subst IsTable (sym same) (table-with_status number status s.table.rows s.table.made x.table)
+
+  kinds_too : AllByRecursion (λ (r : GenRow). r.kind ≡ s.kind) table.rows
+  kinds_too = subst (AllByRecursion (λ (r : GenRow). r.kind ≡ s.kind)) (sym rows) (kinds-with_statuses s.kind (status_with number status) s.table.rows x.kinds)
+
+  -- an index that the number leaves, where it stood in it
+  leaves : (test : GenRow → Bool) (o p : Option ℕ) → option_to_list o ≡ numbers_where test s.table.rows → ((r : GenRow) → test (row_with status r) ≡ false)
+      → (test row ≡ true → p ≡ None) → (test row ≡ false → p ≡ o) → option_to_list p ≡ numbers_where test table.rows
+  leaves test o p index fails gone stays = by (test row) refl ∙ sym (ap (numbers_where test) rows ∙ where-left test number status fails s.table.rows)
+    where
+      by : (b : Bool) → test row ≡ b → option_to_list p ≡ without_number number (numbers_where test s.table.rows)
+      by true e =
+          ap option_to_list (gone e)
+          ∙ sym ((λ i. without_number number (sym index i))
+              ∙ without-one number o ((λ i. is_among (index i) number) ∙ among-where test number row s.table.rows found e))
+      by false e = ap option_to_list (stays e) ∙ index ∙ sym (where-absent test number row s.table.rows found x.table.apart e)
+
+  -- the one that warmed, or served, is gone
+  module _ (live : is_live row.status ≡ true) (ended : is_live status ≡ false) (names : NamesKept) (watches : WatchesKept) (due : List ℕ)
+      (stands : Sets nobody s.names names row.name
+          (cond (is_warming row.status) (record (standing_in s.names row.name) { warming = None }) (record (standing_in s.names row.name) { active = None })))
+      (less : (q : List ℕ) → watch_in watches q ≡ cond (is_needed q (name_needed row.content)) (watched_less number (watch_in s.watches q)) (watch_in s.watches q))
+      (dues : (n : ℕ) → is_among due n ≡ (not (nat_eq number n) && is_among s.due n)) where
+    cold : (st : RowStatus) → is_live st ≡ false → (is_warming st ≡ false) × (is_active st ≡ false)
+    cold Warming h = absurd (true≢false h)
+    cold Active h = absurd (true≢false h)
+    cold Draining h = (refl, refl)
+    cold Dropped h = (refl, refl)
+
+
+
+
+    active_left : (q : List ℕ) (st : RowStatus) → is_live st ≡ true → (b : Bool) → bytes_eq row.name q ≡ b
+        → (((is_active st && b) ≡ true → (cond b (cond (is_warming st) (record (standing_in s.names row.name) { warming = None }) (record (standing_in s.names row.name) { active = None })) (standing_in s.names q)).active ≡ None)
+        × ((is_active st && b) ≡ false → (cond b (cond (is_warming st) (record (standing_in s.names row.name) { warming = None }) (record (standing_in s.names row.name) { active = None })) (standing_in s.names q)).active ≡ (standing_in s.names q).active))
+    active_left q Warming l true e = (λ h. absurd (true≢false (sym h)), λ h i. (standing_in s.names ((bytes_decide row.name q).0 e i)).active)
+    active_left q Warming l false e = (λ h. absurd (true≢false (sym h)), λ h. refl)
+    active_left q Active l true e = (λ h. refl, λ h. absurd (true≢false h))
+    active_left q Active l false e = (λ h. absurd (true≢false (sym h)), λ h. refl)
+    active_left q Draining l b e = absurd (true≢false (sym l))
+    active_left q Dropped l b e = absurd (true≢false (sym l))
+
+    warming_left : (q : List ℕ) (st : RowStatus) → is_live st ≡ true → (b : Bool) → bytes_eq row.name q ≡ b
+        → (((is_warming st && b) ≡ true → (cond b (cond (is_warming st) (record (standing_in s.names row.name) { warming = None }) (record (standing_in s.names row.name) { active = None })) (standing_in s.names q)).warming ≡ None)
+        × ((is_warming st && b) ≡ false → (cond b (cond (is_warming st) (record (standing_in s.names row.name) { warming = None }) (record (standing_in s.names row.name) { active = None })) (standing_in s.names q)).warming ≡ (standing_in s.names q).warming))
+    warming_left q Active l true e = (λ h. absurd (true≢false (sym h)), λ h i. (standing_in s.names ((bytes_decide row.name q).0 e i)).warming)
+    warming_left q Active l false e = (λ h. absurd (true≢false (sym h)), λ h. refl)
+    warming_left q Warming l true e = (λ h. refl, λ h. absurd (true≢false h))
+    warming_left q Warming l false e = (λ h. absurd (true≢false (sym h)), λ h. refl)
+    warming_left q Draining l b e = absurd (true≢false (sym l))
+    warming_left q Dropped l b e = absurd (true≢false (sym l))
+
+    -- a list of those that wait for a name
+    fewer : (f : Watch → List ℕ) → ((w : Watch) → f (watched_less number w) ≡ without_number number (f w)) → (test : List ℕ → GenRow → Bool)
+        → ((q : List ℕ) (r : GenRow) → test q (row_with status r) ≡ false) → ((q : List ℕ) → is_needed q (name_needed row.content) ≡ false → test q row ≡ false)
+        → ((q : List ℕ) → f (watch_in s.watches q) ≡ numbers_where (test q) s.table.rows) → (q : List ℕ) → f (watch_in watches q) ≡ numbers_where (test q) table.rows
+    fewer f out test fails apart index q =
+        ap f (less q) ∙ by (is_needed q (name_needed row.content)) refl ∙ sym (ap (numbers_where (test q)) rows ∙ where-left (test q) number status (fails q) s.table.rows)
+      where
+        by : (b : Bool) → is_needed q (name_needed row.content) ≡ b → f (cond b (watched_less number (watch_in s.watches q)) (watch_in s.watches q)) ≡ without_number number (numbers_where (test q) s.table.rows)
+        by true e = out (watch_in s.watches q) ∙ ap (without_number number) (index q)
+        by false e = index q ∙ sym (where-absent (test q) number row s.table.rows found x.table.apart (apart q e))
+
+    agrees : (q : List ℕ) → Agrees s.watches watches q
+    agrees q = record {
+      told = ap (λ (w : Watch). w.told) (less q) ∙ by (λ (w : Watch). w.told) (λ w. refl) (is_needed q (name_needed row.content));
+      timed = ap (λ (w : Watch). w.timed) (less q) ∙ by (λ (w : Watch). w.timed) (λ w. refl) (is_needed q (name_needed row.content));
+      value = ap (λ (w : Watch). w.value) (less q) ∙ by (λ (w : Watch). w.value) (λ w. refl) (is_needed q (name_needed row.content));
+    }
+      where
+        by : {A : Type 0} (f : Watch → A) → ((w : Watch) → f (watched_less number w) ≡ f w) → (b : Bool)
+            → f (cond b (watched_less number (watch_in s.watches q)) (watch_in s.watches q)) ≡ f (watch_in s.watches q)
+        by f stays true = stays (watch_in s.watches q)
+        by f stays false = refl
+
+    pub indexed-retired : IsIndexed (record s { table = table; names = names; watches = watches; due = due })
+    indexed-retired = record {
+      table = table_too;
+      kinds = kinds_too;
+      active = λ q.
+          let a = active_left q row.status live (bytes_eq row.name q) refl in
+          leaves (serves q) (standing_in s.names q).active (standing_in names q).active (x.active q) (λ r. ap (λ b. b && bytes_eq r.name q) (cold status ended).1)
+              (λ h. (λ i. (stands q i).active) ∙ a.0 h) (λ h. (λ i. (stands q i).active) ∙ a.1 h);
+      warming = λ q.
+          let a = warming_left q row.status live (bytes_eq row.name q) refl in
+          leaves (warms q) (standing_in s.names q).warming (standing_in names q).warming (x.warming q) (λ r. ap (λ b. b && bytes_eq r.name q) (cold status ended).0)
+              (λ h. (λ i. (stands q i).warming) ∙ a.0 h) (λ h. (λ i. (stands q i).warming) ∙ a.1 h);
+      watchers = fewer (λ (w : Watch). w.rows) (λ w. refl) depends_on (λ q r. ap (λ b. b && is_needed q (name_needed r.content)) ended)
+          (λ q e. (λ i. live i && e i)) x.watchers;
+      limited = fewer (λ (w : Watch). w.limited) (λ w. refl) waits_limited (λ q r. ap (λ b. (b && is_needed q (name_needed r.content)) && is_limited r.content) ended)
+          (λ q e. (λ i. (live i && e i) && is_limited row.content)) x.limited;
+      due = λ n.
+          dues n ∙ ap (λ b. not (nat_eq number n) && b) (x.due n)
+          ∙ sym (is_due_at-with_status s.watches s.results number status (cold status ended).0 n s.table.rows)
+          ∙ sym (is_due_at-agrees s.watches watches s.results agrees n (with_status number status s.table.rows))
+          ∙ (λ i. is_due_at watches s.results n (sym rows i));
+    }
+
+-- a row that warms serves
+module _ (s : State) (number : ℕ) (row : GenRow) (x : IsIndexed s) (found : row_in number s.table.rows ≡ Some row)
+    (table : GenerationsParts) (rows : table.rows ≡ with_status number Active s.table.rows) (made : table.made ≡ s.table.made)
+    (warm : is_warming row.status ≡ true) (alone : (standing_in s.names row.name).active ≡ None) (names : NamesKept) (due : List ℕ)
+    (stands : Sets nobody s.names names row.name (record { active = Some number; warming = None }))
+    (dues : (n : ℕ) → is_among due n ≡ (not (nat_eq number n) && is_among s.due n)) where
+  active_at : (q : List ℕ) (b : Bool) → bytes_eq row.name q ≡ b
+      → option_to_list (cond b (record { active = Some number; warming = None }) (standing_in s.names q)).active ≡ numbers_where (serves q) (with_status number Active s.table.rows)
+  active_at q true e =
+      sym (where-one (serves q) number Active row s.table.rows found x.table.apart
+          (sym (x.active q) ∙ (λ i. option_to_list (((λ j. (standing_in s.names (sym ((bytes_decide row.name q).0 e) j)).active) ∙ alone) i))) e)
+  active_at q false e =
+      x.active q ∙ sym (where-kept (serves q) number Active row s.table.rows found x.table.apart (e ∙ sym (and_right (is_active row.status) (bytes_eq row.name q) e)))
+
+  -- those that wait for a name stay
+  waits : (test : GenRow → Bool) (ns : List ℕ) → ns ≡ numbers_where test s.table.rows → test (row_with Active row) ≡ test row → ns ≡ numbers_where test table.rows
+  waits test ns index same = index ∙ sym (ap (numbers_where test) rows ∙ where-kept test number Active row s.table.rows found x.table.apart same)
+
+  pub indexed-served : IsIndexed (record s { table = table; names = names; due = due })
+  indexed-served = record {
+    table = table_too s number row Active x found table rows made;
+    kinds = kinds_too s number row Active x found table rows made;
+    active = λ q. (λ i. option_to_list (stands q i).active) ∙ active_at q (bytes_eq row.name q) refl ∙ sym (ap (numbers_where (serves q)) rows);
+    warming = λ q.
+        leaves s number row Active x found table rows made (warms q) (standing_in s.names q).warming (standing_in names q).warming (x.warming q) (λ r. refl)
+            (λ h. (λ i. (stands q i).warming) ∙ (λ i. (cond ((and_parts (is_warming row.status) (bytes_eq row.name q) h).1 i) (record { active = Some number; warming = None }) (standing_in s.names q)).warming))
+            (λ h. (λ i. (stands q i).warming) ∙ (λ i. (cond (((λ j. sym warm j && bytes_eq row.name q) ∙ h) i) (record { active = Some number; warming = None }) (standing_in s.names q)).warming));
+    watchers = λ q. waits (depends_on q) (watch_in s.watches q).rows (x.watchers q) (λ i. sym (live-warming row.status warm) i && is_needed q (name_needed row.content));
+    limited = λ q. waits (waits_limited q) (watch_in s.watches q).limited (x.limited q) (λ i. (sym (live-warming row.status warm) i && is_needed q (name_needed row.content)) && is_limited row.content);
+    due = λ n.
+        dues n ∙ ap (λ b. not (nat_eq number n) && b) (x.due n)
+        ∙ sym (is_due_at-with_status s.watches s.results number Active refl n s.table.rows)
+        ∙ (λ i. is_due_at s.watches s.results n (sym rows i));
+  }
+
+-- the status of a live row that is removed
+pub removed_status-live : (status : RowStatus) → is_live status ≡ true → cond (is_warming status) Dropped Draining ≡ removed_status status
+removed_status-live Warming h = refl
+removed_status-live Active h = refl
+removed_status-live Draining h = absurd (true≢false (sym h))
+removed_status-live Dropped h = absurd (true≢false (sym h))
+
+-- what follows from what a call ensures on success
+pub on_ok : {A E P Q : Type 0} (r : Result A E) → OnOk r P → (P → Q) → OnOk r Q
+on_ok (Ok v) h f = f h
+on_ok (Err e) h f = h

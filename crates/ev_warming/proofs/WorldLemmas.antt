@@ -1,0 +1,159 @@
+-- A state that stands for a world finds the same rows ready, and promotes as the machine does.
+use Rattle.std.proofs.Common.{◌≡◌, ◌∙◌, ℕ, Bool, true, false, cond, not, ◌&&◌, ◌||◌, List, [], ◌∷◌, Option, None, Some, IsSome, is_some, option_map, unwrap_or, filter, refl, sym, ap, subst, true≢false}
+use Rattle.std.specs.List.{list_any, list_all, AllByRecursion}
+use Rattle.std.specs.Str.{bytes_eq}
+use Rattle.std.proofs.lemmas.Bool.{and_parts}
+use Rattle.ev_types.specs.Hosts.{HostRowParts}
+use Rattle.ev_types.specs.Items.{content_kind}
+use Rattle.ev_types.specs.Kinds.{kind_same}
+use Rattle.ev_types.specs.Statuses.{is_warming}
+use Rattle.ev_types.specs.declared.contents.Kind.{Kind}
+use Rattle.ev_types.specs.declared.contents.Kind.TheVariants.{Cds, Eds, Lds, Rds}
+use Rattle.ev_types.specs.declared.contents.Content.{Content}
+use Rattle.ev_types.specs.declared.contents.Content.TheVariants.{Cluster as a_cluster, Assignment as an_assignment, Listener as a_listener, Routes as routes}
+use Rattle.ev_types.specs.declared.clusters.Discovery.{Discovery}
+use Rattle.ev_types.specs.declared.clusters.Discovery.TheVariants.{Static, Eds as by_eds}
+use Rattle.ev_types.specs.declared.listeners.Serve.{Serve}
+use Rattle.ev_types.specs.declared.listeners.Serve.TheVariants.{Rds as by_rds, Inline, Tcp}
+use Rattle.ev_types.specs.declared.rows.RowStatus.{RowStatus}
+use Rattle.ev_types.specs.declared.rows.GenRow.{GenRow}
+use Rattle.ev_model.specs.World.{World, HealthResult}
+use Rattle.ev_model.specs.Watching.{Dependency, dependency_of, discovery_dependency, serve_dependency, is_limited}
+use Rattle.ev_model.specs.Warming.{has_answer, discovered, assignment_by, rows_in, has_result, has_all_results, value_by, is_told_by, is_timed_by, is_answered_by, is_ready_by, is_checked}
+use Rattle.ev_model.specs.Rows.{is_row_of, with_statuses}
+use Rattle.ev_model.specs.Tidy.{is_due, has_successor, status_by, promoted_status, promoted_rows, promoted}
+use Rattle.ev_endpoints.specs.Results.{ResultsKept, result_in}
+use Rattle.ev_generations.specs.Tables.{row_in, numbers_of}
+use Rattle.ev_generations.proofs.TableLemmas.{row_in-with_statuses}
+use Rattle.ev_warming.specs.declared.state.State.{State}
+use Rattle.ev_warming.specs.Watched.{watch_in}
+use Rattle.ev_warming.specs.Ready.{name_needed, has_answer_in, discovered_in, assignment_in, are_results_in, is_round_done_in, is_answered_in, is_ready_in}
+use Rattle.ev_warming.specs.Indexes.{IsIndexed, SameMarks}
+use Rattle.ev_warming.specs.Promotion.{succeeded_by, rows_promoted}
+use Rattle.ev_warming.specs.Worlds.{needs_of, rows_of_kind, StandsFor}
+use Rattle.ev_warming.proofs.WhereLemmas.{own-rows}
+use Rattle.ev_warming.proofs.PromotionLemmas.{any_agrees, all_then, both_all, statuses_agree}
+
+rows_of_kind-with_statuses : (kind : Kind) (f : GenRow → RowStatus) (rows : List GenRow) → rows_of_kind kind (with_statuses f rows) ≡ with_statuses f (rows_of_kind kind rows)
+rows_of_kind-with_statuses kind f [] = refl
+rows_of_kind-with_statuses kind f (row ∷ rows) = by (kind_same row.kind kind) (rows_of_kind-with_statuses kind f rows)
+  where
+    by : (b : Bool) → rows_of_kind kind (with_statuses f rows) ≡ with_statuses f (rows_of_kind kind rows)
+        → cond b (record row { status = f row } ∷ rows_of_kind kind (with_statuses f rows)) (rows_of_kind kind (with_statuses f rows)) ≡ with_statuses f (cond b (row ∷ rows_of_kind kind rows) (rows_of_kind kind rows))
+    by true h = ap (λ (rs : List GenRow). record row { status = f row } ∷ rs) h
+    by false h = h
+
+-- rows of other kinds pass no test that only rows of the kind pass
+any-rows_of_kind : (kind : Kind) (f : GenRow → Bool) → ((row : GenRow) → f row ≡ true → kind_same row.kind kind ≡ true) → (rows : List GenRow) → list_any f (rows_of_kind kind rows) ≡ list_any f rows
+any-rows_of_kind kind f only [] = refl
+any-rows_of_kind kind f only (row ∷ rows) = by (kind_same row.kind kind) refl (f row) refl (any-rows_of_kind kind f only rows)
+  where
+    by : (b : Bool) → kind_same row.kind kind ≡ b → (t : Bool) → f row ≡ t → list_any f (rows_of_kind kind rows) ≡ list_any f rows
+        → list_any f (cond b (row ∷ rows_of_kind kind rows) (rows_of_kind kind rows)) ≡ (t || list_any f rows)
+    by true e t h rest = (λ i. h i || rest i)
+    by false e true h rest = absurd (true≢false (sym (only row h) ∙ e))
+    by false e false h rest = rest
+
+all_results : (results : ResultsKept) (world_results : List HealthResult) (number : ℕ)
+    → ((h : HostRowParts) → is_some (result_in results number h.host) ≡ has_result world_results number h.host)
+    → (hosts : List HostRowParts) → are_results_in results number hosts ≡ has_all_results world_results number hosts
+all_results results world_results number same [] = refl
+all_results results world_results number same (h ∷ hosts) = λ i. same h i && all_results results world_results number same hosts i
+
+module _ (s : State) (world : World) (stands : StandsFor s world) where
+  discovery_answer : needs_of s.kind ≡ Eds → (limited : Bool) (d : Discovery)
+      → has_answer_in s.watches limited (option_map (λ (d : Dependency). d.name) (discovery_dependency d)) ≡ has_answer world.arrivals limited (discovery_dependency d)
+  discovery_answer k limited (Static rows) = refl
+  discovery_answer k limited (by_eds service l) =
+      (λ i. stands.told service i || (stands.timed service i && limited))
+      ∙ (λ i. has_answer world.arrivals limited (Some (record { kind = k i; name = service })))
+
+  serve_answer : needs_of s.kind ≡ Rds → (limited : Bool) (v : Serve)
+      → has_answer_in s.watches limited (option_map (λ (d : Dependency). d.name) (serve_dependency v)) ≡ has_answer world.arrivals limited (serve_dependency v)
+  serve_answer k limited (by_rds name l) =
+      (λ i. stands.told name i || (stands.timed name i && limited))
+      ∙ (λ i. has_answer world.arrivals limited (Some (record { kind = k i; name = name })))
+  serve_answer k limited (Inline table) = refl
+  serve_answer k limited (Tcp target) = refl
+
+  answered : (content : Content) → content_kind content ≡ s.kind → is_answered_in s.watches content ≡ is_answered_by world.arrivals content
+  answered (a_cluster cluster) k = discovery_answer (ap needs_of (sym k)) (is_limited (a_cluster cluster)) cluster.discovery
+  answered (an_assignment rows) k = refl
+  answered (a_listener listener) k = serve_answer (ap needs_of (sym k)) (is_limited (a_listener listener)) listener.serve
+  answered (routes table) k = refl
+
+  found_hosts : needs_of s.kind ≡ Eds → (d : Discovery) → discovered_in s.watches d ≡ discovered world.arrivals d
+  found_hosts k (Static rows) = refl
+  found_hosts k (by_eds service l) = ap rows_in (stands.value service) ∙ (λ i. rows_in (value_by world.arrivals (k i) service))
+
+  hosts : (content : Content) → content_kind content ≡ s.kind → assignment_in s.watches content ≡ assignment_by world.arrivals content
+  hosts (a_cluster cluster) k = found_hosts (ap needs_of (sym k)) cluster.discovery
+  hosts (an_assignment rows) k = refl
+  hosts (a_listener listener) k = refl
+  hosts (routes table) k = refl
+
+  -- the same rows are ready
+  pub ready_too : (row : GenRow) → content_kind row.content ≡ s.kind → IsSome (row_in row.number s.table.rows) → is_ready_in s.watches s.results row ≡ is_ready_by world.arrivals world.results row
+  ready_too row k there = λ i.
+      answered row.content k i
+      && (not (is_checked row.content)
+          || ((λ j. are_results_in s.results row.number (hosts row.content k j))
+              ∙ all_results s.results world.results row.number (λ h. stands.resulted row.number h.host there) (assignment_by world.arrivals row.content)) i)
+
+  module _ (x : IsIndexed s) where
+    ready_all : AllByRecursion (λ (r : GenRow). is_ready_in s.watches s.results r ≡ is_ready_by world.arrivals world.results r) s.table.rows
+    ready_all =
+        all_then (λ (r : GenRow). (content_kind r.content ≡ s.kind) × (row_in r.number s.table.rows ≡ Some r)) (λ (r : GenRow). is_ready_in s.watches s.results r ≡ is_ready_by world.arrivals world.results r)
+            s.table.rows (λ r (k, own). ready_too r k (subst IsSome (sym own) refl))
+            (both_all (λ (r : GenRow). content_kind r.content ≡ s.kind) (λ (r : GenRow). row_in r.number s.table.rows ≡ Some r) s.table.rows stands.contents (own-rows s.table.rows x.table.apart))
+
+    successor : (row : GenRow) → row.kind ≡ s.kind → succeeded_by (is_ready_in s.watches s.results) s.table.rows row ≡ has_successor world.arrivals world.results world.rows row
+    successor row k =
+        any_agrees (λ (o : GenRow). is_row_of row.kind row.name o && (is_warming o.status && is_ready_in s.watches s.results o)) (λ (o : GenRow). is_row_of row.kind row.name o && is_due world.arrivals world.results o) s.table.rows
+            (all_then (λ (o : GenRow). is_ready_in s.watches s.results o ≡ is_ready_by world.arrivals world.results o)
+                (λ (o : GenRow). (is_row_of row.kind row.name o && (is_warming o.status && is_ready_in s.watches s.results o)) ≡ (is_row_of row.kind row.name o && is_due world.arrivals world.results o))
+                s.table.rows (λ o e. λ i. is_row_of row.kind row.name o && (is_warming o.status && e i)) ready_all)
+        ∙ ap (list_any (λ (o : GenRow). is_row_of row.kind row.name o && is_due world.arrivals world.results o)) stands.rows
+        ∙ any-rows_of_kind s.kind (λ (o : GenRow). is_row_of row.kind row.name o && is_due world.arrivals world.results o)
+            (λ o h. (λ i. kind_same o.kind (sym k i)) ∙ (and_parts (kind_same o.kind row.kind) (bytes_eq o.name row.name) (and_parts (is_row_of row.kind row.name o) (is_due world.arrivals world.results o) h).0).0)
+            world.rows
+
+    pub promoted_too : rows_promoted (is_ready_in s.watches s.results) s.table.rows ≡ rows_of_kind s.kind (promoted_rows world.arrivals world.results world.rows)
+    promoted_too =
+        statuses_agree (λ (r : GenRow). status_by (succeeded_by (is_ready_in s.watches s.results) s.table.rows r) (is_ready_in s.watches s.results r) r.status) (promoted_status world.arrivals world.results world.rows) s.table.rows
+            (all_then (λ (r : GenRow). (r.kind ≡ s.kind) × (is_ready_in s.watches s.results r ≡ is_ready_by world.arrivals world.results r))
+                (λ (r : GenRow). status_by (succeeded_by (is_ready_in s.watches s.results) s.table.rows r) (is_ready_in s.watches s.results r) r.status ≡ promoted_status world.arrivals world.results world.rows r)
+                s.table.rows (λ r (k, e). λ i. status_by (successor r k i) (e i) r.status)
+                (both_all (λ (r : GenRow). r.kind ≡ s.kind) (λ (r : GenRow). is_ready_in s.watches s.results r ≡ is_ready_by world.arrivals world.results r) s.table.rows x.kinds ready_all))
+        ∙ ap (with_statuses (promoted_status world.arrivals world.results world.rows)) stands.rows
+        ∙ sym (rows_of_kind-with_statuses s.kind (promoted_status world.arrivals world.results world.rows) world.rows)
+
+contents-with_statuses : (kind : Kind) (f : GenRow → RowStatus) (rows : List GenRow) → AllByRecursion (λ (r : GenRow). content_kind r.content ≡ kind) rows
+    → AllByRecursion (λ (r : GenRow). content_kind r.content ≡ kind) (with_statuses f rows)
+contents-with_statuses kind f [] all = tt
+contents-with_statuses kind f (row ∷ rows) all = (all.0, contents-with_statuses kind f rows all.1)
+
+-- rows with other statuses are found as before
+there_before : (number : ℕ) (f : GenRow → RowStatus) (rows : List GenRow) → IsSome (row_in number (with_statuses f rows)) → IsSome (row_in number rows)
+there_before number f rows there = by (row_in number rows) (subst IsSome (row_in-with_statuses number f rows) there)
+  where
+    by : (o : Option GenRow) → IsSome (option_map (λ (row : GenRow). record row { status = f row }) o) → IsSome o
+    by None h = h
+    by (Some row) h = refl
+
+-- what stands for a world stands for the promoted world once it has promoted
+pub promoted-stands : (s t : State) (world : World) → IsIndexed s → StandsFor s world → t.kind ≡ s.kind → t.results ≡ s.results → t.table.made ≡ s.table.made → SameMarks s.watches t.watches
+    → t.table.rows ≡ rows_promoted (is_ready_in s.watches s.results) s.table.rows → StandsFor t (promoted world)
+promoted-stands s t world x stands kind results made marks rows =
+    let f = λ (r : GenRow). status_by (succeeded_by (is_ready_in s.watches s.results) s.table.rows r) (is_ready_in s.watches s.results r) r.status in
+    record {
+      rows = rows ∙ promoted_too s world stands x ∙ (λ i. rows_of_kind (sym kind i) (promoted_rows world.arrivals world.results world.rows));
+      contents = subst (λ (k : Kind). AllByRecursion (λ (r : GenRow). content_kind r.content ≡ k) t.table.rows) (sym kind)
+          (subst (AllByRecursion (λ (r : GenRow). content_kind r.content ≡ s.kind)) (sym rows) (contents-with_statuses s.kind f s.table.rows stands.contents));
+      made = made ∙ stands.made;
+      told = λ name. (marks name).0 ∙ stands.told name ∙ (λ i. is_told_by world.arrivals (needs_of (sym kind i)) name);
+      timed = λ name. (marks name).1 ∙ stands.timed name ∙ (λ i. is_timed_by world.arrivals (needs_of (sym kind i)) name);
+      value = λ name. (marks name).2 ∙ stands.value name ∙ (λ i. value_by world.arrivals (needs_of (sym kind i)) name);
+      resulted = λ n h there. (λ i. is_some (result_in (results i) n h)) ∙ stands.resulted n h (there_before n f s.table.rows (subst (λ (rs : List GenRow). IsSome (row_in n rs)) rows there));
+      healthy = λ n h there. (λ i. unwrap_or (result_in (results i) n h) false) ∙ stands.healthy n h (there_before n f s.table.rows (subst (λ (rs : List GenRow). IsSome (row_in n rs)) rows there));
+    }

@@ -1,0 +1,20 @@
+use Rattle.std.proofs.Common.{◌≡◌, ◌∙◌, ℕ, List, cond, sym, Some}
+use Rattle.ev_warming.specs.Due.{is_among}
+use Rattle.ev_warming.specs.Ready.{is_due_at}
+use Rattle.ev_warming.specs.Watched.{watch_in, unwatched}
+use Rattle.ev_warming.proofs.KeptLemmas.{kept_at-found}
+use Rattle.ev_warming.proofs.IndexLemmas.{watched-some, indexed-arrived, on_ok}
+use Rattle.ev_warming.proofs.state.State.arrive.Goals as goal
+
+pub tell-requires : goal.tell-requires
+tell-requires g c = watched-some c.args.self.now c.args.name.now c.requires.indexed c.requires.watched
+
+pub returns-clause-indexed : goal.returns-clause-indexed
+returns-clause-indexed g c =
+    let s = c.args.self.now in
+    let watches = c.tell.new.self in
+    let rows : c.as_slice.result.now ≡ (watch_in watches c.args.name.now).rows =
+        c.as_slice.ensures.elements ∙ (λ i. (sym (kept_at-found unwatched watches c.args.name.now (Some c.in-Some.watch.now) (sym c.in-Some.ensures)) i).rows) in
+    on_ok c.refresh.result c.refresh.ensures.due (λ looked.
+        indexed-arrived s c.args.name.now c.args.arrival.now watches c.refresh.new.due c.requires.indexed c.in_ok-tell.ensures
+            (λ n. looked n ∙ (λ i. cond (is_among (rows i) n) (is_due_at watches s.results n s.table.rows) (is_among s.due n))))

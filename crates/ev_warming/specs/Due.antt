@@ -1,0 +1,7 @@
+-- Sets of numbers.
+use Rattle.std.specs.Prelude.{ℕ, Bool, nat_eq, List}
+use Rattle.std.specs.List.{list_any}
+
+-- the number stands among these
+abbrev pub is_among : List ℕ → ℕ → Bool
+is_among numbers number = list_any (nat_eq number) numbers
