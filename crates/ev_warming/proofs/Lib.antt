@@ -6,3 +6,4 @@ pub mod PromotionLemmas
 pub mod WayLemmas
 pub mod AddLemmas
 pub mod WorldLemmas
+pub mod ArrivalLemmas

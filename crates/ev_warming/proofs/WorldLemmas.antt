@@ -34,7 +34,7 @@ use Rattle.ev_warming.specs.Worlds.{needs_of, rows_of_kind, StandsFor}
 use Rattle.ev_warming.proofs.WhereLemmas.{own-rows}
 use Rattle.ev_warming.proofs.PromotionLemmas.{any_agrees, all_then, both_all, statuses_agree}
 
-rows_of_kind-with_statuses : (kind : Kind) (f : GenRow → RowStatus) (rows : List GenRow) → rows_of_kind kind (with_statuses f rows) ≡ with_statuses f (rows_of_kind kind rows)
+pub rows_of_kind-with_statuses : (kind : Kind) (f : GenRow → RowStatus) (rows : List GenRow) → rows_of_kind kind (with_statuses f rows) ≡ with_statuses f (rows_of_kind kind rows)
 rows_of_kind-with_statuses kind f [] = refl
 rows_of_kind-with_statuses kind f (row ∷ rows) = by (kind_same row.kind kind) (rows_of_kind-with_statuses kind f rows)
   where
@@ -128,13 +128,13 @@ module _ (s : State) (world : World) (stands : StandsFor s world) where
         ∙ ap (with_statuses (promoted_status world.arrivals world.results world.rows)) stands.rows
         ∙ sym (rows_of_kind-with_statuses s.kind (promoted_status world.arrivals world.results world.rows) world.rows)
 
-contents-with_statuses : (kind : Kind) (f : GenRow → RowStatus) (rows : List GenRow) → AllByRecursion (λ (r : GenRow). content_kind r.content ≡ kind) rows
+pub contents-with_statuses : (kind : Kind) (f : GenRow → RowStatus) (rows : List GenRow) → AllByRecursion (λ (r : GenRow). content_kind r.content ≡ kind) rows
     → AllByRecursion (λ (r : GenRow). content_kind r.content ≡ kind) (with_statuses f rows)
 contents-with_statuses kind f [] all = tt
 contents-with_statuses kind f (row ∷ rows) all = (all.0, contents-with_statuses kind f rows all.1)
 
 -- rows with other statuses are found as before
-there_before : (number : ℕ) (f : GenRow → RowStatus) (rows : List GenRow) → IsSome (row_in number (with_statuses f rows)) → IsSome (row_in number rows)
+pub there_before : (number : ℕ) (f : GenRow → RowStatus) (rows : List GenRow) → IsSome (row_in number (with_statuses f rows)) → IsSome (row_in number rows)
 there_before number f rows there = by (row_in number rows) (subst IsSome (row_in-with_statuses number f rows) there)
   where
     by : (o : Option GenRow) → IsSome (option_map (λ (row : GenRow). record row { status = f row }) o) → IsSome o

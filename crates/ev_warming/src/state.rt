@@ -1,6 +1,6 @@
 ghost use Rattle.std.specs.Prelude.{◌≡◌, ◌+◌, ◌*◌, ◌^◌, ◌≤◌, [], ◌∷◌, ◌++◌, IfOk, ◌<◌, ◌&&◌, not, nat_eq, ℕ, List, true, if◌then◌else◌, length, None, OnOk};
 ghost use Rattle.std.specs.List.{list_any};
-ghost use Rattle.ev_model.specs.Rows.{removed_status, replaced_status, with_statuses, new_row, rows_with_new};
+ghost use Rattle.ev_model.specs.Rows.{arrived, removed_status, replaced_status, with_statuses, new_row, rows_with_new};
 ghost use Rattle.ev_model.specs.Watching.{is_limited};
 ghost use Rattle.ev_types.specs.declared.rows.RowStatus.TheVariants.{Active};
 ghost use Rattle.ev_types.specs.Statuses.{is_live, is_warming};
@@ -12,7 +12,8 @@ ghost use Rattle.ev_warming.specs.Ready.{name_needed, is_ready_in, is_due_at};
 ghost use Rattle.ev_warming.specs.Due.{is_among};
 ghost use Rattle.ev_model.specs.World.{World};
 ghost use Rattle.ev_model.specs.Tidy.{promoted};
-ghost use Rattle.ev_warming.specs.Worlds.{StandsFor};
+ghost use Rattle.ev_model.specs.Signals.{rows_ended};
+ghost use Rattle.ev_warming.specs.Worlds.{StandsFor, needs_of};
 ghost use Rattle.ev_warming.specs.Promotion.{rows_promoted, status_drained};
 ghost use Rattle.ev_warming.specs.Indexes.{IsIndexed, SameMarks, depends_on, is_needed, numbers_where, status_in, name_in};
 
@@ -50,6 +51,8 @@ impl State {
         ensures told { OnOk result (Sets unwatched self.old.watches self.new.watches name.now (with_arrival arrival.now (watch_in self.old.watches name.now))) }
         ensures others { OnOk result (self.new ≡ record self.old { watches = self.new.watches; due = self.new.due }) }
         ensures steps { OnOk result (steps.new ≡ steps.old + length (numbers_where (depends_on name.now) self.old.table.rows)) }
+        // Whatever world the state stood for, it stands for that world with the arrival.
+        ensures stands { OnOk result ((world : World) → StandsFor self.old world → StandsFor self.new (record world { arrivals = world.arrivals ++ arrived (needs_of self.old.kind) arrival.now name.now ∷ [] })) }
     {
         self.watches.tell(alloc, name, arrival)?;
         let Some(watch) = self.watches.get(name) else {
@@ -203,6 +206,38 @@ impl State {
     {
         self.drop_warming(&name, steps);
         self.append(alloc, name, content, steps)
+    }
+
+    /// What a name stands for has come to its end, or is removed: the generation that warms under it is dropped, and the one that
+    /// serves it drains. It costs at most two look-ups, and takes no memory.
+    pub fn end<L: Ledger>(&mut self, name: &Name, steps: &mut Steps<L>)
+        requires indexed { IsIndexed self.old }
+        ensures indexed { IsIndexed self.new }
+        ensures rows { self.new.table.rows ≡ rows_ended self.old.kind name.now self.old.table.rows }
+        ensures made { self.new.table.made ≡ self.old.table.made }
+        ensures marks { SameMarks self.old.watches self.new.watches }
+        ensures others { self.new ≡ record self.old { table = self.new.table; names = self.new.names; watches = self.new.watches; due = self.new.due } }
+        ensures steps { steps.new ≤ steps.old + 2 }
+        // Whatever world the state stood for, it stands for that world where the name has come to its end.
+        ensures stands { (world : World) → StandsFor self.old world → StandsFor self.new (record world { rows = rows_ended self.old.kind name.now world.rows }) }
+    {
+        self.drop_warming(name, steps);
+        self.drain_active(name, steps);
+    }
+
+    // The generation that serves a name drains, where there is one.
+    fn drain_active<L: Ledger>(&mut self, name: &Name, steps: &mut Steps<L>)
+        requires indexed { IsIndexed self.old }
+        ensures indexed { IsIndexed self.new }
+        ensures rows { self.new.table.rows ≡ with_statuses (status_drained name.now) self.old.table.rows }
+        ensures made { self.new.table.made ≡ self.old.table.made }
+        ensures marks { SameMarks self.old.watches self.new.watches }
+        ensures others { self.new ≡ record self.old { table = self.new.table; names = self.new.names; watches = self.new.watches; due = self.new.due } }
+        ensures steps { steps.new ≤ steps.old + 1 }
+    {
+        if let Some(before) = self.names.standing(name).active {
+            self.retire(before, steps);
+        }
     }
 
     // The generation that warms under a name is dropped, where there is one.

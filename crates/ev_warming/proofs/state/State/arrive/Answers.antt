@@ -4,6 +4,7 @@ use Rattle.ev_warming.specs.Ready.{is_due_at}
 use Rattle.ev_warming.specs.Watched.{watch_in, unwatched}
 use Rattle.ev_warming.proofs.KeptLemmas.{kept_at-found}
 use Rattle.ev_warming.proofs.IndexLemmas.{watched-some, indexed-arrived, on_ok}
+use Rattle.ev_warming.proofs.ArrivalLemmas.{arrived-stands}
 use Rattle.ev_warming.proofs.state.State.arrive.Goals as goal
 
 pub tell-requires : goal.tell-requires
@@ -18,3 +19,8 @@ returns-clause-indexed g c =
     on_ok c.refresh.result c.refresh.ensures.due (λ looked.
         indexed-arrived s c.args.name.now c.args.arrival.now watches c.refresh.new.due c.requires.indexed c.in_ok-tell.ensures
             (λ n. looked n ∙ (λ i. cond (is_among (rows i) n) (is_due_at watches s.results n s.table.rows) (is_among s.due n))))
+
+pub returns-clause-stands : goal.returns-clause-stands
+returns-clause-stands g c =
+    on_ok c.refresh.result c.refresh.ensures.due (λ looked world stands.
+        arrived-stands c.args.self.now world stands c.args.name.now c.args.arrival.now c.tell.new.self c.in_ok-tell.ensures c.refresh.new.due)

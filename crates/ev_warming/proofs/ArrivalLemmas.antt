@@ -1,0 +1,176 @@
+-- A state that stands for a world stands for it once something came for a name, and once a name has come to its end.
+use Rattle.std.proofs.Common.{◌≡◌, ◌∙◌, ℕ, Bool, true, false, cond, not, ◌&&◌, ◌||◌, List, [], ◌∷◌, ◌++◌, Option, None, Some, IsSome, is_some, unwrap_or, map, filter, refl, sym, ap, subst, true≢false, append-nil}
+use Rattle.std.specs.List.{list_any, filter_map, last_or, AllByRecursion}
+use Rattle.std.specs.Str.{bytes_eq}
+use Rattle.std.proofs.lemmas.List.Folds.{list_any-append}
+use Rattle.std.proofs.lemmas.List.Elements.{filter_map-append}
+use Rattle.ev_types.specs.Items.{content_kind}
+use Rattle.ev_types.specs.Kinds.{kind_same, kind_decides}
+use Rattle.ev_types.specs.Same.{bytes_decide}
+use Rattle.ev_types.specs.Statuses.{is_warming, is_active}
+use Rattle.ev_types.specs.declared.contents.Kind.{Kind}
+use Rattle.ev_types.specs.declared.contents.Content.{Content}
+use Rattle.ev_types.specs.declared.rows.Arrival.{Arrival}
+use Rattle.ev_types.specs.declared.rows.Arrival.TheVariants.{Value, Absent, Bad, TimedOut}
+use Rattle.ev_types.specs.declared.rows.RowStatus.{RowStatus}
+use Rattle.ev_types.specs.declared.rows.RowStatus.TheVariants.{Warming, Active, Draining, Dropped}
+use Rattle.ev_types.specs.declared.rows.GenRow.{GenRow}
+use Rattle.ev_model.specs.World.{World, Arrived}
+use Rattle.ev_model.specs.Warming.{came_for, content_in, is_word, is_timeout, is_told_by, is_timed_by, value_by}
+use Rattle.ev_model.specs.Rows.{arrived, is_row_of, with_statuses, replaced_status, removed_status}
+use Rattle.ev_model.specs.Signals.{ended_status}
+use Rattle.ev_endpoints.specs.Results.{result_in}
+use Rattle.ev_generations.specs.Tables.{row_in}
+use Rattle.ev_warming.specs.declared.watches.Watch.{Watch}
+use Rattle.ev_warming.specs.declared.state.State.{State}
+use Rattle.ev_warming.specs.Kept.{Sets}
+use Rattle.ev_warming.specs.Watched.{WatchesKept, unwatched, watch_in, with_arrival}
+use Rattle.ev_warming.specs.Indexes.{SameMarks, serves}
+use Rattle.ev_warming.specs.Promotion.{status_drained}
+use Rattle.ev_warming.specs.Worlds.{needs_of, rows_of_kind, StandsFor}
+use Rattle.ev_warming.proofs.PromotionLemmas.{all_then, statuses_agree, with_statuses-twice}
+use Rattle.ev_warming.proofs.WorldLemmas.{rows_of_kind-with_statuses, contents-with_statuses, there_before}
+
+-- what came for a name, after one thing more
+came_for-push : (arrivals : List Arrived) (kind : Kind) (arrival : Arrival) (name q : List ℕ)
+    → came_for (arrivals ++ arrived kind arrival name ∷ []) kind q ≡ came_for arrivals kind q ++ cond (bytes_eq name q) (arrival ∷ []) []
+came_for-push [] kind arrival name q =
+    (λ i. map (λ (a : Arrived). a.arrival) (cond ((kind_decides kind kind).1 refl i && bytes_eq name q) (arrived kind arrival name ∷ []) [])) ∙ by (bytes_eq name q)
+  where
+    by : (b : Bool) → map (λ (a : Arrived). a.arrival) (cond b (arrived kind arrival name ∷ []) []) ≡ [] ++ cond b (arrival ∷ []) []
+    by true = refl
+    by false = refl
+came_for-push (a ∷ arrivals) kind arrival name q = by (kind_same a.kind kind && bytes_eq a.name q) (came_for-push arrivals kind arrival name q)
+  where
+    by : (b : Bool) → map (λ (a : Arrived). a.arrival) (filter (λ (a : Arrived). kind_same a.kind kind && bytes_eq a.name q) (arrivals ++ arrived kind arrival name ∷ []))
+            ≡ map (λ (a : Arrived). a.arrival) (filter (λ (a : Arrived). kind_same a.kind kind && bytes_eq a.name q) arrivals) ++ cond (bytes_eq name q) (arrival ∷ []) []
+        → map (λ (a : Arrived). a.arrival) (cond b (a ∷ filter (λ (a : Arrived). kind_same a.kind kind && bytes_eq a.name q) (arrivals ++ arrived kind arrival name ∷ []))
+                (filter (λ (a : Arrived). kind_same a.kind kind && bytes_eq a.name q) (arrivals ++ arrived kind arrival name ∷ [])))
+            ≡ map (λ (a : Arrived). a.arrival) (cond b (a ∷ filter (λ (a : Arrived). kind_same a.kind kind && bytes_eq a.name q) arrivals)
+                (filter (λ (a : Arrived). kind_same a.kind kind && bytes_eq a.name q) arrivals)) ++ cond (bytes_eq name q) (arrival ∷ []) []
+    by true h = ap (λ (xs : List Arrival). a.arrival ∷ xs) h
+    by false h = h
+
+last_or-append : {A : Type 0} (o : Option A) (xs ys : List A) → last_or o (xs ++ ys) ≡ last_or (last_or o xs) ys
+last_or-append o [] ys = refl
+last_or-append o (x ∷ xs) ys = last_or-append (Some x) xs ys
+
+late : (b : Bool) → (b || true) ≡ true
+late true = refl
+late false = refl
+
+none : (b : Bool) → (b || false) ≡ b
+none true = refl
+none false = refl
+
+told-with_arrival : (arrival : Arrival) (watch : Watch) → (with_arrival arrival watch).told ≡ (watch.told || (is_word arrival || false))
+told-with_arrival (Value content) watch = sym (late watch.told)
+told-with_arrival Absent watch = sym (late watch.told)
+told-with_arrival Bad watch = sym (late watch.told)
+told-with_arrival TimedOut watch = sym (none watch.told)
+
+timed-with_arrival : (arrival : Arrival) (watch : Watch) → (with_arrival arrival watch).timed ≡ (watch.timed || (is_timeout arrival || false))
+timed-with_arrival (Value content) watch = sym (none watch.timed)
+timed-with_arrival Absent watch = sym (none watch.timed)
+timed-with_arrival Bad watch = sym (none watch.timed)
+timed-with_arrival TimedOut watch = sym (late watch.timed)
+
+value-with_arrival : (arrival : Arrival) (watch : Watch) → (with_arrival arrival watch).value ≡ last_or watch.value (filter_map content_in (arrival ∷ []))
+value-with_arrival (Value content) watch = refl
+value-with_arrival Absent watch = refl
+value-with_arrival Bad watch = refl
+value-with_arrival TimedOut watch = refl
+
+module _ (s : State) (world : World) (stands : StandsFor s world) (name : List ℕ) (arrival : Arrival) (watches : WatchesKept)
+    (sets : Sets unwatched s.watches watches name (with_arrival arrival (watch_in s.watches name))) where
+  told_after : (q : List ℕ) → (watch_in watches q).told ≡ is_told_by (world.arrivals ++ arrived (needs_of s.kind) arrival name ∷ []) (needs_of s.kind) q
+  told_after q =
+      (λ i. (sets q i).told) ∙ by (bytes_eq name q) refl
+      ∙ sym (ap (list_any is_word) (came_for-push world.arrivals (needs_of s.kind) arrival name q)
+          ∙ list_any-append is_word (came_for world.arrivals (needs_of s.kind) q) (cond (bytes_eq name q) (arrival ∷ []) []))
+    where
+      by : (b : Bool) → bytes_eq name q ≡ b → (cond b (with_arrival arrival (watch_in s.watches name)) (watch_in s.watches q)).told
+          ≡ (is_told_by world.arrivals (needs_of s.kind) q || list_any is_word (cond b (arrival ∷ []) []))
+      by true e =
+          told-with_arrival arrival (watch_in s.watches name)
+          ∙ (λ i. (watch_in s.watches ((bytes_decide name q).0 e i)).told || (is_word arrival || false))
+          ∙ (λ i. stands.told q i || (is_word arrival || false))
+      by false e = stands.told q ∙ sym (none (is_told_by world.arrivals (needs_of s.kind) q))
+
+  timed_after : (q : List ℕ) → (watch_in watches q).timed ≡ is_timed_by (world.arrivals ++ arrived (needs_of s.kind) arrival name ∷ []) (needs_of s.kind) q
+  timed_after q =
+      (λ i. (sets q i).timed) ∙ by (bytes_eq name q) refl
+      ∙ sym (ap (list_any is_timeout) (came_for-push world.arrivals (needs_of s.kind) arrival name q)
+          ∙ list_any-append is_timeout (came_for world.arrivals (needs_of s.kind) q) (cond (bytes_eq name q) (arrival ∷ []) []))
+    where
+      by : (b : Bool) → bytes_eq name q ≡ b → (cond b (with_arrival arrival (watch_in s.watches name)) (watch_in s.watches q)).timed
+          ≡ (is_timed_by world.arrivals (needs_of s.kind) q || list_any is_timeout (cond b (arrival ∷ []) []))
+      by true e =
+          timed-with_arrival arrival (watch_in s.watches name)
+          ∙ (λ i. (watch_in s.watches ((bytes_decide name q).0 e i)).timed || (is_timeout arrival || false))
+          ∙ (λ i. stands.timed q i || (is_timeout arrival || false))
+      by false e = stands.timed q ∙ sym (none (is_timed_by world.arrivals (needs_of s.kind) q))
+
+  value_after : (q : List ℕ) → (watch_in watches q).value ≡ value_by (world.arrivals ++ arrived (needs_of s.kind) arrival name ∷ []) (needs_of s.kind) q
+  value_after q =
+      (λ i. (sets q i).value) ∙ by (bytes_eq name q) refl
+      ∙ sym (ap (λ (xs : List Arrival). last_or None (filter_map content_in xs)) (came_for-push world.arrivals (needs_of s.kind) arrival name q)
+          ∙ ap (last_or None) (filter_map-append content_in (came_for world.arrivals (needs_of s.kind) q) (cond (bytes_eq name q) (arrival ∷ []) []))
+          ∙ last_or-append None (filter_map content_in (came_for world.arrivals (needs_of s.kind) q)) (filter_map content_in (cond (bytes_eq name q) (arrival ∷ []) [])))
+    where
+      by : (b : Bool) → bytes_eq name q ≡ b → (cond b (with_arrival arrival (watch_in s.watches name)) (watch_in s.watches q)).value
+          ≡ last_or (value_by world.arrivals (needs_of s.kind) q) (filter_map content_in (cond b (arrival ∷ []) []))
+      by true e =
+          value-with_arrival arrival (watch_in s.watches name)
+          ∙ (λ i. last_or (watch_in s.watches ((bytes_decide name q).0 e i)).value (filter_map content_in (arrival ∷ [])))
+          ∙ (λ i. last_or (stands.value q i) (filter_map content_in (arrival ∷ [])))
+      by false e = stands.value q
+
+  pub arrived-stands : (due : List ℕ) → StandsFor (record s { watches = watches; due = due }) (record world { arrivals = world.arrivals ++ arrived (needs_of s.kind) arrival name ∷ [] })
+  arrived-stands due = record {
+    rows = stands.rows;
+    contents = stands.contents;
+    made = stands.made;
+    told = told_after;
+    timed = timed_after;
+    value = value_after;
+    resulted = stands.resulted;
+    healthy = stands.healthy;
+  }
+
+-- other statuses by one rule, in the state and in the world
+pub statused-stands : (s t : State) (world : World) (f : GenRow → RowStatus) → StandsFor s world → t.kind ≡ s.kind → t.results ≡ s.results → t.table.made ≡ s.table.made → SameMarks s.watches t.watches
+    → t.table.rows ≡ with_statuses f s.table.rows → StandsFor t (record world { rows = with_statuses f world.rows })
+statused-stands s t world f stands kind results made marks rows = record {
+  rows = rows ∙ ap (with_statuses f) stands.rows ∙ sym (rows_of_kind-with_statuses s.kind f world.rows) ∙ (λ i. rows_of_kind (sym kind i) (with_statuses f world.rows));
+  contents = subst (λ (k : Kind). AllByRecursion (λ (r : GenRow). content_kind r.content ≡ k) t.table.rows) (sym kind)
+      (subst (AllByRecursion (λ (r : GenRow). content_kind r.content ≡ s.kind)) (sym rows) (contents-with_statuses s.kind f s.table.rows stands.contents));
+  made = made ∙ stands.made;
+  told = λ name. (marks name).0 ∙ stands.told name ∙ (λ i. is_told_by world.arrivals (needs_of (sym kind i)) name);
+  timed = λ name. (marks name).1 ∙ stands.timed name ∙ (λ i. is_timed_by world.arrivals (needs_of (sym kind i)) name);
+  value = λ name. (marks name).2 ∙ stands.value name ∙ (λ i. value_by world.arrivals (needs_of (sym kind i)) name);
+  resulted = λ n h there. (λ i. is_some (result_in (results i) n h)) ∙ stands.resulted n h (there_before n f s.table.rows (subst (λ (rs : List GenRow). IsSome (row_in n rs)) rows there));
+  healthy = λ n h there. (λ i. unwrap_or (result_in (results i) n h) false) ∙ stands.healthy n h (there_before n f s.table.rows (subst (λ (rs : List GenRow). IsSome (row_in n rs)) rows there));
+}
+
+-- the one that warms is dropped and the one that serves drains: what comes to its end
+pub ended-rows : (kind : Kind) (name : List ℕ) (rows : List GenRow) → AllByRecursion (λ (r : GenRow). r.kind ≡ kind) rows
+    → with_statuses (status_drained name) (with_statuses (replaced_status kind name) rows) ≡ with_statuses (ended_status kind name) rows
+ended-rows kind name rows kinds =
+    with_statuses-twice (status_drained name) (replaced_status kind name) rows
+    ∙ statuses_agree (λ (r : GenRow). status_drained name (record r { status = replaced_status kind name r })) (ended_status kind name) rows
+        (all_then (λ (r : GenRow). r.kind ≡ kind) (λ (r : GenRow). status_drained name (record r { status = replaced_status kind name r }) ≡ ended_status kind name r) rows over kinds)
+  where
+    by : (st : RowStatus) (k b : Bool) → k ≡ true
+        → cond (is_active (cond ((k && b) && is_warming st) Dropped st) && b) Draining (cond ((k && b) && is_warming st) Dropped st) ≡ cond (k && b) (removed_status st) st
+    by st false b e = absurd (true≢false (sym e))
+    by Warming true true e = refl
+    by Active true true e = refl
+    by Draining true true e = refl
+    by Dropped true true e = refl
+    by Warming true false e = refl
+    by Active true false e = refl
+    by Draining true false e = refl
+    by Dropped true false e = refl
+    over : (r : GenRow) → r.kind ≡ kind → status_drained name (record r { status = replaced_status kind name r }) ≡ ended_status kind name r
+    over r k = by r.status (kind_same r.kind kind) (bytes_eq r.name name) ((λ i. kind_same (k i) kind) ∙ (kind_decides kind kind).1 refl)
