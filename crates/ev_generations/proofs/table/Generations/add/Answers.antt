@@ -26,4 +26,4 @@ returns-clause-table c =
     let made = c.self.inside.made in
     let row = record (new_row c.args.kind made c.args.name c.args.content) { number = c.new.result } in
     (stored-insert m (made + 1) row c.new.ensures.number (drawn_of m.entries made c.self.invariant (made + 1) (omega arith))
-        made (made + 1) c.insert.new.self.entries c.self.invariant (omega arith) (omega arith) c.in-Ok.ensures.entries c.insert.ensures.unique).table
+    made (made + 1) c.insert.new.self.entries c.self.invariant (omega arith) (omega arith) c.in-Ok.ensures.entries c.insert.ensures.unique).table
