@@ -145,3 +145,6 @@ fn put(hosts: &mut IndexMap<Host, bool>, host: Host, healthy: bool) -> Result<()
     };
     Ok(())
 }
+
+#[cfg(test)]
+mod tests;

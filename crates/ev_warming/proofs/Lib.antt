@@ -7,3 +7,4 @@ pub mod WayLemmas
 pub mod AddLemmas
 pub mod WorldLemmas
 pub mod ArrivalLemmas
+pub mod NewLemmas

@@ -10,7 +10,7 @@ ghost use Rattle.ev_warming.specs.Watched.{unwatched, watch_in, watched_less, wa
 ghost use Rattle.ev_warming.specs.Standings.{standing_in};
 ghost use Rattle.ev_warming.specs.Ready.{name_needed, is_ready_in, is_due_at};
 ghost use Rattle.ev_warming.specs.Due.{is_among};
-ghost use Rattle.ev_model.specs.World.{World};
+ghost use Rattle.ev_model.specs.World.{World, opening};
 ghost use Rattle.ev_model.specs.Tidy.{promoted};
 ghost use Rattle.ev_model.specs.Signals.{rows_ended};
 ghost use Rattle.ev_warming.specs.Worlds.{StandsFor, needs_of};
@@ -36,6 +36,22 @@ pub struct State {
 }
 
 impl State {
+    /// No generation of this kind, and nothing known. It takes no memory, and stands for every world in which nothing happened.
+    pub fn new(alloc: Global, kind: Kind) -> State
+        ensures kind { result.kind ≡ kind }
+        ensures indexed { IsIndexed result }
+        ensures stands { (workers : ℕ) (node : List ℕ) → StandsFor result (opening workers node) }
+    {
+        State {
+            kind,
+            table: Generations::new(alloc),
+            names: Names::new(alloc),
+            watches: Watches::new(alloc),
+            results: Endpoints::new(alloc),
+            due: Due::new(alloc),
+        }
+    }
+
     /// Something came for a watched name: it is kept, and the rows that depend on the name are looked at anew, each once.
     /// Without memory nothing is promised of the state.
     pub fn arrive<L: Ledger>(
