@@ -1,2 +1,1 @@
 pub mod FloatLemmas
-pub mod TreeLemmas

@@ -127,7 +127,7 @@ text_members (member name (boolean b) others) = text_members others
 text_members (member name (number n) others) = text_members others
 text_members (member name (string text) others) = (name, text) ∷ text_members others
 text_members (member name (array items) others) = text_members others
-text_members (member name (object members) others) = text_members others
+text_members (member name (object inner) others) = text_members others
 
 -- the versions as their object has them: sorted by name, each name once, with the last version that is given for it
 abbrev pub chosen_versions : List (List ℕ × List ℕ) → List (List ℕ × List ℕ)
@@ -169,7 +169,7 @@ abbrev pub chosen_row : Row → Row
 chosen_row row = record { actor = row.actor; at = row.at; step = row.step; op = row.op; answer = chosen_answer row.answer }
 
 -- the text is that of a row, which is the one that is meant
-pub record IsTextOf (row : Row) (text : List ℕ) : Type 0 where
+pub record IsTextOf (text : List ℕ) (row : Row) : Type 0 where
   pub is_row : IsRow row
   pub chosen : chosen_row row ≡ row
-  pub text : row_text row ≡ text
+  pub same : row_text row ≡ text
