@@ -2,7 +2,7 @@
 use Rattle.std.specs.Prelude.{◌≡◌, ◌<◌, ◌≤◌, ◌^◌, ℕ, List, [], ◌∷◌, map, All, Bool, true, Option, Some, None, ⊤}
 use Rattle.std.specs.List.{list_any}
 use Rattle.std.specs.Str.{IsUtf8}
-use Rattle.serde_json.specs.Data.{Data, null, boolean, number, string, array, object, Members, member, no_members}
+use Rattle.serde_json.specs.Data.{null, boolean, number, string, array, object, Members, member, no_members}
 use Rattle.serde_json.specs.Written.{compact_text}
 use Rattle.ev_types.specs.Texts.{IsName}
 use Rattle.ev_types.specs.Events.{op_same}
@@ -141,7 +141,7 @@ chosen_request request = record {
   unsubscribe = request.unsubscribe;
   versions = chosen_versions request.versions;
   nonce = chosen_nonce request.nonce;
-  error = request.error
+  error = request.error;
 }
 
 abbrev pub chosen_answer : Answer → Answer
