@@ -1,6 +1,5 @@
 pub mod InputLemmas
 pub mod LineLemmas
-pub mod FloatLemmas
 pub mod MemberLemmas
 pub mod ScriptLemmas
 pub mod ReplayLemmas

@@ -1,7 +1,6 @@
 pub mod Input
 pub mod Members
 pub mod Script
-pub mod Rendering
 pub mod Replay
 pub mod Status
 pub mod Exit

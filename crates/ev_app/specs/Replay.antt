@@ -5,7 +5,7 @@ use Rattle.ev_types.specs.Scripts.{ScriptParts}
 use Rattle.ev_types.specs.declared.events.Entry.{Entry}
 use Rattle.ev_model.specs.Operations.{IsReplay}
 use Rattle.ev_registry.specs.Registries.{RegistryParts}
-use Rattle.ev_app.specs.Rendering.{rendering_of}
+use Rattle.ev_journal.specs.Rendering.{rendering_of}
 use Rattle.ev_app.specs.Script.{script_of}
 
 -- the registry has the script's workers and node, and its journal is the script's replay

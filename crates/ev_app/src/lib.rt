@@ -5,9 +5,7 @@ mod input;
 mod lines;
 mod members;
 mod program;
-mod render;
 mod replay;
 mod script;
 
 pub use program::{Status, run_program};
-pub use render::render_journal;

@@ -4,10 +4,10 @@ ghost use Rattle.ev_app.specs.Replay.{IsReplayText};
 ghost use Rattle.ev_app.specs.Status.{outside_of, replay_arguments, IsHonest, CountsOn, Ends};
 
 use crate::input::{InputFault, read_input};
-use crate::render::render_journal;
 use crate::replay::replay;
 use crate::script::read_script;
 use ev_io::{Sink, Source, write_all};
+use ev_journal::render_journal;
 use ev_types::{Format, Text};
 use std::alloc::{AllocError, Global};
 

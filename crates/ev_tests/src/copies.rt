@@ -1,4 +1,4 @@
-use ev_app::render_journal;
+use ev_journal::render_journal;
 use ev_types::{
     Actor, Answer, Ask, Entry, Event, FetchTimeout, Format, Gen, Host, Kind, Name, Op, Row, Seq,
     Text, TryCopy,

@@ -1,7 +1,7 @@
 use Rattle.std.proofs.Common.{◌≡◌, map, take}
 use Rattle.serde_json.specs.View.{view}
-use Rattle.ev_app.specs.Rendering.{number_tree}
-use Rattle.ev_app.proofs.render.generation_values.Given as goal
+use Rattle.ev_journal.specs.Rendering.{number_tree}
+use Rattle.ev_journal.proofs.answers.number_values.Given as goal
 
 abbrev pub invariant-loop-number : goal.invariant-loop-number
 invariant-loop-number l = map view l.values.items ≡ map number_tree (take l.number-index l.numbers)

@@ -5,9 +5,10 @@ use Rattle.serde_json.specs.Written.{has_float}
 use Rattle.ev_types.specs.declared.events.Answer.{Answer}
 use Rattle.ev_types.specs.declared.events.Answer.TheVariants.{Ignored, Done, Moved, Replied, Version, Unchanged, Reaped, InUse, NoListener, NoRoute, Redirect, NoCluster, NoEndpoint, Local, Served, NotOpen, Settled}
 use Rattle.ev_types.specs.declared.events.Entry.{Entry}
+use Rattle.ev_types.specs.declared.journals.Row.{Row}
 use Rattle.ev_wire.specs.Requests.{request_tree}
 use Rattle.ev_wire.proofs.RequestLemmas.{items_have_float-map, request_tree-whole}
-use Rattle.ev_app.specs.Rendering.{number_tree, verdict_tree, answer_tree, entry_tree}
+use Rattle.ev_journal.specs.Rendering.{number_tree, verdict_tree, answer_tree, row_tree, entry_row, entry_tree}
 
 neither : (a b : Bool) → a ≡ false → b ≡ false → (a || b) ≡ false
 neither a b h k = ap (λ c. c || b) h ∙ k
@@ -32,9 +33,9 @@ answer_tree-whole (Served listener cluster host) = refl
 answer_tree-whole NotOpen = refl
 answer_tree-whole (Settled closed version) = neither _ _ (items_have_float-map number_tree (λ _. refl) closed) refl
 
-pub entry_tree-whole : (entry : Entry) → has_float (entry_tree entry) ≡ false
-entry_tree-whole entry = neither _ _ (answer_tree-whole entry.answer) refl
+pub row_tree-whole : (row : Row) → has_float (row_tree row) ≡ false
+row_tree-whole row = neither _ _ (answer_tree-whole row.answer) refl
 
 -- the same of what is equal to an entry's tree
 pub entry_whole : (entry : Entry) (d : Data) → d ≡ entry_tree entry → has_float d ≡ false
-entry_whole entry d e = ap has_float e ∙ entry_tree-whole entry
+entry_whole entry d e = ap has_float e ∙ row_tree-whole (entry_row entry)

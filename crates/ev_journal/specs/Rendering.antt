@@ -15,6 +15,7 @@ use Rattle.ev_types.specs.declared.hosts.Host.{Host}
 use Rattle.ev_types.specs.declared.events.Verdict.{Verdict}
 use Rattle.ev_types.specs.declared.events.Verdict.TheVariants.{New, Same, Kept, Unasked, Renewed, Refused}
 use Rattle.ev_types.specs.declared.events.Entry.{Entry}
+use Rattle.ev_types.specs.declared.journals.Row.{Row}
 use Rattle.ev_types.specs.declared.journals.Format.{Format}
 use Rattle.ev_types.specs.declared.journals.Format.TheVariants.{One, Two}
 use Rattle.ev_types.specs.declared.contents.Request.{Request}
@@ -111,14 +112,26 @@ answer_tree NotOpen = string (codes "notOpen")
 answer_tree (Settled closed version) =
     object (member (codes "closed") (numbers_tree closed) (member (codes "version") (number_tree version) no_members))
 
--- an entry
+-- the object of a row, whose answer is this tree
+abbrev pub row_object : Actor → ℕ → ℕ → Op → Data → Data
+row_object actor at step op answer = object
+    (member (codes "actor") (string (actor_text actor))
+    (member (codes "answer") answer
+    (member (codes "at") (number_tree at)
+    (member (codes "op") (string (op_text op))
+    (member (codes "step") (number_tree step) no_members)))))
+
+-- a row
+abbrev pub row_tree : Row → Data
+row_tree row = row_object row.actor row.at row.step row.op (answer_tree row.answer)
+
+-- the row of an entry: it has the event's word, and not the event
+abbrev pub entry_row : Entry → Row
+entry_row entry = record { actor = entry.actor; at = entry.at; step = entry.step; op = op_of entry.event; answer = entry.answer }
+
+-- an entry is written as its row
 abbrev pub entry_tree : Entry → Data
-entry_tree entry = object
-    (member (codes "actor") (string (actor_text entry.actor))
-    (member (codes "answer") (answer_tree entry.answer)
-    (member (codes "at") (number_tree entry.at)
-    (member (codes "op") (string (op_text (op_of entry.event)))
-    (member (codes "step") (number_tree entry.step) no_members)))))
+entry_tree entry = row_tree (entry_row entry)
 
 -- the number of a format
 abbrev pub format_number : Format → ℕ
@@ -126,8 +139,8 @@ format_number One = 1
 format_number Two = 2
 
 -- the first line of a journal
-abbrev pub header_tree : Format → ℕ → Data
-header_tree format workers =
+abbrev pub first_tree : Format → ℕ → Data
+first_tree format workers =
     object (member (codes "format") (number_tree (format_number format)) (member (codes "workers") (number_tree workers) no_members))
 
 -- the last line of a journal, with the number of its entries
@@ -141,4 +154,4 @@ line_text tree = compact_text tree ++ 10 ∷ []
 -- the whole text of a journal
 abbrev pub rendering_of : Format → ℕ → List Entry → List ℕ
 rendering_of format workers journal =
-    line_text (header_tree format workers) ++ flat_map (λ entry. line_text (entry_tree entry)) journal ++ line_text (end_tree (length journal))
+    line_text (first_tree format workers) ++ flat_map (λ entry. line_text (entry_tree entry)) journal ++ line_text (end_tree (length journal))

@@ -1,0 +1,8 @@
+use Rattle.std.proofs.Common.{◌≡◌, ◌++◌, take}
+use Rattle.std.specs.List.{flat_map}
+use Rattle.ev_journal.specs.Rendering.{line_text, first_tree, entry_tree}
+use Rattle.ev_journal.proofs.writing.render_journal.Given as goal
+
+abbrev pub invariant-loop-entry : goal.invariant-loop-entry
+invariant-loop-entry l =
+    l.text.items ≡ line_text (first_tree l.fn.format l.workers) ++ flat_map (λ entry. line_text (entry_tree entry)) (take l.entry-index l.journal)

@@ -1,0 +1,100 @@
+ghost use Rattle.std.specs.Prelude.{◌≡◌, false, IfOk};
+ghost use Rattle.serde_json.specs.View.{view};
+ghost use Rattle.serde_json.specs.Written.{has_float};
+ghost use Rattle.ev_journal.specs.Rendering.{rendering_of, line_text, row_object, entry_tree, first_tree, end_tree};
+
+use crate::answers::answer_value;
+use crate::words::{actor_word, format_number, op_word};
+use ev_types::{Actor, Answer, Entry, Format, Op};
+use serde_json::{Value, json};
+use std::alloc::{AllocError, Global};
+
+/// Writes the text of a journal of a format, for so many workers: the first line, a line an entry, and the end line
+/// with their number, each closed by a line feed.
+pub fn render_journal(
+    alloc: Global,
+    format: Format,
+    workers: u32,
+    journal: &[Entry],
+) -> Result<Vec<u8>, AllocError>
+    ensures text { IfOk result (λ text. text.items ≡ rendering_of format workers journal.now) }
+{
+    let mut text = write_first_line(alloc, format, workers)?;
+    for entry in journal {
+        text.extend_from_slice(write_line(alloc, entry)?.as_slice())?;
+    }
+    text.extend_from_slice(write_end_line(alloc, journal.len())?.as_slice())?;
+    Ok(text)
+}
+
+/// Writes the first line of a journal: its format and the number of its workers, with the line feed that closes it.
+pub fn write_first_line(alloc: Global, format: Format, workers: u32) -> Result<Vec<u8>, AllocError>
+    ensures line { IfOk result (λ line. line.items ≡ line_text (first_tree format workers)) }
+{
+    line_of(alloc, &first_value(alloc, format, workers)?)
+}
+
+/// Writes the line of an entry, with the line feed that closes it: who did what, at which line and step of the
+/// script, and the answer, by the table of answers in docs/FORMATS.md.
+#[tactic(auto, using(crate::proofs::FloatLemmas::entry_whole))]
+pub fn write_line(alloc: Global, entry: &Entry) -> Result<Vec<u8>, AllocError>
+    ensures line { IfOk result (λ line. line.items ≡ line_text (entry_tree entry.now)) }
+{
+    let answer = answer_value(alloc, &entry.answer)?;
+    let value = row_value(
+        alloc,
+        entry.actor,
+        entry.at,
+        entry.step,
+        entry.event.op(),
+        answer,
+    )?;
+    line_of(alloc, &value)
+}
+
+/// Writes the last line of a journal of so many entries, with the line feed that closes it.
+pub fn write_end_line(alloc: Global, entries: usize) -> Result<Vec<u8>, AllocError>
+    ensures line { IfOk result (λ line. line.items ≡ line_text (end_tree entries)) }
+{
+    line_of(alloc, &end_value(alloc, entries)?)
+}
+
+// The line of a tree.
+#[tactic(auto, unfolding(crate::specs::Rendering::line_text))]
+fn line_of(alloc: Global, value: &Value) -> Result<Vec<u8>, AllocError>
+    requires { has_float (view value.now) ≡ false }
+    ensures { IfOk result (λ line. line.items ≡ line_text (view value.now)) }
+{
+    let mut line = value.to_vec(alloc)?;
+    line.push(b'\n')?;
+    Ok(line)
+}
+
+// The first line's tree.
+fn first_value(alloc: Global, format: Format, workers: u32) -> Result<Value, AllocError>
+    ensures { IfOk result (λ v. view v ≡ first_tree format workers) }
+{
+    json!(in alloc; {"format": format_number(format), "workers": workers})
+}
+
+// The last line's tree.
+fn end_value(alloc: Global, entries: usize) -> Result<Value, AllocError>
+    ensures { IfOk result (λ v. view v ≡ end_tree entries) }
+{
+    json!(in alloc; {"end": entries})
+}
+
+// The tree of a row with these parts.
+fn row_value(
+    alloc: Global,
+    actor: Actor,
+    at: u32,
+    step: u32,
+    op: Op,
+    answer: Value,
+) -> Result<Value, AllocError>
+    ensures { IfOk result (λ v. view v ≡ row_object actor at step op (view answer)) }
+{
+    let actor = actor_word(alloc, actor)?;
+    json!(in alloc; {"actor": actor, "answer": answer, "at": at, "op": op_word(op), "step": step})
+}
