@@ -1,0 +1,9 @@
+pub mod Members
+pub mod Header
+pub mod LineForms
+pub mod StreamLines
+pub mod HealthLines
+pub mod TimerLines
+pub mod MainLines
+pub mod WorkerLines
+pub mod Lines
