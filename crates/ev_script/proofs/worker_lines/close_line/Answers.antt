@@ -1,5 +1,5 @@
 -- A line is that of its worker and of its connection's number.
-use Rattle.std.proofs.Common.{◌≡◌, ap, ◌∙◌, option_map, Option}
+use Rattle.std.proofs.Common.{[], ◌∷◌, codes, ap, ◌∙◌, option_map, Option}
 use Rattle.serde_json.specs.View.{view}
 use Rattle.ev_types.specs.declared.events.Event.{Event}
 use Rattle.ev_types.specs.declared.events.Event.TheVariants.{Close}
@@ -13,4 +13,4 @@ returns c =
     c.worker_line.ensures
     ∙ ap (λ (event : Option Event). worker_line c.args.at event tree)
       (c.close_event.ensures ∙ ap (option_map (λ conn. Close conn)) c.conn_in.ensures)
-    ∙ passed _ tree _ c.has_only.result c.has_only.ensures c.if-not-has_only.false
+    ∙ passed (codes "worker" ∷ codes "conn" ∷ []) tree _ c.has_only.result c.has_only.ensures c.if-not-has_only.false
