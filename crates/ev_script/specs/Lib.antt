@@ -7,3 +7,6 @@ pub mod TimerLines
 pub mod MainLines
 pub mod WorkerLines
 pub mod Lines
+pub mod Faults
+pub mod Script
+pub mod Content

@@ -1,6 +1,8 @@
-//! Scripts: the forms of their lines, read out of the trees of their JSON.
+//! Scripts: the forms of their lines, read out of the trees of their JSON, and what each line of an input is.
 #![tactic(auto)]
 
+mod content;
+mod fault_kinds;
 mod header;
 mod health_lines;
 mod limits;
@@ -12,6 +14,8 @@ mod stream_lines;
 mod timer_lines;
 mod worker_lines;
 
+pub use content::{Content, First, read_content, read_first};
+pub use fault_kinds::FaultKind;
 pub use header::{Header, read_header};
 pub use limits::{MAX_NUMBER, MAX_PATH_LENGTH, MAX_WORKER};
 pub use lines::read_line;
