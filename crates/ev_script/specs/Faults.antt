@@ -96,10 +96,11 @@ worker_of Timer = None
 worker_of Main = None
 worker_of (Worker worker) = Some worker
 
--- What a tree is among the lines after the header: none where it isn't a line, else the worker that it names, where it
--- names one. These are the lines of a script; a command that reads more forms of lines has another such function.
-abbrev pub plain_lines : Data → Option (Option ℕ)
-plain_lines tree = option_map (λ (line : Line). worker_of line.actor) (line_of 0 tree)
+-- What a tree is among the lines after the header, by its line's number: none where it isn't a line, else the worker that
+-- it names, where it names one. These are the lines of a script; a command that reads more forms of lines has another
+-- such function.
+abbrev pub plain_lines : ℕ → Data → Option (Option ℕ)
+plain_lines at tree = option_map (λ (line : Line). worker_of line.actor) (line_of at tree)
 
 -- the worker isn't below the header's count
 pub record IsUnknownWorker (input : Input) (named : Option (Option ℕ)) : Type 0 where
@@ -112,20 +113,20 @@ pub record IsUnknownWorker (input : Input) (named : Option (Option ℕ)) : Type 
 -- ---- faults
 
 -- a fault of this kind stands at the place
-abbrev pub Stands : (Data → Option (Option ℕ)) → Input → ℕ → FaultKind → Type 0
+abbrev pub Stands : (ℕ → Data → Option (Option ℕ)) → Input → ℕ → FaultKind → Type 0
 Stands forms input place TooLong = (place < length input.bytes) × IsTooLong input.bytes place
 Stands forms input place TooMany = (place < length input.bytes) × IsTooMany input.bytes place
 Stands forms input place TooLarge = (place < length input.bytes) × IsTooLarge place
 Stands forms input place NotJson = EndsScriptLine input place × (tree_at input place ≡ None)
 Stands forms input place NotHeader = EndsScriptLine input place × (index_at input place ≡ 0) × (option_and_then header_of (tree_at input place) ≡ None)
-Stands forms input place NotLine = EndsScriptLine input place × (0 < index_at input place) × (option_and_then forms (tree_at input place) ≡ None)
-Stands forms input place NoSuchWorker = EndsScriptLine input place × (0 < index_at input place) × IsUnknownWorker input (option_and_then forms (tree_at input place))
+Stands forms input place NotLine = EndsScriptLine input place × (0 < index_at input place) × (option_and_then (forms (index_at input place + 1)) (tree_at input place) ≡ None)
+Stands forms input place NoSuchWorker = EndsScriptLine input place × (0 < index_at input place) × IsUnknownWorker input (option_and_then (forms (index_at input place + 1)) (tree_at input place))
 Stands forms input place NoByte = IsTrue input.ended × (input.bytes ≡ []) × (place ≡ 0)
 Stands forms input place NotJournal =
     IsTrue input.audit × IsTrue input.ended × (place ≡ length input.bytes) × ((start : ℕ) → ¬ (BeginsJournal input start))
 
 -- the first fault: no other stands at an earlier place, or at its place with a kind that is looked at before
-pub record IsFirstFault (forms : Data → Option (Option ℕ)) (input : Input) (place : ℕ) (kind : FaultKind) : Type 0 where
+pub record IsFirstFault (forms : ℕ → Data → Option (Option ℕ)) (input : Input) (place : ℕ) (kind : FaultKind) : Type 0 where
   pub stands : Stands forms input place kind
   pub first : (other : ℕ) (kind_there : FaultKind) → Stands forms input other kind_there → (place < other) ⊎ ((place ≡ other) × (fault_order kind ≤ fault_order kind_there))
 
@@ -142,7 +143,7 @@ fault_line input place NoByte = 1
 fault_line input place NotJournal = length (lines_of input.bytes) + 1
 
 -- the input's first fault has this line and this number
-pub record IsFaultOf (forms : Data → Option (Option ℕ)) (input : Input) (line number : ℕ) : Type 0 where
+pub record IsFaultOf (forms : ℕ → Data → Option (Option ℕ)) (input : Input) (line number : ℕ) : Type 0 where
   pub place : ℕ
   pub kind : FaultKind
   pub first : IsFirstFault forms input place kind
@@ -150,5 +151,5 @@ pub record IsFaultOf (forms : Data → Option (Option ℕ)) (input : Input) (lin
   pub numbered : number ≡ fault_number kind
 
 -- no fault stands anywhere
-abbrev pub HasNoFault : (Data → Option (Option ℕ)) → Input → Type 0
+abbrev pub HasNoFault : (ℕ → Data → Option (Option ℕ)) → Input → Type 0
 HasNoFault forms input = (place : ℕ) (kind : FaultKind) → ¬ (Stands forms input place kind)

@@ -11,6 +11,8 @@ mod lines;
 mod main_lines;
 mod members;
 mod stream_lines;
+#[cfg(test)]
+mod tests;
 mod timer_lines;
 mod worker_lines;
 
