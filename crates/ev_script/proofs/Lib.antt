@@ -1,2 +1,6 @@
 pub mod MemberLemmas
 pub mod FormLemmas
+pub mod ContentLemmas
+pub mod PlaceLemmas
+pub mod SoundLemmas
+pub mod FirstLemmas

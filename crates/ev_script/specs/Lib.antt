@@ -10,3 +10,4 @@ pub mod Lines
 pub mod Faults
 pub mod Script
 pub mod Content
+pub mod ReadLines
