@@ -4,3 +4,4 @@ pub mod ContentLemmas
 pub mod PlaceLemmas
 pub mod SoundLemmas
 pub mod FirstLemmas
+pub mod ContentFaults

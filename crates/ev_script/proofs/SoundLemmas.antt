@@ -37,6 +37,12 @@ both_true true true h k e = cc
 both_true true false h k e = let f : false ≡ true = k in cc
 both_true false b h k e = let f : false ≡ true = h in cc
 
+-- no journal begins where a line ends that has no member `format`, or in an input that is no audit's
+pub no_journal : (input : Input) (place : ℕ) (tree : Data) → tree_at input place ≡ Some tree → (input.audit && has_format tree) ≡ false → ¬ (BeginsJournal input place)
+no_journal input place tree e f = λ b.
+    let same : b.format.0 ≡ tree = some_same b.format.0 tree (tree_at input place) b.format.1 e in
+    both_true input.audit (has_format tree) b.audit (subst (λ (d : Data). IsTrue (has_format d)) same b.format.2) f
+
 -- the header that the first line is
 pub head_is : (audit : Bool) (texts : List (List ℕ)) (header : Header) (n : ℕ) → AreRead audit texts header n → 0 < n → header_in texts ≡ Some header
 head_is audit texts header n read h = first_is (tree_of (get_or texts 0 [])) header (read.head h)
@@ -73,9 +79,7 @@ sound_other input place n i header read some within e =
       header = λ s. let k : index_at input place ≡ 0 = s.1 in omega arith;
       line = λ s. none_some (worker_of line.actor) (option_and_then (plain_lines (index_at input place + 1)) (tree_at input place)) s.2 named;
       worker = λ s. worker s.2;
-      journal = λ b.
-        let same : b.format.0 ≡ r.tree = some_same b.format.0 r.tree (tree_at input place) b.format.1 tree in
-        both_true input.audit (has_format r.tree) b.audit (subst (λ (d : Data). IsTrue (has_format d)) same b.format.2) r.plain;
+      journal = no_journal input place r.tree tree r.plain;
     }
 
 -- any line that was read
