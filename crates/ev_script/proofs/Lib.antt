@@ -5,3 +5,4 @@ pub mod PlaceLemmas
 pub mod SoundLemmas
 pub mod FirstLemmas
 pub mod ContentFaults
+pub mod LimitLemmas
