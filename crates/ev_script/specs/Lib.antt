@@ -1,0 +1,13 @@
+pub mod Members
+pub mod Header
+pub mod LineForms
+pub mod StreamLines
+pub mod HealthLines
+pub mod TimerLines
+pub mod MainLines
+pub mod WorkerLines
+pub mod Lines
+pub mod Faults
+pub mod Script
+pub mod Content
+pub mod ReadLines

@@ -1,0 +1,24 @@
+//! Scripts: the forms of their lines, read out of the trees of their JSON, and what each line of an input is.
+#![tactic(auto)]
+
+mod content;
+mod fault_kinds;
+mod header;
+mod health_lines;
+mod limits;
+mod line_forms;
+mod lines;
+mod main_lines;
+mod members;
+mod stream_lines;
+#[cfg(test)]
+mod tests;
+mod timer_lines;
+mod worker_lines;
+
+pub use content::{Content, First, read_content, read_first};
+pub use fault_kinds::FaultKind;
+pub use header::{Header, read_header};
+pub use limits::{MAX_NUMBER, MAX_PATH_LENGTH, MAX_WORKER};
+pub use lines::read_line;
+pub use members::read_tree;

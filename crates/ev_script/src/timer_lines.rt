@@ -1,0 +1,105 @@
+ghost use Rattle.std.specs.Prelude.{◌≡◌, ℕ, List, None, Some, option_map, IfOk};
+ghost use Rattle.serde_json.specs.View.{view};
+ghost use Rattle.ev_types.specs.Timeouts.{IsTimeout};
+ghost use Rattle.ev_types.specs.declared.events.Event.TheVariants.{DrainTimeout};
+ghost use Rattle.ev_script.specs.TimerLines.{whole_timeout, named_timeout, timeout_of, timeout_line, drain_line, expired_in, expired_line};
+
+use crate::line_forms::{kind_in, line_at};
+use crate::members::{has_only, name_at};
+use ev_types::{Actor, Event, FetchTimeout, Kind, Line, Name};
+use serde_json::Value;
+use std::alloc::{AllocError, Global};
+
+// A `fetchTimeout`: an initial fetch timeout came.
+pub(crate) fn timeout_line(alloc: Global, at: u32, tree: &Value) -> Result<Option<Line>, AllocError>
+    ensures { IfOk result (λ line. line ≡ timeout_line at (view tree.now)) }
+{
+    let Some(kind) = kind_in(tree) else {
+        return Ok(None);
+    };
+    Ok(line_at(at, Actor::Timer, timeout_of(alloc, kind, tree)?))
+}
+
+// The fetch timeout of a type.
+fn timeout_of(alloc: Global, kind: Kind, tree: &Value) -> Result<Option<Event>, AllocError>
+    ensures { IfOk result (λ event. event ≡ timeout_of kind (view tree.now)) }
+{
+    match kind {
+        Kind::Cds => Ok(whole_timeout(Kind::Cds, tree)),
+        Kind::Eds => named_timeout(alloc, Kind::Eds, tree),
+        Kind::Lds => Ok(whole_timeout(Kind::Lds, tree)),
+        Kind::Rds => named_timeout(alloc, Kind::Rds, tree),
+    }
+}
+
+// The fetch timeout of all clusters or all listeners.
+fn whole_timeout(kind: Kind, tree: &Value) -> Option<Event>
+    requires { IsTimeout kind None }
+    ensures { result ≡ whole_timeout kind (view tree.now) }
+{
+    if !has_only(tree, &["op", "type"]) {
+        return None;
+    }
+    Some(Event::FetchTimeout(FetchTimeout { kind, name: None }))
+}
+
+// The fetch timeout of one name's endpoints or routes.
+fn named_timeout(alloc: Global, kind: Kind, tree: &Value) -> Result<Option<Event>, AllocError>
+    requires { (name : List ℕ) → IsTimeout kind (Some name) }
+    ensures { IfOk result (λ event. event ≡ named_timeout kind (view tree.now)) }
+{
+    if !has_only(tree, &["op", "type", "name"]) {
+        return Ok(None);
+    }
+    match name_at(alloc, tree, "name")? {
+        Some(name) => Ok(Some(Event::FetchTimeout(FetchTimeout {
+            kind,
+            name: Some(name),
+        }))),
+        None => Ok(None),
+    }
+}
+
+// A `drainTimeout`: the drain timeout of a listener's old generations came.
+pub(crate) fn drain_line(alloc: Global, at: u32, tree: &Value) -> Result<Option<Line>, AllocError>
+    ensures { IfOk result (λ line. line ≡ drain_line at (view tree.now)) }
+{
+    if !has_only(tree, &["op", "listener"]) {
+        return Ok(None);
+    }
+    let event = drain_event(name_at(alloc, tree, "listener")?);
+    Ok(line_at(at, Actor::Timer, event))
+}
+
+// The event of a listener's name, where there is one.
+fn drain_event(name: Option<Name>) -> Option<Event>
+    ensures { result ≡ option_map (λ name. DrainTimeout name) name }
+{
+    match name {
+        Some(name) => Some(Event::DrainTimeout(name)),
+        None => None,
+    }
+}
+
+// A `ttlExpired`: the time to live of a resource came to its end.
+pub(crate) fn expired_line(alloc: Global, at: u32, tree: &Value) -> Result<Option<Line>, AllocError>
+    ensures { IfOk result (λ line. line ≡ expired_line at (view tree.now)) }
+{
+    if !has_only(tree, &["op", "type", "name"]) {
+        return Ok(None);
+    }
+    Ok(line_at(at, Actor::Timer, expired_in(alloc, tree)?))
+}
+
+// A type and a name.
+fn expired_in(alloc: Global, tree: &Value) -> Result<Option<Event>, AllocError>
+    ensures { IfOk result (λ event. event ≡ expired_in (view tree.now)) }
+{
+    let Some(kind) = kind_in(tree) else {
+        return Ok(None);
+    };
+    let Some(name) = name_at(alloc, tree, "name")? else {
+        return Ok(None);
+    };
+    Ok(Some(Event::TtlExpired { kind, name }))
+}
