@@ -1,0 +1,3 @@
+pub mod Fronts
+pub mod Priorities
+pub mod Places

@@ -1,0 +1,7 @@
+//! What a worker serves from: a picture with the tables by which a connection's way through it is found.
+#![tactic(auto)]
+
+mod hosts;
+mod routes;
+mod targets;
+mod texts;
