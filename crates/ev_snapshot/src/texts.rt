@@ -10,6 +10,17 @@ pub(crate) fn begins_with(text: &[u8], front: &[u8]) -> bool
     head == front
 }
 
+/// Whether the text ends with the back.
+pub(crate) fn ends_with(text: &[u8], back: &[u8]) -> bool
+    ensures { result ≡ ends_with text.now back.now }
+{
+    if back.len() > text.len() {
+        return false;
+    }
+    let (_, tail) = text.split_at(text.len() - back.len());
+    tail == back
+}
+
 /// Whether the text, with its ASCII letters as lower case, is this one.
 pub(crate) fn is_lower(text: &[u8], lower: &[u8]) -> bool
     ensures { result ≡ bytes_eq (str_to_ascii_lowercase text.now) lower.now }
