@@ -1,3 +1,4 @@
 pub mod Fronts
-pub mod Priorities
 pub mod Places
+pub mod Priorities
+pub mod Indexes

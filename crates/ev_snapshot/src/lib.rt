@@ -1,10 +1,17 @@
 //! What a worker serves from: a picture with the tables by which a connection's way through it is found.
 #![tactic(auto)]
 
+mod addresses;
 mod clusters;
 mod domains;
 mod hosts;
+mod listeners;
 mod names;
+mod parts;
+mod routed;
 mod routes;
+mod snapshot;
 mod targets;
 mod texts;
+
+pub use snapshot::Snapshot;
