@@ -1,9 +1,9 @@
 -- Tables keep what a search of the list finds, with one more element at its end.
-use Rattle.std.proofs.Common.{◌≡◌, ℕ, ◌++◌, ◌==◌, Bool, List, [], ◌∷◌, Option, find, ap, sym, ◌∙◌}
+use Rattle.std.proofs.Common.{◌≡◌, ℕ, ◌++◌, ◌==◌, Bool, List, [], ◌∷◌, Option, Some, None, true, false, cond, refl, find, ap, sym, ◌∙◌}
 use Rattle.std.specs.Option.{option_or}
 use Rattle.std.specs.Str.{bytes_eq}
 use Rattle.std.proofs.lemmas.List.Folds.{find-append}
-use Rattle.ev_types.specs.SameHosts.{host_same}
+use Rattle.ev_types.specs.SameHosts.{host_same, host_decides}
 use Rattle.ev_types.specs.declared.hosts.Host.{Host}
 use Rattle.ev_model.specs.declared.pictures.ServedCluster.{ServedCluster}
 use Rattle.ev_model.specs.declared.pictures.ServedListener.{ServedListener}
@@ -35,3 +35,14 @@ listeners_more old new l addresses after numbers next all was by_address by_numb
   address = λ address. found_more (λ (x : ServedListener). host_same x.address address) old new l (addresses address) (after address) all (was.address address) (by_address address);
   number = λ number. found_more (λ (x : ServedListener). x.number == number) old new l (numbers number) (next number) all (was.number number) (by_number number);
 }
+
+put_by : {X : Type 0} (same : Bool) (o : Option X) (x : X) → (same ≡ true → o ≡ None) → cond same (Some x) o ≡ option_or o (cond same (Some x) None)
+put_by true o x none = ap (λ p. option_or p (Some x)) (sym (none refl))
+put_by false None x none = refl
+put_by false (Some y) x none = refl
+
+-- what is put at an address that had nothing stands after what the other addresses have
+pub put_first : {X : Type 0} (f : Host → Option X) (key address : Host) (x : X) → f key ≡ None
+    → cond (host_same key address) (Some x) (f address) ≡ option_or (f address) (cond (host_same key address) (Some x) None)
+put_first f key address x none =
+    put_by (host_same key address) (f address) x (λ same. ap f (sym ((host_decides key address).0 same)) ∙ none)
