@@ -2,3 +2,4 @@ pub mod Fronts
 pub mod Places
 pub mod Priorities
 pub mod Indexes
+pub mod Patterns

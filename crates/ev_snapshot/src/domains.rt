@@ -1,18 +1,20 @@
-ghost use Rattle.std.specs.Prelude.{◌≡◌, ◌<◌, ◌&&◌, find, length, option_map, if◌then◌else◌};
+ghost use Rattle.std.specs.Prelude.{◌≡◌, ◌<◌, find, length, IfOk, if◌then◌else◌};
 ghost use Rattle.std.specs.Option.{option_copied};
 ghost use Rattle.std.specs.Str.{str_to_ascii_lowercase};
-ghost use Rattle.ev_model.specs.Choice.{HostDomain, by_prefix, by_suffix, domain_for, has_prefix, has_suffix, is_any, is_domain, is_prefix_form, is_suffix_form, longer_of};
-ghost use Rattle.ev_snapshot.specs.Domains.{host_at};
+ghost use Rattle.ev_model.specs.Choice.{HostDomain, by_prefix, by_suffix, has_prefix, has_suffix, is_any, is_prefix_form, is_suffix_form, longer_of};
+ghost use Rattle.ev_snapshot.specs.Domains.{host_at, is_pattern, pattern_for};
 
-use crate::texts::{begins_lower, begins_with, ends_lower, ends_with, is_lower};
+use crate::host_texts::DomainText;
+use crate::texts::{begins_lower, begins_with, ends_lower, ends_with};
 use ev_types::{RouteTable, Shared, Text, VirtualHost};
+use std::alloc::AllocError;
 use std::marker::Model;
 
 /// A domain of a route configuration, with the virtual host that it stands in.
 #[derive(Drop)]
 pub(crate) struct Domain {
     /// Its ASCII letters are lower case.
-    text: Text,
+    text: Shared<Text>,
     table: Shared<RouteTable>,
     /// The place of its virtual host in the table.
     place: usize,
@@ -28,18 +30,36 @@ impl Model for Domain {
 
 impl Domain {
     /// The domain with the virtual host at this place of the table.
-    pub(crate) fn new(text: Text, table: Shared<RouteTable>, place: usize) -> Domain
+    pub(crate) fn new(text: Shared<Text>, table: Shared<RouteTable>, place: usize) -> Domain
         requires { place < length table.hosts }
         ensures { result ≡ record { domain = text; host = host_at table.hosts place } }
     {
         Domain { text, table, place }
     }
 
+    /// The same domain again, of which nothing is copied.
+    pub(crate) fn share(&self) -> Result<Domain, AllocError>
+        ensures { IfOk result (λ domain. domain ≡ self.now) }
+    {
+        Ok(Domain {
+            text: self.text.share()?,
+            table: self.table.share()?,
+            place: self.place,
+        })
+    }
+
+    /// The key of its text.
+    pub(crate) fn key(&self) -> Result<DomainText, AllocError>
+        ensures { IfOk result (λ key. key ≡ self.now.domain) }
+    {
+        Ok(DomainText::new(self.text.share()?))
+    }
+
     /// The domain as text.
     pub(crate) fn text(&self) -> &[u8]
         ensures { result.now ≡ self.now.domain }
     {
-        self.text.as_str().as_bytes()
+        self.text.get().as_str().as_bytes()
     }
 
     /// The virtual host that it stands in.
@@ -50,13 +70,10 @@ impl Domain {
     }
 }
 
-/// The domain that a host goes by: itself, else by the longest suffix, else by the longest prefix, else `*`.
-pub(crate) fn domain_for<'a>(domains: &'a [Domain], host: &[u8]) -> Option<&'a Domain>
-    ensures { option_copied result ≡ domain_for domains.now (str_to_ascii_lowercase host.now) }
+/// The domain that a host goes by which is none of these: by the longest suffix, else by the longest prefix, else `*`.
+pub(crate) fn pattern_for<'a>(domains: &'a [Domain], host: &[u8]) -> Option<&'a Domain>
+    ensures { option_copied result ≡ pattern_for domains.now (str_to_ascii_lowercase host.now) }
 {
-    if let Some(domain) = equal_domain(domains, host) {
-        return Some(domain);
-    }
     if let Some(domain) = longest_suffix(domains, host) {
         return Some(domain);
     }
@@ -73,18 +90,11 @@ fn any_domain(domains: &[Domain]) -> Option<&Domain>
     domains.iter().find(|domain| is_any(domain))
 }
 
-// The first domain that the host is.
-fn equal_domain<'a>(domains: &'a [Domain], host: &[u8]) -> Option<&'a Domain>
-    ensures { option_copied result ≡ find (is_domain (str_to_ascii_lowercase host.now)) domains.now }
+/// Whether the domain is more than a text: a suffix or prefix form, or `*`.
+pub(crate) fn is_pattern(domain: &Domain) -> bool
+    ensures { result ≡ is_pattern domain.now }
 {
-    domains.iter().find(|domain| is_domain(host, domain))
-}
-
-// Whether the host is the domain.
-fn is_domain(host: &[u8], domain: &Domain) -> bool
-    ensures { result ≡ is_domain (str_to_ascii_lowercase host.now) domain.now }
-{
-    is_lower(host, domain.text())
+    is_suffix_form(domain.text()) || is_prefix_form(domain.text()) || is_any(domain)
 }
 
 // Whether the domain is `*`.

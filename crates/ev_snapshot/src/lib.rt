@@ -3,7 +3,9 @@
 
 mod addresses;
 mod clusters;
+mod domain_table;
 mod domains;
+mod host_texts;
 mod hosts;
 mod listeners;
 mod names;

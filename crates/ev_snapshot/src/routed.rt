@@ -1,12 +1,13 @@
-ghost use Rattle.std.specs.Prelude.{◌≡◌, ◌<◌, [], ◌∷◌, ◌++◌, IfOk, OnOk, length, option_map};
+ghost use Rattle.std.specs.Prelude.{◌≡◌, ◌<◌, [], ◌∷◌, ◌++◌, IfOk, length, option_map};
 ghost use Rattle.std.specs.Option.{option_copied};
 ghost use Rattle.std.specs.Str.{str_to_ascii_lowercase};
 ghost use Rattle.ev_model.specs.Choice.{HostDomain, domain_for, domains_of};
 ghost use Rattle.ev_snapshot.specs.Domains.{domains_in, host_at};
 
-use crate::domains::{Domain, domain_for};
+use crate::domain_table::Domains;
+use crate::domains::Domain;
 use ev_model::{Routing, ServedListener};
-use ev_types::{RouteTable, Seq, Shared, Text, TryCopy, VirtualHost};
+use ev_types::{RouteTable, Shared, Text, TryCopy, VirtualHost};
 use std::alloc::{AllocError, Global};
 use std::marker::Model;
 
@@ -14,7 +15,7 @@ use std::marker::Model;
 #[derive(Drop)]
 pub(crate) struct RoutedListener {
     served: ServedListener,
-    domains: Seq<Domain>,
+    domains: Domains,
 }
 
 impl Model for RoutedListener {
@@ -53,7 +54,7 @@ impl RoutedListener {
     pub(crate) fn virtual_host(&self, host: &str) -> Option<&VirtualHost>
         ensures { option_copied result ≡ option_map (λ (d : HostDomain). d.host) (domain_for (domains_in self.now.routing) (str_to_ascii_lowercase host.now)) }
     {
-        match domain_for(self.domains.as_slice(), host.as_bytes()) {
+        match self.domains.find(host.as_bytes()) {
             Some(domain) => Some(domain.host()),
             None => None,
         }
@@ -61,42 +62,64 @@ impl RoutedListener {
 }
 
 // The domains by which connections go.
-fn domains_in(alloc: Global, routing: &Routing) -> Result<Seq<Domain>, AllocError>
+fn domains_in(alloc: Global, routing: &Routing) -> Result<Domains, AllocError>
     ensures { IfOk result (λ domains. domains ≡ domains_in routing.now) }
 {
     match routing {
         Routing::Table(table) => domains_of(alloc, table),
-        Routing::Tcp(_) => Ok(Seq::new(alloc)),
+        Routing::Tcp(_) => Ok(Domains::new(alloc)),
     }
 }
 
 // The domains of each virtual host of a table, in order.
-fn domains_of(alloc: Global, table: &Shared<RouteTable>) -> Result<Seq<Domain>, AllocError>
+fn domains_of(alloc: Global, table: &Shared<RouteTable>) -> Result<Domains, AllocError>
     ensures { IfOk result (λ domains. domains ≡ domains_of table.now) }
 {
-    let mut domains = Seq::new(alloc);
+    let mut domains = Domains::new(alloc);
     for place in 0..table.get().hosts.len() {
-        add_domains(alloc, &mut domains, table, place)?;
+        domains = with_host(alloc, domains, table, place)?;
     }
     Ok(domains)
 }
 
-// Puts the domains of the virtual host at this place to the others.
-fn add_domains(
+// The domains with those of the virtual host at this place.
+fn with_host(
     alloc: Global,
-    domains: &mut Seq<Domain>,
+    domains: Domains,
     table: &Shared<RouteTable>,
     place: usize,
-) -> Result<(), AllocError>
+) -> Result<Domains, AllocError>
     requires { place < length table.now.hosts }
-    ensures { OnOk result (domains.new ≡ domains.old ++ domains_of (record { hosts = host_at table.now.hosts place ∷ [] })) }
+    ensures { IfOk result (λ new. new ≡ domains ++ domains_of (record { hosts = host_at table.now.hosts place ∷ [] })) }
 {
-    let host = &table.get().hosts.as_slice()[place];
+    let mut domains = domains;
+    let host = host_at(table.get(), place);
     for domain in host.domains.as_slice() {
-        let text = lower_case(alloc, domain)?;
-        domains.push(Domain::new(text, table.share()?, place))?;
+        domains = domains.with(lower_domain(alloc, domain, table, place)?)?;
     }
-    Ok(())
+    Ok(domains)
+}
+
+// The virtual host at this place.
+fn host_at(table: &RouteTable, place: usize) -> &VirtualHost
+    requires { place < length table.now.hosts }
+    ensures { result.now ≡ host_at table.now.hosts place }
+{
+    &table.hosts.as_slice()[place]
+}
+
+// A domain of the virtual host at this place, with its ASCII letters as lower case.
+fn lower_domain(
+    alloc: Global,
+    domain: &Text,
+    table: &Shared<RouteTable>,
+    place: usize,
+) -> Result<Domain, AllocError>
+    requires { place < length table.now.hosts }
+    ensures { IfOk result (λ made. made ≡ record { domain = str_to_ascii_lowercase domain.now; host = host_at table.now.hosts place }) }
+{
+    let text = Shared::new(alloc, lower_case(alloc, domain)?)?;
+    Ok(Domain::new(text, table.share()?, place))
 }
 
 // The text with its ASCII letters as lower case.

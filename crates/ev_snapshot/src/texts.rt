@@ -36,6 +36,21 @@ pub(crate) fn is_lower(text: &[u8], lower: &[u8]) -> bool
     true
 }
 
+/// Whether two texts are the same with their ASCII letters as lower case.
+pub(crate) fn same_lower(text: &[u8], other: &[u8]) -> bool
+    ensures { result ≡ bytes_eq (str_to_ascii_lowercase text.now) (str_to_ascii_lowercase other.now) }
+{
+    if text.len() != other.len() {
+        return false;
+    }
+    for place in 0..text.len() {
+        if text[place].to_ascii_lowercase() != other[place].to_ascii_lowercase() {
+            return false;
+        }
+    }
+    true
+}
+
 /// Whether the text, with its ASCII letters as lower case, begins with the front.
 pub(crate) fn begins_lower(text: &[u8], front: &[u8]) -> bool
     ensures { result ≡ begins_with (str_to_ascii_lowercase text.now) front.now }
