@@ -3,3 +3,4 @@ pub mod Places
 pub mod Priorities
 pub mod Indexes
 pub mod Patterns
+pub mod Named

@@ -58,7 +58,7 @@ any_is d has = or_third (is_suffix_form d.domain) (is_prefix_form d.domain) (is_
 pub pattern_for_patterns : (ds : List HostDomain) (host : List ℕ) → pattern_for (filter is_pattern ds) host ≡ pattern_for ds host
 pattern_for_patterns ds host = λ i.
     option_or (longest (filter_among (has_suffix host) is_pattern (suffix_is host) ds i))
-        (option_or (longest (filter_among (has_prefix host) is_pattern (prefix_is host) ds i)) (find_among is_any is_pattern any_is ds i))
+    (option_or (longest (filter_among (has_prefix host) is_pattern (prefix_is host) ds i)) (find_among is_any is_pattern any_is ds i))
 
 -- the table and the patterns with one more domain
 pub listed_more : (old new : List HostDomain) (d : HostDomain) (patterns next : List HostDomain) (texts after : List ℕ → Option HostDomain)

@@ -37,7 +37,7 @@ pub sum_fits : {X : Type 0} (weight : X → ℕ) (xs : List X) (i : ℕ) (d : X)
     → sum (take i (map weight xs)) + weight (get_or xs i d) ≤ sum (map weight xs)
 sum_fits weight xs i d less =
     subst (λ w. sum (take i (map weight xs)) + w ≤ sum (map weight xs)) (get_or-map weight xs i d 0 less)
-        (sum_by_more_le (λ x. x) (map weight xs) i 0 (omega (arith, length-map xs weight)))
+    (sum_by_more_le (λ x. x) (map weight xs) i 0 (omega (arith, length-map xs weight)))
 
 -- a place that isn't above n is passed
 pub passed : {X : Type 0} (weight : X → ℕ) (xs : List X) (n i : ℕ) → i < length xs → sum (take (i + 1) (map weight xs)) ≤ n

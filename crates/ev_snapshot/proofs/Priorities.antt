@@ -19,8 +19,9 @@ lesser_among : (h : HostRowParts) (hs : List HostRowParts) (n : ℕ) → list_an
 lesser_among h hs n among =
     let Among : ℕ → Type 0 = λ m. list_any (λ (x : HostRowParts). x.priority == m) (h ∷ hs) ≡ true in
     elim (least_is h.priority n) [
-      inl e ↦ subst Among (sym e) (grind (arith, common_steps))
-    | inr e ↦ subst Among (sym e) (grind (arith, common_steps, among)) ]
+      | inl e ↦ subst Among (sym e) (grind (arith, common_steps))
+      | inr e ↦ subst Among (sym e) (grind (arith, common_steps, among))
+    ]
 
 -- some host has it
 pub lowest_among : (hs : List HostRowParts) → 0 < length hs → list_any (λ (h : HostRowParts). h.priority == lowest_priority hs) hs ≡ true

@@ -40,7 +40,11 @@ fn weight_at(priority: u8, row: &HostRow) -> u32
     ensures weight { result ≡ weight_at priority row.now }
     ensures some { (row.now.priority == priority) ≡ true → 1 ≤ result }
 {
-    if row.priority == priority { row.weight } else { 0 }
+    if row.priority == priority {
+        row.weight
+    } else {
+        0
+    }
 }
 
 // What the weights of this priority add up to.

@@ -1,10 +1,10 @@
-ghost use Rattle.std.specs.Prelude.{◌≡◌, IfOk};
+ghost use Rattle.std.specs.Prelude.{◌≡◌, true, IfOk};
 ghost use Rattle.std.specs.Arc.{arc_value};
 ghost use Rattle.std.specs.Option.{option_copied};
 ghost use Rattle.ev_model.specs.Choice.{by_host, by_route, by_routing, choice_in, choice_of, forwarded};
 ghost use Rattle.ev_model.specs.declared.pictures.ServedCluster.{ServedCluster};
 ghost use Rattle.ev_model.specs.declared.pictures.ServedListener.{ServedListener};
-ghost use Rattle.ev_snapshot.specs.Chosen.{host_of};
+ghost use Rattle.ev_snapshot.specs.Chosen.{host_of, names_shown};
 
 use crate::clusters::Clusters;
 use crate::hosts::host_place;
@@ -96,8 +96,17 @@ impl Snapshot {
 
     /// Where a connection goes: by its listener, the virtual host and the first route of its host text and path, the weights of
     /// the route's clusters, and the lowest priority and the weights of the cluster's hosts. It takes no memory.
+    #[tactic(auto, using(crate::proofs::Named::choice_shown))]
     pub fn choose(&self, ask: &Ask) -> Choice
         ensures choice { result ≡ choice_of self.now ask.now }
+        ensures generations { names_shown self.now.shown result ≡ true }
+    {
+        self.choose_by_address(ask)
+    }
+
+    // The choice by the address.
+    fn choose_by_address(&self, ask: &Ask) -> Choice
+        ensures { result ≡ choice_of self.now ask.now }
     {
         match self.listeners.at(&ask.address) {
             Some(listener) => self.choose_at(listener, ask),

@@ -10,5 +10,5 @@ returns-then-n-sum c =
     let place = c.loop-place.place in
     let less : place < length hosts = omega arith in
     let above : c.args.n < sum (take (place + 1) (map weight hosts)) =
-        grind (arith, sum_more weight hosts place c.index-hosts-place.result less) in
+    grind (arith, sum_more weight hosts place c.index-hosts-place.result less) in
     sym (c.loop-place.invariant.rest ∙ reached weight hosts c.args.n place less above)

@@ -15,7 +15,7 @@ one_more f front xs ys i x so next y less same at was is all =
     let below : i < length xs = subst (λ l. i < length l) same less in
     let here : x ≡ get_or xs i x = at ∙ ap (λ l. get_or l i x) same in
     let more : map f (take i xs) ++ f x ∷ [] ≡ map f (take (i + 1) xs) =
-        ap (λ z. map f (take i xs) ++ f z ∷ []) here ∙ sym (map_more f xs i x below) in
+    ap (λ z. map f (take i xs) ++ f z ∷ []) here ∙ sym (map_more f xs i x below) in
     let along : (front ++ map f (take i xs)) ++ f x ∷ [] ≡ front ++ (map f (take i xs) ++ f x ∷ []) = grind (arith, common_steps) in
     all ∙ ap (λ l. l ++ y ∷ []) was ∙ ap (λ z. (front ++ map f (take i xs)) ++ z ∷ []) is ∙ along ∙ ap (λ l. front ++ l) more
 
@@ -28,7 +28,7 @@ loop-domain-preserved c =
     let host = c.host_at-host.ensures in
     let items = c.as_slice-domain-items.ensures.elements in
     let same : c.as_slice-domain-items.result.now ≡ (host_at hosts place).domains =
-        items ∙ ap (λ (h : VirtualHost). h.domains) host ∙ ap (λ (t : RouteTable). (host_at t.hosts place).domains) table in
+    items ∙ ap (λ (h : VirtualHost). h.domains) host ∙ ap (λ (t : RouteTable). (host_at t.hosts place).domains) table in
     one_more made c.args.domains (host_at hosts place).domains c.as_slice-domain-items.result.now c.loop-domain.domain-index c.domain-item.result
-        c.loop-domain.domains c.in_ok-domains.domains c.in_ok-lower_domain.field-0
-        (omega arith) same c.domain-item.is c.loop-domain.invariant c.in_ok-lower_domain.ensures c.in_ok-domains.ensures
+    c.loop-domain.domains c.in_ok-domains.domains c.in_ok-lower_domain.field-0
+    (omega arith) same c.domain-item.is c.loop-domain.invariant c.in_ok-lower_domain.ensures c.in_ok-domains.ensures

@@ -10,5 +10,5 @@ returns-then-n-sum c =
     let place = c.loop-place.place in
     let less : place < length clusters = omega arith in
     let above : c.args.n < sum (take (place + 1) (map weight clusters)) =
-        grind (arith, sum_more weight clusters place c.index-clusters-place.result less) in
+    grind (arith, sum_more weight clusters place c.index-clusters-place.result less) in
     sym (c.loop-place.invariant.rest ∙ reached weight clusters c.args.n place less above)

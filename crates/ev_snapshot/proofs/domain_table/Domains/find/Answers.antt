@@ -12,7 +12,7 @@ returns-in-Some c =
     let is = c.self.view_is in
     let view : c.self.inside.list ≡ c.args.self.now = cc in
     found_first c.self.inside.list host c.in-Some.domain.now
-        (sym (c.self.invariant.text host) ∙ ap (get bytes_eq c.self.inside.by_text) (sym c.new.ensures) ∙ sym c.in-Some.ensures.value)
+    (sym (c.self.invariant.text host) ∙ ap (get bytes_eq c.self.inside.by_text) (sym c.new.ensures) ∙ sym c.in-Some.ensures.value)
     ∙ ap (λ ds. domain_for ds host) view
 
 pub returns-in-None : goal.returns-in-None
@@ -21,7 +21,7 @@ returns-in-None c =
     let is = c.self.view_is in
     let view : c.self.inside.list ≡ c.args.self.now = cc in
     let none : find (is_domain host) c.self.inside.list ≡ None =
-        sym (c.self.invariant.text host) ∙ ap (get bytes_eq c.self.inside.by_text) (sym c.new.ensures) ∙ sym c.in-None.ensures.value in
+    sym (c.self.invariant.text host) ∙ ap (get bytes_eq c.self.inside.by_text) (sym c.new.ensures) ∙ sym c.in-None.ensures.value in
     c.pattern_for.ensures
     ∙ ap (λ ds. pattern_for ds host) (c.as_slice.ensures.elements ∙ c.self.invariant.patterns)
     ∙ pattern_for_patterns c.self.inside.list host
