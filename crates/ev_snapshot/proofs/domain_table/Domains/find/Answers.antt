@@ -1,0 +1,29 @@
+use Rattle.std.proofs.Common.{◌≡◌, ℕ, List, Some, None, find, filter, ap, sym, ◌∙◌}
+use Rattle.std.specs.Str.{bytes_eq, str_to_ascii_lowercase}
+use Rattle.indexmap.specs.IndexMap.{get}
+use Rattle.ev_model.specs.Choice.{domain_for, is_domain}
+use Rattle.ev_snapshot.specs.Domains.{is_pattern, pattern_for}
+use Rattle.ev_snapshot.proofs.Patterns.{found_first, found_none, pattern_for_patterns}
+use Rattle.ev_snapshot.proofs.domain_table.Domains.find.Goals as goal
+
+pub returns-in-Some : goal.returns-in-Some
+returns-in-Some c =
+    let host = str_to_ascii_lowercase c.args.host.now in
+    let is = c.self.view_is in
+    let view : c.self.inside.list ≡ c.args.self.now = cc in
+    found_first c.self.inside.list host c.in-Some.domain.now
+    (sym (c.self.invariant.text host) ∙ ap (get bytes_eq c.self.inside.by_text) (sym c.new.ensures) ∙ sym c.in-Some.ensures.value)
+    ∙ ap (λ ds. domain_for ds host) view
+
+pub returns-in-None : goal.returns-in-None
+returns-in-None c =
+    let host = str_to_ascii_lowercase c.args.host.now in
+    let is = c.self.view_is in
+    let view : c.self.inside.list ≡ c.args.self.now = cc in
+    let none : find (is_domain host) c.self.inside.list ≡ None =
+    sym (c.self.invariant.text host) ∙ ap (get bytes_eq c.self.inside.by_text) (sym c.new.ensures) ∙ sym c.in-None.ensures.value in
+    c.pattern_for.ensures
+    ∙ ap (λ ds. pattern_for ds host) (c.as_slice.ensures.elements ∙ c.self.invariant.patterns)
+    ∙ pattern_for_patterns c.self.inside.list host
+    ∙ found_none c.self.inside.list host none
+    ∙ ap (λ ds. domain_for ds host) view

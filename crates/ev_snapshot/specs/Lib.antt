@@ -1,0 +1,3 @@
+pub mod Domains
+pub mod Tables
+pub mod Chosen

@@ -1,0 +1,19 @@
+//! What a worker serves from: a picture with the tables by which a connection's way through it is found.
+#![tactic(auto)]
+
+mod addresses;
+mod clusters;
+mod domain_table;
+mod domains;
+mod host_texts;
+mod hosts;
+mod listeners;
+mod names;
+mod parts;
+mod routed;
+mod routes;
+mod snapshot;
+mod targets;
+mod texts;
+
+pub use snapshot::Snapshot;

@@ -1,0 +1,132 @@
+ghost use Rattle.std.specs.Prelude.{◌≡◌, ◌<◌, [], ◌∷◌, ◌++◌, IfOk, length, option_map};
+ghost use Rattle.std.specs.Option.{option_copied};
+ghost use Rattle.std.specs.Str.{str_to_ascii_lowercase};
+ghost use Rattle.ev_model.specs.Choice.{HostDomain, domain_for, domains_of};
+ghost use Rattle.ev_snapshot.specs.Domains.{domains_in, host_at};
+
+use crate::domain_table::Domains;
+use crate::domains::Domain;
+use ev_model::{Routing, ServedListener};
+use ev_types::{RouteTable, Shared, Text, TryCopy, VirtualHost};
+use std::alloc::{AllocError, Global};
+use std::marker::Model;
+
+/// A listener of a picture, with the domains of its routes as lower case. Contracts see the listener.
+#[derive(Drop)]
+pub(crate) struct RoutedListener {
+    served: ServedListener,
+    domains: Domains,
+}
+
+impl Model for RoutedListener {
+    ghost use Rattle.std.specs.Prelude.{◌≡◌};
+    ghost use Rattle.ev_model.specs.declared.pictures.ServedListener.{ServedListener};
+    ghost use Rattle.ev_snapshot.specs.Domains.{domains_in};
+
+    ghost Value = { ServedListener };
+
+    ghost view = { λ l. l.served };
+
+    ghost invariant = { λ l. l.domains ≡ domains_in l.served.routing };
+}
+
+impl RoutedListener {
+    /// A copy of this listener; its routes are shared.
+    pub(crate) fn new(
+        alloc: Global,
+        listener: &ServedListener,
+    ) -> Result<RoutedListener, AllocError>
+        ensures { IfOk result (λ routed. routed ≡ listener.now) }
+    {
+        let domains = domains_in(alloc, &listener.routing)?;
+        let served = listener.copy(alloc)?;
+        Ok(RoutedListener { served, domains })
+    }
+
+    /// The listener.
+    pub(crate) fn served(&self) -> &ServedListener
+        ensures { result.now ≡ self.now }
+    {
+        &self.served
+    }
+
+    /// The virtual host that a host text goes to.
+    pub(crate) fn virtual_host(&self, host: &str) -> Option<&VirtualHost>
+        ensures { option_copied result ≡ option_map (λ (d : HostDomain). d.host) (domain_for (domains_in self.now.routing) (str_to_ascii_lowercase host.now)) }
+    {
+        match self.domains.find(host.as_bytes()) {
+            Some(domain) => Some(domain.host()),
+            None => None,
+        }
+    }
+}
+
+// The domains by which connections go.
+fn domains_in(alloc: Global, routing: &Routing) -> Result<Domains, AllocError>
+    ensures { IfOk result (λ domains. domains ≡ domains_in routing.now) }
+{
+    match routing {
+        Routing::Table(table) => domains_of(alloc, table),
+        Routing::Tcp(_) => Ok(Domains::new(alloc)),
+    }
+}
+
+// The domains of each virtual host of a table, in order.
+fn domains_of(alloc: Global, table: &Shared<RouteTable>) -> Result<Domains, AllocError>
+    ensures { IfOk result (λ domains. domains ≡ domains_of table.now) }
+{
+    let mut domains = Domains::new(alloc);
+    for place in 0..table.get().hosts.len() {
+        domains = with_host(alloc, domains, table, place)?;
+    }
+    Ok(domains)
+}
+
+// The domains with those of the virtual host at this place.
+fn with_host(
+    alloc: Global,
+    domains: Domains,
+    table: &Shared<RouteTable>,
+    place: usize,
+) -> Result<Domains, AllocError>
+    requires { place < length table.now.hosts }
+    ensures { IfOk result (λ new. new ≡ domains ++ domains_of (record { hosts = host_at table.now.hosts place ∷ [] })) }
+{
+    let mut domains = domains;
+    let host = host_at(table.get(), place);
+    for domain in host.domains.as_slice() {
+        domains = domains.with(lower_domain(alloc, domain, table, place)?)?;
+    }
+    Ok(domains)
+}
+
+// The virtual host at this place.
+fn host_at(table: &RouteTable, place: usize) -> &VirtualHost
+    requires { place < length table.now.hosts }
+    ensures { result.now ≡ host_at table.now.hosts place }
+{
+    &table.hosts.as_slice()[place]
+}
+
+// A domain of the virtual host at this place, with its ASCII letters as lower case.
+fn lower_domain(
+    alloc: Global,
+    domain: &Text,
+    table: &Shared<RouteTable>,
+    place: usize,
+) -> Result<Domain, AllocError>
+    requires { place < length table.now.hosts }
+    ensures { IfOk result (λ made. made ≡ record { domain = str_to_ascii_lowercase domain.now; host = host_at table.now.hosts place }) }
+{
+    let text = Shared::new(alloc, lower_case(alloc, domain)?)?;
+    Ok(Domain::new(text, table.share()?, place))
+}
+
+// The text with its ASCII letters as lower case.
+fn lower_case(alloc: Global, text: &Text) -> Result<Text, AllocError>
+    ensures { IfOk result (λ lower. lower ≡ str_to_ascii_lowercase text.now) }
+{
+    let mut lower = String::from_str(alloc, text.as_str())?;
+    lower.make_ascii_lowercase();
+    Text::new(alloc, lower.as_str())
+}

@@ -1,0 +1,185 @@
+ghost use Rattle.std.specs.Prelude.{◌≡◌, true, IfOk};
+ghost use Rattle.std.specs.Arc.{arc_value};
+ghost use Rattle.std.specs.Option.{option_copied};
+ghost use Rattle.ev_model.specs.Choice.{by_host, by_route, by_routing, choice_in, choice_of, forwarded};
+ghost use Rattle.ev_model.specs.declared.pictures.ServedCluster.{ServedCluster};
+ghost use Rattle.ev_model.specs.declared.pictures.ServedListener.{ServedListener};
+ghost use Rattle.ev_snapshot.specs.Chosen.{host_of, names_shown};
+
+use crate::clusters::Clusters;
+use crate::hosts::host_place;
+use crate::listeners::Listeners;
+use crate::parts::{all_clusters, all_listeners};
+use crate::routed::RoutedListener;
+use crate::routes::route_for;
+use crate::targets::{target_name, target_weight};
+use ev_model::{Choice, Picture, Routing, ServedCluster};
+use ev_types::{Action, Ask, Gen, Host, Route, Target, VirtualHost};
+use std::alloc::{AllocError, Global};
+use std::marker::Model;
+use std::sync::Arc;
+
+/// What a worker serves from: a picture, with the tables by which the way of a connection is found. Contracts see the picture.
+/// Its clusters and listeners are shared with the snapshots before and after it that show the same.
+#[derive(Drop)]
+pub struct Snapshot {
+    version: u64,
+    clusters: Clusters,
+    listeners: Listeners,
+}
+
+impl Model for Snapshot {
+    ghost use Rattle.ev_model.specs.declared.pictures.Picture.{Picture};
+
+    ghost Value = { Picture };
+
+    ghost view = { λ s. record { version = s.version; shown = record { clusters = s.clusters; listeners = s.listeners } } };
+}
+
+impl Snapshot {
+    /// The snapshot that stands for this picture.
+    pub fn build(alloc: Global, picture: &Picture) -> Result<Arc<Snapshot>, AllocError>
+        ensures picture { IfOk result (λ snapshot. arc_value snapshot ≡ picture.now) }
+    {
+        let none = Snapshot {
+            version: 0,
+            clusters: Clusters::new(alloc),
+            listeners: Listeners::new(alloc),
+        };
+        Ok(Arc::new(alloc, none.next(alloc, picture)?)?)
+    }
+
+    /// The snapshot that stands for this picture. It takes over each cluster and listener that is as in the snapshot before it,
+    /// of the same number and with equal content: nothing that these hold is copied.
+    pub fn build_from(
+        alloc: Global,
+        picture: &Picture,
+        before: &Arc<Snapshot>,
+    ) -> Result<Arc<Snapshot>, AllocError>
+        ensures picture { IfOk result (λ snapshot. arc_value snapshot ≡ picture.now) }
+    {
+        Ok(Arc::new(alloc, before.next(alloc, picture)?)?)
+    }
+
+    // The snapshot of a picture, with the parts that are as in this one.
+    fn next(&self, alloc: Global, picture: &Picture) -> Result<Snapshot, AllocError>
+        ensures { IfOk result (λ snapshot. snapshot ≡ picture.now) }
+    {
+        let clusters = all_clusters(alloc, picture.shown.clusters.as_slice(), &self.clusters)?;
+        let listeners = all_listeners(alloc, picture.shown.listeners.as_slice(), &self.listeners)?;
+        Ok(Snapshot {
+            version: picture.version,
+            clusters,
+            listeners,
+        })
+    }
+
+    /// The version of the picture.
+    pub fn version(&self) -> u64
+        ensures { result ≡ self.now.version }
+    {
+        self.version
+    }
+
+    /// The host at a place of the cluster of this number, as `choose` answers both.
+    pub fn host(&self, cluster: Gen, place: u32) -> Option<&Host>
+        ensures { option_copied result ≡ host_of self.now cluster place }
+    {
+        let Some(served) = self.clusters.numbered(cluster) else {
+            return None;
+        };
+        match served.get().hosts.rows().get(place as usize) {
+            Some(row) => Some(&row.host),
+            None => None,
+        }
+    }
+
+    /// Where a connection goes: by its listener, the virtual host and the first route of its host text and path, the weights of
+    /// the route's clusters, and the lowest priority and the weights of the cluster's hosts. It takes no memory.
+    #[tactic(auto, using(crate::proofs::Named::choice_shown))]
+    pub fn choose(&self, ask: &Ask) -> Choice
+        ensures choice { result ≡ choice_of self.now ask.now }
+        ensures generations { names_shown self.now.shown result ≡ true }
+    {
+        self.choose_by_address(ask)
+    }
+
+    // The choice by the address.
+    fn choose_by_address(&self, ask: &Ask) -> Choice
+        ensures { result ≡ choice_of self.now ask.now }
+    {
+        match self.listeners.at(&ask.address) {
+            Some(listener) => self.choose_at(listener, ask),
+            None => Choice::NoListener,
+        }
+    }
+
+    // The choice at a listener.
+    fn choose_at(&self, listener: &RoutedListener, ask: &Ask) -> Choice
+        ensures { result ≡ by_routing self.now ask.now listener.now.number listener.now.routing }
+    {
+        let served = listener.served();
+        match &served.routing {
+            Routing::Table(_) => {
+                self.choose_by_host(served.number, listener.virtual_host(ask.host.as_str()), ask)
+            }
+            Routing::Tcp(target) => self.forward(served.number, target, ask.pick),
+        }
+    }
+
+    // The choice with the virtual host.
+    fn choose_by_host(&self, listener: Gen, host: Option<&VirtualHost>, ask: &Ask) -> Choice
+        ensures { result ≡ by_host self.now ask.now listener (option_copied host.entry) }
+    {
+        match host {
+            Some(host) => self.choose_by_route(
+                listener,
+                route_for(host, ask.path.as_str().as_bytes()),
+                ask.pick,
+            ),
+            None => Choice::NoRoute { listener },
+        }
+    }
+
+    // The choice with the route.
+    fn choose_by_route(&self, listener: Gen, route: Option<&Route>, pick: u64) -> Choice
+        ensures { result ≡ by_route self.now pick listener (option_copied route.entry) }
+    {
+        let Some(route) = route else {
+            return Choice::NoRoute { listener };
+        };
+        match &route.action {
+            Action::Forward(target) => self.forward(listener, target, pick),
+            Action::Redirect => Choice::Redirect { listener },
+            Action::Local(status) => Choice::Local {
+                listener,
+                status: *status,
+            },
+        }
+    }
+
+    // The choice with the target.
+    fn forward(&self, listener: Gen, target: &Target, pick: u64) -> Choice
+        ensures { result ≡ forwarded self.now pick listener target.now }
+    {
+        let cluster = self.clusters.named(target_name(target, pick));
+        choose_host(listener, cluster, pick / target_weight(target))
+    }
+}
+
+// The choice with the cluster.
+fn choose_host(listener: Gen, cluster: Option<&ServedCluster>, pick: u64) -> Choice
+    ensures { result ≡ choice_in listener (option_copied cluster.entry) pick }
+{
+    let Some(cluster) = cluster else {
+        return Choice::NoCluster { listener };
+    };
+    match host_place(cluster.hosts.rows(), pick) {
+        Some(host) => Choice::Served {
+            listener,
+            cluster: cluster.number,
+            host,
+        },
+        None => Choice::NoEndpoint { listener },
+    }
+}
