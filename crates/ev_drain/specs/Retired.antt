@@ -1,7 +1,8 @@
 -- Generations that no longer serve, as the drain keeps them: in the order of their numbers.
 use Rattle.std.specs.Prelude.{◌≡◌, ℕ, Bool, true, false, not, ◌&&◌, ◌||◌, ◌==◌, if◌then◌else◌, nat_le, List, [], ◌∷◌, ◌++◌, filter, find, map, Option}
 use Rattle.std.specs.List.{list_any}
-use Rattle.std.specs.Option.{option_map}
+use Rattle.std.specs.Option.{option_map, unwrap_or}
+use Rattle.std.specs.Ordering.{nat_cmp, is_le}
 use Rattle.std.specs.Str.{bytes_eq}
 use Rattle.ev_types.specs.Kinds.{kind_same}
 use Rattle.ev_types.specs.Statuses.{is_live}
@@ -36,7 +37,7 @@ newly_retired kind number name dropped =
 
 -- the first is not above the second by number
 abbrev pub comes_before : Retired → Retired → Bool
-comes_before one other = nat_le one.number other.number
+comes_before one other = is_le (nat_cmp one.number other.number)
 
 -- the row has this number
 abbrev pub is_numbered : ℕ → Retired → Bool
@@ -52,7 +53,7 @@ kind_of_row rows number = option_map (λ (row : Retired). row.kind) (find (is_nu
 
 -- the drain timeout of the row of this number came
 abbrev pub is_expired : List Retired → ℕ → Bool
-is_expired rows number = list_any (λ row. is_numbered number row && row.expired) rows
+is_expired rows number = unwrap_or (option_map (λ (row : Retired). row.expired) (find (is_numbered number) rows)) false
 
 -- a draining listener of this name
 abbrev pub is_draining_listener : List ℕ → Retired → Bool

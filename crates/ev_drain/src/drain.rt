@@ -1,11 +1,13 @@
-ghost use Rattle.std.specs.Prelude.{◌≡◌, ◌↔◌, IsTrue, false, not, List, [], filter, map, OnOk, OnErr, IfOk};
+ghost use Rattle.std.specs.Prelude.{◌≡◌, ℕ, false, not, List, [], filter, map, OnOk, OnErr, IfOk};
 ghost use Rattle.std.specs.List.{list_any};
 ghost use Rattle.ev_model.specs.Sorted.{put_by};
+ghost use Rattle.ev_drain.specs.Notes.{row_of};
 ghost use Rattle.ev_drain.specs.Retired.{Retired, newly_retired, comes_before, is_numbered, has_row, kind_of_row, is_expired, is_waiting, marked, dead_of, retired_status};
 
-use crate::notes::{Note, Notes, is_draining_listener, put};
+use crate::dead::dead_notes;
+use crate::notes::{Note, Notes, any_waits, kind_of, mark, numbers, put};
 use ev_ledger::Ledger;
-use ev_types::{Format, Gen, Kind, Name, RowStatus, TryCopy};
+use ev_types::{Format, Gen, Kind, Name, RowStatus, Shared, TryCopy};
 use std::alloc::{AllocError, Global};
 use std::collections::BTreeMap;
 use std::marker::Model;
@@ -51,16 +53,13 @@ impl Drain {
         ensures retired { OnOk result (self.new ≡ put_by comes_before (newly_retired kind number name.now dropped) self.old) }
         ensures err { OnErr result (self.new ≡ self.old) }
     {
-        let Ok(name) = name.copy(alloc) else {
+        let Ok(note) = new_note(alloc, kind, name, dropped) else {
             return Err(AllocError);
         };
-        let note = Note {
-            kind,
-            name,
-            status: status_of(dropped),
-            expired: false,
+        let Ok(_) = put(&mut self.notes, number, note) else {
+            return Err(AllocError);
         };
-        put(&mut self.notes, number, note)
+        Ok(())
     }
 
     /// The kind of a generation that was retired, and not removed since. It takes no memory.
@@ -68,7 +67,7 @@ impl Drain {
         ensures kind { result ≡ kind_of_row self.now number }
     {
         match self.notes.get(&number) {
-            Some(note) => Some(note.kind),
+            Some(note) => Some(kind_of(note)),
             None => None,
         }
     }
@@ -83,6 +82,33 @@ impl Drain {
         }
     }
 
+    /// The drain timeout of a listener's old generations: it came for those of this name that drain. It answers whether there
+    /// was one for which it hadn't come. It takes no memory.
+    pub fn expire(&mut self, name: &Name) -> bool
+        ensures answer { result ≡ list_any (is_waiting name.now) self.old }
+        ensures marked { self.new ≡ map (marked name.now) self.old }
+    {
+        let text = name.as_str();
+        let meant = any_waits(&self.notes, text);
+        mark(&mut self.notes, text);
+        meant
+    }
+
+    /// The numbers of the generations that nothing holds any more, from the least, by a journal's format: `ledger` has the open
+    /// connections, and `shown` is what pictures in use show. It asks for counts, and looks at no connection.
+    pub fn dead(
+        &self,
+        alloc: Global,
+        format: Format,
+        ledger: &Ledger,
+        shown: &[Gen],
+    ) -> Result<Vec<Gen>, AllocError>
+        ensures dead { IfOk result (λ dead. dead.items ≡ dead_of format shown.now ledger.now self.now) }
+    {
+        let shown = numbers(alloc, shown)?;
+        dead_notes(alloc, &self.notes, format, ledger, &shown)
+    }
+
     /// Takes a generation out. It takes no memory.
     pub fn remove(&mut self, number: Gen)
         ensures removed { self.new ≡ filter (λ row. not (is_numbered number row)) self.old }
@@ -90,6 +116,26 @@ impl Drain {
         let _ = self.notes.len();
         let _ = self.notes.remove(&number);
     }
+}
+
+impl TryCopy for Drain {
+    fn copy(&self, _alloc: Global) -> Result<Drain, AllocError> {
+        Ok(Drain {
+            notes: self.notes.clone()?,
+        })
+    }
+}
+
+// What is noted of a row that is retired now.
+fn new_note(alloc: Global, kind: Kind, name: &Name, dropped: bool) -> Result<Note, AllocError>
+    ensures { IfOk result (λ note. (number : ℕ) → row_of (number, note) ≡ newly_retired kind number name.now dropped) }
+{
+    Ok(Note {
+        kind,
+        name: Shared::new(alloc, name.copy(alloc)?)?,
+        status: status_of(dropped),
+        expired: false,
+    })
 }
 
 // The status of a row that was retired.

@@ -1,0 +1,14 @@
+use Rattle.std.proofs.Common.{◌≡◌, ap, ◌∙◌}
+use Rattle.ev_model.specs.Sorted.{put_by}
+use Rattle.ev_drain.specs.Retired.{comes_before, has_row, newly_retired}
+use Rattle.ev_drain.specs.Notes.{rows_of}
+use Rattle.ev_drain.proofs.RowLemmas.{found_row, put_rows}
+use Rattle.ev_drain.proofs.drain.Drain.retire.Goals as goal
+
+pub returns-clause-retired : goal.returns-clause-retired
+returns-clause-retired c =
+    let none = found_row c.args.number c.self.inside.notes.entries ∙ ap (λ rs. has_row rs c.args.number) c.self.view_is ∙ c.requires.absent in
+    ap rows_of c.in-Ok-put.ensures.entries
+    ∙ put_rows c.args.number c.in-Ok.note c.self.inside.notes.entries none
+    ∙ ap (λ r. put_by comes_before r (rows_of c.self.inside.notes.entries)) (c.in-Ok.ensures c.args.number)
+    ∙ ap (put_by comes_before (newly_retired c.args.kind c.args.number c.args.name.now c.args.dropped)) c.self.view_is
