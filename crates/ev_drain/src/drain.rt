@@ -2,7 +2,12 @@ ghost use Rattle.std.specs.Prelude.{◌≡◌, ℕ, false, not, List, [], filter
 ghost use Rattle.std.specs.List.{list_any};
 ghost use Rattle.ev_model.specs.Sorted.{put_by};
 ghost use Rattle.ev_drain.specs.Notes.{row_of};
-ghost use Rattle.ev_drain.specs.Retired.{Retired, newly_retired, comes_before, is_numbered, has_row, kind_of_row, is_expired, is_waiting, marked, dead_of, retired_status};
+ghost use Rattle.ev_model.specs.World.{World};
+ghost use Rattle.ev_model.specs.Picture.{has_number};
+ghost use Rattle.ev_model.specs.Dead.{numbers_in_use};
+ghost use Rattle.ev_model.specs.Publishing.{dead_numbers};
+ghost use Rattle.ev_ledger.specs.Members.{StandsFor as HasOpened};
+ghost use Rattle.ev_drain.specs.Retired.{Retired, newly_retired, comes_before, is_numbered, has_row, kind_of_row, is_expired, is_waiting, marked, dead_of, retired_status, StandsFor};
 
 use crate::dead::dead_notes;
 use crate::notes::{Note, Notes, any_waits, kind_of, mark, numbers, put};
@@ -33,6 +38,7 @@ impl Drain {
     /// No generation drains. It takes no memory.
     pub fn new(alloc: Global) -> Drain
         ensures empty { result ≡ [] }
+        ensures world { StandsFor result [] [] }
     {
         Drain {
             notes: BTreeMap::new(alloc),
@@ -104,6 +110,7 @@ impl Drain {
         shown: &[Gen],
     ) -> Result<Vec<Gen>, AllocError>
         ensures dead { IfOk result (λ dead. dead.items ≡ dead_of format shown.now ledger.now self.now) }
+        ensures world { IfOk result (λ dead. (world : World) → StandsFor self.now world.rows world.expired → HasOpened ledger.now world.opened → ((n : ℕ) → has_number n shown.now ≡ has_number n (numbers_in_use world)) → dead.items ≡ dead_numbers format world) }
     {
         let shown = numbers(alloc, shown)?;
         dead_notes(alloc, &self.notes, format, ledger, &shown)
