@@ -1,8 +1,11 @@
-ghost use Rattle.std.specs.Prelude.{◌≡◌, ℕ, false, not, List, [], filter, map, OnOk, OnErr, IfOk};
+ghost use Rattle.std.specs.Prelude.{◌≡◌, ◌==◌, ℕ, true, false, not, List, [], ◌∷◌, ◌++◌, filter, map, OnOk, OnErr, IfOk};
 ghost use Rattle.std.specs.List.{list_any};
 ghost use Rattle.ev_model.specs.Sorted.{put_by};
 ghost use Rattle.ev_drain.specs.Notes.{row_of};
 ghost use Rattle.ev_model.specs.World.{World};
+ghost use Rattle.ev_model.specs.Signals.{is_unexpired, unexpired};
+ghost use Rattle.ev_types.specs.Statuses.{is_live};
+ghost use Rattle.ev_types.specs.declared.rows.GenRow.{GenRow};
 ghost use Rattle.ev_model.specs.Picture.{has_number};
 ghost use Rattle.ev_model.specs.Dead.{numbers_in_use};
 ghost use Rattle.ev_model.specs.Publishing.{dead_numbers};
@@ -57,6 +60,7 @@ impl Drain {
     ) -> Result<(), AllocError>
         requires absent { has_row self.old number ≡ false }
         ensures retired { OnOk result (self.new ≡ put_by comes_before (newly_retired kind number name.now dropped) self.old) }
+        ensures world { OnOk result ((row : GenRow) (before : List GenRow) (after : List GenRow) (expired : List ℕ) → StandsFor self.old (before ++ row ∷ after) expired → is_live row.status ≡ true → row.kind ≡ kind → row.number ≡ number → row.name ≡ name.now → has_number number expired ≡ false → StandsFor self.new (before ++ record row { status = retired_status dropped } ∷ after) expired) }
         ensures err { OnErr result (self.new ≡ self.old) }
     {
         let Ok(note) = new_note(alloc, kind, name, dropped) else {
@@ -93,6 +97,8 @@ impl Drain {
     pub fn expire(&mut self, name: &Name) -> bool
         ensures answer { result ≡ list_any (is_waiting name.now) self.old }
         ensures marked { self.new ≡ map (marked name.now) self.old }
+        ensures answer_by_world { (rows : List GenRow) (expired : List ℕ) → StandsFor self.old rows expired → result ≡ list_any (is_unexpired expired name.now) rows }
+        ensures world { (rows : List GenRow) (expired : List ℕ) → StandsFor self.old rows expired → StandsFor self.new rows (expired ++ unexpired expired name.now rows) }
     {
         let text = name.as_str();
         let meant = any_waits(&self.notes, text);
@@ -119,6 +125,7 @@ impl Drain {
     /// Takes a generation out. It takes no memory.
     pub fn remove(&mut self, number: Gen)
         ensures removed { self.new ≡ filter (λ row. not (is_numbered number row)) self.old }
+        ensures world { (rows : List GenRow) (expired : List ℕ) → StandsFor self.old rows expired → StandsFor self.new (filter (λ row. not (row.number == number)) rows) (filter (λ n. not (n == number)) expired) }
     {
         let _ = self.notes.len();
         let _ = self.notes.remove(&number);

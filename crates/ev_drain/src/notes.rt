@@ -89,7 +89,8 @@ fn waits(note: &Note, name: &str) -> bool
 
 /// Marks the draining listeners of this name: their drain timeout came. It takes no memory.
 pub(crate) fn mark(notes: &mut Notes, name: &str)
-    ensures { notes.new.entries ≡ map (λ entry. (entry.0, marked_note name.now entry.1)) notes.old.entries }
+    ensures entries { notes.new.entries ≡ map (λ entry. (entry.0, marked_note name.now entry.1)) notes.old.entries }
+    ensures ordered { IsOrdered nat_cmp notes.old }
 {
     notes.retain(|_, note| {
         mark_one(note, name);

@@ -119,7 +119,7 @@ module _ {X : Type 0} (le : X → X → Bool) where
         passing false left is = is
 
     -- two elements, one of which is before the other, may be put in either order
-    put_put : (a b : X) → le a b ≡ not (le b a) → (zs : List X) → put_by le a (put_by le b zs) ≡ put_by le b (put_by le a zs)
+    pub put_put : (a b : X) → le a b ≡ not (le b a) → (zs : List X) → put_by le a (put_by le b zs) ≡ put_by le b (put_by le a zs)
     put_put a b apart [] = turned (le a b) (le b a) (a ∷ b ∷ []) (b ∷ a ∷ []) apart
     put_put a b apart (z ∷ zs) = by (le a z) (le b z) refl refl (put_put a b apart zs)
       where
