@@ -1,0 +1,139 @@
+-- The entries of the drain's map as rows.
+use Rattle.std.proofs.Common.{◌≡◌, ℕ, suc, Bool, true, false, not, ◌&&◌, ◌||◌, ◌==◌, cond, List, [], ◌∷◌, filter, map, length, Option, None, Some, refl, sym, ap, ◌∙◌, arith}
+use Rattle.std.specs.List.{list_any, find}
+use Rattle.std.specs.List.Sorted.{IsStrictlySortedBy}
+use Rattle.std.specs.Option.{is_some, option_map}
+use Rattle.std.specs.Map.{keys_of, values_of, lookup, remove_entry}
+use Rattle.std.specs.BTreeMap.{insert_entry, is_at}
+use Rattle.std.specs.Ordering.{is_eq, is_le, match_ordering, nat_cmp}
+use Rattle.std.specs.declared.cmp.Ordering.{Ordering}
+use Rattle.std.specs.declared.cmp.Ordering.TheVariants.{Less, Equal, Greater}
+use Rattle.std.specs.Cmp.{eq_by_cmp_equiv}
+use Rattle.std.proofs.lemmas.Bool.{true≢false, false≢true}
+use Rattle.std.proofs.lemmas.Bool.Decides.{nat_tests}
+use Rattle.std.proofs.lemmas.Cmp.{nat_cmp_total}
+use Rattle.std.proofs.lemmas.Map.{NonePasses}
+use Rattle.std.proofs.lemmas.Map.Entries.{none_past_head}
+use Rattle.std.proofs.lemmas.Map.Keys.{IsDistinct-from_sorted}
+use Rattle.ev_model.specs.Sorted.{put_by}
+use Rattle.ev_drain.specs.declared.notes.Note.{Note}
+use Rattle.ev_drain.specs.Retired.{Retired, comes_before, is_numbered, has_row, is_waiting, marked, is_dead_row, dead_of}
+use Rattle.ev_drain.specs.Notes.{row_of, rows_of, marked_note, is_waiting_note, is_dead_note}
+use Rattle.ev_types.specs.declared.journals.Format.{Format}
+use Rattle.ev_model.specs.World.{OpenMember}
+use Rattle.ev_model.specs.Picture.{has_number}
+use Rattle.ev_model.specs.Dead.{is_dead_at, is_open_on, waits_for_timer}
+use Rattle.ev_ledger.specs.Members.{count_of}
+
+-- the entry of a number is found exactly at the row of this number
+pub same_number : (n k : ℕ) → is_eq (nat_cmp n k) ≡ (k == n)
+same_number n k = grind (arith, nat_tests)
+
+pub found_row : (n : ℕ) (es : List (ℕ × Note)) → is_some (lookup (is_at (nat_cmp n)) es) ≡ has_row (rows_of es) n
+found_row n [] = refl
+found_row n (e ∷ es) = by (is_at (nat_cmp n) e.0) (e.0 == n) (same_number n e.0) (found_row n es)
+  where
+    by : (t u : Bool) → t ≡ u → is_some (lookup (is_at (nat_cmp n)) es) ≡ has_row (rows_of es) n
+        → is_some (cond t (Some e.1) (lookup (is_at (nat_cmp n)) es)) ≡ (u || has_row (rows_of es) n)
+    by true true h rest = refl
+    by true false h rest = absurd (true≢false h)
+    by false true h rest = absurd (false≢true h)
+    by false false h rest = rest
+
+-- what a row of this number has is what its note has
+pub of_row : {B : Type 0} (f : Retired → B) (g : Note → B) → ((k : ℕ) (v : Note) → f (row_of (k, v)) ≡ g v) → (n : ℕ) (es : List (ℕ × Note))
+    → option_map g (lookup (is_at (nat_cmp n)) es) ≡ option_map f (find (is_numbered n) (rows_of es))
+of_row f g same n [] = refl
+of_row {B} f g same n (e ∷ es) = by (is_at (nat_cmp n) e.0) (e.0 == n) (same_number n e.0) (of_row f g same n es)
+  where
+    by : (t u : Bool) → t ≡ u → option_map g (lookup (is_at (nat_cmp n)) es) ≡ option_map f (find (is_numbered n) (rows_of es))
+        → option_map g (cond t (Some e.1) (lookup (is_at (nat_cmp n)) es)) ≡ option_map f (cond u (Some (row_of e)) (find (is_numbered n) (rows_of es)))
+    by true true h rest = ap (λ b. Some b) (sym (same e.0 e.1))
+    by true false h rest = absurd (true≢false h)
+    by false true h rest = absurd (false≢true h)
+    by false false h rest = rest
+
+-- a new entry is a row put in its place
+pub put_rows : (k : ℕ) (v : Note) (es : List (ℕ × Note)) → is_some (lookup (is_at (nat_cmp k)) es) ≡ false
+    → rows_of (insert_entry nat_cmp es k v) ≡ put_by comes_before (row_of (k, v)) (rows_of es)
+put_rows k v [] h = refl
+put_rows k v (e ∷ es) h = by (nat_cmp k e.0) h (put_rows k v es)
+  where
+    by : (r : Ordering) → is_some (cond (is_eq r) (Some e.1) (lookup (is_at (nat_cmp k)) es)) ≡ false
+        → (is_some (lookup (is_at (nat_cmp k)) es) ≡ false → rows_of (insert_entry nat_cmp es k v) ≡ put_by comes_before (row_of (k, v)) (rows_of es))
+        → map row_of (match_ordering r ((k, v) ∷ e ∷ es) ((e.0, v) ∷ es) (e ∷ insert_entry nat_cmp es k v))
+        ≡ cond (is_le r) (row_of (k, v) ∷ row_of e ∷ rows_of es) (row_of e ∷ put_by comes_before (row_of (k, v)) (rows_of es))
+    by Less none rest = refl
+    by Equal none rest = absurd (true≢false none)
+    by Greater none rest = ap (λ rs. row_of e ∷ rs) (rest none)
+
+-- where no key is found, a filter of the others leaves all
+all_left : (n : ℕ) (es : List (ℕ × Note)) → NonePasses (is_at (nat_cmp n)) es → rows_of es ≡ filter (λ r. not (is_numbered n r)) (rows_of es)
+all_left n [] none = refl
+all_left n (e ∷ es) none = by (e.0 == n) (sym (same_number n e.0) ∙ none.0) (all_left n es none.1)
+  where
+    by : (t : Bool) → t ≡ false → rows_of es ≡ filter (λ r. not (is_numbered n r)) (rows_of es)
+        → row_of e ∷ rows_of es ≡ cond (not t) (row_of e ∷ filter (λ r. not (is_numbered n r)) (rows_of es)) (filter (λ r. not (is_numbered n r)) (rows_of es))
+    by true h rest = absurd (true≢false h)
+    by false h rest = ap (λ rs. row_of e ∷ rs) rest
+
+-- an entry that is taken out is a row taken out
+pub remove_rows : (n : ℕ) (es : List (ℕ × Note)) → IsStrictlySortedBy nat_cmp (keys_of es)
+    → rows_of (remove_entry (is_at (nat_cmp n)) es) ≡ filter (λ r. not (is_numbered n r)) (rows_of es)
+unfolding IsStrictlySortedBy
+remove_rows n [] sorted = refl
+remove_rows n (e ∷ es) sorted = by (is_at (nat_cmp n) e.0) (e.0 == n) refl (same_number n e.0) (remove_rows n es sorted.1)
+  where
+    by : (t u : Bool) → is_at (nat_cmp n) e.0 ≡ t → t ≡ u
+        → rows_of (remove_entry (is_at (nat_cmp n)) es) ≡ filter (λ r. not (is_numbered n r)) (rows_of es)
+        → rows_of (cond t es (e ∷ remove_entry (is_at (nat_cmp n)) es))
+        ≡ cond (not u) (row_of e ∷ filter (λ r. not (is_numbered n r)) (rows_of es)) (filter (λ r. not (is_numbered n r)) (rows_of es))
+    by true true at h rest =
+        all_left n es (none_past_head (eq_by_cmp_equiv nat_cmp_total) n e es (IsDistinct-from_sorted nat_cmp (keys_of (e ∷ es)) sorted) at)
+    by true false at h rest = absurd (true≢false h)
+    by false true at h rest = absurd (false≢true h)
+    by false false at h rest = ap (λ rs. row_of e ∷ rs) rest
+
+-- the marks of a drain timeout
+pub marked_rows : (name : List ℕ) (es : List (ℕ × Note)) → rows_of (map (λ e. (e.0, marked_note name e.1)) es) ≡ map (marked name) (rows_of es)
+marked_rows name [] = refl
+marked_rows name (e ∷ es) = ap (λ rs. marked name (row_of e) ∷ rs) (marked_rows name es)
+
+-- a count is none exactly where no element passes
+some_counted : (n : ℕ) → not (suc n == 0) ≡ true
+some_counted n = grind (arith, nat_tests)
+
+pub counted_any : {X : Type 0} (p : X → Bool) (xs : List X) → not (length (filter p xs) == 0) ≡ list_any p xs
+counted_any p [] = refl
+counted_any p (x ∷ xs) = by (p x) (counted_any p xs)
+  where
+    by : (t : Bool) → not (length (filter p xs) == 0) ≡ list_any p xs → not (length (cond t (x ∷ filter p xs) (filter p xs)) == 0) ≡ (t || list_any p xs)
+    by true rest = some_counted (length (filter p xs))
+    by false rest = rest
+
+-- the dead entries are the dead rows
+dead_entry : (format : Format) (shown : List ℕ) (test : ℕ → Bool) (opened : List OpenMember) → ((n : ℕ) → test n ≡ has_number n shown)
+    → (e : ℕ × Note) → is_dead_note format test opened e ≡ is_dead_row format shown opened (row_of e)
+dead_entry format shown test opened same e =
+    ap (λ t. is_dead_at e.1.status ((t || not (count_of e.0 opened == 0)) || (waits_for_timer format e.1.kind && not e.1.expired))) (same e.0)
+    ∙ ap (λ t. is_dead_at e.1.status ((has_number e.0 shown || t) || (waits_for_timer format e.1.kind && not e.1.expired))) (counted_any (is_open_on e.0) opened)
+
+pub dead_rows : (format : Format) (shown : List ℕ) (test : ℕ → Bool) (opened : List OpenMember) → ((n : ℕ) → test n ≡ has_number n shown)
+    → (es : List (ℕ × Note)) → map (λ e. e.0) (filter (is_dead_note format test opened) es) ≡ dead_of format shown opened (rows_of es)
+dead_rows format shown test opened same [] = refl
+dead_rows format shown test opened same (e ∷ es) =
+    by (is_dead_note format test opened e) (is_dead_row format shown opened (row_of e)) (dead_entry format shown test opened same e)
+    (dead_rows format shown test opened same es)
+  where
+    by : (t u : Bool) → t ≡ u → map (λ x. x.0) (filter (is_dead_note format test opened) es) ≡ dead_of format shown opened (rows_of es)
+        → map (λ x. x.0) (cond t (e ∷ filter (is_dead_note format test opened) es) (filter (is_dead_note format test opened) es))
+        ≡ map (λ r. r.number) (cond u (row_of e ∷ filter (is_dead_row format shown opened) (rows_of es)) (filter (is_dead_row format shown opened) (rows_of es)))
+    by true true h rest = ap (λ ns. e.0 ∷ ns) rest
+    by true false h rest = absurd (true≢false h)
+    by false true h rest = absurd (false≢true h)
+    by false false h rest = rest
+
+-- a listener waits for its drain timeout among the rows as among the notes
+pub any_waiting : (name : List ℕ) (es : List (ℕ × Note)) → list_any (is_waiting_note name) (values_of es) ≡ list_any (is_waiting name) (rows_of es)
+any_waiting name [] = refl
+any_waiting name (e ∷ es) = ap (λ b. is_waiting name (row_of e) || b) (any_waiting name es)

@@ -1,0 +1,41 @@
+-- What the drain's map holds: what is noted of a row, by its number.
+use Rattle.std.specs.Prelude.{ℕ, Bool, not, ◌==◌, ◌&&◌, ◌||◌, List, map}
+use Rattle.ev_types.specs.declared.journals.Format.{Format}
+use Rattle.ev_model.specs.World.{OpenMember}
+use Rattle.ev_model.specs.Dead.{is_dead_at, waits_for_timer}
+use Rattle.ev_ledger.specs.Members.{count_of}
+use Rattle.std.specs.Str.{bytes_eq}
+use Rattle.ev_types.specs.Kinds.{kind_same}
+use Rattle.ev_types.specs.declared.contents.Kind.TheVariants.{Lds}
+use Rattle.ev_model.specs.Signals.{is_draining}
+use Rattle.ev_drain.specs.declared.notes.Note.{Note}
+use Rattle.ev_drain.specs.Retired.{Retired}
+
+-- the row of an entry
+abbrev pub row_of : ℕ × Note → Retired
+row_of entry = record {
+  kind = entry.1.kind;
+  number = entry.0;
+  name = entry.1.name;
+  status = entry.1.status;
+  expired = entry.1.expired;
+}
+
+-- the rows of the entries
+abbrev pub rows_of : List (ℕ × Note) → List Retired
+rows_of entries = map row_of entries
+
+-- the note of a draining listener of this name, whose drain timeout hasn't come
+abbrev pub is_waiting_note : List ℕ → Note → Bool
+is_waiting_note name note = ((kind_same note.kind Lds && bytes_eq note.name name) && is_draining note.status) && not note.expired
+
+-- the note once the drain timeout of this name came
+abbrev pub marked_note : List ℕ → Note → Note
+marked_note name note =
+    record note { expired = note.expired || ((kind_same note.kind Lds && bytes_eq note.name name) && is_draining note.status) }
+
+-- nothing holds the generation of an entry any more, by a test of what is shown and the open connections' counts
+abbrev pub is_dead_note : Format → (ℕ → Bool) → List OpenMember → ℕ × Note → Bool
+is_dead_note format shown opened entry =
+    is_dead_at entry.1.status
+    ((shown entry.0 || not (count_of entry.0 opened == 0)) || (waits_for_timer format entry.1.kind && not entry.1.expired))

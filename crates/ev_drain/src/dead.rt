@@ -1,0 +1,68 @@
+ghost use Rattle.std.specs.Prelude.{◌≡◌, ℕ, ◌||◌, ◌&&◌, ◌==◌, not, List, filter, map, nat_eq, IfOk};
+ghost use Rattle.indexmap.specs.IndexSet.{contains};
+ghost use Rattle.ev_model.specs.Dead.{is_dead_at, waits_for_timer};
+ghost use Rattle.ev_ledger.specs.Members.{count_of};
+ghost use Rattle.ev_drain.specs.Notes.{is_dead_note};
+
+use crate::notes::{Note, Notes};
+use ev_ledger::Ledger;
+use ev_types::{Format, Gen, Kind, RowStatus};
+use indexmap::IndexSet;
+use std::alloc::{AllocError, Global};
+
+/// The numbers of the notes of generations that nothing holds, in order.
+pub(crate) fn dead_notes(
+    alloc: Global,
+    notes: &Notes,
+    format: Format,
+    ledger: &Ledger,
+    shown: &IndexSet<Gen>,
+) -> Result<Vec<Gen>, AllocError>
+    ensures { IfOk result (λ dead. dead.items ≡ map (λ entry. entry.0) (filter (is_dead_note format (contains nat_eq shown.now) ledger.now) notes.now.entries)) }
+{
+    notes
+        .iter()
+        .filter(|entry| is_dead(format, ledger, shown, *entry.0, entry.1))
+        .map(|(number, _)| *number)
+        .collect(alloc)
+}
+
+// Whether nothing holds a generation any more.
+fn is_dead(
+    format: Format,
+    ledger: &Ledger,
+    shown: &IndexSet<Gen>,
+    number: Gen,
+    note: &Note,
+) -> bool
+    ensures { result ≡ is_dead_note format (contains nat_eq shown.now) ledger.now (number, note.now) }
+{
+    match note.status {
+        RowStatus::Warming => false,
+        RowStatus::Active => false,
+        RowStatus::Draining => !is_held(format, ledger, shown, number, note),
+        RowStatus::Dropped => true,
+    }
+}
+
+// Whether a picture in use or a connection holds a draining generation, or its drain timeout is awaited.
+fn is_held(
+    format: Format,
+    ledger: &Ledger,
+    shown: &IndexSet<Gen>,
+    number: Gen,
+    note: &Note,
+) -> bool
+    ensures { result ≡ ((contains nat_eq shown.now number || not (count_of number ledger.now == 0)) || (waits_for_timer format note.now.kind && not note.now.expired)) }
+{
+    shown.contains(&number)
+        || ledger.count(number) != 0
+        || (waits_for_timer(format, note.kind) && !note.expired)
+}
+
+// Whether a draining generation of this kind waits for its drain timeout.
+fn waits_for_timer(format: Format, kind: Kind) -> bool
+    ensures { result ≡ waits_for_timer format kind }
+{
+    matches!((format, kind), (Format::Two, Kind::Lds))
+}

@@ -1,0 +1,164 @@
+ghost use Rattle.std.specs.Prelude.{◌≡◌, ◌==◌, ℕ, true, false, not, List, [], ◌∷◌, ◌++◌, filter, map, OnOk, OnErr, IfOk};
+ghost use Rattle.std.specs.List.{list_any};
+ghost use Rattle.ev_model.specs.Sorted.{put_by};
+ghost use Rattle.ev_drain.specs.Notes.{row_of};
+ghost use Rattle.ev_model.specs.World.{World};
+ghost use Rattle.ev_model.specs.Signals.{is_unexpired, unexpired};
+ghost use Rattle.ev_types.specs.Statuses.{is_live};
+ghost use Rattle.ev_types.specs.declared.rows.GenRow.{GenRow};
+ghost use Rattle.ev_model.specs.Picture.{has_number};
+ghost use Rattle.ev_model.specs.Dead.{numbers_in_use};
+ghost use Rattle.ev_model.specs.Publishing.{dead_numbers};
+ghost use Rattle.ev_ledger.specs.Members.{StandsFor as HasOpened};
+ghost use Rattle.ev_drain.specs.Retired.{Retired, newly_retired, comes_before, is_numbered, has_row, kind_of_row, is_expired, is_waiting, marked, dead_of, retired_status, StandsFor};
+
+use crate::dead::dead_notes;
+use crate::notes::{Note, Notes, any_waits, kind_of, mark, numbers, put};
+use ev_ledger::Ledger;
+use ev_types::{Format, Gen, Kind, Name, RowStatus, Shared, TryCopy};
+use std::alloc::{AllocError, Global};
+use std::collections::BTreeMap;
+use std::marker::Model;
+
+/// The generations that drain or were dropped, seen by contracts in the order of their numbers.
+#[derive(Drop)]
+pub struct Drain {
+    notes: Notes,
+}
+
+impl Model for Drain {
+    ghost use Rattle.std.specs.Prelude.{List};
+    ghost use Rattle.ev_drain.specs.Retired.{Retired};
+
+    ghost Value = { List Retired };
+
+    ghost use Rattle.ev_drain.specs.Notes.{rows_of};
+
+    ghost view = { λ d. rows_of d.notes.entries };
+}
+
+impl Drain {
+    /// No generation drains. It takes no memory.
+    pub fn new(alloc: Global) -> Drain
+        ensures empty { result ≡ [] }
+        ensures world { StandsFor result [] [] }
+    {
+        Drain {
+            notes: BTreeMap::new(alloc),
+        }
+    }
+
+    /// Notes a generation that drains from now on, or was dropped. It takes the memory for its mark too. Out of memory, all
+    /// stays as it was.
+    pub fn retire(
+        &mut self,
+        alloc: Global,
+        kind: Kind,
+        number: Gen,
+        name: &Name,
+        dropped: bool,
+    ) -> Result<(), AllocError>
+        requires absent { has_row self.old number ≡ false }
+        ensures retired { OnOk result (self.new ≡ put_by comes_before (newly_retired kind number name.now dropped) self.old) }
+        ensures world { OnOk result ((row : GenRow) (before : List GenRow) (after : List GenRow) (expired : List ℕ) → StandsFor self.old (before ++ row ∷ after) expired → is_live row.status ≡ true → row.kind ≡ kind → row.number ≡ number → row.name ≡ name.now → has_number number expired ≡ false → StandsFor self.new (before ++ record row { status = retired_status dropped } ∷ after) expired) }
+        ensures err { OnErr result (self.new ≡ self.old) }
+    {
+        let Ok(note) = new_note(alloc, kind, name, dropped) else {
+            return Err(AllocError);
+        };
+        let Ok(_) = put(&mut self.notes, number, note) else {
+            return Err(AllocError);
+        };
+        Ok(())
+    }
+
+    /// The kind of a generation that was retired, and not removed since. It takes no memory.
+    pub fn kind(&self, number: Gen) -> Option<Kind>
+        ensures kind { result ≡ kind_of_row self.now number }
+    {
+        match self.notes.get(&number) {
+            Some(note) => Some(kind_of(note)),
+            None => None,
+        }
+    }
+
+    /// Whether the drain timeout of a generation came. It takes no memory.
+    pub fn expired(&self, number: Gen) -> bool
+        ensures expired { result ≡ is_expired self.now number }
+    {
+        match self.notes.get(&number) {
+            Some(note) => note.expired,
+            None => false,
+        }
+    }
+
+    /// The drain timeout of a listener's old generations: it came for those of this name that drain. It answers whether there
+    /// was one for which it hadn't come. It takes no memory.
+    pub fn expire(&mut self, name: &Name) -> bool
+        ensures answer { result ≡ list_any (is_waiting name.now) self.old }
+        ensures marked { self.new ≡ map (marked name.now) self.old }
+        ensures answer_by_world { (rows : List GenRow) (expired : List ℕ) → StandsFor self.old rows expired → result ≡ list_any (is_unexpired expired name.now) rows }
+        ensures world { (rows : List GenRow) (expired : List ℕ) → StandsFor self.old rows expired → StandsFor self.new rows (expired ++ unexpired expired name.now rows) }
+    {
+        let text = name.as_str();
+        let meant = any_waits(&self.notes, text);
+        mark(&mut self.notes, text);
+        meant
+    }
+
+    /// The numbers of the generations that nothing holds any more, from the least, by a journal's format: `ledger` has the open
+    /// connections, and `shown` is what pictures in use show. It asks for counts, and looks at no connection.
+    pub fn dead(
+        &self,
+        alloc: Global,
+        format: Format,
+        ledger: &Ledger,
+        shown: &[Gen],
+    ) -> Result<Vec<Gen>, AllocError>
+        ensures dead { IfOk result (λ dead. dead.items ≡ dead_of format shown.now ledger.now self.now) }
+        ensures world { IfOk result (λ dead. (world : World) → StandsFor self.now world.rows world.expired → HasOpened ledger.now world.opened → ((n : ℕ) → has_number n shown.now ≡ has_number n (numbers_in_use world)) → dead.items ≡ dead_numbers format world) }
+    {
+        let shown = numbers(alloc, shown)?;
+        dead_notes(alloc, &self.notes, format, ledger, &shown)
+    }
+
+    /// Takes a generation out. It takes no memory.
+    pub fn remove(&mut self, number: Gen)
+        ensures removed { self.new ≡ filter (λ row. not (is_numbered number row)) self.old }
+        ensures world { (rows : List GenRow) (expired : List ℕ) → StandsFor self.old rows expired → StandsFor self.new (filter (λ row. not (row.number == number)) rows) (filter (λ n. not (n == number)) expired) }
+    {
+        let _ = self.notes.len();
+        let _ = self.notes.remove(&number);
+    }
+}
+
+impl TryCopy for Drain {
+    fn copy(&self, _alloc: Global) -> Result<Drain, AllocError> {
+        Ok(Drain {
+            notes: self.notes.clone()?,
+        })
+    }
+}
+
+// What is noted of a row that is retired now.
+fn new_note(alloc: Global, kind: Kind, name: &Name, dropped: bool) -> Result<Note, AllocError>
+    ensures { IfOk result (λ note. (number : ℕ) → row_of (number, note) ≡ newly_retired kind number name.now dropped) }
+{
+    Ok(Note {
+        kind,
+        name: Shared::new(alloc, name.copy(alloc)?)?,
+        status: status_of(dropped),
+        expired: false,
+    })
+}
+
+// The status of a row that was retired.
+fn status_of(dropped: bool) -> RowStatus
+    ensures { result ≡ retired_status dropped }
+{
+    if dropped {
+        RowStatus::Dropped
+    } else {
+        RowStatus::Draining
+    }
+}

@@ -1,0 +1,72 @@
+use Rattle.std.proofs.Common.{◌≡◌, ℕ, ◌≤◌, ◌+◌, Some, None, true, false, refl, sym, ap, ◌∙◌, arith}
+use Rattle.std.specs.Option.{is_some}
+use Rattle.std.specs.Map.{lookup, remove_entry}
+use Rattle.std.specs.BTreeMap.{is_at}
+use Rattle.ev_model.specs.Connections.{is_open, closed}
+use Rattle.ev_ledger.specs.Entries.{key_order, members_of, weight, counted}
+use Rattle.ev_ledger.proofs.EntryLemmas.{found_open, closed_members, sum_taken}
+use Rattle.ev_ledger.proofs.PlaceLemmas.{close_stands, answer_stands}
+use Rattle.ev_ledger.proofs.ledger.Ledger.close.Goals as goal
+
+answer_none : goal.returns-in_default-clause-answer
+answer_none c =
+    sym (ap is_some c.in_default.is) ∙ ap is_some c.take.ensures.found ∙ found_open c.args.worker c.args.conn c.self.inside.members.entries
+    ∙ ap (λ ms. is_open ms c.args.worker c.args.conn) c.self.view_is
+
+closed_none : goal.returns-in_default-clause-closed
+closed_none c =
+    ap members_of c.take.ensures.entries ∙ closed_members c.args.worker c.args.conn c.self.inside.members.entries c.take.ensures.ordered
+    ∙ ap (λ ms. (closed c.args.conn c.args.worker ms).opened) c.self.view_is
+
+answer_some : goal.returns-clause-answer
+answer_some c =
+    sym (ap is_some c.in-Some.is) ∙ ap is_some c.take.ensures.found ∙ found_open c.args.worker c.args.conn c.self.inside.members.entries
+    ∙ ap (λ ms. is_open ms c.args.worker c.args.conn) c.self.view_is
+
+closed_some : goal.returns-clause-closed
+closed_some c =
+    ap members_of c.take.ensures.entries ∙ closed_members c.args.worker c.args.conn c.self.inside.members.entries c.take.ensures.ordered
+    ∙ ap (λ ms. (closed c.args.conn c.args.worker ms).opened) c.self.view_is
+
+pub invariant_of-self : goal.invariant_of-self
+invariant_of-self c number =
+    let sums = sum_taken number (c.args.worker, c.args.conn) c.take.result c.self.inside.members.entries c.take.new.members.entries None c.take.ensures.found c.take.ensures.entries c.in_default.is in
+    let counts = c.self.invariant number in
+    omega (arith, sums, counts)
+
+pub returns-in_default-clause-answer : goal.returns-in_default-clause-answer
+returns-in_default-clause-answer c = answer_none c
+
+pub returns-in_default-clause-closed : goal.returns-in_default-clause-closed
+returns-in_default-clause-closed c = closed_none c
+
+pub returns-in_default-clause-answer_by_world : goal.returns-in_default-clause-answer_by_world
+returns-in_default-clause-answer_by_world c opened stands = answer_none c ∙ answer_stands c.args.worker c.args.conn c.args.self.now opened stands
+
+pub returns-in_default-clause-world : goal.returns-in_default-clause-world
+returns-in_default-clause-world c opened stands = closed_none c ∙ close_stands c.args.worker c.args.conn c.args.self.now opened stands
+
+pub lower_on-requires : goal.lower_on-requires
+lower_on-requires c number =
+    let sums = sum_taken number (c.args.worker, c.args.conn) c.take.result c.self.inside.members.entries c.take.new.members.entries (Some c.in-Some.on) c.take.ensures.found c.take.ensures.entries c.in-Some.is in
+    let counts = c.self.invariant number in
+    omega (arith, sums, counts)
+
+pub invariant_of-self-2 : goal.invariant_of-self-2
+invariant_of-self-2 c number =
+    let sums = sum_taken number (c.args.worker, c.args.conn) c.take.result c.self.inside.members.entries c.take.new.members.entries (Some c.in-Some.on) c.take.ensures.found c.take.ensures.entries c.in-Some.is in
+    let counts = c.self.invariant number in
+    let lowered = c.lower_on.ensures number in
+    omega (arith, sums, counts, lowered)
+
+pub returns-clause-answer : goal.returns-clause-answer
+returns-clause-answer c = answer_some c
+
+pub returns-clause-closed : goal.returns-clause-closed
+returns-clause-closed c = closed_some c
+
+pub returns-clause-answer_by_world : goal.returns-clause-answer_by_world
+returns-clause-answer_by_world c opened stands = answer_some c ∙ answer_stands c.args.worker c.args.conn c.args.self.now opened stands
+
+pub returns-clause-world : goal.returns-clause-world
+returns-clause-world c opened stands = closed_some c ∙ close_stands c.args.worker c.args.conn c.args.self.now opened stands

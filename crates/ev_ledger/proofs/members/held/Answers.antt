@@ -1,0 +1,18 @@
+use Rattle.std.proofs.Common.{◌≡◌, ℕ, List, Option, map, filter, length, ◌∙◌, rules}
+use Rattle.std.proofs.lemmas.Result.{IfOk-weaker}
+use Rattle.std.proofs.lemmas.Iterator.{YieldsList-from_map}
+use Rattle.std.proofs.lemmas.Iterator.Adapters.{fact_from_collect}
+use Rattle.std.proofs.lemmas.Iterator.Consumers.{YieldsList-from_rest, YieldsList-at}
+use Rattle.ev_ledger.specs.Entries.{held_at, is_at_worker}
+use Rattle.ev_ledger.proofs.EntryLemmas.{range_of_worker}
+use Rattle.ev_ledger.proofs.members.held.Goals as goal
+
+pub returns : goal.returns
+returns c =
+    IfOk-weaker c.collect.result _ _ (λ v h. h.0)
+    (fact_from_collect (λ xs v. (v.items ≡ xs) × (v.len ≡ length xs)) c.collect.result c.collect.ensures.ran
+    (YieldsList-from_map _ held_at
+    (YieldsList-at c.map.ensures.source
+    (YieldsList-from_rest (filter (is_at_worker c.args.worker) c.args.members.now.entries)
+    (c.range.ensures.between tt ∙ range_of_worker c.args.worker c.args.members.now.entries)))
+    c.map.ensures.closure (λ x r q k. search rules)))

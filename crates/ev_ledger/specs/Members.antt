@@ -1,0 +1,39 @@
+-- The open connections as the ledger has them: in one order, by worker and number, so that those of a worker stand together.
+use Rattle.std.specs.Prelude.{◌≡◌, ℕ, Bool, ◌==◌, List, [], ◌∷◌, ◌++◌, length, filter, map}
+use Rattle.std.specs.Ordering.{ordering_then, nat_cmp, is_le}
+use Rattle.std.specs.declared.cmp.Ordering.{Ordering}
+use Rattle.ev_model.specs.World.{OpenMember}
+use Rattle.ev_model.specs.Sorted.{sorted_by}
+use Rattle.ev_model.specs.Dead.{is_open_on}
+
+-- connections compare by worker, and those of one worker by number
+abbrev pub place_order : OpenMember → OpenMember → Ordering
+place_order one other = ordering_then (nat_cmp one.worker other.worker) (nat_cmp one.connection other.connection)
+
+-- the first stands before the second, or they are of one worker and number
+abbrev pub comes_before : OpenMember → OpenMember → Bool
+comes_before one other = is_le (place_order one other)
+
+-- open connections by worker and number
+abbrev pub in_order : List OpenMember → List OpenMember
+in_order opened = sorted_by comes_before opened
+
+-- a ledger has exactly these open connections
+abbrev pub StandsFor : List OpenMember → List OpenMember → Type 0
+StandsFor ledger opened = ledger ≡ in_order opened
+
+-- how many of these connections are open on the generation of this number, as its listener or its cluster
+abbrev pub count_of : ℕ → List OpenMember → ℕ
+count_of number opened = length (filter (is_open_on number) opened)
+
+-- the connection is this worker's
+abbrev pub is_of_worker : ℕ → OpenMember → Bool
+is_of_worker worker member = member.worker == worker
+
+-- a connection's number and its listener
+abbrev pub connection_of : OpenMember → ℕ × ℕ
+connection_of member = (member.connection, member.listener)
+
+-- the worker's connections of an ordered list, each with its listener
+abbrev pub held_of : ℕ → List OpenMember → List (ℕ × ℕ)
+held_of worker members = map connection_of (filter (is_of_worker worker) members)

@@ -1,0 +1,110 @@
+ghost use Rattle.std.specs.Prelude.{◌≡◌, false, List, [], ◌∷◌, ◌++◌, OnOk, OnErr, IfOk};
+ghost use Rattle.ev_model.specs.World.{OpenMember};
+ghost use Rattle.ev_model.specs.Sorted.{put_by};
+ghost use Rattle.ev_model.specs.Connections.{is_open, member_on, closed};
+ghost use Rattle.ev_ledger.specs.Members.{comes_before, in_order, StandsFor, count_of, held_of};
+
+use crate::counts::{count_in, lower_on, raise_on};
+use crate::members::{Members, held, put, take};
+use ev_types::{Gen, TryCopy};
+use indexmap::IndexMap;
+use std::alloc::{AllocError, Global};
+use std::collections::BTreeMap;
+use std::marker::Model;
+
+/// The connections that workers have open, seen by contracts as the list of them by worker and number.
+#[derive(Drop)]
+pub struct Ledger {
+    members: Members,
+    // How many of them are open on a generation, by its number.
+    counts: IndexMap<u32, u64>,
+}
+
+impl Model for Ledger {
+    ghost use Rattle.std.specs.Prelude.{List};
+    ghost use Rattle.ev_model.specs.World.{OpenMember};
+    ghost use Rattle.ev_ledger.specs.Entries.{members_of, AreCounts};
+
+    ghost Value = { List OpenMember };
+
+    ghost view = { λ l. members_of l.members.entries };
+
+    ghost invariant = { λ l. AreCounts l.counts l.members.entries };
+}
+
+impl Ledger {
+    /// No connection is open. It takes no memory.
+    pub fn new(alloc: Global) -> Ledger
+        ensures empty { result ≡ [] }
+        ensures stands { StandsFor result [] }
+    {
+        Ledger {
+            members: BTreeMap::new(alloc),
+            counts: IndexMap::new(alloc),
+        }
+    }
+
+    /// How many connections are open on a generation, as their listener or their cluster. It looks at no connection.
+    pub fn count(&self, number: Gen) -> u64
+        ensures count { result ≡ count_of number self.now }
+        ensures world { (opened : List OpenMember) → StandsFor self.now opened → result ≡ count_of number opened }
+    {
+        count_in(&self.counts, number.number())
+    }
+
+    /// Opens a worker's connection on a listener and, where it was forwarded, on a cluster. The worker has none of this number
+    /// open. Out of memory, all stays as it was.
+    pub fn open(
+        &mut self,
+        worker: u32,
+        conn: u64,
+        listener: Gen,
+        cluster: Option<Gen>,
+    ) -> Result<(), AllocError>
+        requires apart { is_open self.old worker conn ≡ false }
+        ensures opened { OnOk result (self.new ≡ put_by comes_before (member_on worker conn listener cluster) self.old) }
+        ensures world { OnOk result ((opened : List OpenMember) → StandsFor self.old opened → StandsFor self.new (opened ++ member_on worker conn listener cluster ∷ [])) }
+        ensures err { OnErr result (self.new ≡ self.old) }
+    {
+        let Ok(_) = self.counts.reserve(2) else {
+            return Err(AllocError);
+        };
+        let forwarded = cluster;
+        let Ok(_) = put(&mut self.members, (worker as u64, conn), (listener, forwarded)) else {
+            return Err(AllocError);
+        };
+        raise_on(&mut self.counts, (listener, cluster));
+        Ok(())
+    }
+
+    /// Closes a worker's connection and answers whether it was open there. It takes no memory.
+    pub fn close(&mut self, worker: u32, conn: u64) -> bool
+        ensures answer { result ≡ is_open self.old worker conn }
+        ensures closed { self.new ≡ (closed conn worker self.old).opened }
+        ensures answer_by_world { (opened : List OpenMember) → StandsFor self.old opened → result ≡ is_open opened worker conn }
+        ensures world { (opened : List OpenMember) → StandsFor self.old opened → StandsFor self.new (closed conn worker opened).opened }
+    {
+        let Some(on) = take(&mut self.members, (worker as u64, conn)) else {
+            return false;
+        };
+        lower_on(&mut self.counts, on);
+        true
+    }
+
+    /// The connections that a worker has open, each with its listener, by their numbers from the least.
+    pub fn held_by(&self, alloc: Global, worker: u32) -> Result<Vec<(u64, Gen)>, AllocError>
+        ensures held { IfOk result (λ held. held.items ≡ held_of worker self.now) }
+        ensures world { IfOk result (λ held. (opened : List OpenMember) → StandsFor self.now opened → held.items ≡ held_of worker (in_order opened)) }
+    {
+        held(alloc, &self.members, worker as u64)
+    }
+}
+
+impl TryCopy for Ledger {
+    fn copy(&self, _alloc: Global) -> Result<Ledger, AllocError> {
+        Ok(Ledger {
+            members: self.members.clone()?,
+            counts: self.counts.clone()?,
+        })
+    }
+}

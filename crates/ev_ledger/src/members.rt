@@ -1,0 +1,57 @@
+ghost use Rattle.std.specs.Prelude.{◌≡◌, ◌<◌, ◌^◌, ◌+◌, ◌==◌, length, map, filter, IfOk, OnOk, OnErr};
+ghost use Rattle.std.specs.Map.{lookup, remove_entry};
+ghost use Rattle.std.specs.BTreeMap.{insert_entry, is_at, IsOrdered};
+ghost use Rattle.ev_ledger.specs.Entries.{key_order, held_at, is_at_worker};
+
+use ev_types::Gen;
+use std::alloc::{AllocError, Global};
+use std::collections::BTreeMap;
+
+/// The open connections: by worker and number, the listener and, where it was forwarded, the cluster. A worker's number has
+/// 64 bits here, so that there is one above each.
+pub(crate) type Members = BTreeMap<(u64, u64), (Gen, Option<Gen>)>;
+
+/// Puts a connection among the others. Out of memory, they stay as they were.
+pub(crate) fn put(
+    members: &mut Members,
+    place: (u64, u64),
+    on: (Gen, Option<Gen>),
+) -> Result<(), AllocError>
+    ensures entries { OnOk result (members.new.entries ≡ insert_entry key_order members.old.entries place on) }
+    ensures err { OnErr result (members.new.entries ≡ members.old.entries) }
+    ensures few { length members.old.entries < 2 ^ 63 }
+    ensures ordered { IsOrdered key_order members.old }
+{
+    // How many there are fits, whatever they are.
+    let _ = members.len();
+    let Ok(_) = members.insert(place, on) else {
+        return Err(AllocError);
+    };
+    Ok(())
+}
+
+/// Takes a connection out, where it is there. It takes no memory.
+pub(crate) fn take(members: &mut Members, place: (u64, u64)) -> Option<(Gen, Option<Gen>)>
+    ensures found { result ≡ lookup (is_at (key_order place)) members.old.entries }
+    ensures entries { members.new.entries ≡ remove_entry (is_at (key_order place)) members.old.entries }
+    ensures ordered { IsOrdered key_order members.old }
+{
+    // They stand in the order of their places.
+    let _ = members.len();
+    members.remove(&place)
+}
+
+/// The numbers of a worker's connections, each with its listener.
+pub(crate) fn held(
+    alloc: Global,
+    members: &Members,
+    worker: u64,
+) -> Result<Vec<(u64, Gen)>, AllocError>
+    requires { worker + 1 < 2 ^ 64 }
+    ensures { IfOk result (λ held. held.items ≡ map held_at (filter (is_at_worker worker) members.now.entries)) }
+{
+    members
+        .range((worker, 0)..(worker + 1, 0))
+        .map(|(place, on)| (place.1, on.0))
+        .collect(alloc)
+}
