@@ -105,7 +105,7 @@ dead_stands format shown drain opened world stands holds shows =
     let dead : Retired → Bool = is_dead_row format shown opened in
     let retired : GenRow → Retired = retired_in world.expired in
     let opens : (n : ℕ) → list_any (is_open_on n) opened ≡ list_any (is_open_on n) world.opened =
-        λ n. ap (list_any (is_open_on n)) holds ∙ any_sorted member_before (is_open_on n) world.opened in
+    λ n. ap (list_any (is_open_on n)) holds ∙ any_sorted member_before (is_open_on n) world.opened in
     ap (λ rs. map (λ (r : Retired). r.number) (filter dead rs)) stands
     ∙ ap (map (λ (r : Retired). r.number)) (filter_sorted comes_before number_order dead (map retired (filter is_retired world.rows)))
     ∙ sorted_mapped comes_before nat_le (λ (r : Retired). r.number) (λ x y. le_same x.number y.number) (filter dead (map retired (filter is_retired world.rows)))
@@ -254,10 +254,10 @@ retire_stands row dropped drain before after expired stands live absent unmarked
     let one : Retired = newly_retired row.kind row.number row.name dropped in
     let others : List Retired = retired_around expired before after in
     let was : map (retired_in expired) (filter is_retired (before ++ row ∷ after)) ≡ others =
-        split_retired expired before (row ∷ after) ∙ ap (λ rs. map (retired_in expired) (filter is_retired before) ++ map (retired_in expired) rs) (live_gone row after live) in
+    split_retired expired before (row ∷ after) ∙ ap (λ rs. map (retired_in expired) (filter is_retired before) ++ map (retired_in expired) rs) (live_gone row after live) in
     let none : list_any (is_numbered row.number) others ≡ false =
-        sym (any_sorted comes_before (is_numbered row.number) others) ∙ ap (λ rs. list_any (is_numbered row.number) (sorted_by comes_before rs)) (sym was)
-        ∙ ap (list_any (is_numbered row.number)) (sym stands) ∙ absent in
+    sym (any_sorted comes_before (is_numbered row.number) others) ∙ ap (λ rs. list_any (is_numbered row.number) (sorted_by comes_before rs)) (sym was)
+    ∙ ap (list_any (is_numbered row.number)) (sym stands) ∙ absent in
     ap (put_by comes_before one) (stands ∙ ap (sorted_by comes_before) was)
     ∙ sym (sorted_middle comes_before number_order one (map (retired_in expired) (filter is_retired before)) (map (retired_in expired) (filter is_retired after))
     (apart_rows one (map (retired_in expired) (filter is_retired before)) (any_first (is_numbered row.number) (map (retired_in expired) (filter is_retired before)) (map (retired_in expired) (filter is_retired after)) none)))
@@ -361,9 +361,9 @@ expire_stands name drain rows expired distinct stands =
     let kept : List GenRow = filter is_retired rows in
     let marks : List ℕ = unexpired expired name rows in
     let apart : Distinct (λ (r : GenRow). r.number) kept =
-        mapped_distinct expired kept (sorted_distinct (λ (r : Retired). r.number) comes_before (map (retired_in expired) kept) (subst (Distinct (λ (r : Retired). r.number)) stands distinct)) in
+    mapped_distinct expired kept (sorted_distinct (λ (r : Retired). r.number) comes_before (map (retired_in expired) kept) (subst (Distinct (λ (r : Retired). r.number)) stands distinct)) in
     let same : marks ≡ map (λ (r : GenRow). r.number) (filter (is_unexpired expired name) kept) =
-        ap (map (λ (r : GenRow). r.number)) (sym (filter_both is_retired (is_unexpired expired name) (is_unexpired expired name) (unexpired_retired expired name) rows)) in
+    ap (map (λ (r : GenRow). r.number)) (sym (filter_both is_retired (is_unexpired expired name) (is_unexpired expired name) (unexpired_retired expired name) rows)) in
     ap (map (marked name)) stands
     ∙ sorted_mapped comes_before comes_before (marked name) (λ x y. refl) (map (retired_in expired) kept)
     ∙ ap (sorted_by comes_before) (mapped_twice (marked name) (retired_in expired) kept

@@ -28,13 +28,7 @@ pub(crate) fn dead_notes(
 }
 
 // Whether nothing holds a generation any more.
-fn is_dead(
-    format: Format,
-    ledger: &Ledger,
-    shown: &IndexSet<Gen>,
-    number: Gen,
-    note: &Note,
-) -> bool
+fn is_dead(format: Format, ledger: &Ledger, shown: &IndexSet<Gen>, number: Gen, note: &Note) -> bool
     ensures { result ≡ is_dead_note format (contains nat_eq shown.now) ledger.now (number, note.now) }
 {
     match note.status {
@@ -46,13 +40,7 @@ fn is_dead(
 }
 
 // Whether a picture in use or a connection holds a draining generation, or its drain timeout is awaited.
-fn is_held(
-    format: Format,
-    ledger: &Ledger,
-    shown: &IndexSet<Gen>,
-    number: Gen,
-    note: &Note,
-) -> bool
+fn is_held(format: Format, ledger: &Ledger, shown: &IndexSet<Gen>, number: Gen, note: &Note) -> bool
     ensures { result ≡ ((contains nat_eq shown.now number || not (count_of number ledger.now == 0)) || (waits_for_timer format note.now.kind && not note.now.expired)) }
 {
     shown.contains(&number)

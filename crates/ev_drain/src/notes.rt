@@ -53,7 +53,9 @@ pub(crate) fn kind_of(note: &Note) -> Kind
 pub(crate) fn is_draining_listener(note: &Note, name: &str) -> bool
     ensures { result ≡ ((kind_same note.now.kind Lds && bytes_eq note.now.name name.now) && is_draining note.now.status) }
 {
-    note.kind.is(Kind::Lds) && note.name.get().as_str() == name && matches!(note.status, RowStatus::Draining)
+    note.kind.is(Kind::Lds)
+        && note.name.get().as_str() == name
+        && matches!(note.status, RowStatus::Draining)
 }
 
 /// The notes by number.

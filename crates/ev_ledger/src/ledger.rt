@@ -70,7 +70,11 @@ impl Ledger {
             return Err(AllocError);
         };
         let forwarded = cluster;
-        let Ok(_) = put(&mut self.members, (worker as u64, conn), (listener, forwarded)) else {
+        let Ok(_) = put(
+            &mut self.members,
+            (worker as u64, conn),
+            (listener, forwarded),
+        ) else {
             return Err(AllocError);
         };
         raise_on(&mut self.counts, (listener, cluster));
