@@ -26,6 +26,7 @@ first_fault input header place kind read at_first told = by_tree (tree_at input 
         let same : NotHeader ≡ kind = cc in
         subst (IsFirstFault plain_lines input place) same (header_first input header place tree read at_first e f)
     by_header tree e (Some h) f g = cc
+
     by_tree : (found : Option Data) → tree_at input place ≡ found → first_tree found ≡ first.Fault kind → IsFirstFault plain_lines input place kind
     by_tree None e f =
         let same : NotJson ≡ kind = cc in
@@ -47,14 +48,17 @@ line_fault input header place kind read later told = by_tree (tree_at input plac
         let names : plain_lines (index_at input place + 1) tree ≡ Some (Some above.0) = ap (option_map (λ (l : Line). worker_of l.actor)) g ∙ ap Some above.1 in
         subst (IsFirstFault plain_lines input place) same (worker_first input header place tree above.0 read (no_journal input place tree e f) later e names above.2)
     by_worker tree e f line g false t h = cc
+
     by_line : (tree : Data) → tree_at input place ≡ Some tree → (input.audit && has_format tree) ≡ false → (found : Option Line) → line_of (index_at input place + 1) tree ≡ found → content_of header.workers found ≡ is.Fault kind → IsFirstFault plain_lines input place kind
     by_line tree e f None g h =
         let same : NotLine ≡ kind = cc in
         subst (IsFirstFault plain_lines input place) same (line_first input header place tree read (no_journal input place tree e f) later e (ap (option_map (λ (l : Line). worker_of l.actor)) g))
     by_line tree e f (Some line) g h = by_worker tree e f line g (is_above header.workers (worker_of line.actor)) refl h
+
     by_format : (tree : Data) → tree_at input place ≡ Some tree → (test : Bool) → (input.audit && has_format tree) ≡ test → cond test is.Journal (content_of header.workers (line_of (index_at input place + 1) tree)) ≡ is.Fault kind → IsFirstFault plain_lines input place kind
     by_format tree e true f g = cc
     by_format tree e false f g = by_line tree e f (line_of (index_at input place + 1) tree) refl g
+
     by_tree : (found : Option Data) → tree_at input place ≡ found → content_tree input.audit header.workers (index_at input place + 1) found ≡ is.Fault kind → IsFirstFault plain_lines input place kind
     by_tree None e f =
         let same : NotJson ≡ kind = cc in
@@ -73,14 +77,17 @@ journal_begins input place workers at ends later told = by_tree (tree_at input p
     not_line : (test : Bool) (line : Line) → cond test (is.Fault NoSuchWorker) (is.Line line) ≡ is.Journal → ⊥
     not_line true line e = cc
     not_line false line e = cc
+
     no_line : (found : Option Line) → content_of workers found ≡ is.Journal → ⊥
     no_line None e = cc
     no_line (Some line) e = not_line (is_above workers (worker_of line.actor)) line e
+
     by_format : (tree : Data) → tree_at input place ≡ Some tree → (test : Bool) → (input.audit && has_format tree) ≡ test → cond test is.Journal (content_of workers (line_of at tree)) ≡ is.Journal → BeginsJournal input place
     by_format tree e true f g =
         let both = by_both input.audit (has_format tree) f in
         record { audit = both.0; ends = ends; later = later; format = (tree, e, both.1) }
     by_format tree e false f g = absurd (no_line (line_of at tree) g)
+
     by_tree : (found : Option Data) → tree_at input place ≡ found → content_tree input.audit workers at found ≡ is.Journal → BeginsJournal input place
     by_tree None e f = cc
     by_tree (Some tree) e f = by_format tree e (input.audit && has_format tree) refl f

@@ -166,14 +166,17 @@ after_line input header place tree named NotJournal read later e f s = omega ari
 -- another line whose worker isn't below the count
 pub worker_first : (input : Input) (header : Header) (place : ℕ) (tree : Data) (worker : ℕ) → IsReadBefore input header place → ¬ (BeginsJournal input place) → 0 < index_at input place → tree_at input place ≡ Some tree → plain_lines (index_at input place + 1) tree ≡ Some (Some worker) → header.workers ≤ worker → IsFirstFault plain_lines input place NoSuchWorker
 worker_first input header place tree worker read no_journal later e f above =
-    first_at input header place NoSuchWorker read
-    (script_line input header place read no_journal, later, record {
-      worker = worker;
-      header = header;
-      names = ap (option_and_then (plain_lines (index_at input place + 1))) e ∙ f;
-      heads = head_is input.audit (lines_of input.bytes) header (index_at input place) read.read later;
-      above = above;
-    })
+    first_at input header place NoSuchWorker read (
+      script_line input header place read no_journal,
+      later,
+      record {
+        worker = worker;
+        header = header;
+        names = ap (option_and_then (plain_lines (index_at input place + 1))) e ∙ f;
+        heads = head_is input.audit (lines_of input.bytes) header (index_at input place) read.read later;
+        above = above;
+      },
+    )
     (λ k s. after_line input header place tree (Some worker) k read later e f s)
 
 -- ---- whole inputs

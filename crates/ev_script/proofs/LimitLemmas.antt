@@ -114,9 +114,11 @@ closed_or_more (b ∷ c ∷ cs) = by_rest (closed_or_more (c ∷ cs))
     by_test true rest e = omega (arith, e)
     by_test false [] e = absurd (omega (arith, e))
     by_test false (line ∷ rest) e = e
+
     further : IsClosed (c ∷ cs) → IsClosed (b ∷ c ∷ cs)
     further closed zero h = absurd (omega arith)
     further closed (suc k) h = closed k (omega arith)
+
     by_rest : IsClosed (c ∷ cs) ⊎ (feeds_in (c ∷ cs) + 1 ≡ length (lines_of (c ∷ cs))) → IsClosed (b ∷ c ∷ cs) ⊎ (feeds_in (b ∷ c ∷ cs) + 1 ≡ length (lines_of (b ∷ c ∷ cs)))
     by_rest (inl closed) = inl (further closed)
     by_rest (inr more) = inr (by_test (eqb b 10) (lines_of (c ∷ cs)) more)
@@ -139,12 +141,14 @@ closed_end audit state bytes h some closed =
     let all : length bytes ≡ length h.front + length state.pending = ap length h.parts ∙ length-append h.front state.pending in
     let front : take (suc place) bytes ≡ h.front = ap (take (suc place)) h.parts ∙ take-append-le (suc place) h.front state.pending (omega arith) ∙ take_all (suc place) h.front (omega arith) in
     let feeds : feeds_in (take (suc place) bytes) ≡ suc (feeds_in (take place bytes)) = feeds_with bytes place (omega arith) here in
-    let same : feeds_in (take (suc place) bytes) ≡ feeds_in h.front = ap feeds_in front in
-    (place, record {
-      ends = inl (omega arith, here);
-      index = omega arith;
-      sound = λ other below up_to. h.sound other (omega arith);
-    })
+    let same : feeds_in (take (suc place) bytes) ≡ feeds_in h.front = ap feeds_in front in (
+      place,
+      record {
+        ends = inl (omega arith, here);
+        index = omega arith;
+        sound = λ other below up_to. h.sound other (omega arith);
+      },
+    )
   where
     some_byte : (bs : List ℕ) → 0 < feeds_in bs → 0 < length bs
     some_byte [] k = absurd (omega arith)
@@ -157,12 +161,14 @@ open_end audit state bytes h ended none more =
     let lines : length (lines_of bytes) ≡ length (lines_of h.front) = ap (λ (bs : List ℕ). length (lines_of bs)) front in
     let whole : feeds_in (take (length bytes) bytes) ≡ feeds_in bytes = ap feeds_in (take_all (length bytes) bytes (omega arith)) in
     let long : length bytes ≡ length h.front = ap length front in
-    let given : state.given ≡ length (lines_of h.front) = h.lines in
-    (length bytes, record {
-      ends = inr (ended, refl, omega arith);
-      index = omega arith;
-      sound = λ other below up_to. h.sound other (omega arith);
-    })
+    let given : state.given ≡ length (lines_of h.front) = h.lines in (
+      length bytes,
+      record {
+        ends = inr (ended, refl, omega arith);
+        index = omega arith;
+        sound = λ other below up_to. h.sound other (omega arith);
+      },
+    )
 
 -- where the last line that was given ends
 pub last_end : (audit : Bool) (state : LinesState) (bytes : List ℕ) → HasTaken state bytes → 0 < state.given → (place : ℕ) × IsLastEnd record { bytes = bytes; ended = state.ended; audit = audit } state.given place
@@ -173,6 +179,7 @@ last_end audit state bytes h some = by_closed h.closed
         let front : bytes ≡ h.front = h.parts ∙ ap (λ (bs : List ℕ). h.front ++ bs) none ∙ append-nil h.front in
         closed_end audit state bytes h some (subst IsClosed front closed)
     by_end ended none (inr more) = open_end audit state bytes h ended none more
+
     by_closed : IsClosed h.front ⊎ (IsTrue state.ended × (state.pending ≡ [])) → (place : ℕ) × IsLastEnd record { bytes = bytes; ended = state.ended; audit = audit } state.given place
     by_closed (inl closed) = closed_end audit state bytes h some closed
     by_closed (inr end) = by_end end.0 end.1 (closed_or_more bytes)

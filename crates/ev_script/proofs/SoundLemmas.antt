@@ -67,13 +67,13 @@ sound_other input place n i header read some within e =
     let r : IsRead input.audit header.workers (i + 1) (tree_of (get_or (lines_of input.bytes) i [])) line = line_is input.audit header.workers (i + 1) (tree_of (get_or (lines_of input.bytes) i [])) line given.1 in
     let tree : tree_at input place ≡ Some r.tree = ap (λ (i : ℕ). tree_of (get_or (lines_of input.bytes) i [])) e ∙ r.is in
     let named : option_and_then (plain_lines (index_at input place + 1)) (tree_at input place) ≡ Some (worker_of line.actor) =
-        ap (λ (i : ℕ). option_and_then (plain_lines (i + 1)) (tree_at input place)) e
-        ∙ ap (option_and_then (plain_lines (i + 1))) tree
-        ∙ ap (option_map (λ (line : Line). worker_of line.actor)) r.reads in
+    ap (λ (i : ℕ). option_and_then (plain_lines (i + 1)) (tree_at input place)) e
+    ∙ ap (option_and_then (plain_lines (i + 1))) tree
+    ∙ ap (option_map (λ (line : Line). worker_of line.actor)) r.reads in
     let worker : IsUnknownWorker input (option_and_then (plain_lines (index_at input place + 1)) (tree_at input place)) → ⊥ = λ u.
-        let actor : worker_of line.actor ≡ Some u.worker = some_same (worker_of line.actor) (Some u.worker) (option_and_then (plain_lines (index_at input place + 1)) (tree_at input place)) named u.names in
-        let heads : u.header ≡ header = some_same u.header header (header_in (lines_of input.bytes)) u.heads (head_is input.audit (lines_of input.bytes) header n read (omega arith)) in
-        not_above header.workers u.worker (worker_of line.actor) actor r.below (subst (λ (h : Header). h.workers ≤ u.worker) heads u.above) in
+    let actor : worker_of line.actor ≡ Some u.worker = some_same (worker_of line.actor) (Some u.worker) (option_and_then (plain_lines (index_at input place + 1)) (tree_at input place)) named u.names in
+    let heads : u.header ≡ header = some_same u.header header (header_in (lines_of input.bytes)) u.heads (head_is input.audit (lines_of input.bytes) header n read (omega arith)) in
+    not_above header.workers u.worker (worker_of line.actor) actor r.below (subst (λ (h : Header). h.workers ≤ u.worker) heads u.above) in
     record {
       json = λ s. none_some r.tree (tree_at input place) s.1 tree;
       header = λ s. let k : index_at input place ≡ 0 = s.1 in omega arith;

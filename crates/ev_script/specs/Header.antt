@@ -13,10 +13,10 @@ abbrev pub header_of : Data → Option Header
 header_of tree =
     if has_only (codes "workers" ∷ codes "auto" ∷ codes "node" ∷ []) tree
     then option_and_then
-      (λ workers. option_and_then
-        (λ auto. option_map (λ node. record { workers = workers; auto = auto; node = node }) (member_or (codes "warmgate") name_of (codes "node") tree))
-        (member_or false as_bool (codes "auto") tree))
-      (member_of (whole_within 1 MAX_WORKERS) (codes "workers") tree)
+    (λ workers. option_and_then
+    (λ auto. option_map (λ node. record { workers = workers; auto = auto; node = node }) (member_or (codes "warmgate") name_of (codes "node") tree))
+    (member_or false as_bool (codes "auto") tree))
+    (member_of (whole_within 1 MAX_WORKERS) (codes "workers") tree)
     else None
 
 -- what every header keeps

@@ -13,8 +13,8 @@ use Rattle.ev_script.specs.LineForms.{line_at, with_only, host_in}
 abbrev pub health_in : Data → Option Event
 health_in tree = option_and_then
     (λ cluster. option_and_then
-      (λ host. option_map (λ healthy. Health cluster host healthy) (member_of as_bool (codes "healthy") tree))
-      (host_in tree))
+    (λ host. option_map (λ healthy. Health cluster host healthy) (member_of as_bool (codes "healthy") tree))
+    (host_in tree))
     (member_of name_of (codes "cluster") tree)
 
 -- `health`: a health check of a cluster's host ended. Its members are `cluster`, `address`, `port` and

@@ -36,12 +36,12 @@ pick_in tree = member_or 0 (whole_within 0 MAX_NUMBER) (codes "pick") tree
 abbrev pub ask_in : Data → Option Ask
 ask_in tree = option_and_then
     (λ conn. option_and_then
-      (λ address. option_and_then
-        (λ host. option_and_then
-          (λ path. option_map (λ pick. record { conn = conn; address = address; host = host; path = path; pick = pick }) (pick_in tree))
-          (path_in tree))
-        (named_host_in tree))
-      (host_in tree))
+    (λ address. option_and_then
+    (λ host. option_and_then
+    (λ path. option_map (λ pick. record { conn = conn; address = address; host = host; path = path; pick = pick }) (pick_in tree))
+    (path_in tree))
+    (named_host_in tree))
+    (host_in tree))
     (conn_in tree)
 
 -- the line of a worker's event

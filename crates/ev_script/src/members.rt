@@ -90,13 +90,7 @@ pub(crate) fn number_at(tree: &Value, name: &str, low: u64, high: u64) -> Option
 }
 
 // The same, or a default where there is no such member.
-pub(crate) fn number_or(
-    tree: &Value,
-    name: &str,
-    low: u64,
-    high: u64,
-    default: u64,
-) -> Option<u64>
+pub(crate) fn number_or(tree: &Value, name: &str, low: u64, high: u64, default: u64) -> Option<u64>
     ensures { result ≡ member_or default (whole_within low high) name.now (view tree.now) }
 {
     match tree.get(name) {

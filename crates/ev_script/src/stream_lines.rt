@@ -33,7 +33,11 @@ pub(crate) fn disconnect_line(at: u32, tree: &Value) -> Option<Line>
 }
 
 // A `response`: a message comes on the stream.
-pub(crate) fn response_line(alloc: Global, at: u32, tree: &Value) -> Result<Option<Line>, AllocError>
+pub(crate) fn response_line(
+    alloc: Global,
+    at: u32,
+    tree: &Value,
+) -> Result<Option<Line>, AllocError>
     ensures { IfOk result (λ line. line ≡ response_line at (view tree.now)) }
 {
     if !has_only(tree, &["op", "message"]) {

@@ -6,13 +6,11 @@ use std::test::Fail;
 // The number of a line's fault in a script of two workers: 0 for a line, and 10 for the begin of a
 // journal.
 fn kind_of(alloc: Global, audit: bool, text: &str) -> Result<u8, AllocError> {
-    Ok(
-        match read_content(alloc, audit, 2, 2, text.as_bytes())? {
-            Content::Line(_) => 0,
-            Content::Fault(kind) => kind.number(),
-            Content::Journal => 10,
-        },
-    )
+    Ok(match read_content(alloc, audit, 2, 2, text.as_bytes())? {
+        Content::Line(_) => 0,
+        Content::Fault(kind) => kind.number(),
+        Content::Journal => 10,
+    })
 }
 
 // Each operation with all its members and with those alone that it needs, and what is no line.
@@ -22,15 +20,24 @@ fn tells_lines_from_faults(rt: HostRuntime) -> Result<(), Fail> {
         (r#"{"op":"connect"}"#, 0),
         (r#"{"op":"disconnect"}"#, 0),
         (r#"{"op":"response","message":{"nonce":"1"}}"#, 0),
-        (r#"{"op":"health","cluster":"c","address":"a","port":65535,"healthy":true}"#, 0),
+        (
+            r#"{"op":"health","cluster":"c","address":"a","port":65535,"healthy":true}"#,
+            0,
+        ),
         (r#"{"op":"fetchTimeout","type":"cds"}"#, 0),
         (r#"{"op":"fetchTimeout","type":"rds","name":"r"}"#, 0),
         (r#"{"op":"drainTimeout","listener":"l"}"#, 0),
         (r#"{"op":"ttlExpired","type":"cds","name":"c"}"#, 0),
         (r#"{"op":"publish"}"#, 0),
         (r#" {"op" : "re\u0061p"} "#, 0),
-        (r#"{"op":"accept","worker":1,"conn":1,"address":"a","port":0}"#, 0),
-        (r#"{"op":"close","worker":0,"conn":18446744073709551615}"#, 0),
+        (
+            r#"{"op":"accept","worker":1,"conn":1,"address":"a","port":0}"#,
+            0,
+        ),
+        (
+            r#"{"op":"close","worker":0,"conn":18446744073709551615}"#,
+            0,
+        ),
         (r#"{"op":"settle","worker":9,"worker":1}"#, 0),
         ("", 4),
         (r#"{"op":"connect"} x"#, 4),
@@ -38,13 +45,22 @@ fn tells_lines_from_faults(rt: HostRuntime) -> Result<(), Fail> {
         (r#"{"op":"open"}"#, 6),
         (r#"{"op":"connect","at":1}"#, 6),
         (r#"{"op":"response","message":{}}"#, 6),
-        (r#"{"op":"health","cluster":"c","address":"a","port":65536,"healthy":true}"#, 6),
+        (
+            r#"{"op":"health","cluster":"c","address":"a","port":65536,"healthy":true}"#,
+            6,
+        ),
         (r#"{"op":"fetchTimeout","type":"cds","name":"c"}"#, 6),
         (r#"{"op":"fetchTimeout","type":"eds"}"#, 6),
         (r#"{"op":"ttlExpired","type":"cds"}"#, 6),
         (r#"{"op":"drainTimeout","listener":""}"#, 6),
-        (r#"{"op":"accept","worker":1,"conn":1,"address":"a","port":0,"pick":null}"#, 6),
-        (r#"{"op":"close","worker":0,"conn":18446744073709551616}"#, 6),
+        (
+            r#"{"op":"accept","worker":1,"conn":1,"address":"a","port":0,"pick":null}"#,
+            6,
+        ),
+        (
+            r#"{"op":"close","worker":0,"conn":18446744073709551616}"#,
+            6,
+        ),
         (r#"{"op":"close","worker":0,"conn":1.0}"#, 6),
         (r#"{"op":"settle","worker":4294967296}"#, 6),
         (r#"{"op":"settle","worker":2}"#, 7),
@@ -96,7 +112,8 @@ fn reads_headers(rt: HostRuntime) -> Result<(), Fail> {
 // The defaults of an accept, and numbers up to 2^64 - 1.
 #[test]
 fn keeps_numbers_exactly(rt: HostRuntime) -> Result<(), Fail> {
-    let text = r#"{"op":"accept","worker":1,"conn":18446744073709551615,"address":"10.1.0.1","port":8080}"#;
+    let text =
+        r#"{"op":"accept","worker":1,"conn":18446744073709551615,"address":"10.1.0.1","port":8080}"#;
     match read_content(rt.alloc(), false, 2, 7, text.as_bytes())? {
         Content::Line(line) => {
             assert_eq!(rt; line.at, 7);

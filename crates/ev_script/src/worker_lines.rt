@@ -16,7 +16,9 @@ pub(crate) fn accept_line(alloc: Global, at: u32, tree: &Value) -> Result<Option
 {
     if !has_only(
         tree,
-        &["op", "worker", "conn", "address", "port", "host", "path", "pick"],
+        &[
+            "op", "worker", "conn", "address", "port", "host", "path", "pick",
+        ],
     ) {
         return Ok(None);
     }

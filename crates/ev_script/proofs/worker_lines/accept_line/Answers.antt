@@ -12,5 +12,5 @@ returns c =
     let tree = view c.args.tree.now in
     c.worker_line.ensures
     ∙ ap (λ (event : Option Event). worker_line c.args.at event tree)
-      (c.accept_event-event.ensures ∙ ap (option_map (λ ask. Accept ask)) c.in_ok-ask_in.ensures)
+    (c.accept_event-event.ensures ∙ ap (option_map (λ ask. Accept ask)) c.in_ok-ask_in.ensures)
     ∙ passed (codes "worker" ∷ codes "conn" ∷ codes "address" ∷ codes "port" ∷ codes "host" ∷ codes "path" ∷ codes "pick" ∷ []) tree _ c.has_only.result c.has_only.ensures c.if-not-has_only.false

@@ -12,5 +12,5 @@ returns c =
     let tree = view c.args.tree.now in
     c.worker_line.ensures
     ∙ ap (λ (event : Option Event). worker_line c.args.at event tree)
-      (c.close_event.ensures ∙ ap (option_map (λ conn. Close conn)) c.conn_in.ensures)
+    (c.close_event.ensures ∙ ap (option_map (λ conn. Close conn)) c.conn_in.ensures)
     ∙ passed (codes "worker" ∷ codes "conn" ∷ []) tree _ c.has_only.result c.has_only.ensures c.if-not-has_only.false
