@@ -6,3 +6,4 @@ pub mod SoundLemmas
 pub mod FirstLemmas
 pub mod ContentFaults
 pub mod LimitLemmas
+pub mod KeptLemmas
