@@ -55,10 +55,10 @@ module _ (s : State) (x : IsIndexed s) (name : List ℕ) where
   drop-none none =
       sym (statuses_same s.table.rows)
       ∙ statuses_agree (λ (r : GenRow). r.status) (replaced_status s.kind name) s.table.rows
-          (all_then (λ (r : GenRow). (is_among (numbers_where (warms name) s.table.rows) r.number ≡ warms name r) × (r.kind ≡ s.kind)) (λ (r : GenRow). r.status ≡ replaced_status s.kind name r) s.table.rows
-              (λ r (h, k). λ i. cond ((sym (λ j. is_among ((sym (x.warming name) ∙ ap option_to_list none) j) r.number) ∙ h ∙ warms_of s.kind name r k) i) Dropped r.status)
-              (both_all (λ (r : GenRow). is_among (numbers_where (warms name) s.table.rows) r.number ≡ warms name r) (λ (r : GenRow). r.kind ≡ s.kind) s.table.rows
-                  (where-members (warms name) s.table.rows x.table.apart) x.kinds))
+      (all_then (λ (r : GenRow). (is_among (numbers_where (warms name) s.table.rows) r.number ≡ warms name r) × (r.kind ≡ s.kind)) (λ (r : GenRow). r.status ≡ replaced_status s.kind name r) s.table.rows
+      (λ r (h, k). λ i. cond ((sym (λ j. is_among ((sym (x.warming name) ∙ ap option_to_list none) j) r.number) ∙ h ∙ warms_of s.kind name r k) i) Dropped r.status)
+      (both_all (λ (r : GenRow). is_among (numbers_where (warms name) s.table.rows) r.number ≡ warms name r) (λ (r : GenRow). r.kind ≡ s.kind) s.table.rows
+      (where-members (warms name) s.table.rows x.table.apart) x.kinds))
 
   module _ (p : ℕ) (at : (standing_in s.names name).warming ≡ Some p) where
     members : numbers_where (warms name) s.table.rows ≡ p ∷ []
@@ -80,19 +80,19 @@ module _ (s : State) (x : IsIndexed s) (name : List ℕ) where
     drop-rows =
         (λ i. with_status p (removed i) s.table.rows)
         ∙ statuses_agree (status_with p Dropped) (replaced_status s.kind name) s.table.rows
-            (all_then (λ (r : GenRow). (is_among (numbers_where (warms name) s.table.rows) r.number ≡ warms name r) × (r.kind ≡ s.kind)) (λ (r : GenRow). status_with p Dropped r ≡ replaced_status s.kind name r) s.table.rows
-                (λ r (h, k). λ i. cond ((flipped p r.number ∙ sym (or_false (nat_eq r.number p)) ∙ (λ j. is_among (sym members j) r.number) ∙ h ∙ warms_of s.kind name r k) i) Dropped r.status)
-                (both_all (λ (r : GenRow). is_among (numbers_where (warms name) s.table.rows) r.number ≡ warms name r) (λ (r : GenRow). r.kind ≡ s.kind) s.table.rows
-                    (where-members (warms name) s.table.rows x.table.apart) x.kinds))
+        (all_then (λ (r : GenRow). (is_among (numbers_where (warms name) s.table.rows) r.number ≡ warms name r) × (r.kind ≡ s.kind)) (λ (r : GenRow). status_with p Dropped r ≡ replaced_status s.kind name r) s.table.rows
+        (λ r (h, k). λ i. cond ((flipped p r.number ∙ sym (or_false (nat_eq r.number p)) ∙ (λ j. is_among (sym members j) r.number) ∙ h ∙ warms_of s.kind name r k) i) Dropped r.status)
+        (both_all (λ (r : GenRow). is_among (numbers_where (warms name) s.table.rows) r.number ≡ warms name r) (λ (r : GenRow). r.kind ≡ s.kind) s.table.rows
+        (where-members (warms name) s.table.rows x.table.apart) x.kinds))
 
     pub drop-alone : (t : State) → IsIndexed t → t.table.rows ≡ with_status p (removed_status (status_in (row_in p s.table.rows))) s.table.rows
         → (standing_in t.names name).warming ≡ None
     drop-alone t y e =
         emptied (standing_in t.names name).warming
-            (y.warming name ∙ ap (numbers_where (warms name)) (e ∙ (λ i. with_status p (removed i) s.table.rows))
-            ∙ where-left (warms name) p Dropped (λ r. refl) s.table.rows
-            ∙ ap (without_number p) members
-            ∙ without-one p (Some p) (or_false (nat_eq p p) ∙ eq-eqb p p refl))
+        (y.warming name ∙ ap (numbers_where (warms name)) (e ∙ (λ i. with_status p (removed i) s.table.rows))
+        ∙ where-left (warms name) p Dropped (λ r. refl) s.table.rows
+        ∙ ap (without_number p) members
+        ∙ without-one p (Some p) (or_false (nat_eq p p) ∙ eq-eqb p p refl))
 
 where-push : (test : GenRow → Bool) (row : GenRow) (rows : List GenRow) → numbers_where test (rows ++ row ∷ []) ≡ numbers_where test rows ++ cond (test row) (row.number ∷ []) []
 where-push test row [] = by (test row)
@@ -140,10 +140,10 @@ module _ (s : State) (x : IsIndexed s) (name : List ℕ) (content : Content) (al
 
   warming_too : (q : List ℕ) (b : Bool) → bytes_eq name q ≡ b
       → option_to_list (cond b (record { active = (standing_in s.names name).active; warming = Some (s.table.made + 1) }) (standing_in s.names q)).warming
-          ≡ numbers_where (warms q) s.table.rows ++ cond b ((s.table.made + 1) ∷ []) []
+      ≡ numbers_where (warms q) s.table.rows ++ cond b ((s.table.made + 1) ∷ []) []
   warming_too q true e =
       let none : numbers_where (warms q) s.table.rows ≡ [] =
-          sym (x.warming q) ∙ (λ i. option_to_list (standing_in s.names (sym ((bytes_decide name q).0 e) i)).warming) ∙ ap option_to_list alone in
+      sym (x.warming q) ∙ (λ i. option_to_list (standing_in s.names (sym ((bytes_decide name q).0 e) i)).warming) ∙ ap option_to_list alone in
       λ i. sym none i ++ (s.table.made + 1) ∷ []
   warming_too q false e = x.warming q ∙ sym (append-nil (numbers_where (warms q) s.table.rows))
 
@@ -164,9 +164,9 @@ module _ (s : State) (x : IsIndexed s) (name : List ℕ) (content : Content) (al
   due_too n false e =
       x.due n ∙ sym (is_due_at-agrees s.watches watches s.results agrees n s.table.rows)
       ∙ sym ((λ i. is_due_found watches s.results (row_in n (rows i)))
-          ∙ (λ i. is_due_found watches s.results (find-append (is_number n) s.table.rows (new_row s.kind s.table.made name content ∷ []) i))
-          ∙ (λ i. is_due_found watches s.results (option_or (row_in n s.table.rows) (cond (e i) (Some (new_row s.kind s.table.made name content)) None)))
-          ∙ by (row_in n s.table.rows))
+      ∙ (λ i. is_due_found watches s.results (find-append (is_number n) s.table.rows (new_row s.kind s.table.made name content ∷ []) i))
+      ∙ (λ i. is_due_found watches s.results (option_or (row_in n s.table.rows) (cond (e i) (Some (new_row s.kind s.table.made name content)) None)))
+      ∙ by (row_in n s.table.rows))
     where
       by : (o : Option GenRow) → is_due_found watches s.results (option_or o None) ≡ is_due_found watches s.results o
       by None = refl

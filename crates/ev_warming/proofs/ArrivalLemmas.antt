@@ -43,11 +43,11 @@ came_for-push [] kind arrival name q =
 came_for-push (a ∷ arrivals) kind arrival name q = by (kind_same a.kind kind && bytes_eq a.name q) (came_for-push arrivals kind arrival name q)
   where
     by : (b : Bool) → map (λ (a : Arrived). a.arrival) (filter (λ (a : Arrived). kind_same a.kind kind && bytes_eq a.name q) (arrivals ++ arrived kind arrival name ∷ []))
-            ≡ map (λ (a : Arrived). a.arrival) (filter (λ (a : Arrived). kind_same a.kind kind && bytes_eq a.name q) arrivals) ++ cond (bytes_eq name q) (arrival ∷ []) []
+        ≡ map (λ (a : Arrived). a.arrival) (filter (λ (a : Arrived). kind_same a.kind kind && bytes_eq a.name q) arrivals) ++ cond (bytes_eq name q) (arrival ∷ []) []
         → map (λ (a : Arrived). a.arrival) (cond b (a ∷ filter (λ (a : Arrived). kind_same a.kind kind && bytes_eq a.name q) (arrivals ++ arrived kind arrival name ∷ []))
-                (filter (λ (a : Arrived). kind_same a.kind kind && bytes_eq a.name q) (arrivals ++ arrived kind arrival name ∷ [])))
-            ≡ map (λ (a : Arrived). a.arrival) (cond b (a ∷ filter (λ (a : Arrived). kind_same a.kind kind && bytes_eq a.name q) arrivals)
-                (filter (λ (a : Arrived). kind_same a.kind kind && bytes_eq a.name q) arrivals)) ++ cond (bytes_eq name q) (arrival ∷ []) []
+        (filter (λ (a : Arrived). kind_same a.kind kind && bytes_eq a.name q) (arrivals ++ arrived kind arrival name ∷ [])))
+        ≡ map (λ (a : Arrived). a.arrival) (cond b (a ∷ filter (λ (a : Arrived). kind_same a.kind kind && bytes_eq a.name q) arrivals)
+        (filter (λ (a : Arrived). kind_same a.kind kind && bytes_eq a.name q) arrivals)) ++ cond (bytes_eq name q) (arrival ∷ []) []
     by true h = ap (λ (xs : List Arrival). a.arrival ∷ xs) h
     by false h = h
 
@@ -87,7 +87,7 @@ module _ (s : State) (world : World) (stands : StandsFor s world) (name : List �
   told_after q =
       (λ i. (sets q i).told) ∙ by (bytes_eq name q) refl
       ∙ sym (ap (list_any is_word) (came_for-push world.arrivals (needs_of s.kind) arrival name q)
-          ∙ list_any-append is_word (came_for world.arrivals (needs_of s.kind) q) (cond (bytes_eq name q) (arrival ∷ []) []))
+      ∙ list_any-append is_word (came_for world.arrivals (needs_of s.kind) q) (cond (bytes_eq name q) (arrival ∷ []) []))
     where
       by : (b : Bool) → bytes_eq name q ≡ b → (cond b (with_arrival arrival (watch_in s.watches name)) (watch_in s.watches q)).told
           ≡ (is_told_by world.arrivals (needs_of s.kind) q || list_any is_word (cond b (arrival ∷ []) []))
@@ -101,7 +101,7 @@ module _ (s : State) (world : World) (stands : StandsFor s world) (name : List �
   timed_after q =
       (λ i. (sets q i).timed) ∙ by (bytes_eq name q) refl
       ∙ sym (ap (list_any is_timeout) (came_for-push world.arrivals (needs_of s.kind) arrival name q)
-          ∙ list_any-append is_timeout (came_for world.arrivals (needs_of s.kind) q) (cond (bytes_eq name q) (arrival ∷ []) []))
+      ∙ list_any-append is_timeout (came_for world.arrivals (needs_of s.kind) q) (cond (bytes_eq name q) (arrival ∷ []) []))
     where
       by : (b : Bool) → bytes_eq name q ≡ b → (cond b (with_arrival arrival (watch_in s.watches name)) (watch_in s.watches q)).timed
           ≡ (is_timed_by world.arrivals (needs_of s.kind) q || list_any is_timeout (cond b (arrival ∷ []) []))
@@ -115,8 +115,8 @@ module _ (s : State) (world : World) (stands : StandsFor s world) (name : List �
   value_after q =
       (λ i. (sets q i).value) ∙ by (bytes_eq name q) refl
       ∙ sym (ap (λ (xs : List Arrival). last_or None (filter_map content_in xs)) (came_for-push world.arrivals (needs_of s.kind) arrival name q)
-          ∙ ap (last_or None) (filter_map-append content_in (came_for world.arrivals (needs_of s.kind) q) (cond (bytes_eq name q) (arrival ∷ []) []))
-          ∙ last_or-append None (filter_map content_in (came_for world.arrivals (needs_of s.kind) q)) (filter_map content_in (cond (bytes_eq name q) (arrival ∷ []) [])))
+      ∙ ap (last_or None) (filter_map-append content_in (came_for world.arrivals (needs_of s.kind) q) (cond (bytes_eq name q) (arrival ∷ []) []))
+      ∙ last_or-append None (filter_map content_in (came_for world.arrivals (needs_of s.kind) q)) (filter_map content_in (cond (bytes_eq name q) (arrival ∷ []) [])))
     where
       by : (b : Bool) → bytes_eq name q ≡ b → (cond b (with_arrival arrival (watch_in s.watches name)) (watch_in s.watches q)).value
           ≡ last_or (value_by world.arrivals (needs_of s.kind) q) (filter_map content_in (cond b (arrival ∷ []) []))
@@ -159,7 +159,7 @@ pub ended-rows : (kind : Kind) (name : List ℕ) (rows : List GenRow) → AllByR
 ended-rows kind name rows kinds =
     with_statuses-twice (status_drained name) (replaced_status kind name) rows
     ∙ statuses_agree (λ (r : GenRow). status_drained name (record r { status = replaced_status kind name r })) (ended_status kind name) rows
-        (all_then (λ (r : GenRow). r.kind ≡ kind) (λ (r : GenRow). status_drained name (record r { status = replaced_status kind name r }) ≡ ended_status kind name r) rows over kinds)
+    (all_then (λ (r : GenRow). r.kind ≡ kind) (λ (r : GenRow). status_drained name (record r { status = replaced_status kind name r }) ≡ ended_status kind name r) rows over kinds)
   where
     by : (st : RowStatus) (k b : Bool) → k ≡ true
         → cond (is_active (cond ((k && b) && is_warming st) Dropped st) && b) Draining (cond ((k && b) && is_warming st) Dropped st) ≡ cond (k && b) (removed_status st) st
@@ -172,5 +172,6 @@ ended-rows kind name rows kinds =
     by Active true false e = refl
     by Draining true false e = refl
     by Dropped true false e = refl
+
     over : (r : GenRow) → r.kind ≡ kind → status_drained name (record r { status = replaced_status kind name r }) ≡ ended_status kind name r
     over r k = by r.status (kind_same r.kind kind) (bytes_eq r.name name) ((λ i. kind_same (k i) kind) ∙ (kind_decides kind kind).1 refl)

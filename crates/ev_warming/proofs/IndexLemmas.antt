@@ -45,15 +45,17 @@ named-live s number row x found live = by (lookup (bytes_eq row.name) s.names) r
     nothing : (test : GenRow → Bool) (o : Option ℕ) → option_to_list o ≡ numbers_where test s.table.rows → o ≡ None → test row ≡ true → ⊥
     nothing test o index none passes =
         true≢false (sym (among-where test number row s.table.rows found passes) ∙ (λ i. is_among (sym index i) number) ∙ (λ i. is_among (option_to_list (none i)) number))
+
     empty : lookup (bytes_eq row.name) s.names ≡ None → (status : RowStatus) → row.status ≡ status → is_live status ≡ true → ⊥
     empty none Warming e h =
         nothing (warms row.name) (standing_in s.names row.name).warming (x.warming row.name) (λ i. (kept_at-found nobody s.names row.name None none i).warming)
-            (λ i. is_warming (e i) && own_name row.name i)
+        (λ i. is_warming (e i) && own_name row.name i)
     empty none Active e h =
         nothing (serves row.name) (standing_in s.names row.name).active (x.active row.name) (λ i. (kept_at-found nobody s.names row.name None none i).active)
-            (λ i. is_active (e i) && own_name row.name i)
+        (λ i. is_active (e i) && own_name row.name i)
     empty none Draining e h = true≢false (sym h)
     empty none Dropped e h = true≢false (sym h)
+
     by : (o : Option Standing) → lookup (bytes_eq row.name) s.names ≡ o → IsSome o
     by None e = absurd (empty e row.status refl live)
     by (Some standing) e = refl
@@ -105,6 +107,7 @@ module _ (s : State) (name : List ℕ) (arrival : Arrival) (watches : WatchesKep
           absurd (true≢false (sym (among-where (depends_on name) n row s.table.rows e (λ i. live-warming row.status warm i && f i)) ∙ away))
       over row e true warm false f =
           is_ready_in-agrees s.watches watches s.results row (λ q needed. other q (ap (is_needed name) (sym needed) ∙ f))
+
       by : (o : Option GenRow) → row_in n s.table.rows ≡ o → is_due_found watches s.results o ≡ is_due_found s.watches s.results o
       by None e = refl
       by (Some row) e = over row e (is_warming row.status) refl (is_needed name (name_needed row.content)) refl
@@ -154,13 +157,13 @@ module _ (s : State) (number : ℕ) (row : GenRow) (status : RowStatus) (x : IsI
       by true e =
           ap option_to_list (gone e)
           ∙ sym ((λ i. without_number number (sym index i))
-              ∙ without-one number o ((λ i. is_among (index i) number) ∙ among-where test number row s.table.rows found e))
+          ∙ without-one number o ((λ i. is_among (index i) number) ∙ among-where test number row s.table.rows found e))
       by false e = ap option_to_list (stays e) ∙ index ∙ sym (where-absent test number row s.table.rows found x.table.apart e)
 
   -- the one that warmed, or served, is gone
   module _ (live : is_live row.status ≡ true) (ended : is_live status ≡ false) (names : NamesKept) (watches : WatchesKept) (due : List ℕ)
       (stands : Sets nobody s.names names row.name
-          (cond (is_warming row.status) (record (standing_in s.names row.name) { warming = None }) (record (standing_in s.names row.name) { active = None })))
+      (cond (is_warming row.status) (record (standing_in s.names row.name) { warming = None }) (record (standing_in s.names row.name) { active = None })))
       (less : (q : List ℕ) → watch_in watches q ≡ cond (is_needed q (name_needed row.content)) (watched_less number (watch_in s.watches q)) (watch_in s.watches q))
       (dues : (n : ℕ) → is_among due n ≡ (not (nat_eq number n) && is_among s.due n)) where
     cold : (st : RowStatus) → is_live st ≡ false → (is_warming st ≡ false) × (is_active st ≡ false)
@@ -168,9 +171,6 @@ module _ (s : State) (number : ℕ) (row : GenRow) (status : RowStatus) (x : IsI
     cold Active h = absurd (true≢false h)
     cold Draining h = (refl, refl)
     cold Dropped h = (refl, refl)
-
-
-
 
     active_left : (q : List ℕ) (st : RowStatus) → is_live st ≡ true → (b : Bool) → bytes_eq row.name q ≡ b
         → (((is_active st && b) ≡ true → (cond b (cond (is_warming st) (record (standing_in s.names row.name) { warming = None }) (record (standing_in s.names row.name) { active = None })) (standing_in s.names q)).active ≡ None)
@@ -222,11 +222,11 @@ module _ (s : State) (number : ℕ) (row : GenRow) (status : RowStatus) (x : IsI
       active = λ q.
           let a = active_left q row.status live (bytes_eq row.name q) refl in
           leaves (serves q) (standing_in s.names q).active (standing_in names q).active (x.active q) (λ r. ap (λ b. b && bytes_eq r.name q) (cold status ended).1)
-              (λ h. (λ i. (stands q i).active) ∙ a.0 h) (λ h. (λ i. (stands q i).active) ∙ a.1 h);
+          (λ h. (λ i. (stands q i).active) ∙ a.0 h) (λ h. (λ i. (stands q i).active) ∙ a.1 h);
       warming = λ q.
           let a = warming_left q row.status live (bytes_eq row.name q) refl in
           leaves (warms q) (standing_in s.names q).warming (standing_in names q).warming (x.warming q) (λ r. ap (λ b. b && bytes_eq r.name q) (cold status ended).0)
-              (λ h. (λ i. (stands q i).warming) ∙ a.0 h) (λ h. (λ i. (stands q i).warming) ∙ a.1 h);
+          (λ h. (λ i. (stands q i).warming) ∙ a.0 h) (λ h. (λ i. (stands q i).warming) ∙ a.1 h);
       watchers = fewer (λ (w : Watch). w.rows) (λ w. refl) depends_on (λ q r. ap (λ b. b && is_needed q (name_needed r.content)) ended)
           (λ q e. (λ i. live i && e i)) x.watchers;
       limited = fewer (λ (w : Watch). w.limited) (λ w. refl) waits_limited (λ q r. ap (λ b. (b && is_needed q (name_needed r.content)) && is_limited r.content) ended)
@@ -248,7 +248,7 @@ module _ (s : State) (number : ℕ) (row : GenRow) (x : IsIndexed s) (found : ro
       → option_to_list (cond b (record { active = Some number; warming = None }) (standing_in s.names q)).active ≡ numbers_where (serves q) (with_status number Active s.table.rows)
   active_at q true e =
       sym (where-one (serves q) number Active row s.table.rows found x.table.apart
-          (sym (x.active q) ∙ (λ i. option_to_list (((λ j. (standing_in s.names (sym ((bytes_decide row.name q).0 e) j)).active) ∙ alone) i))) e)
+      (sym (x.active q) ∙ (λ i. option_to_list (((λ j. (standing_in s.names (sym ((bytes_decide row.name q).0 e) j)).active) ∙ alone) i))) e)
   active_at q false e =
       x.active q ∙ sym (where-kept (serves q) number Active row s.table.rows found x.table.apart (e ∙ sym (and_right (is_active row.status) (bytes_eq row.name q) e)))
 
@@ -263,8 +263,8 @@ module _ (s : State) (number : ℕ) (row : GenRow) (x : IsIndexed s) (found : ro
     active = λ q. (λ i. option_to_list (stands q i).active) ∙ active_at q (bytes_eq row.name q) refl ∙ sym (ap (numbers_where (serves q)) rows);
     warming = λ q.
         leaves s number row Active x found table rows made (warms q) (standing_in s.names q).warming (standing_in names q).warming (x.warming q) (λ r. refl)
-            (λ h. (λ i. (stands q i).warming) ∙ (λ i. (cond ((and_parts (is_warming row.status) (bytes_eq row.name q) h).1 i) (record { active = Some number; warming = None }) (standing_in s.names q)).warming))
-            (λ h. (λ i. (stands q i).warming) ∙ (λ i. (cond (((λ j. sym warm j && bytes_eq row.name q) ∙ h) i) (record { active = Some number; warming = None }) (standing_in s.names q)).warming));
+        (λ h. (λ i. (stands q i).warming) ∙ (λ i. (cond ((and_parts (is_warming row.status) (bytes_eq row.name q) h).1 i) (record { active = Some number; warming = None }) (standing_in s.names q)).warming))
+        (λ h. (λ i. (stands q i).warming) ∙ (λ i. (cond (((λ j. sym warm j && bytes_eq row.name q) ∙ h) i) (record { active = Some number; warming = None }) (standing_in s.names q)).warming));
     watchers = λ q. waits (depends_on q) (watch_in s.watches q).rows (x.watchers q) (λ i. sym (live-warming row.status warm) i && is_needed q (name_needed row.content));
     limited = λ q. waits (waits_limited q) (watch_in s.watches q).limited (x.limited q) (λ i. (sym (live-warming row.status warm) i && is_needed q (name_needed row.content)) && is_limited row.content);
     due = λ n.

@@ -85,7 +85,7 @@ module _ (ready : GenRow → Bool) (steady : (status : RowStatus) (row : GenRow)
   once_none : (x : GenRow) → bytes_eq x.name name ≡ true → succ_once x ≡ false
   unfolding succ_once
   once_none x own = any_agrees (λ (y : GenRow). is_row_of x.kind x.name y && (is_warming (status_once name y) && ready y)) (λ (y : GenRow). false) rows
-          (all_of (λ (y : GenRow). (is_row_of x.kind x.name y && (is_warming (status_once name y) && ready y)) ≡ false) over rows) ∙ none_of rows
+      (all_of (λ (y : GenRow). (is_row_of x.kind x.name y && (is_warming (status_once name y) && ready y)) ≡ false) over rows) ∙ none_of rows
     where
       by : (y : GenRow) (w b : Bool) → is_warming y.status ≡ w → bytes_eq y.name name ≡ b → (v : Bool)
           → (kind_same y.kind x.kind && b) && (is_warming (cond (w && b) Active (cond v Draining y.status)) && ready y) ≡ false
@@ -93,6 +93,7 @@ module _ (ready : GenRow → Bool) (steady : (status : RowStatus) (row : GenRow)
       by y false true e f true = and_right (kind_same y.kind x.kind && true) false refl
       by y false true e f false = (λ i. (kind_same y.kind x.kind && true) && (e i && ready y)) ∙ and_right (kind_same y.kind x.kind && true) false refl
       by y w false e f v = (λ i. and_right (kind_same y.kind x.kind) false refl i && (is_warming (cond (w && false) Active (cond v Draining y.status)) && ready y))
+
       over : (y : GenRow) → (is_row_of x.kind x.name y && (is_warming (status_once name y) && ready y)) ≡ false
       over y =
           (λ i. (kind_same y.kind x.kind && bytes_eq y.name ((bytes_decide x.name name).0 own i)) && (is_warming (status_once name y) && ready y))
@@ -102,13 +103,14 @@ module _ (ready : GenRow → Bool) (steady : (status : RowStatus) (row : GenRow)
   before_some : (x : GenRow) → x.kind ≡ kind → bytes_eq x.name name ≡ true → succeeded_by ready rows x ≡ true
   before_some x k own =
       any_agrees (λ (y : GenRow). is_row_of x.kind x.name y && (is_warming y.status && ready y)) (λ (y : GenRow). warms name y && ready y) rows
-          (all_then (λ (y : GenRow). y.kind ≡ kind) (λ (y : GenRow). (is_row_of x.kind x.name y && (is_warming y.status && ready y)) ≡ (warms name y && ready y)) rows over kinds) ∙ due
+      (all_then (λ (y : GenRow). y.kind ≡ kind) (λ (y : GenRow). (is_row_of x.kind x.name y && (is_warming y.status && ready y)) ≡ (warms name y && ready y)) rows over kinds) ∙ due
     where
       by : (w b r : Bool) → ((true && b) && (w && r)) ≡ ((w && b) && r)
       by true true r = refl
       by true false r = refl
       by false true r = refl
       by false false r = refl
+
       over : (y : GenRow) → y.kind ≡ kind → (is_row_of x.kind x.name y && (is_warming y.status && ready y)) ≡ (warms name y && ready y)
       over y l =
           (λ i. (kind_same (l i) (k i) && bytes_eq y.name ((bytes_decide x.name name).0 own i)) && (is_warming y.status && ready y))
@@ -120,11 +122,12 @@ module _ (ready : GenRow → Bool) (steady : (status : RowStatus) (row : GenRow)
   unfolding succ_once
   others_same x other =
       any_agrees (λ (y : GenRow). is_row_of x.kind x.name y && (is_warming (status_once name y) && ready y)) (λ (y : GenRow). is_row_of x.kind x.name y && (is_warming y.status && ready y)) rows
-          (all_of (λ (y : GenRow). (is_row_of x.kind x.name y && (is_warming (status_once name y) && ready y)) ≡ (is_row_of x.kind x.name y && (is_warming y.status && ready y))) over rows)
+      (all_of (λ (y : GenRow). (is_row_of x.kind x.name y && (is_warming (status_once name y) && ready y)) ≡ (is_row_of x.kind x.name y && (is_warming y.status && ready y))) over rows)
     where
       apart : (y : GenRow) → bytes_eq y.name name ≡ true → bytes_eq y.name x.name ≡ false
       apart y own = false_from_ne_true (bytes_eq y.name x.name) (λ h.
           true≢false (sym ((bytes_decide x.name name).1 (sym ((bytes_decide y.name x.name).0 h) ∙ (bytes_decide y.name name).0 own)) ∙ other))
+
       by : (y : GenRow) (b w v : Bool) → (b ≡ true → bytes_eq y.name x.name ≡ false)
           → (is_row_of x.kind x.name y && (is_warming (cond (w && b) Active (cond (v && b) Draining y.status)) && ready y)) ≡ (is_row_of x.kind x.name y && (is_warming y.status && ready y))
       by y true w v far =
@@ -136,6 +139,7 @@ module _ (ready : GenRow → Bool) (steady : (status : RowStatus) (row : GenRow)
       by y false true false far = refl
       by y false false true far = refl
       by y false false false far = refl
+
       over : (y : GenRow) → (is_row_of x.kind x.name y && (is_warming (status_once name y) && ready y)) ≡ (is_row_of x.kind x.name y && (is_warming y.status && ready y))
       over y = by y (bytes_eq y.name name) (is_warming y.status) (is_active y.status) (apart y)
 
@@ -144,11 +148,11 @@ module _ (ready : GenRow → Bool) (steady : (status : RowStatus) (row : GenRow)
   rows_promoted-once =
       with_statuses-twice (λ (r : GenRow). status_by (succeeded_by ready (rows_once name rows) r) (ready r) r.status) (status_once name) rows
       ∙ statuses_agree (λ (x : GenRow). status_by (succeeded_by ready (rows_once name rows) (row_with (status_once name x) x)) (ready (row_with (status_once name x) x)) (status_once name x))
-          (λ (r : GenRow). status_by (succeeded_by ready rows r) (ready r) r.status) rows
-          (all_then (λ (x : GenRow). (x.kind ≡ kind) × (warms name x ≡ true → ready x ≡ true))
-              (λ (x : GenRow). status_by (succeeded_by ready (rows_once name rows) (row_with (status_once name x) x)) (ready (row_with (status_once name x) x)) (status_once name x)
-                  ≡ status_by (succeeded_by ready rows x) (ready x) x.status)
-              rows over (both_all (λ (x : GenRow). x.kind ≡ kind) (λ (x : GenRow). warms name x ≡ true → ready x ≡ true) rows kinds readies))
+      (λ (r : GenRow). status_by (succeeded_by ready rows r) (ready r) r.status) rows
+      (all_then (λ (x : GenRow). (x.kind ≡ kind) × (warms name x ≡ true → ready x ≡ true))
+      (λ (x : GenRow). status_by (succeeded_by ready (rows_once name rows) (row_with (status_once name x) x)) (ready (row_with (status_once name x) x)) (status_once name x)
+      ≡ status_by (succeeded_by ready rows x) (ready x) x.status)
+      rows over (both_all (λ (x : GenRow). x.kind ≡ kind) (λ (x : GenRow). warms name x ≡ true → ready x ≡ true) rows kinds readies))
     where
       by : (x : GenRow) → x.kind ≡ kind → (st : RowStatus) → x.status ≡ st → (b : Bool) → bytes_eq x.name name ≡ b → ((is_warming st && b) ≡ true → ready x ≡ true)
           → status_by (succ_once x) (ready x) (cond (is_warming st && b) Active (cond (is_active st && b) Draining st)) ≡ status_by (succeeded_by ready rows x) (ready x) st
@@ -158,9 +162,10 @@ module _ (ready : GenRow → Bool) (steady : (status : RowStatus) (row : GenRow)
       by x k Active e false f r = (λ i. cond (others_same x f i) Draining Active)
       by x k Draining e b f r = refl
       by x k Dropped e b f r = refl
+
       over : (x : GenRow) → (x.kind ≡ kind) × (warms name x ≡ true → ready x ≡ true)
           → status_by (succeeded_by ready (rows_once name rows) (row_with (status_once name x) x)) (ready (row_with (status_once name x) x)) (status_once name x)
-              ≡ status_by (succeeded_by ready rows x) (ready x) x.status
+          ≡ status_by (succeeded_by ready rows x) (ready x) x.status
       over x (k, r) =
           (λ i. status_by (succeeded_by-once x (status_once name x) i) (steady (status_once name x) x i) (status_once name x))
           ∙ by x k x.status refl (bytes_eq x.name name) refl r
@@ -169,19 +174,21 @@ module _ (ready : GenRow → Bool) (steady : (status : RowStatus) (row : GenRow)
 pub rows_promoted-none : (ready : GenRow → Bool) (rows : List GenRow) → AllByRecursion (λ (r : GenRow). (is_warming r.status && ready r) ≡ false) rows → rows_promoted ready rows ≡ rows
 rows_promoted-none ready rows none =
     statuses_agree (λ (x : GenRow). status_by (succeeded_by ready rows x) (ready x) x.status) (λ (r : GenRow). r.status) rows
-        (all_then (λ (x : GenRow). (is_warming x.status && ready x) ≡ false) (λ (x : GenRow). status_by (succeeded_by ready rows x) (ready x) x.status ≡ x.status) rows over none)
+    (all_then (λ (x : GenRow). (is_warming x.status && ready x) ≡ false) (λ (x : GenRow). status_by (succeeded_by ready rows x) (ready x) x.status ≡ x.status) rows over none)
     ∙ statuses_same rows
   where
     nobody : (x : GenRow) → succeeded_by ready rows x ≡ false
     nobody x =
         any_agrees (λ (y : GenRow). is_row_of x.kind x.name y && (is_warming y.status && ready y)) (λ (y : GenRow). false) rows
-            (all_then (λ (y : GenRow). (is_warming y.status && ready y) ≡ false) (λ (y : GenRow). (is_row_of x.kind x.name y && (is_warming y.status && ready y)) ≡ false) rows
-                (λ y h. ap (λ b. is_row_of x.kind x.name y && b) h ∙ and_right (is_row_of x.kind x.name y) false refl) none)
+        (all_then (λ (y : GenRow). (is_warming y.status && ready y) ≡ false) (λ (y : GenRow). (is_row_of x.kind x.name y && (is_warming y.status && ready y)) ≡ false) rows
+        (λ y h. ap (λ b. is_row_of x.kind x.name y && b) h ∙ and_right (is_row_of x.kind x.name y) false refl) none)
         ∙ none_of rows
+
     by : (x : GenRow) (st : RowStatus) → x.status ≡ st → (is_warming st && ready x) ≡ false → status_by (succeeded_by ready rows x) (ready x) st ≡ st
     by x Warming e h = λ i. cond (h i) Active Warming
     by x Active e h = λ i. cond (nobody x i) Draining Active
     by x Draining e h = refl
     by x Dropped e h = refl
+
     over : (x : GenRow) → (is_warming x.status && ready x) ≡ false → status_by (succeeded_by ready rows x) (ready x) x.status ≡ x.status
     over x h = by x x.status refl h

@@ -55,9 +55,11 @@ is_due_at-with_status watches results number status cold n rows =
     over : (row : GenRow) (b : Bool) → is_due_in watches results (record row { status = cond b status row.status }) ≡ (not b && is_due_in watches results row)
     over row true = ap (λ w. w && is_ready_in watches results row) cold
     over row false = refl
+
     none : (b : Bool) → false ≡ (b && false)
     none true = refl
     none false = refl
+
     by : (o : Option GenRow) → row_in n rows ≡ o
         → is_due_found watches results (option_map (λ (row : GenRow). record row { status = status_with number status row }) o) ≡ (not (nat_eq number n) && is_due_found watches results o)
     by None e = none (not (nat_eq number n))

@@ -54,9 +54,9 @@ module _ (s : State) (x : IsIndexed s) (name : List ℕ) where
   way-none none =
       sym (statuses_same s.table.rows)
       ∙ statuses_agree (λ (r : GenRow). r.status) (status_drained name) s.table.rows
-          (all_then (λ (r : GenRow). is_among (numbers_where (serves name) s.table.rows) r.number ≡ serves name r) (λ (r : GenRow). r.status ≡ status_drained name r) s.table.rows
-              (λ r h. λ i. cond ((sym (λ j. is_among ((sym (x.active name) ∙ ap option_to_list none) j) r.number) ∙ h) i) Draining r.status)
-              (where-members (serves name) s.table.rows x.table.apart))
+      (all_then (λ (r : GenRow). is_among (numbers_where (serves name) s.table.rows) r.number ≡ serves name r) (λ (r : GenRow). r.status ≡ status_drained name r) s.table.rows
+      (λ r h. λ i. cond ((sym (λ j. is_among ((sym (x.active name) ∙ ap option_to_list none) j) r.number) ∙ h) i) Draining r.status)
+      (where-members (serves name) s.table.rows x.table.apart))
 
   module _ (p : ℕ) (at : (standing_in s.names name).active ≡ Some p) where
     members : numbers_where (serves name) s.table.rows ≡ p ∷ []
@@ -78,9 +78,9 @@ module _ (s : State) (x : IsIndexed s) (name : List ℕ) where
     way-rows =
         (λ i. with_status p (removed i) s.table.rows)
         ∙ statuses_agree (status_with p Draining) (status_drained name) s.table.rows
-            (all_then (λ (r : GenRow). is_among (numbers_where (serves name) s.table.rows) r.number ≡ serves name r) (λ (r : GenRow). status_with p Draining r ≡ status_drained name r) s.table.rows
-                (λ r h. λ i. cond ((flipped p r.number ∙ sym (or_false (nat_eq r.number p)) ∙ (λ j. is_among (sym members j) r.number) ∙ h) i) Draining r.status)
-                (where-members (serves name) s.table.rows x.table.apart))
+        (all_then (λ (r : GenRow). is_among (numbers_where (serves name) s.table.rows) r.number ≡ serves name r) (λ (r : GenRow). status_with p Draining r ≡ status_drained name r) s.table.rows
+        (λ r h. λ i. cond ((flipped p r.number ∙ sym (or_false (nat_eq r.number p)) ∙ (λ j. is_among (sym members j) r.number) ∙ h) i) Draining r.status)
+        (where-members (serves name) s.table.rows x.table.apart))
 
     pub way-row : (number : ℕ) (row : GenRow) (status : RowStatus) → row_in number s.table.rows ≡ Some row → is_warming row.status ≡ true
         → row_in number (with_status p status s.table.rows) ≡ row_in number s.table.rows
@@ -102,19 +102,19 @@ module _ (s : State) (x : IsIndexed s) (name : List ℕ) where
         by : (b : Bool) → nat_eq p n ≡ b → (not b && is_among s.due n) ≡ is_among s.due n
         by true e =
             sym (x.due n
-                ∙ (λ i. is_due_found s.watches s.results (row_in (sym (eqb-true p n e) i) s.table.rows))
-                ∙ (λ i. is_due_found s.watches s.results (theirs.1 i))
-                ∙ (λ i. cold-active theirs.0.status serving i && is_ready_in s.watches s.results theirs.0))
+            ∙ (λ i. is_due_found s.watches s.results (row_in (sym (eqb-true p n e) i) s.table.rows))
+            ∙ (λ i. is_due_found s.watches s.results (theirs.1 i))
+            ∙ (λ i. cold-active theirs.0.status serving i && is_ready_in s.watches s.results theirs.0))
         by false e = refl
 
     pub way-alone : (t : State) → IsIndexed t → t.table.rows ≡ with_status p (removed_status (status_in (row_in p s.table.rows))) s.table.rows
         → (standing_in t.names name).active ≡ None
     way-alone t y e =
         emptied (standing_in t.names name).active
-            (y.active name ∙ ap (numbers_where (serves name)) (e ∙ (λ i. with_status p (removed i) s.table.rows))
-            ∙ where-left (serves name) p Draining (λ r. refl) s.table.rows
-            ∙ ap (without_number p) members
-            ∙ without-one p (Some p) (or_false (nat_eq p p) ∙ eq-eqb p p refl))
+        (y.active name ∙ ap (numbers_where (serves name)) (e ∙ (λ i. with_status p (removed i) s.table.rows))
+        ∙ where-left (serves name) p Draining (λ r. refl) s.table.rows
+        ∙ ap (without_number p) members
+        ∙ without-one p (Some p) (or_false (nat_eq p p) ∙ eq-eqb p p refl))
 
 -- a generation that is due serves
 module _ (s : State) (x : IsIndexed s) (number : ℕ) (row : GenRow) (found : row_in number s.table.rows ≡ Some row) (due : is_among s.due number ≡ true) where
@@ -144,23 +144,23 @@ module _ (s : State) (x : IsIndexed s) (number : ℕ) (row : GenRow) (found : ro
       ap (with_status number Active) e
       ∙ with_statuses-twice (status_with number Active) (status_drained row.name) s.table.rows
       ∙ statuses_agree (λ (r : GenRow). status_with number Active (row_with (status_drained row.name r) r)) (status_once row.name) s.table.rows
-          (all_then (λ (r : GenRow). is_among (numbers_where (warms row.name) s.table.rows) r.number ≡ warms row.name r)
-              (λ (r : GenRow). status_with number Active (row_with (status_drained row.name r) r) ≡ status_once row.name r) s.table.rows
-              (λ r h. λ i. cond (key r h i) Active (status_drained row.name r))
-              (where-members (warms row.name) s.table.rows x.table.apart))
+      (all_then (λ (r : GenRow). is_among (numbers_where (warms row.name) s.table.rows) r.number ≡ warms row.name r)
+      (λ (r : GenRow). status_with number Active (row_with (status_drained row.name r) r) ≡ status_once row.name r) s.table.rows
+      (λ r h. λ i. cond (key r h i) Active (status_drained row.name r))
+      (where-members (warms row.name) s.table.rows x.table.apart))
 
   pub promoted-one : (rows : List GenRow) → rows ≡ with_statuses (status_drained row.name) s.table.rows
       → rows_promoted (is_ready_in s.watches s.results) (with_status number Active rows) ≡ rows_promoted (is_ready_in s.watches s.results) s.table.rows
   promoted-one rows e =
       ap (rows_promoted (is_ready_in s.watches s.results)) (once rows e)
       ∙ rows_promoted-once (is_ready_in s.watches s.results) (λ status r. refl) row.name s.kind s.table.rows x.kinds
-          (any-found (λ (r : GenRow). warms row.name r && is_ready_in s.watches s.results r) number row s.table.rows found
-              (and_from (warms row.name row) (is_ready_in s.watches s.results row) named ready))
-          (all_then (λ (r : GenRow). (is_among (numbers_where (warms row.name) s.table.rows) r.number ≡ warms row.name r) × (nat_eq number r.number ≡ true → r ≡ row))
-              (λ (r : GenRow). warms row.name r ≡ true → is_ready_in s.watches s.results r ≡ true) s.table.rows
-              (λ r (h, q) w. (λ i. is_ready_in s.watches s.results (q (key r h ∙ w) i)) ∙ ready)
-              (both_all (λ (r : GenRow). is_among (numbers_where (warms row.name) s.table.rows) r.number ≡ warms row.name r) (λ (r : GenRow). nat_eq number r.number ≡ true → r ≡ row)
-                  s.table.rows (where-members (warms row.name) s.table.rows x.table.apart) (all-found number row s.table.rows found x.table.apart)))
+      (any-found (λ (r : GenRow). warms row.name r && is_ready_in s.watches s.results r) number row s.table.rows found
+      (and_from (warms row.name row) (is_ready_in s.watches s.results row) named ready))
+      (all_then (λ (r : GenRow). (is_among (numbers_where (warms row.name) s.table.rows) r.number ≡ warms row.name r) × (nat_eq number r.number ≡ true → r ≡ row))
+      (λ (r : GenRow). warms row.name r ≡ true → is_ready_in s.watches s.results r ≡ true) s.table.rows
+      (λ r (h, q) w. (λ i. is_ready_in s.watches s.results (q (key r h ∙ w) i)) ∙ ready)
+      (both_all (λ (r : GenRow). is_among (numbers_where (warms row.name) s.table.rows) r.number ≡ warms row.name r) (λ (r : GenRow). nat_eq number r.number ≡ true → r ≡ row)
+      s.table.rows (where-members (warms row.name) s.table.rows x.table.apart) (all-found number row s.table.rows found x.table.apart)))
 
 -- readiness by the same marks is the same
 pub ready-same : (old new : WatchesKept) (results : ResultsKept) → SameMarks old new → is_ready_in new results ≡ is_ready_in old results
@@ -174,9 +174,9 @@ marks-then a b c p q = λ name. ((q name).0 ∙ (p name).0, (q name).1 ∙ (p na
 pub promoted-done : (s : State) → IsIndexed s → s.due ≡ [] → rows_promoted (is_ready_in s.watches s.results) s.table.rows ≡ s.table.rows
 promoted-done s x none =
     rows_promoted-none (is_ready_in s.watches s.results) s.table.rows
-        (all_then (λ (r : GenRow). row_in r.number s.table.rows ≡ Some r) (λ (r : GenRow). is_due_in s.watches s.results r ≡ false) s.table.rows
-            (λ r own. (λ i. is_due_found s.watches s.results (sym own i)) ∙ sym (x.due r.number) ∙ (λ i. is_among (none i) r.number))
-            (own-rows s.table.rows x.table.apart))
+    (all_then (λ (r : GenRow). row_in r.number s.table.rows ≡ Some r) (λ (r : GenRow). is_due_in s.watches s.results r ≡ false) s.table.rows
+    (λ r own. (λ i. is_due_found s.watches s.results (sym own i)) ∙ sym (x.due r.number) ∙ (λ i. is_among (none i) r.number))
+    (own-rows s.table.rows x.table.apart))
 
 -- one more of those that were due has come to serve
 pub served-more : (served due rest : List ℕ) (number n : ℕ) → is_among due number ≡ true → is_among rest n ≡ (not (nat_eq number n) && is_among due n)

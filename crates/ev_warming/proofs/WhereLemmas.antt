@@ -42,19 +42,23 @@ where-left test number status fails (row ∷ rows) =
   where
     new : List GenRow
     new = filter test (with_status number status rows)
+
     old : List GenRow
     old = filter test rows
+
     kept : (t b : Bool) → nat_eq number row.number ≡ b → numbers_of new ≡ without_number number (numbers_of old) → b ≡ false
         → numbers_of (cond t (row ∷ new) new) ≡ without_number number (numbers_of (cond t (row ∷ old) old))
     kept true b e rest apart = ap (λ ns. row.number ∷ ns) rest ∙ (λ i. cond (not ((sym apart ∙ sym e) i)) (row.number ∷ without_number number (numbers_of old)) (without_number number (numbers_of old)))
     kept false b e rest apart = rest
+
     gone : (t : Bool) → nat_eq number row.number ≡ true → numbers_of new ≡ without_number number (numbers_of old)
         → numbers_of new ≡ without_number number (numbers_of (cond t (row ∷ old) old))
     gone true e rest = rest ∙ (λ i. cond (not (sym e i)) (row.number ∷ without_number number (numbers_of old)) (without_number number (numbers_of old)))
     gone false e rest = rest
+
     by : (b : Bool) → nat_eq number row.number ≡ b → numbers_of new ≡ without_number number (numbers_of old)
         → numbers_of (cond (test (row_with (cond b status row.status) row)) (row_with (cond b status row.status) row ∷ new) new)
-            ≡ without_number number (numbers_of (cond (test row) (row ∷ old) old))
+        ≡ without_number number (numbers_of (cond (test row) (row ∷ old) old))
     by true e rest = (λ i. numbers_of (cond (fails row i) (row_with status row ∷ new) new)) ∙ gone (test row) e rest
     by false e rest = kept (test row) false e rest refl
 
@@ -84,6 +88,7 @@ where-absent test number row (other ∷ rows) found apart fails =
         over true e t at rest = cc
         over false e true at rest = (λ i. cond (not (e i)) (r.number ∷ without_number number (numbers_where test rs)) (without_number number (numbers_where test rs))) ∙ ap (λ ns. r.number ∷ ns) (rest at)
         over false e false at rest = rest at
+
     by : (b : Bool) → nat_eq number other.number ≡ b → (t : Bool) → test other ≡ t → cond b (Some other) (row_in number rows) ≡ Some row
         → (row_in number rows ≡ Some row → IsDistinct nat_eq (numbers_of rows) → test row ≡ false → without_number number (numbers_where test rows) ≡ numbers_where test rows)
         → without_number number (numbers_of (cond t (other ∷ filter test rows) (filter test rows))) ≡ numbers_of (cond t (other ∷ filter test rows) (filter test rows))
@@ -107,21 +112,24 @@ where-kept test number status row (other ∷ rows) found apart same = by (nat_eq
     over true false xs ys e f = absurd (true≢false e)
     over false true xs ys e f = absurd (true≢false (sym e))
     over false false xs ys e f = ap numbers_of f
+
     on : (t : Bool) {xs ys : List ℕ} → xs ≡ ys → cond t (other.number ∷ xs) xs ≡ cond t (other.number ∷ ys) ys
     on true h = ap (λ ns. other.number ∷ ns) h
     on false h = h
+
     out : (t : Bool) (xs : List GenRow) → numbers_of (cond t (other ∷ xs) xs) ≡ cond t (other.number ∷ numbers_of xs) (numbers_of xs)
     out true xs = refl
     out false xs = refl
+
     by : (b : Bool) → nat_eq number other.number ≡ b → cond b (Some other) (row_in number rows) ≡ Some row
         → (row_in number rows ≡ Some row → IsDistinct nat_eq (numbers_of rows) → test (row_with status row) ≡ test row → numbers_where test (with_status number status rows) ≡ numbers_where test rows)
         → numbers_of (cond (test (row_with (cond b status other.status) other)) (row_with (cond b status other.status) other ∷ filter test (with_status number status rows)) (filter test (with_status number status rows)))
-            ≡ numbers_of (cond (test other) (other ∷ filter test rows) (filter test rows))
+        ≡ numbers_of (cond (test other) (other ∷ filter test rows) (filter test rows))
     by true e at rest =
         let own : other ≡ row = cc in
         over (test (row_with status other)) (test other) (filter test (with_status number status rows)) (filter test rows)
-            ((λ i. test (row_with status (own i))) ∙ same ∙ ap test (sym own))
-            (ap (filter test) (with_status-absent number status rows (later_none number other rows apart e)))
+        ((λ i. test (row_with status (own i))) ∙ same ∙ ap test (sym own))
+        (ap (filter test) (with_status-absent number status rows (later_none number other rows apart e)))
     by false e at rest =
         out (test other) (filter test (with_status number status rows))
         ∙ on (test other) (rest at (IsDistinct-tail nat_eq other.number (numbers_of rows) apart) same)
@@ -138,7 +146,7 @@ where-one test number status row (other ∷ rows) found apart none passes =
         → numbers_of (cond t (other ∷ filter test rows) (filter test rows)) ≡ []
         → (row_in number rows ≡ Some row → IsDistinct nat_eq (numbers_of rows) → numbers_where test rows ≡ [] → test (row_with status row) ≡ true → numbers_where test (with_status number status rows) ≡ number ∷ [])
         → numbers_of (cond (test (row_with (cond b status other.status) other)) (row_with (cond b status other.status) other ∷ filter test (with_status number status rows)) (filter test (with_status number status rows)))
-            ≡ number ∷ []
+        ≡ number ∷ []
     by b e true t at h rest = cc
     by true e false t at h rest =
         let own : other ≡ row = cc in
@@ -199,10 +207,12 @@ where-members test (row ∷ rows) apart =
     first : (t : Bool) → is_among (numbers_of (cond t (row ∷ filter test rows) (filter test rows))) row.number ≡ t
     first true = ap (λ b. b || is_among (numbers_where test rows) row.number) (eq-eqb row.number row.number refl)
     first false = far_of row.number test rows (IsDistinct-head nat_eq row.number (numbers_of rows) apart)
+
     one : (t : Bool) (r : GenRow) → nat_eq row.number r.number ≡ false → is_among (numbers_where test rows) r.number ≡ test r
         → is_among (numbers_of (cond t (row ∷ filter test rows) (filter test rows))) r.number ≡ test r
     one true r away h = (λ i. (flipped r.number row.number ∙ away) i || is_among (numbers_where test rows) r.number) ∙ h
     one false r away h = h
+
     more : (t : Bool) (rs : List GenRow) → AllByRecursion (λ y. nat_eq row.number y ≡ false) (numbers_of rs) → AllByRecursion (λ (r : GenRow). is_among (numbers_where test rows) r.number ≡ test r) rs
         → AllByRecursion (λ (r : GenRow). is_among (numbers_of (cond t (row ∷ filter test rows) (filter test rows))) r.number ≡ test r) rs
     more t [] far all = tt
@@ -221,7 +231,7 @@ found-where test number (other ∷ rows) apart here =
     by true e true f h rest = (other, refl, f)
     by true e false f h rest =
         absurd (true≢false (sym h ∙ (λ i. is_among (numbers_where test rows) (eqb-true number other.number e i))
-            ∙ far_of other.number test rows (IsDistinct-head nat_eq other.number (numbers_of rows) apart)))
+        ∙ far_of other.number test rows (IsDistinct-head nat_eq other.number (numbers_of rows) apart)))
     by false e true f h rest = rest ((λ i. sym e i || is_among (numbers_where test rows) number) ∙ h)
     by false e false f h rest = rest h
 
@@ -233,6 +243,7 @@ any-found test number row (other ∷ rows) found passes = by (nat_eq number othe
     late : (b : Bool) → (b || true) ≡ true
     late true = refl
     late false = refl
+
     by : (b : Bool) → cond b (Some other) (row_in number rows) ≡ Some row → (row_in number rows ≡ Some row → test row ≡ true → list_any test rows ≡ true)
         → (test other || list_any test rows) ≡ true
     by true at rest =
@@ -254,6 +265,7 @@ all-found number row (other ∷ rows) found apart = by (nat_eq number other.numb
             → (nat_eq number r.number ≡ true → r ≡ row) × AllByRecursion (λ (q : GenRow). nat_eq number q.number ≡ true → q ≡ row) rs
         over true e at rest = cc
         over false e at rest = (λ h. absurd (true≢false (sym h ∙ e)), rest at)
+
     by : (b : Bool) → nat_eq number other.number ≡ b → cond b (Some other) (row_in number rows) ≡ Some row
         → (row_in number rows ≡ Some row → IsDistinct nat_eq (numbers_of rows) → AllByRecursion (λ (r : GenRow). nat_eq number r.number ≡ true → r ≡ row) rows)
         → (nat_eq number other.number ≡ true → other ≡ row) × AllByRecursion (λ (r : GenRow). nat_eq number r.number ≡ true → r ≡ row) rows
@@ -282,9 +294,10 @@ or_false false = refl
 -- each row is found by its number
 pub own-rows : (rows : List GenRow) → IsDistinct nat_eq (numbers_of rows) → AllByRecursion (λ (r : GenRow). row_in r.number rows ≡ Some r) rows
 own-rows [] apart = tt
-own-rows (row ∷ rows) apart =
-    ((λ i. cond (eq-eqb row.number row.number refl i) (Some row) (row_in row.number rows)),
-        more rows (IsDistinct-head nat_eq row.number (numbers_of rows) apart) (own-rows rows (IsDistinct-tail nat_eq row.number (numbers_of rows) apart)))
+own-rows (row ∷ rows) apart = (
+  (λ i. cond (eq-eqb row.number row.number refl i) (Some row) (row_in row.number rows)),
+  more rows (IsDistinct-head nat_eq row.number (numbers_of rows) apart) (own-rows rows (IsDistinct-tail nat_eq row.number (numbers_of rows) apart)),
+)
   where
     more : (rs : List GenRow) → AllByRecursion (λ y. nat_eq row.number y ≡ false) (numbers_of rs) → AllByRecursion (λ (r : GenRow). row_in r.number rows ≡ Some r) rs
         → AllByRecursion (λ (r : GenRow). row_in r.number (row ∷ rows) ≡ Some r) rs

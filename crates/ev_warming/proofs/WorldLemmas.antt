@@ -97,34 +97,34 @@ module _ (s : State) (world : World) (stands : StandsFor s world) where
   ready_too row k there = λ i.
       answered row.content k i
       && (not (is_checked row.content)
-          || ((λ j. are_results_in s.results row.number (hosts row.content k j))
-              ∙ all_results s.results world.results row.number (λ h. stands.resulted row.number h.host there) (assignment_by world.arrivals row.content)) i)
+      || ((λ j. are_results_in s.results row.number (hosts row.content k j))
+      ∙ all_results s.results world.results row.number (λ h. stands.resulted row.number h.host there) (assignment_by world.arrivals row.content)) i)
 
   module _ (x : IsIndexed s) where
     ready_all : AllByRecursion (λ (r : GenRow). is_ready_in s.watches s.results r ≡ is_ready_by world.arrivals world.results r) s.table.rows
     ready_all =
         all_then (λ (r : GenRow). (content_kind r.content ≡ s.kind) × (row_in r.number s.table.rows ≡ Some r)) (λ (r : GenRow). is_ready_in s.watches s.results r ≡ is_ready_by world.arrivals world.results r)
-            s.table.rows (λ r (k, own). ready_too r k (subst IsSome (sym own) refl))
-            (both_all (λ (r : GenRow). content_kind r.content ≡ s.kind) (λ (r : GenRow). row_in r.number s.table.rows ≡ Some r) s.table.rows stands.contents (own-rows s.table.rows x.table.apart))
+        s.table.rows (λ r (k, own). ready_too r k (subst IsSome (sym own) refl))
+        (both_all (λ (r : GenRow). content_kind r.content ≡ s.kind) (λ (r : GenRow). row_in r.number s.table.rows ≡ Some r) s.table.rows stands.contents (own-rows s.table.rows x.table.apart))
 
     successor : (row : GenRow) → row.kind ≡ s.kind → succeeded_by (is_ready_in s.watches s.results) s.table.rows row ≡ has_successor world.arrivals world.results world.rows row
     successor row k =
         any_agrees (λ (o : GenRow). is_row_of row.kind row.name o && (is_warming o.status && is_ready_in s.watches s.results o)) (λ (o : GenRow). is_row_of row.kind row.name o && is_due world.arrivals world.results o) s.table.rows
-            (all_then (λ (o : GenRow). is_ready_in s.watches s.results o ≡ is_ready_by world.arrivals world.results o)
-                (λ (o : GenRow). (is_row_of row.kind row.name o && (is_warming o.status && is_ready_in s.watches s.results o)) ≡ (is_row_of row.kind row.name o && is_due world.arrivals world.results o))
-                s.table.rows (λ o e. λ i. is_row_of row.kind row.name o && (is_warming o.status && e i)) ready_all)
+        (all_then (λ (o : GenRow). is_ready_in s.watches s.results o ≡ is_ready_by world.arrivals world.results o)
+        (λ (o : GenRow). (is_row_of row.kind row.name o && (is_warming o.status && is_ready_in s.watches s.results o)) ≡ (is_row_of row.kind row.name o && is_due world.arrivals world.results o))
+        s.table.rows (λ o e. λ i. is_row_of row.kind row.name o && (is_warming o.status && e i)) ready_all)
         ∙ ap (list_any (λ (o : GenRow). is_row_of row.kind row.name o && is_due world.arrivals world.results o)) stands.rows
         ∙ any-rows_of_kind s.kind (λ (o : GenRow). is_row_of row.kind row.name o && is_due world.arrivals world.results o)
-            (λ o h. (λ i. kind_same o.kind (sym k i)) ∙ (and_parts (kind_same o.kind row.kind) (bytes_eq o.name row.name) (and_parts (is_row_of row.kind row.name o) (is_due world.arrivals world.results o) h).0).0)
-            world.rows
+        (λ o h. (λ i. kind_same o.kind (sym k i)) ∙ (and_parts (kind_same o.kind row.kind) (bytes_eq o.name row.name) (and_parts (is_row_of row.kind row.name o) (is_due world.arrivals world.results o) h).0).0)
+        world.rows
 
     pub promoted_too : rows_promoted (is_ready_in s.watches s.results) s.table.rows ≡ rows_of_kind s.kind (promoted_rows world.arrivals world.results world.rows)
     promoted_too =
         statuses_agree (λ (r : GenRow). status_by (succeeded_by (is_ready_in s.watches s.results) s.table.rows r) (is_ready_in s.watches s.results r) r.status) (promoted_status world.arrivals world.results world.rows) s.table.rows
-            (all_then (λ (r : GenRow). (r.kind ≡ s.kind) × (is_ready_in s.watches s.results r ≡ is_ready_by world.arrivals world.results r))
-                (λ (r : GenRow). status_by (succeeded_by (is_ready_in s.watches s.results) s.table.rows r) (is_ready_in s.watches s.results r) r.status ≡ promoted_status world.arrivals world.results world.rows r)
-                s.table.rows (λ r (k, e). λ i. status_by (successor r k i) (e i) r.status)
-                (both_all (λ (r : GenRow). r.kind ≡ s.kind) (λ (r : GenRow). is_ready_in s.watches s.results r ≡ is_ready_by world.arrivals world.results r) s.table.rows x.kinds ready_all))
+        (all_then (λ (r : GenRow). (r.kind ≡ s.kind) × (is_ready_in s.watches s.results r ≡ is_ready_by world.arrivals world.results r))
+        (λ (r : GenRow). status_by (succeeded_by (is_ready_in s.watches s.results) s.table.rows r) (is_ready_in s.watches s.results r) r.status ≡ promoted_status world.arrivals world.results world.rows r)
+        s.table.rows (λ r (k, e). λ i. status_by (successor r k i) (e i) r.status)
+        (both_all (λ (r : GenRow). r.kind ≡ s.kind) (λ (r : GenRow). is_ready_in s.watches s.results r ≡ is_ready_by world.arrivals world.results r) s.table.rows x.kinds ready_all))
         ∙ ap (with_statuses (promoted_status world.arrivals world.results world.rows)) stands.rows
         ∙ sym (rows_of_kind-with_statuses s.kind (promoted_status world.arrivals world.results world.rows) world.rows)
 

@@ -15,12 +15,12 @@ returns-clause-indexed g c =
     let s = c.args.self.now in
     let watches = c.tell.new.self in
     let rows : c.as_slice.result.now ≡ (watch_in watches c.args.name.now).rows =
-        c.as_slice.ensures.elements ∙ (λ i. (sym (kept_at-found unwatched watches c.args.name.now (Some c.in-Some.watch.now) (sym c.in-Some.ensures)) i).rows) in
+    c.as_slice.ensures.elements ∙ (λ i. (sym (kept_at-found unwatched watches c.args.name.now (Some c.in-Some.watch.now) (sym c.in-Some.ensures)) i).rows) in
     on_ok c.refresh.result c.refresh.ensures.due (λ looked.
-        indexed-arrived s c.args.name.now c.args.arrival.now watches c.refresh.new.due c.requires.indexed c.in_ok-tell.ensures
-            (λ n. looked n ∙ (λ i. cond (is_among (rows i) n) (is_due_at watches s.results n s.table.rows) (is_among s.due n))))
+    indexed-arrived s c.args.name.now c.args.arrival.now watches c.refresh.new.due c.requires.indexed c.in_ok-tell.ensures
+    (λ n. looked n ∙ (λ i. cond (is_among (rows i) n) (is_due_at watches s.results n s.table.rows) (is_among s.due n))))
 
 pub returns-clause-stands : goal.returns-clause-stands
 returns-clause-stands g c =
     on_ok c.refresh.result c.refresh.ensures.due (λ looked world stands.
-        arrived-stands c.args.self.now world stands c.args.name.now c.args.arrival.now c.tell.new.self c.in_ok-tell.ensures c.refresh.new.due)
+    arrived-stands c.args.self.now world stands c.args.name.now c.args.arrival.now c.tell.new.self c.in_ok-tell.ensures c.refresh.new.due)

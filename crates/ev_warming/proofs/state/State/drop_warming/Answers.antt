@@ -17,7 +17,7 @@ pub returns-in-Some-clause-alone : goal.returns-in-Some-clause-alone
 returns-in-Some-clause-alone g c =
     let s = c.args.self.now in
     drop-alone s c.requires.indexed c.args.name.now c.in-Some.before ((λ i. (sym c.standing.ensures i).warming) ∙ c.in-Some.is)
-        c.retire.new.self c.retire.ensures.indexed c.retire.ensures.rows
+    c.retire.new.self c.retire.ensures.indexed c.retire.ensures.rows
 
 pub returns-in_default-clause-rows : goal.returns-in_default-clause-rows
 returns-in_default-clause-rows g c =

@@ -22,19 +22,19 @@ returns-in-Some-clause-row g c =
     let own = found_warm (row_in c.args.number s.table.rows) c.requires.warms in
     ap (row_in c.args.number) c.retire.ensures.rows
     ∙ way-row s c.requires.indexed (name_in (row_in c.args.number s.table.rows)) c.in-Some.before (sym c.requires.active ∙ c.in-Some.is)
-        c.args.number own.0 (removed_status (status_in (row_in c.in-Some.before s.table.rows))) own.1 ((λ i. is_warming (status_in (sym own.1 i))) ∙ c.requires.warms)
+    c.args.number own.0 (removed_status (status_in (row_in c.in-Some.before s.table.rows))) own.1 ((λ i. is_warming (status_in (sym own.1 i))) ∙ c.requires.warms)
 
 pub returns-in-Some-clause-alone : goal.returns-in-Some-clause-alone
 returns-in-Some-clause-alone g c =
     let s = c.args.self.now in
     way-alone s c.requires.indexed (name_in (row_in c.args.number s.table.rows)) c.in-Some.before (sym c.requires.active ∙ c.in-Some.is)
-        c.retire.new.self c.retire.ensures.indexed c.retire.ensures.rows
+    c.retire.new.self c.retire.ensures.indexed c.retire.ensures.rows
 
 pub returns-in-Some-clause-due : goal.returns-in-Some-clause-due
 returns-in-Some-clause-due g c =
     let s = c.args.self.now in
     λ n. c.retire.ensures.due n
-        ∙ way-due s c.requires.indexed (name_in (row_in c.args.number s.table.rows)) c.in-Some.before (sym c.requires.active ∙ c.in-Some.is) n
+    ∙ way-due s c.requires.indexed (name_in (row_in c.args.number s.table.rows)) c.in-Some.before (sym c.requires.active ∙ c.in-Some.is) n
 
 pub returns-in_default-clause-rows : goal.returns-in_default-clause-rows
 returns-in_default-clause-rows g c =

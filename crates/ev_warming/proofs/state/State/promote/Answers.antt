@@ -14,7 +14,7 @@ loop-number-preserved g c =
     let t = c.promote_one.new.self in
     let e = c.promote_one.ensures in
     let same : is_ready_in s.watches s.results ≡ is_ready_in s0.watches s0.results =
-        (λ j. is_ready_in s.watches (i.results j)) ∙ ready-same s0.watches s.watches s0.results i.marks in
+    (λ j. is_ready_in s.watches (i.results j)) ∙ ready-same s0.watches s.watches s0.results i.marks in
     record {
       indexed = e.indexed;
       rows = (λ j. rows_promoted (sym same j) t.table.rows) ∙ e.rows ∙ (λ j. rows_promoted (same j) s.table.rows) ∙ i.rows;
@@ -34,7 +34,7 @@ returns-clause-rows g c =
     let s0 = c.args.self.now in
     let s = c.loop-number.self in
     let same : is_ready_in s.watches s.results ≡ is_ready_in s0.watches s0.results =
-        (λ j. is_ready_in s.watches (i.results j)) ∙ ready-same s0.watches s.watches s0.results i.marks in
+    (λ j. is_ready_in s.watches (i.results j)) ∙ ready-same s0.watches s.watches s0.results i.marks in
     let none : s.due ≡ [] = subst (λ o. IfNone o (s.due ≡ [])) c.in_default.is c.first.ensures.none in
     sym (promoted-done s i.indexed none) ∙ (λ j. rows_promoted (same j) s.table.rows) ∙ i.rows
 
@@ -44,8 +44,8 @@ returns-clause-stands g c =
     let s0 = c.args.self.now in
     let s = c.loop-number.self in
     let same : is_ready_in s.watches s.results ≡ is_ready_in s0.watches s0.results =
-        (λ j. is_ready_in s.watches (i.results j)) ∙ ready-same s0.watches s.watches s0.results i.marks in
+    (λ j. is_ready_in s.watches (i.results j)) ∙ ready-same s0.watches s.watches s0.results i.marks in
     let none : s.due ≡ [] = subst (λ o. IfNone o (s.due ≡ [])) c.in_default.is c.first.ensures.none in
     λ world stands.
     promoted-stands s0 s world c.requires.indexed stands i.kind i.results i.made i.marks
-        (sym (promoted-done s i.indexed none) ∙ (λ j. rows_promoted (same j) s.table.rows) ∙ i.rows)
+    (sym (promoted-done s i.indexed none) ∙ (λ j. rows_promoted (same j) s.table.rows) ∙ i.rows)

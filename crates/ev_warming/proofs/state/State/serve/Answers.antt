@@ -8,11 +8,11 @@ use Rattle.ev_warming.proofs.state.State.serve.Goals as goal
 pub set-requires : goal.set-requires
 set-requires g c =
     named-live c.args.self.now c.args.number c.in-Some.row.now c.requires.indexed (sym c.in-Some.ensures.row)
-        (live-warming c.in-Some.row.now.status ((λ i. is_warming (status_in (c.in-Some.ensures.row i))) ∙ c.requires.warms))
+    (live-warming c.in-Some.row.now.status ((λ i. is_warming (status_in (c.in-Some.ensures.row i))) ∙ c.requires.warms))
 
 pub returns-clause-indexed : goal.returns-clause-indexed
 returns-clause-indexed g c =
     indexed-served c.args.self.now c.args.number c.in-Some.row.now c.requires.indexed (sym c.in-Some.ensures.row) c.warm.new.self c.warm.ensures.rows c.warm.ensures.made
-        ((λ i. is_warming (status_in (c.in-Some.ensures.row i))) ∙ c.requires.warms)
-        ((λ i. (standing_in c.args.self.now.names (name_in (c.in-Some.ensures.row i))).active) ∙ c.requires.alone)
-        c.set.new.self c.leave.new.self c.set.ensures c.leave.ensures.left
+    ((λ i. is_warming (status_in (c.in-Some.ensures.row i))) ∙ c.requires.warms)
+    ((λ i. (standing_in c.args.self.now.names (name_in (c.in-Some.ensures.row i))).active) ∙ c.requires.alone)
+    c.set.new.self c.leave.new.self c.set.ensures c.leave.ensures.left
