@@ -30,9 +30,9 @@ impl<V: Stands> Gate<V> {
             Err(error) => return Err((value, error)),
         };
         let version = value.version();
-        match Gate::founded(alloc, value, seats, version) {
+        match Gate::make_table(alloc, value, seats, version) {
             Ok((gate, leader)) => {
-                let passes = gate.seated(passes, leader, seats, version);
+                let passes = gate.make_passes(passes, leader, seats, version);
                 Ok((gate, passes))
             }
             Err(value) => {
@@ -49,13 +49,13 @@ impl<V: Stands> Gate<V> {
         ensures opening { V.opening result ≡ V.opening (first_of self) }
         ensures history { IsWhole (V.commits (first_of self)) (V.commits result) passes.items }
     {
-        let leader = self.gathered(passes);
+        let leader = self.join_seats(passes);
         let Gate { table } = self;
-        taken_out(table, leader)
+        take_out(table, leader)
     }
 
     // The gate and its first seat, which leads the others.
-    fn founded(
+    fn make_table(
         alloc: Global,
         value: V,
         seats: u32,
@@ -89,7 +89,7 @@ impl<V: Stands> Gate<V> {
     }
 
     // A pass for each seat: the leader makes the others.
-    fn seated(
+    fn make_passes(
         &self,
         mut passes: Vec<Pass<V>>,
         mut leader: GateSeat<V>,
@@ -116,7 +116,7 @@ impl<V: Stands> Gate<V> {
     }
 
     // The first seat of these takes in the others.
-    fn gathered(&self, mut passes: Vec<Pass<V>>) -> GateSeat<V>
+    fn join_seats(&self, mut passes: Vec<Pass<V>>) -> GateSeat<V>
         requires { AreAll (gate_id self.now) (seats_of self.now) passes.items }
         ensures { IsGathering (gate_id self.now) passes.items [] result }
     {
@@ -134,7 +134,7 @@ impl<V: Stands> Gate<V> {
 }
 
 // The last value, out of the table.
-fn taken_out<V: Stands>(table: GateTable<V>, leader: GateSeat<V>) -> V
+fn take_out<V: Stands>(table: GateTable<V>, leader: GateSeat<V>) -> V
     requires slots { table.shared.table_id.slots ≡ 1 }
     requires seat { leader.table_id ≡ table.shared.table_id }
     requires idle { (leader.me.0.spent ≡ false) × (leader.me.0.serving ≡ false) }

@@ -2,7 +2,7 @@
 use Rattle.std.proofs.Common.{ap, arith}
 use Rattle.ev_gate.proofs.Steps.{splits}
 use Rattle.ev_gate.proofs.Seating.{seating_more}
-use Rattle.ev_gate.proofs.gate.Gate.seated.Goals as goal
+use Rattle.ev_gate.proofs.gate.Gate.make_passes.Goals as goal
 
 pub split_seat-seat-requires : goal.split_seat-seat-requires
 split_seat-seat-requires g c =

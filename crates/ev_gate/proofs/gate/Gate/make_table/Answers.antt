@@ -4,7 +4,7 @@ use Rattle.atomic_table.specs.Table.{opening}
 use Rattle.ev_gate.specs.declared.view.Terms.{Terms}
 use Rattle.ev_gate.specs.Rule.{IsKept, first_view}
 use Rattle.ev_gate.proofs.Steps.{starts}
-use Rattle.ev_gate.proofs.gate.Gate.founded.Goals as goal
+use Rattle.ev_gate.proofs.gate.Gate.make_table.Goals as goal
 
 pub new-requires : goal.new-requires
 new-requires g c =

@@ -4,8 +4,8 @@ use Rattle.std.specs.Prelude.{IsSome}
 use Rattle.ev_gate.specs.Inner.{IsLast}
 use Rattle.ev_gate.proofs.Lists.{Some-injective, same_there}
 use Rattle.ev_gate.proofs.Steps.{closes}
-use Rattle.ev_gate.proofs.calls.taken_out.Goals as goal
-use Rattle.ev_gate.proofs.calls.taken_out.Goals.{After-take-slot}
+use Rattle.ev_gate.proofs.calls.take_out.Goals as goal
+use Rattle.ev_gate.proofs.calls.take_out.Goals.{After-take-slot}
 
 -- it is a value that stands for the whole history
 last : (g : _) (c : After-take-slot g) → (value : g.row.V.Denot) × (c.take-slot.result ≡ Some value) × IsLast g.V.Stands.opening g.V.Stands.commits c.args.table.shared.key c.args.leader.me.0 value

@@ -1,7 +1,7 @@
 use Rattle.std.proofs.Common.{◌≤◌, vec_capacity}
 use Rattle.ev_gate.specs.Words.{gate_id, first_of}
 use Rattle.ev_gate.specs.Inner.{IsSeating}
-use Rattle.ev_gate.proofs.gate.Gate.seated.Given as goal
+use Rattle.ev_gate.proofs.gate.Gate.make_passes.Given as goal
 
 -- the leader has made as many seats as the counter says, and each but its own has a pass
 abbrev pub invariant-loop-made : goal.invariant-loop-made

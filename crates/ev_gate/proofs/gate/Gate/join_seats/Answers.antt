@@ -5,7 +5,7 @@ use Rattle.ev_gate.specs.Inner.{IsGathering}
 use Rattle.ev_gate.proofs.Steps.{joins}
 use Rattle.ev_gate.proofs.Turning.{nil_of}
 use Rattle.ev_gate.proofs.Gathering.{some_left, none_left, gathering_starts, gate_next, gathering_more}
-use Rattle.ev_gate.proofs.gate.Gate.gathered.Goals as goal
+use Rattle.ev_gate.proofs.gate.Gate.join_seats.Goals as goal
 
 pub loop-passes-init : goal.loop-passes-init
 loop-passes-init g c =
