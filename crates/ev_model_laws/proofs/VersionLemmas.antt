@@ -19,7 +19,7 @@ use Rattle.ev_model_laws.specs.VersionsKept.{AreByName, AreKeptOnce, KeepsVersio
 use Rattle.ev_model_laws.proofs.CountLemmas.{count, fewer_by_one, one_more, fewer_left}
 use Rattle.ev_model_laws.proofs.KeepLemmas.{KeepsAll, step-keeps-all, run-keeps-all}
 
-is_less : (r : Ordering) → is_lt r ≡ true → r ≡ Less
+pub is_less : (r : Ordering) → is_lt r ≡ true → r ≡ Less
 is_less Less h = refl
 is_less Equal h = absurd (false≢true h)
 is_less Greater h = absurd (false≢true h)
@@ -30,20 +30,20 @@ less_once Equal h = refl
 less_once Greater h = absurd (false≢true h)
 
 -- of two texts at most one is before the other
-before_once : (a b : List ℕ) → is_before a b ≡ true → is_before b a ≡ false
+pub before_once : (a b : List ℕ) → is_before a b ≡ true → is_before b a ≡ false
 before_once a b before = ap is_lt (nat_list_cmp_total.antisymm b a) ∙ less_once (slice_cmp nat_cmp a b) before
 
-not_before_itself : (a : List ℕ) → is_before a a ≡ false
+pub not_before_itself : (a : List ℕ) → is_before a a ≡ false
 not_before_itself a = false_from_ne_true (is_before a a) (λ before. false≢true (sym (before_once a a before) ∙ before))
 
 -- what isn't before a text isn't before one that is before it
-stays_behind : (a b c : List ℕ) → is_before a b ≡ true → is_before c b ≡ false → is_before c a ≡ false
+pub stays_behind : (a b c : List ℕ) → is_before a b ≡ true → is_before c b ≡ false → is_before c a ≡ false
 stays_behind a b c before behind =
     false_from_ne_true (is_before c a)
     (λ h. false≢true (sym behind ∙ ap is_lt (nat_list_cmp_total.trans c a b (is_less (slice_cmp nat_cmp c a) h) (is_less (slice_cmp nat_cmp a b) before))))
 
 -- a version of this kind and name has this kind and this name
-version_decides : (kind : Kind) (name : List ℕ) (kept : KeptVersion)
+pub version_decides : (kind : Kind) (name : List ℕ) (kept : KeptVersion)
     → Decides (is_version_of kind name kept) ((kept.kind ≡ kind) × (kept.name ≡ name))
 version_decides kind name kept = both_decide (kind_decides kept.kind kind) (bytes_decide kept.name name)
 
@@ -179,13 +179,13 @@ with_once : (kind : Kind) (name : List ℕ) (new : KeptVersion) (versions : List
 with_once kind name new versions true is kept = one_with kind name new versions is (kept.once kind name) kept.by_name
 with_once kind name new versions false is kept = le_trans (fewer_with (is_version_of kind name) new versions is) (kept.once kind name)
 
-with_kept : (new : KeptVersion) (versions : List KeptVersion) → AreKeptOnce versions → AreKeptOnce (with_version new versions)
+pub with_kept : (new : KeptVersion) (versions : List KeptVersion) → AreKeptOnce versions → AreKeptOnce (with_version new versions)
 with_kept new versions kept = record {
   once = λ kind name. with_once kind name new versions (is_version_of kind name new) refl kept;
   by_name = with_by_name new versions kept.by_name;
 }
 
-left_kept : (test : KeptVersion → Bool) (versions : List KeptVersion) → AreKeptOnce versions → AreKeptOnce (filter test versions)
+pub left_kept : (test : KeptVersion → Bool) (versions : List KeptVersion) → AreKeptOnce versions → AreKeptOnce (filter test versions)
 left_kept test versions kept = record {
   once = λ kind name. le_trans (fewer_left (is_version_of kind name) test versions) (kept.once kind name);
   by_name = left_by_name test versions kept.by_name;
@@ -230,7 +230,7 @@ marked_count marks kind name (kept ∷ others) =
     (λ passes. sym (mark_same (marks kept) kind name kept) ∙ passes)
     (marked_count marks kind name others)
 
-renewed_kept : (kind : Kind) (name : List ℕ) (versions : List KeptVersion) → AreKeptOnce versions → AreKeptOnce (renewed kind name versions)
+pub renewed_kept : (kind : Kind) (name : List ℕ) (versions : List KeptVersion) → AreKeptOnce versions → AreKeptOnce (renewed kind name versions)
 renewed_kept kind name versions kept = record {
   once = λ asked wanted. le_trans (marked_count (is_version_of kind name) asked wanted versions) (kept.once asked wanted);
   by_name = marked_by_name (is_version_of kind name) versions kept.by_name;

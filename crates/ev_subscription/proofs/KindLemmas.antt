@@ -1,0 +1,238 @@
+-- The versions of one kind, among all.
+use Rattle.std.proofs.Common.{◌≡◌, ℕ, Bool, true, false, not, ◌&&◌, ◌||◌, cond, List, [], ◌∷◌, filter, map, refl, sym, ap, subst, ◌∙◌}
+use Rattle.std.specs.List.{list_any, AllByRecursion as ByRecursion}
+use Rattle.std.specs.Str.{bytes_eq}
+use Rattle.std.specs.Ordering.{is_lt, nat_cmp, ordering_reverse}
+use Rattle.std.specs.declared.cmp.Ordering.{Ordering}
+use Rattle.std.specs.declared.cmp.Ordering.TheVariants.{Less, Equal, Greater}
+use Rattle.std.specs.Cmp.{both_ways}
+use Rattle.std.specs.Cmp.Lexicographic.{nat_list_cmp_total, slice_cmp}
+use Rattle.std.proofs.lemmas.Bool.{false≢true, true≢false, false_from_ne_true}
+use Rattle.ev_types.specs.Items.{ResponseParts}
+use Rattle.ev_types.specs.Kinds.{kind_same, kind_decides}
+use Rattle.ev_types.specs.declared.contents.Kind.{Kind}
+use Rattle.ev_types.specs.declared.rows.KeptVersion.{KeptVersion}
+use Rattle.ev_model.specs.World.{World}
+use Rattle.ev_model.specs.Rows.{versions_left}
+use Rattle.ev_model.specs.Versions.{is_before, is_bounded, is_kept, is_version_of, bounded_as, renewed, versions_of, with_version, without_version}
+use Rattle.ev_model_laws.specs.VersionsKept.{AreByName}
+use Rattle.ev_model_laws.proofs.VersionLemmas.{is_less, placed, version_decides, not_before_itself, with_kept, left_kept, renewed_kept}
+use Rattle.ev_subscription.specs.Subscriptions.{SubscriptionParts, StandsFor, kept_of}
+
+-- a version of the kind and name of a new one has its kind
+has_kind : (new kept : KeptVersion) (k : Kind) → is_version_of new.kind new.name kept ≡ true → kind_same kept.kind k ≡ kind_same new.kind k
+has_kind new kept k same = ap (λ kind. kind_same kind k) ((version_decides new.kind new.name kept).0 same).0
+
+-- a version of another kind is none of this kind
+kept_with_other : (new : KeptVersion) (k : Kind) → kind_same new.kind k ≡ false → (versions : List KeptVersion) → kept_of k (with_version new versions) ≡ kept_of k versions
+kept_with_other new k other [] = simp (other) refl
+kept_with_other new k other (kept ∷ others) =
+    placed (λ vs. kept_of k vs ≡ kept_of k (kept ∷ others)) new kept others
+    (λ same. simp (other, has_kind new kept k same ∙ other) refl)
+    (λ before. simp (other) refl)
+    (λ isnt behind. further (kind_same kept.kind k) refl)
+  where
+    further : (t : Bool) → kind_same kept.kind k ≡ t → kept_of k (kept ∷ with_version new others) ≡ kept_of k (kept ∷ others)
+    further true is = simp (is) (ap (λ vs. kept ∷ vs) (kept_with_other new k other others))
+    further false is = simp (is) (kept_with_other new k other others)
+
+-- before a version nothing is that it stands behind of
+before_all : (new : KeptVersion) (versions : List KeptVersion) → ByRecursion (λ (other : KeptVersion). is_before new.name other.name ≡ true) versions
+    → with_version new versions ≡ new ∷ versions
+before_all new [] all = refl
+before_all new (kept ∷ others) all =
+    placed (λ vs. vs ≡ new ∷ kept ∷ others) new kept others
+    (λ same.
+      absurd (false≢true (sym (not_before_itself new.name)
+        ∙ ap (is_before new.name) (sym ((version_decides new.kind new.name kept).0 same).1) ∙ all.0)))
+    (λ before. refl)
+    (λ isnt behind. absurd (false≢true (sym behind ∙ all.0)))
+
+-- a name that is before another is before each that isn't before that one
+goes_before : (a b c : List ℕ) → is_before a b ≡ true → is_before c b ≡ false → is_before a c ≡ true
+goes_before a b c before behind = ap is_lt (by (slice_cmp nat_cmp c b) refl)
+  where
+    by : (r : Ordering) → slice_cmp nat_cmp c b ≡ r → slice_cmp nat_cmp a c ≡ Less
+    by Less is = absurd (true≢false (sym (ap is_lt is) ∙ behind))
+    by Equal is =
+        nat_list_cmp_total.antisymm a c ∙ ap ordering_reverse (nat_list_cmp_total.congr c b a is) ∙ sym (nat_list_cmp_total.antisymm a b) ∙ is_less (slice_cmp nat_cmp a b) before
+    by Greater is =
+        nat_list_cmp_total.trans a b c (is_less (slice_cmp nat_cmp a b) before) (nat_list_cmp_total.antisymm b c ∙ ap ordering_reverse is)
+
+kept_behind : (new kept : KeptVersion) (k : Kind) (versions : List KeptVersion) → is_before new.name kept.name ≡ true
+    → ByRecursion (λ (other : KeptVersion). is_before other.name kept.name ≡ false) versions
+    → ByRecursion (λ (other : KeptVersion). is_before new.name other.name ≡ true) (kept_of k versions)
+kept_behind new kept k [] before all = tt
+kept_behind new kept k (v ∷ vs) before all = by (kind_same v.kind k) (goes_before new.name kept.name v.name before all.0) (kept_behind new kept k vs before all.1)
+  where
+    by : (t : Bool) → is_before new.name v.name ≡ true → ByRecursion (λ (other : KeptVersion). is_before new.name other.name ≡ true) (kept_of k vs)
+        → ByRecursion (λ (other : KeptVersion). is_before new.name other.name ≡ true) (cond t (v ∷ kept_of k vs) (kept_of k vs))
+    by true first rest = (first, rest)
+    by false first rest = rest
+
+-- a new version of the kind stands among those of the kind where it stands among all
+kept_with_same : (new : KeptVersion) (k : Kind) → kind_same new.kind k ≡ true → (versions : List KeptVersion) → AreByName versions
+    → kept_of k (with_version new versions) ≡ with_version new (kept_of k versions)
+kept_with_same new k is [] by_name = simp (is) refl
+kept_with_same new k is (kept ∷ others) by_name =
+    placed (λ vs. kept_of k vs ≡ with_version new (kept_of k (kept ∷ others))) new kept others
+    (λ same. simp (is, has_kind new kept k same ∙ is, same) refl)
+    (λ before. in_front (kind_same kept.kind k) refl before)
+    (λ isnt behind. further (kind_same kept.kind k) refl isnt behind (kept_with_same new k is others by_name.1))
+  where
+    in_front : (t : Bool) → kind_same kept.kind k ≡ t → is_before new.name kept.name ≡ true
+        → kept_of k (new ∷ kept ∷ others) ≡ with_version new (kept_of k (kept ∷ others))
+    in_front true of before =
+        simp (is, of) (sym (before_all new (kept ∷ kept_of k others) (before, kept_behind new kept k others before by_name.0)))
+    in_front false of before =
+        simp (is, of) (sym (before_all new (kept_of k others) (kept_behind new kept k others before by_name.0)))
+
+    further : (t : Bool) → kind_same kept.kind k ≡ t → is_version_of new.kind new.name kept ≡ false → is_before new.name kept.name ≡ false
+        → kept_of k (with_version new others) ≡ with_version new (kept_of k others)
+        → kept_of k (kept ∷ with_version new others) ≡ with_version new (kept_of k (kept ∷ others))
+    further true of isnt behind rest = simp (of, isnt, behind) (ap (λ vs. kept ∷ vs) rest)
+    further false of isnt behind rest = simp (of) rest
+
+kind_symm : (a b : Kind) → kind_same a b ≡ kind_same b a
+kind_symm a b =
+    both_ways (kind_same a b) (kind_same b a) (λ h. (kind_decides b a).1 (sym ((kind_decides a b).0 h))) (λ h. (kind_decides a b).1 (sym ((kind_decides b a).0 h)))
+
+same_by : (k kind : Kind) (t : Bool) → kind_same k kind ≡ t → kind_same kind k ≡ t
+same_by k kind t is = kind_symm kind k ∙ is
+
+-- of each kind, the versions with a new one
+pub kept_with : (new : KeptVersion) (versions : List KeptVersion) → AreByName versions → (k : Kind)
+    → kept_of k (with_version new versions) ≡ (cond (kind_same k new.kind) (with_version new (kept_of new.kind versions)) (kept_of k versions))
+kept_with new versions by_name k = by (kind_same k new.kind) refl
+  where
+    by : (t : Bool) → kind_same k new.kind ≡ t → kept_of k (with_version new versions) ≡ cond t (with_version new (kept_of new.kind versions)) (kept_of k versions)
+    by true is =
+        subst (λ kind. kept_of k (with_version new versions) ≡ with_version new (kept_of kind versions)) ((kind_decides k new.kind).0 is)
+          (kept_with_same new k (same_by k new.kind true is) versions by_name)
+    by false is = kept_with_other new k (same_by k new.kind false is) versions
+
+filters_swap : (p q : KeptVersion → Bool) (versions : List KeptVersion) → filter p (filter q versions) ≡ filter q (filter p versions)
+filters_swap p q [] = refl
+filters_swap p q (v ∷ vs) = by (p v) (q v) refl refl (filters_swap p q vs)
+  where
+    by : (t u : Bool) → p v ≡ t → q v ≡ u → filter p (filter q vs) ≡ filter q (filter p vs) → filter p (filter q (v ∷ vs)) ≡ filter q (filter p (v ∷ vs))
+    by true true is also rest = simp (is, also) (ap (λ ws. v ∷ ws) rest)
+    by true false is also rest = simp (is, also) rest
+    by false true is also rest = simp (is, also) rest
+    by false false is also rest = simp (is, also) rest
+
+-- no version of another kind is of the kind and name
+left_whole : (kind k : Kind) (name : List ℕ) → kind_same k kind ≡ false → (versions : List KeptVersion) → without_version kind name (kept_of k versions) ≡ kept_of k versions
+left_whole kind k name apart [] = refl
+left_whole kind k name apart (v ∷ vs) = by (kind_same v.kind k) refl (left_whole kind k name apart vs)
+  where
+    by : (t : Bool) → kind_same v.kind k ≡ t → without_version kind name (kept_of k vs) ≡ kept_of k vs → without_version kind name (kept_of k (v ∷ vs)) ≡ kept_of k (v ∷ vs)
+    by true is rest =
+        let isnt : is_version_of kind name v ≡ false =
+            ap (λ kd. kind_same kd kind && bytes_eq v.name name) ((kind_decides v.kind k).0 is) ∙ ap (λ b. b && bytes_eq v.name name) apart in
+        simp (is, isnt) (ap (λ ws. v ∷ ws) rest)
+    by false is rest = simp (is) rest
+
+-- of each kind, the versions without one
+pub kept_without : (kind : Kind) (name : List ℕ) (versions : List KeptVersion) (k : Kind)
+    → kept_of k (without_version kind name versions) ≡ (cond (kind_same k kind) (without_version kind name (kept_of kind versions)) (kept_of k versions))
+kept_without kind name versions k = by (kind_same k kind) refl
+  where
+    swapped : kept_of k (without_version kind name versions) ≡ without_version kind name (kept_of k versions)
+    swapped = filters_swap (λ (kept : KeptVersion). kind_same kept.kind k) (λ (kept : KeptVersion). not (is_version_of kind name kept)) versions
+
+    by : (t : Bool) → kind_same k kind ≡ t → kept_of k (without_version kind name versions) ≡ cond t (without_version kind name (kept_of kind versions)) (kept_of k versions)
+    by true is = swapped ∙ ap (λ kd. without_version kind name (kept_of kd versions)) ((kind_decides k kind).0 is)
+    by false is = swapped ∙ left_whole kind k name is versions
+
+marks_by : (kind k : Kind) (name : List ℕ) (v : KeptVersion) → kind_same (bounded_as kind name v).kind k ≡ kind_same v.kind k
+marks_by kind k name v = by (is_version_of kind name v)
+  where
+    by : (t : Bool) → kind_same (cond t (record v { bounded = true }) v).kind k ≡ kind_same v.kind k
+    by true = refl
+    by false = refl
+
+renewed_of : (kind k : Kind) (name : List ℕ) (versions : List KeptVersion) → kept_of k (renewed kind name versions) ≡ renewed kind name (kept_of k versions)
+renewed_of kind k name [] = refl
+renewed_of kind k name (v ∷ vs) = by (kind_same v.kind k) refl (renewed_of kind k name vs)
+  where
+    by : (t : Bool) → kind_same v.kind k ≡ t → kept_of k (renewed kind name vs) ≡ renewed kind name (kept_of k vs)
+        → kept_of k (renewed kind name (v ∷ vs)) ≡ renewed kind name (kept_of k (v ∷ vs))
+    by true is rest = simp (is, marks_by kind k name v ∙ is) (ap (λ ws. bounded_as kind name v ∷ ws) rest)
+    by false is rest = simp (is, marks_by kind k name v ∙ is) rest
+
+unmarked : (kind k : Kind) (name : List ℕ) → kind_same k kind ≡ false → (versions : List KeptVersion) → renewed kind name (kept_of k versions) ≡ kept_of k versions
+unmarked kind k name apart [] = refl
+unmarked kind k name apart (v ∷ vs) = by (kind_same v.kind k) refl (unmarked kind k name apart vs)
+  where
+    by : (t : Bool) → kind_same v.kind k ≡ t → renewed kind name (kept_of k vs) ≡ kept_of k vs → renewed kind name (kept_of k (v ∷ vs)) ≡ kept_of k (v ∷ vs)
+    by true is rest =
+        let isnt : is_version_of kind name v ≡ false =
+            ap (λ kd. kind_same kd kind && bytes_eq v.name name) ((kind_decides v.kind k).0 is) ∙ ap (λ b. b && bytes_eq v.name name) apart in
+        simp (is, isnt) (ap (λ ws. v ∷ ws) rest)
+    by false is rest = simp (is) rest
+
+-- of each kind, the versions with the life of one bounded
+pub kept_renewed : (kind : Kind) (name : List ℕ) (versions : List KeptVersion) (k : Kind)
+    → kept_of k (renewed kind name versions) ≡ (cond (kind_same k kind) (renewed kind name (kept_of kind versions)) (kept_of k versions))
+kept_renewed kind name versions k = by (kind_same k kind) refl
+  where
+    by : (t : Bool) → kind_same k kind ≡ t → kept_of k (renewed kind name versions) ≡ cond t (renewed kind name (kept_of kind versions)) (kept_of k versions)
+    by true is = renewed_of kind k name versions ∙ ap (λ kd. renewed kind name (kept_of kd versions)) ((kind_decides k kind).0 is)
+    by false is = renewed_of kind k name versions ∙ unmarked kind k name is versions
+
+-- what is said of one kind and name is said of the versions of the kind
+any_of_kind : (kind : Kind) (name : List ℕ) (test : KeptVersion → Bool) (versions : List KeptVersion)
+    → list_any (λ (kept : KeptVersion). is_version_of kind name kept && test kept) (kept_of kind versions) ≡ list_any (λ (kept : KeptVersion). is_version_of kind name kept && test kept) versions
+any_of_kind kind name test [] = refl
+any_of_kind kind name test (v ∷ vs) = by (kind_same v.kind kind) refl (any_of_kind kind name test vs)
+  where
+    by : (t : Bool) → kind_same v.kind kind ≡ t
+        → list_any (λ (kept : KeptVersion). is_version_of kind name kept && test kept) (kept_of kind vs) ≡ list_any (λ (kept : KeptVersion). is_version_of kind name kept && test kept) vs
+        → list_any (λ (kept : KeptVersion). is_version_of kind name kept && test kept) (kept_of kind (v ∷ vs)) ≡ list_any (λ (kept : KeptVersion). is_version_of kind name kept && test kept) (v ∷ vs)
+    by true is rest = simp (is) (ap (λ b. (bytes_eq v.name name && test v) || b) rest)
+    by false is rest = simp (is) rest
+
+-- after the change of one kind, the subscription stands for the world with the change
+pub stands_with : (old new : SubscriptionParts) (world : World) (version : KeptVersion)
+    → new.node ≡ old.node → new.stream ≡ old.stream
+    → ((k : Kind) → new.versions k ≡ (cond (kind_same k version.kind) (with_version version (old.versions version.kind)) (old.versions k)))
+    → StandsFor old world → StandsFor new (record world { versions = with_version version world.versions })
+stands_with old new world version node stream changed was = record {
+  node = node ∙ was.node;
+  stream = stream ∙ was.stream;
+  versions = λ k. changed k ∙ (λ i. cond (kind_same k version.kind) (with_version version (was.versions version.kind i)) (was.versions k i)) ∙ sym (kept_with version world.versions was.kept_once.by_name k);
+  kept_once = with_kept version world.versions was.kept_once;
+}
+
+pub stands_without : (old new : SubscriptionParts) (world : World) (kind : Kind) (name : List ℕ)
+    → new.node ≡ old.node → new.stream ≡ old.stream
+    → ((k : Kind) → new.versions k ≡ (cond (kind_same k kind) (without_version kind name (old.versions kind)) (old.versions k)))
+    → StandsFor old world → StandsFor new (record world { versions = without_version kind name world.versions })
+stands_without old new world kind name node stream changed was = record {
+  node = node ∙ was.node;
+  stream = stream ∙ was.stream;
+  versions = λ k. changed k ∙ (λ i. cond (kind_same k kind) (without_version kind name (was.versions kind i)) (was.versions k i)) ∙ sym (kept_without kind name world.versions k);
+  kept_once = left_kept (λ (kept : KeptVersion). not (is_version_of kind name kept)) world.versions was.kept_once;
+}
+
+pub stands_renewed : (old new : SubscriptionParts) (world : World) (kind : Kind) (name : List ℕ)
+    → new.node ≡ old.node → new.stream ≡ old.stream
+    → ((k : Kind) → new.versions k ≡ (cond (kind_same k kind) (renewed kind name (old.versions kind)) (old.versions k)))
+    → StandsFor old world → StandsFor new (record world { versions = renewed kind name world.versions })
+stands_renewed old new world kind name node stream changed was = record {
+  node = node ∙ was.node;
+  stream = stream ∙ was.stream;
+  versions = λ k. changed k ∙ (λ i. cond (kind_same k kind) (renewed kind name (was.versions kind i)) (was.versions k i)) ∙ sym (kept_renewed kind name world.versions k);
+  kept_once = renewed_kept kind name world.versions was.kept_once;
+}
+
+pub kept_is : (subscription : SubscriptionParts) (world : World) (kind : Kind) (name version : List ℕ) → StandsFor subscription world
+    → is_kept (subscription.versions kind) kind name version ≡ is_kept world.versions kind name version
+kept_is subscription world kind name version stands =
+    ap (λ vs. is_kept vs kind name version) (stands.versions kind) ∙ any_of_kind kind name (λ (kept : KeptVersion). bytes_eq kept.version version) world.versions
+
+pub bounded_is : (subscription : SubscriptionParts) (world : World) (kind : Kind) (name : List ℕ) → StandsFor subscription world
+    → is_bounded (subscription.versions kind) kind name ≡ is_bounded world.versions kind name
+bounded_is subscription world kind name stands =
+    ap (λ vs. is_bounded vs kind name) (stands.versions kind) ∙ any_of_kind kind name (λ (kept : KeptVersion). kept.bounded) world.versions

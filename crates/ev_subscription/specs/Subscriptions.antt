@@ -1,0 +1,24 @@
+-- What a subscription knows, and which worlds it stands for. Source: the xDS transport protocol, incremental variant.
+use Rattle.std.specs.Prelude.{◌≡◌, ℕ, Bool, List, filter}
+use Rattle.ev_types.specs.Kinds.{kind_same}
+use Rattle.ev_types.specs.declared.contents.Kind.{Kind}
+use Rattle.ev_types.specs.declared.rows.KeptVersion.{KeptVersion}
+use Rattle.ev_model.specs.World.{World}
+use Rattle.ev_model_laws.specs.VersionsKept.{AreKeptOnce}
+
+-- the node, whether a stream is open, and the versions that are kept of each kind
+pub record SubscriptionParts : Type 0 where
+  pub node : List ℕ
+  pub stream : Bool
+  pub versions : Kind → List KeptVersion
+
+-- the versions of this kind
+abbrev pub kept_of : Kind → List KeptVersion → List KeptVersion
+kept_of kind versions = filter (λ (kept : KeptVersion). kind_same kept.kind kind) versions
+
+-- the subscription has the node, the stream and the versions of the world, in which each is kept once and in the order of the names
+pub record StandsFor (subscription : SubscriptionParts) (world : World) : Type 0 where
+  pub node : subscription.node ≡ world.node
+  pub stream : subscription.stream ≡ world.stream
+  pub versions : (kind : Kind) → subscription.versions kind ≡ kept_of kind world.versions
+  pub kept_once : AreKeptOnce world.versions

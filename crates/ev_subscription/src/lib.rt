@@ -1,0 +1,14 @@
+//! What a client of the incremental xDS protocol holds, and what it asks for: the node, the stream, the versions, and the
+//! requests of each event.
+#![tactic(auto)]
+
+mod names;
+mod replies;
+mod requests;
+mod subscription;
+mod versions;
+
+pub use replies::reply_of;
+pub use requests::NameChange;
+pub use subscription::Subscription;
+pub use versions::Held;

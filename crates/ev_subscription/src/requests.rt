@@ -1,0 +1,135 @@
+ghost use Rattle.std.specs.Prelude.{◌≡◌, ◌++◌, [], ◌∷◌, Some, None, if◌then◌else◌, IfOk, OnOk, option_to_list};
+ghost use Rattle.ev_model.specs.World.{World};
+ghost use Rattle.ev_model.specs.Requests.{Watched, connect_requests_by, clusters_request, listeners_request, listeners_asked, names_request, other_than, requests_by, whole_request};
+ghost use Rattle.ev_subscription.specs.Subscriptions.{StandsFor};
+
+use crate::subscription::Subscription;
+use ev_types::{Kind, Name, Request, Seq, Text, TryCopy};
+use std::alloc::{AllocError, Global};
+
+/// The names of a kind that began to be watched, and those that ceased to be, each in the order of their bytes.
+#[derive(Drop)]
+pub struct NameChange {
+    pub begun: Seq<Name>,
+    pub ended: Seq<Name>,
+}
+
+impl Subscription {
+    /// What is asked for when a stream opens: all clusters, with the node; the watched endpoints; all listeners, where they are
+    /// asked for; the watched routes. Each request tells the versions that are held. The names stand in the order of their bytes.
+    pub fn connect(
+        &self,
+        alloc: Global,
+        endpoints: &Seq<Name>,
+        routes: &Seq<Name>,
+        asked: bool,
+    ) -> Result<Seq<Request>, AllocError>
+        ensures { IfOk result (λ requests. (world : World) → StandsFor self.now world
+            → requests ≡ connect_requests_by world.node (record { endpoints = endpoints.now; routes = routes.now }) asked world.versions) }
+    {
+        let mut requests = Seq::new(alloc);
+        requests.push(self.clusters_request(alloc)?)?;
+        self.push_whole(alloc, Kind::Eds, endpoints, &mut requests)?;
+        if asked {
+            requests.push(self.listeners_request(alloc)?)?;
+        }
+        self.push_whole(alloc, Kind::Rds, routes, &mut requests)?;
+        Ok(requests)
+    }
+
+    /// The requests of an event: its reply first, where there is one; then, where a stream is open, the change of the watched
+    /// endpoints, all listeners, where they are asked for, and the change of the watched routes.
+    pub fn requests_after(
+        &self,
+        alloc: Global,
+        reply: Option<Request>,
+        endpoints: NameChange,
+        routes: NameChange,
+        asked: bool,
+    ) -> Result<Seq<Request>, AllocError>
+        ensures { IfOk result (λ requests. (world : World) (before after : Watched) → StandsFor self.now world
+            → endpoints.begun ≡ other_than before.endpoints after.endpoints → endpoints.ended ≡ other_than after.endpoints before.endpoints
+            → routes.begun ≡ other_than before.routes after.routes → routes.ended ≡ other_than after.routes before.routes
+            → requests ≡ requests_by world.stream before after asked world.versions reply) }
+    {
+        let mut requests = Seq::new(alloc);
+        if let Some(reply) = reply {
+            requests.push(reply)?;
+        }
+        if self.is_open() {
+            push_change(alloc, Kind::Eds, endpoints, &mut requests)?;
+            if asked {
+                requests.push(self.listeners_request(alloc)?)?;
+            }
+            push_change(alloc, Kind::Rds, routes, &mut requests)?;
+        }
+        Ok(requests)
+    }
+
+    // The first request of a stream: all clusters are asked for, and the node is named.
+    fn clusters_request(&self, alloc: Global) -> Result<Request, AllocError>
+        ensures { IfOk result (λ request. (world : World) → StandsFor self.now world → request ≡ clusters_request world.node world.versions) }
+    {
+        let mut request = request_of(alloc, Kind::Cds, self.versions(alloc, Kind::Cds)?);
+        request.node = Some(self.node().copy(alloc)?);
+        Ok(request)
+    }
+
+    // All listeners are asked for.
+    fn listeners_request(&self, alloc: Global) -> Result<Request, AllocError>
+        ensures { IfOk result (λ request. (world : World) → StandsFor self.now world → request ≡ listeners_request world.versions) }
+    {
+        Ok(request_of(alloc, Kind::Lds, self.versions(alloc, Kind::Lds)?))
+    }
+
+    // All of these names are asked for, where there are some, with the versions that are held.
+    fn push_whole(
+        &self,
+        alloc: Global,
+        kind: Kind,
+        names: &Seq<Name>,
+        requests: &mut Seq<Request>,
+    ) -> Result<(), AllocError>
+        ensures { OnOk result ((world : World) → StandsFor self.now world → requests.new ≡ requests.old ++ whole_request kind names.now world.versions) }
+    {
+        if names.len() == 0 {
+            return Ok(());
+        }
+        let mut request = request_of(alloc, kind, self.versions(alloc, kind)?);
+        request.subscribe = names.copy(alloc)?;
+        requests.push(request)
+    }
+}
+
+// A request that asks for all of a kind, with these versions.
+fn request_of(alloc: Global, kind: Kind, versions: Seq<(Name, Text)>) -> Request
+    ensures { result ≡ record { kind = kind; node = None; subscribe = []; unsubscribe = []; versions = versions; nonce = None; error = None } }
+{
+    Request {
+        kind,
+        node: None,
+        subscribe: Seq::new(alloc),
+        unsubscribe: Seq::new(alloc),
+        versions,
+        nonce: None,
+        error: None,
+    }
+}
+
+// A change of the names of a kind is asked for, where there is one.
+fn push_change(
+    alloc: Global,
+    kind: Kind,
+    change: NameChange,
+    requests: &mut Seq<Request>,
+) -> Result<(), AllocError>
+    ensures { OnOk result (requests.new ≡ requests.old ++ names_request kind change.begun change.ended []) }
+{
+    if change.begun.len() == 0 && change.ended.len() == 0 {
+        return Ok(());
+    }
+    let mut request = request_of(alloc, kind, Seq::new(alloc));
+    request.subscribe = change.begun;
+    request.unsubscribe = change.ended;
+    requests.push(request)
+}

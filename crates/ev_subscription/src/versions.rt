@@ -1,0 +1,88 @@
+ghost use Rattle.std.specs.Prelude.{◌≡◌, ◌&&◌, ◌++◌, [], ◌∷◌, true, map, IfOk, OnOk, OnErr};
+ghost use Rattle.std.specs.Map.{lookup, remove_entry, set_value};
+ghost use Rattle.std.specs.BTreeMap.{insert_entry, is_at, IsOrdered};
+ghost use Rattle.std.specs.Option.{option_copied};
+ghost use Rattle.ev_subscription.specs.Held.{bounded_in, name_order, named_version};
+
+use crate::names::VersionName;
+use ev_types::{Name, Seq, Text, TryCopy};
+use std::alloc::{AllocError, Global};
+use std::collections::BTreeMap;
+
+/// What is held of a resource: its version, and whether its life is bounded.
+#[derive(Drop)]
+pub struct Held {
+    pub version: Text,
+    pub bounded: bool,
+}
+
+/// By name what is held, in the order of the names.
+pub(crate) type Versions = BTreeMap<VersionName, Held>;
+
+/// Holds this of the name, in the place of what was held of it. Without memory all is as before.
+pub(crate) fn hold(versions: &mut Versions, name: Name, held: Held) -> Result<(), AllocError>
+    ensures entries { OnOk result (versions.new.entries ≡ insert_entry name_order versions.old.entries name held) }
+    ensures err { OnErr result (versions.new.entries ≡ versions.old.entries) }
+{
+    let Ok(_) = versions.insert(VersionName::new(name), held) else {
+        return Err(AllocError);
+    };
+    Ok(())
+}
+
+/// Forgets what is held of the name. It takes no memory.
+pub(crate) fn forget(versions: &mut Versions, name: &str)
+    ensures entries { versions.new.entries ≡ remove_entry (is_at (name_order name.now)) versions.old.entries }
+    ensures ordered { IsOrdered name_order versions.old }
+{
+    // They stand in the order of their names.
+    let _ = versions.len();
+    let _ = versions.remove(name);
+}
+
+/// What is held of the name, where something is.
+pub(crate) fn find<'a>(versions: &'a Versions, name: &str) -> Option<&'a Held>
+    ensures held { option_copied result ≡ lookup (is_at (name_order name.now)) versions.now.entries }
+    ensures ordered { IsOrdered name_order versions.now }
+{
+    // They stand in the order of their names.
+    let _ = versions.len();
+    versions.get(name)
+}
+
+/// Bounds the life of the resource of this name, where it is held. It takes no memory.
+pub(crate) fn bound(versions: &mut Versions, name: &str)
+    ensures { versions.new.entries ≡ bounded_in name.now versions.old.entries }
+{
+    // They stand in the order of their names.
+    let _ = versions.len();
+    if let Some(held) = versions.get_mut(name) {
+        held.bounded = true;
+    }
+}
+
+/// Each name with its version, in the order of the names.
+pub(crate) fn list(alloc: Global, versions: &Versions) -> Result<Seq<(Name, Text)>, AllocError>
+    ensures { IfOk result (λ list. list ≡ map named_version versions.now.entries) }
+{
+    let mut list = Vec::new(alloc);
+    for (name, held) in versions {
+        list.push((name.name().copy(alloc)?, held.version.copy(alloc)?))?;
+    }
+    Ok(Seq::from_vec(list))
+}
+
+/// Equal versions.
+pub(crate) fn copy(alloc: Global, versions: &Versions) -> Result<Versions, AllocError>
+    ensures { IfOk result (λ copy. copy.entries ≡ versions.now.entries) }
+{
+    let mut copy = BTreeMap::new(alloc);
+    for (name, held) in versions {
+        let held = Held {
+            version: held.version.copy(alloc)?,
+            bounded: held.bounded,
+        };
+        hold(&mut copy, name.name().copy(alloc)?, held)?;
+    }
+    Ok(copy)
+}
