@@ -1,9 +1,10 @@
 -- The entries of a map of names as versions.
-use Rattle.std.proofs.Common.{◌≡◌, ℕ, Bool, true, false, not, ◌&&◌, ◌||◌, cond, List, [], ◌∷◌, filter, map, Option, None, Some, refl, sym, ap, ◌∙◌}
+use Rattle.std.proofs.Common.{◌≡◌, ℕ, Bool, true, false, not, ◌&&◌, ◌||◌, cond, List, [], ◌∷◌, filter, map, Option, None, Some, Result, Ok, Err, refl, sym, ap, ◌∙◌}
 use Rattle.std.specs.List.{list_any}
 use Rattle.std.specs.List.Sorted.{IsStrictlySortedBy}
 use Rattle.std.specs.Str.{bytes_eq}
 use Rattle.std.specs.Option.{unwrap_or}
+use Rattle.std.specs.Result.{IfOk}
 use Rattle.std.specs.Map.{keys_of, lookup, remove_entry, set_value}
 use Rattle.std.specs.BTreeMap.{insert_entry, is_at}
 use Rattle.std.specs.Ordering.{is_eq, is_lt, match_ordering, eq_by_cmp}
@@ -99,7 +100,7 @@ held_bounded kind name (e ∷ es) = by (is_at (name_order name) e.0) (is_version
     by false false h rest = ap (λ vs. version_at kind e ∷ vs) rest
 
 -- what is told of what a look-up finds
-abbrev told_of : (Held → Bool) → Option Held → Bool
+abbrev pub told_of : (Held → Bool) → Option Held → Bool
 told_of test None = false
 told_of test (Some held) = test held
 
@@ -178,3 +179,19 @@ bound_missed name (e ∷ es) none = by (is_at (name_order name) e.0) none (bound
         → e ∷ es ≡ cond t (e.0, record e.1 { bounded = true }) e ∷ bounded_in name es
     by true is rest = cc
     by false is rest = ap (λ vs. e ∷ vs) (rest is)
+
+-- the version of a name, where one is held
+pub kept_found : (kind : Kind) (name version : List ℕ) (es : Entries) → IsStrictlySortedBy name_order (keys_of es)
+    → told_of (λ (held : Held). bytes_eq held.version version) (lookup (is_at (name_order name)) es) ≡ is_kept (versions_in kind es) kind name version
+kept_found kind name version es sorted =
+    held_found kind name (λ (kept : KeptVersion). bytes_eq kept.version version) (λ (held : Held). bytes_eq held.version version) (λ e. refl) es sorted
+
+-- the mark of a name, where a version is held
+pub bounded_found : (kind : Kind) (name : List ℕ) (es : Entries) → IsStrictlySortedBy name_order (keys_of es)
+    → told_of (λ (held : Held). held.bounded) (lookup (is_at (name_order name)) es) ≡ is_bounded (versions_in kind es) kind name
+bounded_found kind name es sorted = held_found kind name (λ (kept : KeptVersion). kept.bounded) (λ (held : Held). held.bounded) (λ e. refl) es sorted
+
+-- what is so of an answer where there is one
+pub if_ok_more : {V E : Type 0} (P Q : V → Type 0) (r : Result V E) → ((v : V) → P v → Q v) → IfOk r P → IfOk r Q
+if_ok_more P Q (Ok v) so p = so v p
+if_ok_more P Q (Err e) so p = p

@@ -1,5 +1,5 @@
 -- The versions of one kind, among all.
-use Rattle.std.proofs.Common.{◌≡◌, ℕ, Bool, true, false, not, ◌&&◌, ◌||◌, cond, List, [], ◌∷◌, filter, map, refl, sym, ap, subst, ◌∙◌}
+use Rattle.std.proofs.Common.{◌≡◌, ℕ, Bool, true, false, not, ◌&&◌, ◌||◌, ◌+◌, ◌<◌, ◌≤◌, cond, List, [], ◌∷◌, ◌++◌, filter, map, length, take, get_or, refl, sym, ap, subst, ◌∙◌, arith}
 use Rattle.std.specs.List.{list_any, AllByRecursion as ByRecursion}
 use Rattle.std.specs.Str.{bytes_eq}
 use Rattle.std.specs.Ordering.{is_lt, nat_cmp, ordering_reverse}
@@ -11,13 +11,21 @@ use Rattle.std.proofs.lemmas.Bool.{false≢true, true≢false, false_from_ne_tru
 use Rattle.ev_types.specs.Items.{ResponseParts}
 use Rattle.ev_types.specs.Kinds.{kind_same, kind_decides}
 use Rattle.ev_types.specs.declared.contents.Kind.{Kind}
+use Rattle.ev_types.specs.declared.contents.Kind.TheVariants.{Cds, Eds, Lds, Rds}
 use Rattle.ev_types.specs.declared.rows.KeptVersion.{KeptVersion}
 use Rattle.ev_model.specs.World.{World}
-use Rattle.ev_model.specs.Rows.{versions_left}
+use Rattle.std.specs.Prelude.{nat_le}
+use Rattle.std.proofs.lemmas.Grind.{common_steps}
+use Rattle.std.proofs.lemmas.Cmp.{nat_list_eq_equiv}
+use Rattle.std.proofs.lemmas.List.{take_all}
+use Rattle.std.proofs.lemmas.List.Folds.{list_any-append}
+use Rattle.std.proofs.lemmas.Slice.Eq.{bytes_eq-Decides}
+use Rattle.ev_model.specs.Rows.{is_version_left, versions_left}
+use Rattle.ev_model.specs.Verdicts.{is_among, is_removed, items_named}
 use Rattle.ev_model.specs.Versions.{is_before, is_bounded, is_kept, is_version_of, bounded_as, renewed, versions_of, with_version, without_version}
 use Rattle.ev_model_laws.specs.VersionsKept.{AreByName}
 use Rattle.ev_model_laws.proofs.VersionLemmas.{is_less, placed, version_decides, not_before_itself, with_kept, left_kept, renewed_kept}
-use Rattle.ev_subscription.specs.Subscriptions.{SubscriptionParts, StandsFor, kept_of}
+use Rattle.ev_subscription.specs.Subscriptions.{SubscriptionParts, StandsFor, held_of, kept_of, with_held}
 
 -- a version of the kind and name of a new one has its kind
 has_kind : (new kept : KeptVersion) (k : Kind) → is_version_of new.kind new.name kept ≡ true → kind_same kept.kind k ≡ kind_same new.kind k
@@ -30,11 +38,12 @@ kept_with_other new k other (kept ∷ others) =
     placed (λ vs. kept_of k vs ≡ kept_of k (kept ∷ others)) new kept others
     (λ same. simp (other, has_kind new kept k same ∙ other) refl)
     (λ before. simp (other) refl)
-    (λ isnt behind. further (kind_same kept.kind k) refl)
+    (λ isnt behind. further (kind_same kept.kind k) refl (kept_with_other new k other others))
   where
-    further : (t : Bool) → kind_same kept.kind k ≡ t → kept_of k (kept ∷ with_version new others) ≡ kept_of k (kept ∷ others)
-    further true is = simp (is) (ap (λ vs. kept ∷ vs) (kept_with_other new k other others))
-    further false is = simp (is) (kept_with_other new k other others)
+    further : (t : Bool) → kind_same kept.kind k ≡ t → kept_of k (with_version new others) ≡ kept_of k others
+        → kept_of k (kept ∷ with_version new others) ≡ kept_of k (kept ∷ others)
+    further true is rest = simp (is) (ap (λ vs. kept ∷ vs) rest)
+    further false is rest = simp (is) rest
 
 -- before a version nothing is that it stands behind of
 before_all : (new : KeptVersion) (versions : List KeptVersion) → ByRecursion (λ (other : KeptVersion). is_before new.name other.name ≡ true) versions
@@ -193,46 +202,211 @@ any_of_kind kind name test (v ∷ vs) = by (kind_same v.kind kind) refl (any_of_
     by true is rest = simp (is) (ap (λ b. (bytes_eq v.name name && test v) || b) rest)
     by false is rest = simp (is) rest
 
+with_by_kinds : (kind k : Kind) (versions : List KeptVersion) (s : SubscriptionParts) → held_of (with_held kind versions s) k ≡ (cond (kind_same k kind) versions (held_of s k))
+with_by_kinds Cds Cds versions s = refl
+with_by_kinds Cds Eds versions s = refl
+with_by_kinds Cds Lds versions s = refl
+with_by_kinds Cds Rds versions s = refl
+with_by_kinds Eds Cds versions s = refl
+with_by_kinds Eds Eds versions s = refl
+with_by_kinds Eds Lds versions s = refl
+with_by_kinds Eds Rds versions s = refl
+with_by_kinds Lds Cds versions s = refl
+with_by_kinds Lds Eds versions s = refl
+with_by_kinds Lds Lds versions s = refl
+with_by_kinds Lds Rds versions s = refl
+with_by_kinds Rds Cds versions s = refl
+with_by_kinds Rds Eds versions s = refl
+with_by_kinds Rds Lds versions s = refl
+with_by_kinds Rds Rds versions s = refl
+
+same_node : (kind : Kind) (versions : List KeptVersion) (s : SubscriptionParts) → (with_held kind versions s).node ≡ s.node
+same_node Cds versions s = refl
+same_node Eds versions s = refl
+same_node Lds versions s = refl
+same_node Rds versions s = refl
+
+same_stream : (kind : Kind) (versions : List KeptVersion) (s : SubscriptionParts) → (with_held kind versions s).stream ≡ s.stream
+same_stream Cds versions s = refl
+same_stream Eds versions s = refl
+same_stream Lds versions s = refl
+same_stream Rds versions s = refl
+
+-- what was taken out of a kind, and something put in its place
+pub with_put : (kind : Kind) (versions others : List KeptVersion) (s : SubscriptionParts) → with_held kind versions (with_held kind others s) ≡ with_held kind versions s
+with_put Cds versions others s = refl
+with_put Eds versions others s = refl
+with_put Lds versions others s = refl
+with_put Rds versions others s = refl
+
+-- what is put back where it was
+pub with_same : (kind : Kind) (s : SubscriptionParts) → with_held kind (held_of s kind) s ≡ s
+with_same Cds s = refl
+with_same Eds s = refl
+with_same Lds s = refl
+with_same Rds s = refl
+
 -- after the change of one kind, the subscription stands for the world with the change
-pub stands_with : (old new : SubscriptionParts) (world : World) (version : KeptVersion)
-    → new.node ≡ old.node → new.stream ≡ old.stream
-    → ((k : Kind) → new.versions k ≡ (cond (kind_same k version.kind) (with_version version (old.versions version.kind)) (old.versions k)))
-    → StandsFor old world → StandsFor new (record world { versions = with_version version world.versions })
-stands_with old new world version node stream changed was = record {
-  node = node ∙ was.node;
-  stream = stream ∙ was.stream;
-  versions = λ k. changed k ∙ (λ i. cond (kind_same k version.kind) (with_version version (was.versions version.kind i)) (was.versions k i)) ∙ sym (kept_with version world.versions was.kept_once.by_name k);
+pub stands_with : (old new : SubscriptionParts) (version : KeptVersion) → new ≡ with_held version.kind (with_version version (held_of old version.kind)) old
+    → (world : World) → StandsFor old world → StandsFor new (record world { versions = with_version version world.versions })
+stands_with old new version is world was = record {
+  node = ap (λ (s : SubscriptionParts). s.node) is ∙ same_node version.kind (with_version version (held_of old version.kind)) old ∙ was.node;
+  stream = ap (λ (s : SubscriptionParts). s.stream) is ∙ same_stream version.kind (with_version version (held_of old version.kind)) old ∙ was.stream;
+  versions = λ k.
+      ap (λ s. held_of s k) is
+      ∙ with_by_kinds version.kind k (with_version version (held_of old version.kind)) old
+      ∙ (λ i. cond (kind_same k version.kind) (with_version version (was.versions version.kind i)) (was.versions k i))
+      ∙ sym (kept_with version world.versions was.kept_once.by_name k);
   kept_once = with_kept version world.versions was.kept_once;
 }
 
-pub stands_without : (old new : SubscriptionParts) (world : World) (kind : Kind) (name : List ℕ)
-    → new.node ≡ old.node → new.stream ≡ old.stream
-    → ((k : Kind) → new.versions k ≡ (cond (kind_same k kind) (without_version kind name (old.versions kind)) (old.versions k)))
-    → StandsFor old world → StandsFor new (record world { versions = without_version kind name world.versions })
-stands_without old new world kind name node stream changed was = record {
-  node = node ∙ was.node;
-  stream = stream ∙ was.stream;
-  versions = λ k. changed k ∙ (λ i. cond (kind_same k kind) (without_version kind name (was.versions kind i)) (was.versions k i)) ∙ sym (kept_without kind name world.versions k);
+pub stands_without : (old new : SubscriptionParts) (kind : Kind) (name : List ℕ) → new ≡ with_held kind (without_version kind name (held_of old kind)) old
+    → (world : World) → StandsFor old world → StandsFor new (record world { versions = without_version kind name world.versions })
+stands_without old new kind name is world was = record {
+  node = ap (λ (s : SubscriptionParts). s.node) is ∙ same_node kind (without_version kind name (held_of old kind)) old ∙ was.node;
+  stream = ap (λ (s : SubscriptionParts). s.stream) is ∙ same_stream kind (without_version kind name (held_of old kind)) old ∙ was.stream;
+  versions = λ k.
+      ap (λ s. held_of s k) is
+      ∙ with_by_kinds kind k (without_version kind name (held_of old kind)) old
+      ∙ (λ i. cond (kind_same k kind) (without_version kind name (was.versions kind i)) (was.versions k i))
+      ∙ sym (kept_without kind name world.versions k);
   kept_once = left_kept (λ (kept : KeptVersion). not (is_version_of kind name kept)) world.versions was.kept_once;
 }
 
-pub stands_renewed : (old new : SubscriptionParts) (world : World) (kind : Kind) (name : List ℕ)
-    → new.node ≡ old.node → new.stream ≡ old.stream
-    → ((k : Kind) → new.versions k ≡ (cond (kind_same k kind) (renewed kind name (old.versions kind)) (old.versions k)))
-    → StandsFor old world → StandsFor new (record world { versions = renewed kind name world.versions })
-stands_renewed old new world kind name node stream changed was = record {
-  node = node ∙ was.node;
-  stream = stream ∙ was.stream;
-  versions = λ k. changed k ∙ (λ i. cond (kind_same k kind) (renewed kind name (was.versions kind i)) (was.versions k i)) ∙ sym (kept_renewed kind name world.versions k);
+pub stands_renewed : (old new : SubscriptionParts) (kind : Kind) (name : List ℕ) → new ≡ with_held kind (renewed kind name (held_of old kind)) old
+    → (world : World) → StandsFor old world → StandsFor new (record world { versions = renewed kind name world.versions })
+stands_renewed old new kind name is world was = record {
+  node = ap (λ (s : SubscriptionParts). s.node) is ∙ same_node kind (renewed kind name (held_of old kind)) old ∙ was.node;
+  stream = ap (λ (s : SubscriptionParts). s.stream) is ∙ same_stream kind (renewed kind name (held_of old kind)) old ∙ was.stream;
+  versions = λ k.
+      ap (λ s. held_of s k) is
+      ∙ with_by_kinds kind k (renewed kind name (held_of old kind)) old
+      ∙ (λ i. cond (kind_same k kind) (renewed kind name (was.versions kind i)) (was.versions k i))
+      ∙ sym (kept_renewed kind name world.versions k);
   kept_once = renewed_kept kind name world.versions was.kept_once;
 }
 
 pub kept_is : (subscription : SubscriptionParts) (world : World) (kind : Kind) (name version : List ℕ) → StandsFor subscription world
-    → is_kept (subscription.versions kind) kind name version ≡ is_kept world.versions kind name version
+    → is_kept (held_of subscription kind) kind name version ≡ is_kept world.versions kind name version
 kept_is subscription world kind name version stands =
     ap (λ vs. is_kept vs kind name version) (stands.versions kind) ∙ any_of_kind kind name (λ (kept : KeptVersion). bytes_eq kept.version version) world.versions
 
 pub bounded_is : (subscription : SubscriptionParts) (world : World) (kind : Kind) (name : List ℕ) → StandsFor subscription world
-    → is_bounded (subscription.versions kind) kind name ≡ is_bounded world.versions kind name
+    → is_bounded (held_of subscription kind) kind name ≡ is_bounded world.versions kind name
 bounded_is subscription world kind name stands =
     ap (λ vs. is_bounded vs kind name) (stands.versions kind) ∙ any_of_kind kind name (λ (kept : KeptVersion). kept.bounded) world.versions
+
+-- the versions that are left once these of the removed names were forgotten
+abbrev pub is_left : Kind → ResponseParts → List (List ℕ) → KeptVersion → Bool
+is_left kind response names kept = not (kind_same kept.kind kind && (is_removed response kept.name && is_among kept.name names))
+
+both_filters : (p q : KeptVersion → Bool) (versions : List KeptVersion) → filter p (filter q versions) ≡ filter (λ kept. q kept && p kept) versions
+both_filters p q [] = refl
+both_filters p q (v ∷ vs) = by (q v) refl (both_filters p q vs)
+  where
+    by : (t : Bool) → q v ≡ t → filter p (filter q vs) ≡ filter (λ kept. q kept && p kept) vs → filter p (filter q (v ∷ vs)) ≡ filter (λ kept. q kept && p kept) (v ∷ vs)
+    by true is rest = simp (is) (ap (λ ws. cond (p v) (v ∷ ws) ws) rest)
+    by false is rest = simp (is) rest
+
+same_filter : (p q : KeptVersion → Bool) → ((kept : KeptVersion) → p kept ≡ q kept) → (versions : List KeptVersion) → filter p versions ≡ filter q versions
+same_filter p q same [] = refl
+same_filter p q same (v ∷ vs) = λ i. cond (same v i) (v ∷ same_filter p q same vs i) (same_filter p q same vs i)
+
+all_kept : (p : KeptVersion → Bool) → ((kept : KeptVersion) → p kept ≡ true) → (versions : List KeptVersion) → filter p versions ≡ versions
+all_kept p lets [] = refl
+all_kept p lets (v ∷ vs) = (λ i. cond (lets v i) (v ∷ all_kept p lets vs i) (all_kept p lets vs i))
+
+none_left : (k r : Bool) → not (k && (r && false)) ≡ true
+none_left true true = refl
+none_left true false = refl
+none_left false r = refl
+
+-- before the first name all are left
+pub left_first : (kind : Kind) (response : ResponseParts) (versions : List KeptVersion) → filter (is_left kind response []) versions ≡ versions
+left_first kind response versions = all_kept (is_left kind response []) (λ kept. none_left (kind_same kept.kind kind) (is_removed response kept.name)) versions
+
+among_more : (names : List (List ℕ)) (name q : List ℕ) → is_among q (names ++ name ∷ []) ≡ (is_among q names || bytes_eq q name)
+among_more names name q =
+    list_any-append (λ n. bytes_eq n q) names (name ∷ []) ∙ ap (λ b. is_among q names || b) (or_none (bytes_eq name q) ∙ nat_list_eq_equiv.symm name q)
+  where
+    or_none : (b : Bool) → (b || false) ≡ b
+    or_none true = refl
+    or_none false = refl
+
+-- a removed name is forgotten
+pub left_removed : (kind : Kind) (response : ResponseParts) (names : List (List ℕ)) (name : List ℕ) (versions : List KeptVersion) → is_removed response name ≡ true
+    → without_version kind name (filter (is_left kind response names) versions) ≡ filter (is_left kind response (names ++ name ∷ [])) versions
+left_removed kind response names name versions goes =
+    both_filters (λ (kept : KeptVersion). not (is_version_of kind name kept)) (is_left kind response names) versions
+    ∙ same_filter (λ (kept : KeptVersion). is_left kind response names kept && not (is_version_of kind name kept)) (is_left kind response (names ++ name ∷ [])) one versions
+  where
+    by : (k r m b : Bool) → (b ≡ true → r ≡ true) → (not (k && (r && m)) && not (k && b)) ≡ not (k && (r && (m || b)))
+    by true true true b so = refl
+    by true true false true so = refl
+    by true true false false so = refl
+    by true false m true so = absurd (false≢true (so refl))
+    by true false m false so = refl
+    by false r m b so = refl
+
+    one : (kept : KeptVersion) → (is_left kind response names kept && not (is_version_of kind name kept)) ≡ is_left kind response (names ++ name ∷ []) kept
+    one kept =
+        by (kind_same kept.kind kind) (is_removed response kept.name) (is_among kept.name names) (bytes_eq kept.name name)
+          (λ same. ap (is_removed response) ((bytes_eq-Decides kept.name name).0 same) ∙ goes)
+        ∙ ap (λ m. not (kind_same kept.kind kind && (is_removed response kept.name && m))) (sym (among_more names name kept.name))
+
+-- a name that isn't removed leaves all
+pub left_kept_name : (kind : Kind) (response : ResponseParts) (names : List (List ℕ)) (name : List ℕ) (versions : List KeptVersion) → is_removed response name ≡ false
+    → filter (is_left kind response names) versions ≡ filter (is_left kind response (names ++ name ∷ [])) versions
+left_kept_name kind response names name versions stays =
+    same_filter (is_left kind response names) (is_left kind response (names ++ name ∷ [])) one versions
+  where
+    by : (k r m b : Bool) → (b ≡ true → r ≡ false) → not (k && (r && m)) ≡ not (k && (r && (m || b)))
+    by true true true b so = refl
+    by true true false true so = absurd (true≢false (so refl))
+    by true true false false so = refl
+    by true false m b so = refl
+    by false r m b so = refl
+
+    one : (kept : KeptVersion) → is_left kind response names kept ≡ is_left kind response (names ++ name ∷ []) kept
+    one kept =
+        by (kind_same kept.kind kind) (is_removed response kept.name) (is_among kept.name names) (bytes_eq kept.name name)
+          (λ same. ap (is_removed response) ((bytes_eq-Decides kept.name name).0 same) ∙ stays)
+        ∙ ap (λ m. not (kind_same kept.kind kind && (is_removed response kept.name && m))) (sym (among_more names name kept.name))
+
+-- behind the last name those are left that the response doesn't remove
+pub left_all : (kind : Kind) (response : ResponseParts) (versions : List KeptVersion) → filter (is_left kind response response.removed) versions ≡ versions_left kind response versions
+left_all kind response versions = same_filter (is_left kind response response.removed) (is_version_left kind response) one versions
+  where
+    by : (k m n : Bool) → not (k && ((m && n) && m)) ≡ not (k && (m && n))
+    by true true true = refl
+    by true true false = refl
+    by true false n = refl
+    by false m n = refl
+
+    one : (kept : KeptVersion) → is_left kind response response.removed kept ≡ is_version_left kind response kept
+    one kept = by (kind_same kept.kind kind) (is_among kept.name response.removed) (not (nat_le 1 (length (items_named kept.name response.items))))
+
+pub names_more : (names : List (List ℕ)) (i : ℕ) (name : List ℕ) → i < length names → name ≡ get_or names i name → take (i + 1) names ≡ take i names ++ name ∷ []
+names_more names i name within is = grind (arith, common_steps)
+
+-- one name more was looked at
+pub left_more : (kind : Kind) (response : ResponseParts) (names : List (List ℕ)) (i : ℕ) (name text : List ℕ) (versions : List KeptVersion)
+    → i < length names → name ≡ get_or names i name → text ≡ name
+    → (cond (is_removed response text) (without_version kind text (filter (is_left kind response (take i names)) versions)) (filter (is_left kind response (take i names)) versions))
+    ≡ filter (is_left kind response (take (i + 1) names)) versions
+left_more kind response names i name text versions within is same =
+    ap (λ t. cond (is_removed response t) (without_version kind t (filter (is_left kind response (take i names)) versions)) (filter (is_left kind response (take i names)) versions)) same
+    ∙ by (is_removed response name) refl
+    ∙ sym (ap (λ ns. filter (is_left kind response ns) versions) (names_more names i name within is))
+  where
+    by : (t : Bool) → is_removed response name ≡ t
+        → cond t (without_version kind name (filter (is_left kind response (take i names)) versions)) (filter (is_left kind response (take i names)) versions)
+        ≡ filter (is_left kind response (take i names ++ name ∷ [])) versions
+    by true goes = left_removed kind response (take i names) name versions goes
+    by false stays = left_kept_name kind response (take i names) name versions stays
+
+-- behind the last name
+pub left_end : (kind : Kind) (response : ResponseParts) (names : List (List ℕ)) (i : ℕ) (versions : List KeptVersion) → length names ≤ i → names ≡ response.removed
+    → filter (is_left kind response (take i names)) versions ≡ versions_left kind response versions
+left_end kind response names i versions past are =
+    ap (λ ns. filter (is_left kind response ns) versions) (take_all i names past ∙ are) ∙ left_all kind response versions

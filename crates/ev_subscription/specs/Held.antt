@@ -5,7 +5,6 @@ use Rattle.std.specs.Ordering.{nat_cmp}
 use Rattle.std.specs.Cmp.Lexicographic.{slice_cmp}
 use Rattle.std.specs.declared.cmp.Ordering.{Ordering}
 use Rattle.ev_types.specs.declared.contents.Kind.{Kind}
-use Rattle.ev_types.specs.declared.contents.Kind.TheVariants.{Cds, Eds, Lds, Rds}
 use Rattle.ev_types.specs.declared.rows.KeptVersion.{KeptVersion}
 use Rattle.ev_subscription.specs.declared.versions.Held.{Held}
 
@@ -24,13 +23,6 @@ version_at kind entry = record { kind = kind; name = entry.0; version = entry.1.
 -- the versions of the entries
 abbrev pub versions_in : Kind → Entries → List KeptVersion
 versions_in kind entries = map (version_at kind) entries
-
--- of four the one of the kind
-abbrev pub of_kind : {X : Type 0} → X → X → X → X → Kind → X
-of_kind clusters endpoints listeners routes Cds = clusters
-of_kind clusters endpoints listeners routes Eds = endpoints
-of_kind clusters endpoints listeners routes Lds = listeners
-of_kind clusters endpoints listeners routes Rds = routes
 
 -- a name with its version
 abbrev pub named_version : List ℕ × Held → List ℕ × List ℕ

@@ -2,15 +2,33 @@
 use Rattle.std.specs.Prelude.{◌≡◌, ℕ, Bool, List, filter}
 use Rattle.ev_types.specs.Kinds.{kind_same}
 use Rattle.ev_types.specs.declared.contents.Kind.{Kind}
+use Rattle.ev_types.specs.declared.contents.Kind.TheVariants.{Cds, Eds, Lds, Rds}
 use Rattle.ev_types.specs.declared.rows.KeptVersion.{KeptVersion}
 use Rattle.ev_model.specs.World.{World}
 use Rattle.ev_model_laws.specs.VersionsKept.{AreKeptOnce}
 
--- the node, whether a stream is open, and the versions that are kept of each kind
+-- the node, whether a stream is open, and the versions that are held of each kind
 pub record SubscriptionParts : Type 0 where
   pub node : List ℕ
   pub stream : Bool
-  pub versions : Kind → List KeptVersion
+  pub clusters : List KeptVersion
+  pub endpoints : List KeptVersion
+  pub listeners : List KeptVersion
+  pub routes : List KeptVersion
+
+-- the versions that are held of this kind
+abbrev pub held_of : SubscriptionParts → Kind → List KeptVersion
+held_of subscription Cds = subscription.clusters
+held_of subscription Eds = subscription.endpoints
+held_of subscription Lds = subscription.listeners
+held_of subscription Rds = subscription.routes
+
+-- with these held of this kind
+abbrev pub with_held : Kind → List KeptVersion → SubscriptionParts → SubscriptionParts
+with_held Cds versions subscription = record subscription { clusters = versions }
+with_held Eds versions subscription = record subscription { endpoints = versions }
+with_held Lds versions subscription = record subscription { listeners = versions }
+with_held Rds versions subscription = record subscription { routes = versions }
 
 -- the versions of this kind
 abbrev pub kept_of : Kind → List KeptVersion → List KeptVersion
@@ -20,5 +38,5 @@ kept_of kind versions = filter (λ (kept : KeptVersion). kind_same kept.kind kin
 pub record StandsFor (subscription : SubscriptionParts) (world : World) : Type 0 where
   pub node : subscription.node ≡ world.node
   pub stream : subscription.stream ≡ world.stream
-  pub versions : (kind : Kind) → subscription.versions kind ≡ kept_of kind world.versions
+  pub versions : (kind : Kind) → held_of subscription kind ≡ kept_of kind world.versions
   pub kept_once : AreKeptOnce world.versions

@@ -11,4 +11,3 @@ mod versions;
 pub use replies::reply_of;
 pub use requests::NameChange;
 pub use subscription::Subscription;
-pub use versions::Held;

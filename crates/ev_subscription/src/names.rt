@@ -1,14 +1,15 @@
-ghost use Rattle.std.specs.Prelude.{◌≡◌};
+ghost use Rattle.std.specs.Prelude.{◌≡◌, IfOk};
 
-use ev_types::Name;
+use ev_types::{Name, Shared};
+use std::alloc::{AllocError, Global};
 use std::cmp::Ordering;
 use std::collections::btree_map::Comparable;
 use std::marker::Model;
 
-/// A name as a key; names compare by their bytes.
+/// A name as a key; names compare by their bytes. Copies share it.
 #[derive(Drop)]
 pub(crate) struct VersionName {
-    name: Name,
+    name: Shared<Name>,
 }
 
 impl Model for VersionName {
@@ -21,17 +22,32 @@ impl Model for VersionName {
 
 impl VersionName {
     /// The key of this name.
-    pub(crate) fn new(name: Name) -> VersionName
-        ensures { result ≡ name }
+    pub(crate) fn new(alloc: Global, name: Name) -> Result<VersionName, AllocError>
+        ensures { IfOk result (λ key. key ≡ name) }
     {
-        VersionName { name }
+        Ok(VersionName {
+            name: Shared::new(alloc, name)?,
+        })
     }
 
     /// The name.
     pub(crate) fn name(&self) -> &Name
         ensures { result.now ≡ self.now }
     {
-        &self.name
+        self.name.get()
+    }
+}
+
+impl Clone for VersionName {
+    ghost use Rattle.std.specs.Prelude.{◌≡◌};
+
+    ghost is_clone = { λ name copied. copied ≡ name };
+
+    // A copy shares the name.
+    fn clone(&self) -> Result<VersionName, AllocError> {
+        Ok(VersionName {
+            name: self.name.share()?,
+        })
     }
 }
 
@@ -45,7 +61,7 @@ impl PartialEq for VersionName {
     ghost laws = { Prim.search (comparing, rules) };
 
     fn eq(&self, other: &VersionName) -> bool {
-        self.name == other.name
+        *self.name() == *other.name()
     }
 }
 
@@ -84,12 +100,12 @@ impl Ord for VersionName {
     ghost matches_eq = { texts_ties };
 
     fn cmp(&self, other: &VersionName) -> Ordering {
-        self.name.as_str().cmp(other.name.as_str())
+        self.name().as_str().cmp(other.name().as_str())
     }
 }
 
 impl Comparable<VersionName> for &str {
-    ghost use Rattle.std.specs.Cmp.{le_lt_trans};
+    ghost use Rattle.std.specs.BTreeMap.Comparable.{le_lt_trans};
     ghost use Rattle.std.specs.Cmp.Lexicographic.{nat_list_cmp_total};
     ghost use Rattle.ev_subscription.specs.Held.{name_order};
 
@@ -100,6 +116,6 @@ impl Comparable<VersionName> for &str {
     ghost below_greater = { λ q. le_lt_trans nat_list_cmp_total q.now };
 
     fn compare(&self, key: &VersionName) -> Ordering {
-        (*self).cmp(key.name.as_str())
+        (*self).cmp(key.name().as_str())
     }
 }

@@ -1,25 +1,27 @@
 ghost use Rattle.std.specs.Prelude.{◌≡◌, ◌++◌, [], ◌∷◌, false, map, if◌then◌else◌, IfOk, OnOk, OnErr};
-ghost use Rattle.ev_types.specs.Kinds.{kind_same};
 ghost use Rattle.ev_types.specs.declared.contents.Kind.{Kind};
 ghost use Rattle.ev_model.specs.Rows.{versions_left};
+ghost use Rattle.ev_model.specs.Verdicts.{is_removed};
 ghost use Rattle.ev_model.specs.Versions.{is_bounded, is_kept, renewed, versions_of, with_version, without_version};
 ghost use Rattle.ev_model.specs.World.{World};
 ghost use Rattle.ev_subscription.specs.Held.{versions_in};
-ghost use Rattle.ev_subscription.specs.Subscriptions.{StandsFor};
+ghost use Rattle.ev_subscription.specs.Subscriptions.{StandsFor, held_of, with_held};
 
 use crate::names::VersionName;
 use crate::versions::{self, Held, Versions};
 use ev_rules::is_removed;
-use ev_types::{Kind, Name, Response, Seq, Text, TryCopy};
+use ev_types::{Kind, Name, Response, Seq, Shared, Text, TryCopy};
 use std::alloc::{AllocError, Global};
 use std::collections::BTreeMap;
 use std::marker::Model;
+use std::mem;
 
 /// What a client of the incremental protocol knows of its stream: the node that it names, whether a stream is open, and the
 /// versions that it holds, one for each kind and name. Each is found by a look-up, and those of a kind are listed in the order of
 /// their names.
 #[derive(Drop)]
 pub struct Subscription {
+    alloc: Global,
     node: Text,
     stream: bool,
     clusters: Versions,
@@ -30,7 +32,7 @@ pub struct Subscription {
 
 impl Model for Subscription {
     ghost use Rattle.ev_types.specs.declared.contents.Kind.TheVariants.{Cds, Eds, Lds, Rds};
-    ghost use Rattle.ev_subscription.specs.Held.{of_kind, versions_in};
+    ghost use Rattle.ev_subscription.specs.Held.{versions_in};
     ghost use Rattle.ev_subscription.specs.Subscriptions.{SubscriptionParts};
 
     ghost Value = { SubscriptionParts };
@@ -38,7 +40,10 @@ impl Model for Subscription {
     ghost view = { λ s. record {
         node = s.node;
         stream = s.stream;
-        versions = of_kind (versions_in Cds s.clusters.entries) (versions_in Eds s.endpoints.entries) (versions_in Lds s.listeners.entries) (versions_in Rds s.routes.entries);
+        clusters = versions_in Cds s.clusters.entries;
+        endpoints = versions_in Eds s.endpoints.entries;
+        listeners = versions_in Lds s.listeners.entries;
+        routes = versions_in Rds s.routes.entries;
     } };
 }
 
@@ -47,9 +52,10 @@ impl Subscription {
     pub fn new(alloc: Global, node: Text) -> Subscription
         ensures node { result.node ≡ node }
         ensures closed { result.stream ≡ false }
-        ensures empty { (kind : Kind) → result.versions kind ≡ [] }
+        ensures empty { (kind : Kind) → held_of result kind ≡ [] }
     {
         Subscription {
+            alloc,
             node,
             stream: false,
             clusters: BTreeMap::new(alloc),
@@ -74,15 +80,15 @@ impl Subscription {
     }
 
     /// A stream opens, or is lost.
-    pub fn set_open(&mut self, open: bool)
-        ensures stands { (world : World) → StandsFor self.old world → StandsFor self.new (record world { stream = open }) }
+    pub fn set_stream(&mut self, is_open: bool)
+        ensures stands { (world : World) → StandsFor self.old world → StandsFor self.new (record world { stream = is_open }) }
     {
-        self.stream = open;
+        self.stream = is_open;
     }
 
     // The versions of a kind.
     fn of(&self, kind: Kind) -> &Versions
-        ensures { versions_in kind result.now.entries ≡ self.now.versions kind }
+        ensures { versions_in kind result.now.entries ≡ held_of self.now kind }
     {
         match kind {
             Kind::Cds => &self.clusters,
@@ -92,26 +98,46 @@ impl Subscription {
         }
     }
 
+    // Takes the versions of a kind out.
+    fn take(&mut self, kind: Kind) -> Versions
+        ensures taken { versions_in kind result.entries ≡ held_of self.old kind }
+        ensures left { self.new ≡ with_held kind [] self.old }
+    {
+        let empty = BTreeMap::new(self.alloc);
+        match kind {
+            Kind::Cds => replace(&mut self.clusters, empty),
+            Kind::Eds => replace(&mut self.endpoints, empty),
+            Kind::Lds => replace(&mut self.listeners, empty),
+            Kind::Rds => replace(&mut self.routes, empty),
+        }
+    }
+
+    // Puts the versions of a kind in.
+    fn put(&mut self, kind: Kind, versions: Versions)
+        ensures { self.new ≡ with_held kind (versions_in kind versions.entries) self.old }
+    {
+        match kind {
+            Kind::Cds => self.clusters = versions,
+            Kind::Eds => self.endpoints = versions,
+            Kind::Lds => self.listeners = versions,
+            Kind::Rds => self.routes = versions,
+        }
+    }
+
     /// Whether this version is held of the kind and name.
     pub fn is_kept(&self, kind: Kind, name: &str, version: &str) -> bool
-        ensures { result ≡ is_kept (self.now.versions kind) kind name.now version.now }
+        ensures held { result ≡ is_kept (held_of self.now kind) kind name.now version.now }
         ensures stands { (world : World) → StandsFor self.now world → result ≡ is_kept world.versions kind name.now version.now }
     {
-        match versions::find(self.of(kind), name) {
-            Some(held) => held.version.as_str() == version,
-            None => false,
-        }
+        versions::is_kept(self.of(kind), name, version)
     }
 
     /// Whether the life of the resource of this kind and name is bounded.
     pub fn is_bounded(&self, kind: Kind, name: &str) -> bool
-        ensures { result ≡ is_bounded (self.now.versions kind) kind name.now }
+        ensures held { result ≡ is_bounded (held_of self.now kind) kind name.now }
         ensures stands { (world : World) → StandsFor self.now world → result ≡ is_bounded world.versions kind name.now }
     {
-        match versions::find(self.of(kind), name) {
-            Some(held) => held.bounded,
-            None => false,
-        }
+        versions::is_bounded(self.of(kind), name)
     }
 
     /// Holds a version, in the place of the one that was held of its kind and name, and whether its life is bounded. Without
@@ -123,66 +149,68 @@ impl Subscription {
         version: Text,
         bounded: bool,
     ) -> Result<(), AllocError>
-        ensures versions { OnOk result ((k : Kind) → self.new.versions k
-            ≡ (if kind_same k kind then with_version (record { kind = kind; name = name; version = version; bounded = bounded }) (self.old.versions kind) else self.old.versions k)) }
-        ensures unchanged { OnErr result ((k : Kind) → self.new.versions k ≡ self.old.versions k) }
-        ensures others { (self.new.node ≡ self.old.node) × (self.new.stream ≡ self.old.stream) }
+        ensures held { OnOk result (self.new
+            ≡ with_held kind (with_version (record { kind = kind; name = name; version = version; bounded = bounded }) (held_of self.old kind)) self.old) }
+        ensures unchanged { OnErr result (self.new ≡ self.old) }
         // Whatever world it stood for, it stands for that world with this version.
         ensures stands { OnOk result ((world : World) → StandsFor self.old world
             → StandsFor self.new (record world { versions = with_version (record { kind = kind; name = name; version = version; bounded = bounded }) world.versions })) }
     {
-        let held = Held { version, bounded };
-        match kind {
-            Kind::Cds => versions::hold(&mut self.clusters, name, held),
-            Kind::Eds => versions::hold(&mut self.endpoints, name, held),
-            Kind::Lds => versions::hold(&mut self.listeners, name, held),
-            Kind::Rds => versions::hold(&mut self.routes, name, held),
-        }
+        let name = VersionName::new(self.alloc, name)?;
+        let held = Held {
+            version: Shared::new(self.alloc, version)?,
+            bounded,
+        };
+        let mut versions = self.take(kind);
+        let done = versions::hold(&mut versions, name, held);
+        self.put(kind, versions);
+        done
     }
 
     /// Forgets the version of a kind and name. It takes no memory.
     pub fn forget(&mut self, kind: Kind, name: &str)
-        ensures versions { (k : Kind) → self.new.versions k ≡ (if kind_same k kind then without_version kind name.now (self.old.versions kind) else self.old.versions k) }
-        ensures others { (self.new.node ≡ self.old.node) × (self.new.stream ≡ self.old.stream) }
+        ensures held { self.new ≡ with_held kind (without_version kind name.now (held_of self.old kind)) self.old }
+        // Whatever world it stood for, it stands for that world without this version.
         ensures stands { (world : World) → StandsFor self.old world → StandsFor self.new (record world { versions = without_version kind name.now world.versions }) }
     {
-        match kind {
-            Kind::Cds => versions::forget(&mut self.clusters, name),
-            Kind::Eds => versions::forget(&mut self.endpoints, name),
-            Kind::Lds => versions::forget(&mut self.listeners, name),
-            Kind::Rds => versions::forget(&mut self.routes, name),
-        }
+        let mut versions = self.take(kind);
+        versions::forget(&mut versions, name);
+        self.put(kind, versions);
     }
 
     /// Bounds the life of a resource, where its version is held. It takes no memory.
     pub fn renew(&mut self, kind: Kind, name: &str)
-        ensures versions { (k : Kind) → self.new.versions k ≡ (if kind_same k kind then renewed kind name.now (self.old.versions kind) else self.old.versions k) }
-        ensures others { (self.new.node ≡ self.old.node) × (self.new.stream ≡ self.old.stream) }
+        ensures held { self.new ≡ with_held kind (renewed kind name.now (held_of self.old kind)) self.old }
+        // Whatever world it stood for, it stands for that world where the life of this resource is bounded.
         ensures stands { (world : World) → StandsFor self.old world → StandsFor self.new (record world { versions = renewed kind name.now world.versions }) }
     {
-        match kind {
-            Kind::Cds => versions::bound(&mut self.clusters, name),
-            Kind::Eds => versions::bound(&mut self.endpoints, name),
-            Kind::Lds => versions::bound(&mut self.listeners, name),
-            Kind::Rds => versions::bound(&mut self.routes, name),
-        }
+        let mut versions = self.take(kind);
+        versions::bound(&mut versions, name);
+        self.put(kind, versions);
     }
 
     /// Forgets the versions of the names that a response of this kind removes. It takes no memory.
     pub fn forget_removed(&mut self, kind: Kind, response: &Response)
-        ensures others { (self.new.node ≡ self.old.node) × (self.new.stream ≡ self.old.stream) }
-        ensures stands { (world : World) → StandsFor self.old world → StandsFor self.new (record world { versions = versions_left kind response.now world.versions }) }
+        ensures { (world : World) → StandsFor self.old world → StandsFor self.new (record world { versions = versions_left kind response.now world.versions }) }
     {
         for name in response.removed.as_slice() {
-            if is_removed(response, name.as_str()) {
-                self.forget(kind, name.as_str());
-            }
+            self.forget_where_removed(kind, response, name.as_str());
+        }
+    }
+
+    // Forgets the version of a name, where the response removes it.
+    fn forget_where_removed(&mut self, kind: Kind, response: &Response, name: &str)
+        ensures { (world : World) → StandsFor self.old world
+            → StandsFor self.new (record world { versions = if is_removed response.now name.now then without_version kind name.now world.versions else world.versions }) }
+    {
+        if is_removed(response, name) {
+            self.forget(kind, name);
         }
     }
 
     /// Each name of a kind with its version, in the order of the names.
     pub fn versions(&self, alloc: Global, kind: Kind) -> Result<Seq<(Name, Text)>, AllocError>
-        ensures { IfOk result (λ list. list ≡ map (λ kept. (kept.name, kept.version)) (self.now.versions kind)) }
+        ensures list { IfOk result (λ list. list ≡ map (λ kept. (kept.name, kept.version)) (held_of self.now kind)) }
         ensures stands { IfOk result (λ list. (world : World) → StandsFor self.now world → list ≡ versions_of kind world.versions) }
     {
         versions::list(alloc, self.of(kind))
@@ -192,12 +220,21 @@ impl Subscription {
 impl TryCopy for Subscription {
     fn copy(&self, alloc: Global) -> Result<Subscription, AllocError> {
         Ok(Subscription {
+            alloc: self.alloc,
             node: self.node.copy(alloc)?,
             stream: self.stream,
-            clusters: versions::copy(alloc, &self.clusters)?,
-            endpoints: versions::copy(alloc, &self.endpoints)?,
-            listeners: versions::copy(alloc, &self.listeners)?,
-            routes: versions::copy(alloc, &self.routes)?,
+            clusters: self.clusters.clone()?,
+            endpoints: self.endpoints.clone()?,
+            listeners: self.listeners.clone()?,
+            routes: self.routes.clone()?,
         })
     }
+}
+
+// Puts other versions in the place of these, and gives these.
+fn replace(versions: &mut Versions, others: Versions) -> Versions
+    ensures given { result.entries ≡ versions.old.entries }
+    ensures put { versions.new.entries ≡ others.entries }
+{
+    mem::replace(versions, others)
 }
