@@ -1,13 +1,15 @@
 -- The verdicts by look-ups are the verdicts over what is live: what is live after some resources follows from what was known before
 -- the response and from what the response made.
-use Rattle.std.proofs.Common.{◌≡◌, ℕ, ◌+◌, ◌≤◌, Bool, true, false, ◌&&◌, ◌||◌, not, cond, List, [], ◌∷◌, ◌++◌, append-nil, append_assoc, filter, map, length, length-append, Option, Some, None, refl, ap, sym, subst, ◌∙◌, arith}
+use Rattle.std.proofs.Common.{◌≡◌, ℕ, ◌+◌, ◌≤◌, Bool, true, false, ◌&&◌, ◌||◌, not, cond, List, [], ◌∷◌, ◌++◌, append-nil, append_assoc, filter, map, length, length-append, Option, Some, None, Result, Ok, Err, drop, refl, ap, sym, subst, ◌∙◌, arith}
 use Rattle.std.specs.Prelude.{nat_le}
-use Rattle.std.specs.List.{list_any, AllByRecursion}
+use Rattle.std.specs.List.{list_any}
+use Rattle.std.specs.Option.{unwrap_or}
+use Rattle.std.specs.Result.{IfOk}
 use Rattle.std.specs.Str.{bytes_eq}
 use Rattle.std.proofs.lemmas.Grind.{common_steps}
 use Rattle.std.proofs.lemmas.Bool.{false≢true}
 use Rattle.std.proofs.lemmas.Cmp.{nat_list_eq_equiv}
-use Rattle.std.proofs.lemmas.List.{map-append}
+use Rattle.std.proofs.lemmas.List.{map-append, drop_all}
 use Rattle.std.proofs.lemmas.List.Elements.{filter-append}
 use Rattle.std.proofs.lemmas.List.Folds.{list_any-append}
 use Rattle.std.proofs.lemmas.Slice.Eq.{bytes_eq-Decides}
@@ -24,11 +26,10 @@ use Rattle.ev_types.specs.declared.hosts.Host.{Host}
 use Rattle.ev_types.specs.declared.rows.KeptVersion.{KeptVersion}
 use Rattle.ev_types.specs.declared.rows.Live.{Live}
 use Rattle.ev_model.specs.Live.{is_named, latest, newest_of}
-use Rattle.ev_model.specs.Verdicts.{body_verdict, good_verdict, is_among, is_heard, is_removed, is_taken, items_named, lesser, lives_after, lives_left, listening_address, number_after, removed_rule, form_rule, rule_of, shares_address, stale_rule, twice_rule, verdict_by, verdict_of, verdicts_for, verdicts_from, with_new}
-use Rattle.ev_model.specs.Versions.{is_kept}
+use Rattle.ev_model.specs.Verdicts.{against, body_verdict, good_verdict, is_among, is_heard, is_removed, items_named, lesser, lives_after, lives_left, listening_address, number_after, removed_rule, form_rule, rule_of, shares_address, stale_rule, twice_rule, verdict_by, verdict_of, verdicts_by, verdicts_for, verdicts_from, verdicts_of, with_new}
 use Rattle.ev_model.specs.Watching.{is_by_name, is_watched}
-use Rattle.ev_rules.specs.Known.{Answers, Tells, is_at}
-use Rattle.ev_rules.specs.Judged.{MadeKept, all_judged, body_by, good_by, has_other, is_held, is_heard_by, is_made, is_taken_by, judged, made_by, names_at, rule_by, ruled, stale_by, stays, with_made}
+use Rattle.ev_rules.specs.Known.{Answers, Tells, answers_of, is_at}
+use Rattle.ev_rules.specs.Judged.{MadeKept, all_judged, body_by, good_by, is_heard_by, is_made, is_taken_by, judged, made_by, names_at, rule_by, ruled, stale_by, stays}
 use Rattle.ev_rules.proofs.ListLemmas.{any_filter, any_same, any_of_none, filter_within, all_kept}
 
 -- what is live now, by what was known before the response and what it made
@@ -37,7 +38,7 @@ record Follows (answers : Answers) (kind : Kind) (response : ResponseParts) (mad
   pub holders : (address : Host) (test : Kind → List ℕ → Bool → Bool)
       → list_any (λ (live : Live). is_at address live && test live.kind live.name live.warming) now
       ≡ (list_any (λ (live : Live). stays kind response made live && test live.kind live.name live.warming) (answers.holders address)
-        || list_any (λ name. test kind name true) (names_at address made))
+      || list_any (λ name. test kind name true) (names_at address made))
   pub watched : is_by_name kind ≡ true → (name : List ℕ) → is_watched now kind name ≡ answers.watched kind name
 
 and_right : (a b : Bool) → a && b ≡ true → b ≡ true
@@ -91,20 +92,20 @@ follows_first : (answers : Answers) (kind : Kind) (response : ResponseParts) (li
 follows_first answers kind response lives versions tells = record {
   newest = λ name made removed.
       ap latest (filter_within (is_named kind name) (λ (live : Live). not (kind_same live.kind kind && is_removed response live.name))
-          (λ live. not_removed kind response name live removed) lives)
+      (λ live. not_removed kind response name live removed) lives)
       ∙ sym (tells.newest kind name);
   holders = λ address test.
       any_filter (λ (live : Live). is_at address live && test live.kind live.name live.warming) (λ (live : Live). not (kind_same live.kind kind && is_removed response live.name)) lives
       ∙ any_same (λ (live : Live). not (kind_same live.kind kind && is_removed response live.name) && (is_at address live && test live.kind live.name live.warming))
-          (λ (live : Live). is_at address live && (stays kind response [] live && test live.kind live.name live.warming))
-          (λ live. left_pointwise (is_at address live) (kind_same live.kind kind) (is_removed response live.name) live.warming (test live.kind live.name live.warming)) lives
+      (λ (live : Live). is_at address live && (stays kind response [] live && test live.kind live.name live.warming))
+      (λ live. left_pointwise (is_at address live) (kind_same live.kind kind) (is_removed response live.name) live.warming (test live.kind live.name live.warming)) lives
       ∙ sym (any_filter (λ (live : Live). stays kind response [] live && test live.kind live.name live.warming) (is_at address) lives)
       ∙ ap (list_any (λ (live : Live). stays kind response [] live && test live.kind live.name live.warming)) (sym (tells.holders address))
       ∙ sym (or_none (list_any (λ (live : Live). stays kind response [] live && test live.kind live.name live.warming) (answers.holders address)));
   watched = λ by_name name.
       ap (λ ls. is_watched ls kind name)
-        (all_kept (λ (live : Live). not (kind_same live.kind kind && is_removed response live.name)) (λ (live : Live). kind_same live.kind kind ≡ false)
-          (apart_stays kind response) lives (tells.apart by_name))
+      (all_kept (λ (live : Live). not (kind_same live.kind kind && is_removed response live.name)) (λ (live : Live). kind_same live.kind kind ≡ false)
+      (apart_stays kind response) lives (tells.apart by_name))
       ∙ sym (tells.watched kind name);
 }
 
@@ -125,8 +126,8 @@ left_by n w isnt = ap (λ b. not (b && w)) isnt
 leaves_other : (kind : Kind) (name q : List ℕ) (live : Live) → bytes_eq name q ≡ false → is_named kind q live ≡ true → leaves kind name live ≡ true
 leaves_other kind name q live isnt named =
     left_by (is_named kind name live) live.warming
-      (ap (λ b. kind_same live.kind kind && b) (other_name live.name q name (and_right (kind_same live.kind kind) (bytes_eq live.name q) named) isnt)
-      ∙ and_none (kind_same live.kind kind))
+    (ap (λ b. kind_same live.kind kind && b) (other_name live.name q name (and_right (kind_same live.kind kind) (bytes_eq live.name q) named) isnt)
+    ∙ and_none (kind_same live.kind kind))
 
 named_new : (kind : Kind) (name q : List ℕ) (content : Content) (number : ℕ) → bytes_eq name q ≡ false
     → filter (is_named kind q) (record { kind = kind; number = number; name = name; content = content; warming = true } ∷ []) ≡ []
@@ -140,9 +141,9 @@ newest_with : (kind : Kind) (name q : List ℕ) (content : Content) (now : List 
 newest_with kind name q content now isnt =
     let new : Live = record { kind = kind; number = number_after (latest now); name = name; content = content; warming = true } in
     ap latest
-      (filter-append (is_named kind q) (filter (leaves kind name) now) (new ∷ [])
-      ∙ (λ i. filter_within (is_named kind q) (leaves kind name) (λ live. leaves_other kind name q live isnt) now i ++ named_new kind name q content (number_after (latest now)) isnt i)
-      ∙ append-nil (filter (is_named kind q) now))
+    (filter-append (is_named kind q) (filter (leaves kind name) now) (new ∷ [])
+    ∙ (λ i. filter_within (is_named kind q) (leaves kind name) (λ live. leaves_other kind name q live isnt) now i ++ named_new kind name q content (number_after (latest now)) isnt i)
+    ∙ append-nil (filter (is_named kind q) now))
 
 untouched : (k t : Bool) → t && not ((k && false) && true) ≡ t
 untouched true true = refl
@@ -180,7 +181,7 @@ made_names : (kind : Kind) (name : List ℕ) (test : Kind → List ℕ → Bool 
 made_names kind name test address [] none = refl
 made_names kind name test address (m ∷ made) none =
     made_names_by kind name test address m made (shares_address m.1 (Some address)) refl (or_left (bytes_eq m.0 name) (is_made made name) none)
-      (made_names kind name test address made (or_right (bytes_eq m.0 name) (is_made made name) none))
+    (made_names kind name test address made (or_right (bytes_eq m.0 name) (is_made made name) none))
 
 names_one : (test : List ℕ → Bool) (address : Host) (name : List ℕ) (place : Option Host) (at : Bool) → shares_address place (Some address) ≡ at
     → list_any test (names_at address ((name, place) ∷ [])) ≡ (at && test name)
@@ -210,7 +211,7 @@ stays_more : (kind : Kind) (response : ResponseParts) (made : MadeKept) (name : 
 stays_more kind response made name place test live =
     stays_pointwise (kind_same live.kind kind) (is_removed response live.name) live.warming (is_made made live.name) (bytes_eq live.name name) (test live.kind live.name live.warming)
     ∙ ap (λ m. not (kind_same live.kind kind && (is_removed response live.name || (live.warming && m))) && test live.kind live.name live.warming)
-      (ap (λ b. is_made made live.name || b) (nat_list_eq_equiv.symm live.name name) ∙ sym (made_more made name place live.name))
+    (ap (λ b. is_made made live.name || b) (nat_list_eq_equiv.symm live.name name) ∙ sym (made_more made name place live.name))
 
 or_assoc : (a b c : Bool) → ((a || b) || (c || false)) ≡ (a || (b || c))
 or_assoc true b c = refl
@@ -223,28 +224,28 @@ holders_with : (answers : Answers) (kind : Kind) (response : ResponseParts) (mad
     → is_made made name ≡ false → Follows answers kind response made now → (address : Host) (test : Kind → List ℕ → Bool → Bool)
     → list_any (λ (live : Live). is_at address live && test live.kind live.name live.warming) (with_new kind name content now)
     ≡ (list_any (λ (live : Live). stays kind response (made ++ (name, listening_address content) ∷ []) live && test live.kind live.name live.warming) (answers.holders address)
-      || list_any (λ n. test kind n true) (names_at address (made ++ (name, listening_address content) ∷ [])))
+    || list_any (λ n. test kind n true) (names_at address (made ++ (name, listening_address content) ∷ [])))
 holders_with answers kind response made name content now none was address test =
     let new : Live = record { kind = kind; number = number_after (latest now); name = name; content = content; warming = true } in
     let passes = λ (live : Live). is_at address live && test live.kind live.name live.warming in
     let place = listening_address content in
     let before : list_any passes (filter (leaves kind name) now)
-            ≡ (list_any (λ (live : Live). stays kind response (made ++ (name, place) ∷ []) live && test live.kind live.name live.warming) (answers.holders address)
-              || list_any (λ n. test kind n true) (names_at address made)) =
-        any_filter passes (leaves kind name) now
-        ∙ any_same (λ (live : Live). leaves kind name live && passes live) (λ (live : Live). is_at address live && left_test kind name test live.kind live.name live.warming)
-            (λ live. swap_pointwise (leaves kind name live) (is_at address live) (test live.kind live.name live.warming)) now
-        ∙ was.holders address (left_test kind name test)
-        ∙ (λ i. any_same (λ (live : Live). stays kind response made live && left_test kind name test live.kind live.name live.warming)
-              (λ (live : Live). stays kind response (made ++ (name, place) ∷ []) live && test live.kind live.name live.warming)
-              (stays_more kind response made name place test) (answers.holders address) i
-            || made_names kind name test address made none i) in
+    ≡ (list_any (λ (live : Live). stays kind response (made ++ (name, place) ∷ []) live && test live.kind live.name live.warming) (answers.holders address)
+    || list_any (λ n. test kind n true) (names_at address made)) =
+    any_filter passes (leaves kind name) now
+    ∙ any_same (λ (live : Live). leaves kind name live && passes live) (λ (live : Live). is_at address live && left_test kind name test live.kind live.name live.warming)
+    (λ live. swap_pointwise (leaves kind name live) (is_at address live) (test live.kind live.name live.warming)) now
+    ∙ was.holders address (left_test kind name test)
+    ∙ (λ i. any_same (λ (live : Live). stays kind response made live && left_test kind name test live.kind live.name live.warming)
+    (λ (live : Live). stays kind response (made ++ (name, place) ∷ []) live && test live.kind live.name live.warming)
+    (stays_more kind response made name place test) (answers.holders address) i
+    || made_names kind name test address made none i) in
     list_any-append passes (filter (leaves kind name) now) (new ∷ [])
     ∙ ap (λ b. b || (passes new || false)) before
     ∙ or_assoc (list_any (λ (live : Live). stays kind response (made ++ (name, place) ∷ []) live && test live.kind live.name live.warming) (answers.holders address))
-        (list_any (λ n. test kind n true) (names_at address made)) (passes new)
+    (list_any (λ n. test kind n true) (names_at address made)) (passes new)
     ∙ ap (λ b. list_any (λ (live : Live). stays kind response (made ++ (name, place) ∷ []) live && test live.kind live.name live.warming) (answers.holders address) || b)
-        (sym (names_with (λ n. test kind n true) address made name place))
+    (sym (names_with (λ n. test kind n true) address made name place))
 
 -- after a new generation of a name under which none was made yet
 follows_new : (answers : Answers) (kind : Kind) (response : ResponseParts) (made : MadeKept) (name : List ℕ) (content : Content) (now : List Live)
@@ -281,7 +282,7 @@ lesser_left None b none = refl
 lesser_left (Some a) None none = none
 lesser_left (Some a) (Some b) none = lesser_some_left a b (nat_le a b) none
 
-not_twice_by : (twice : Bool) → cond twice (Some 4) None ≡ None → twice ≡ false
+not_twice_by : (twice : Bool) → cond {A = Option ℕ} twice (Some 4) None ≡ None → twice ≡ false
 not_twice_by true none = cc
 not_twice_by false none = refl
 
@@ -310,7 +311,7 @@ fresh kind response versions now made before rest item all among none =
     let later = lesser_right (stale_rule kind now versions item item.body) (lesser (twice_rule response item) (lesser (removed_rule response item) (form_rule item.body))) none in
     let once = not_twice_by (nat_le 2 (length (items_named item.name response.items))) (lesser_left (twice_rule response item) (lesser (removed_rule response item) (form_rule item.body)) later) in
     fresh_by (is_made made item.name) (length (items_named item.name before)) (length (items_named item.name (item ∷ rest))) (length (items_named item.name response.items))
-      (ap (λ items. length (items_named item.name items)) all ∙ named_parts item.name before rest item) (named_itself rest item) (among item.name) once
+    (ap (λ items. length (items_named item.name items)) all ∙ named_parts item.name before rest item) (named_itself rest item) (among item.name) once
 
 kept_by : (among : Bool) (b n all : ℕ) → all ≡ b + n → 1 ≤ n → among && not (nat_le 1 all) ≡ false
 kept_by among b n all parts one = grind (arith, common_steps)
@@ -319,7 +320,7 @@ kept_by among b n all parts one = grind (arith, common_steps)
 item_kept : (response : ResponseParts) (before rest : List ItemParts) (item : ItemParts) → response.items ≡ before ++ item ∷ rest → is_removed response item.name ≡ false
 item_kept response before rest item all =
     kept_by (is_among item.name response.removed) (length (items_named item.name before)) (length (items_named item.name (item ∷ rest))) (length (items_named item.name response.items))
-      (ap (λ items. length (items_named item.name items)) all ∙ named_parts item.name before rest item) (named_itself rest item)
+    (ap (λ items. length (items_named item.name items)) all ∙ named_parts item.name before rest item) (named_itself rest item)
 
 heard_same : (answers : Answers) (kind : Kind) (response : ResponseParts) (made : MadeKept) (now : List Live) (name : List ℕ) → Follows answers kind response made now
     → is_heard_by answers kind name ≡ is_heard kind now name
@@ -343,7 +344,7 @@ taken_same_by : (answers : Answers) (response : ResponseParts) (made : MadeKept)
     → is_taken_by Lds response answers made name place ≡ list_any (λ (live : Live). shares_address (listening_address live.content) place && not (bytes_eq live.name name)) now
 taken_same_by answers response made now name None was =
     sym (any_of_none (λ (live : Live). shares_address (listening_address live.content) None && not (bytes_eq live.name name))
-      (λ live. nobody_at (listening_address live.content) (not (bytes_eq live.name name))) now)
+    (λ live. nobody_at (listening_address live.content) (not (bytes_eq live.name name))) now)
 taken_same_by answers response made now name (Some address) was = sym (was.holders address (λ k n w. not (bytes_eq n name)))
 
 good_same : (answers : Answers) (kind : Kind) (response : ResponseParts) (made : MadeKept) (now : List Live) (name : List ℕ) (content : Content)
@@ -375,9 +376,9 @@ verdict_same : (answers : Answers) (kind : Kind) (response : ResponseParts) (liv
     → judged answers kind response made item ≡ verdict_of kind response now versions item
 verdict_same answers kind response lives versions made now before rest item all among tells was =
     ap (λ stale. ruled answers kind response made item (lesser stale (lesser (twice_rule response item) (lesser (removed_rule response item) (form_rule item.body)))))
-      (stale_same answers kind response lives versions made now item item.body tells was)
+    (stale_same answers kind response lives versions made now item item.body tells was)
     ∙ ruled_same answers kind response lives versions made now item (rule_of kind response now versions item)
-        (fresh kind response versions now made before rest item all among) (item_kept response before rest item all) tells was
+    (fresh kind response versions now made before rest item all among) (item_kept response before rest item all) tells was
 
 watched_isnt_new : (watched : Bool) → cond watched Kept Unasked ≡ New → ⊥
 watched_isnt_new true is = cc
@@ -411,7 +412,7 @@ follows_step : (answers : Answers) (kind : Kind) (response : ResponseParts) (mad
     → Follows answers kind response (made_by verdict name body made) (lives_after kind verdict name body now)
 follows_step answers kind response made name (Good content) New now none whole was =
     subst (λ b. Follows answers kind response (cond b made (made ++ (name, listening_address content) ∷ [])) (with_new kind name content now)) (sym (none refl))
-      (follows_new answers kind response made name content now (none refl) (whole refl) was)
+    (follows_new answers kind response made name content now (none refl) (whole refl) was)
 follows_step answers kind response made name (Bad rule) New now none whole was = was
 follows_step answers kind response made name Beat New now none whole was = was
 follows_step answers kind response made name body Same now none whole was = was
@@ -436,8 +437,8 @@ with_made_among : (made : MadeKept) (before : List ItemParts) (item : ItemParts)
 with_made_among made before item content true among = more_named made before item among
 with_made_among made before item content false among = λ name is.
     subst (λ n. 1 ≤ n) (sym (named_parts name before [] item))
-      (among_by (is_made made name) (bytes_eq item.name name) (length (items_named name before)) (length (items_named name (item ∷ [])))
-        (sym (made_more made item.name (listening_address content) name) ∙ is) (among name) (named_one item name))
+    (among_by (is_made made name) (bytes_eq item.name name) (length (items_named name before)) (length (items_named name (item ∷ [])))
+    (sym (made_more made item.name (listening_address content) name) ∙ is) (among name) (named_one item name))
 
 -- what was made stands among the resources that were looked at
 among_step : (made : MadeKept) (before : List ItemParts) (item : ItemParts) (body : Body) (verdict : Verdict) → Among made before
@@ -461,12 +462,12 @@ judged_from answers kind response lives versions made now before (item ∷ items
     let stale = stale_same answers kind response lives versions made now item item.body tells was in
     let ruled_alike : rule_by answers kind response item ≡ rule_of kind response now versions item = ap (λ s. lesser s (lesser (twice_rule response item) (lesser (removed_rule response item) (form_rule item.body)))) stale in
     let next : Follows answers kind response (made_by verdict item.name item.body made) (lives_after kind verdict item.name item.body now) =
-        follows_step answers kind response made item.name item.body verdict now
-          (λ new. fresh kind response versions now made before items item all among (sym ruled_alike ∙ (new_facts answers kind response made item (rule_by answers kind response item) new).0))
-          (λ new. (new_facts answers kind response made item (rule_by answers kind response item) new).1) was in
+    follows_step answers kind response made item.name item.body verdict now
+    (λ new. fresh kind response versions now made before items item all among (sym ruled_alike ∙ (new_facts answers kind response made item (rule_by answers kind response item) new).0))
+    (λ new. (new_facts answers kind response made item (rule_by answers kind response item) new).1) was in
     ap (λ vs. verdict ∷ vs)
-      (judged_from answers kind response lives versions (made_by verdict item.name item.body made) (lives_after kind verdict item.name item.body now) (before ++ item ∷ []) items
-        (all ∙ sym (append_assoc before (item ∷ []) items)) (among_step made before item item.body verdict among) tells next)
+    (judged_from answers kind response lives versions (made_by verdict item.name item.body made) (lives_after kind verdict item.name item.body now) (before ++ item ∷ []) items
+    (all ∙ sym (append_assoc before (item ∷ []) items)) (among_step made before item item.body verdict among) tells next)
     ∙ ap (λ v. v ∷ verdicts_from kind response versions (lives_after kind v item.name item.body now) items) same
 
 none_among : Among [] []
@@ -477,4 +478,44 @@ pub judged_all : (answers : Answers) (kind : Kind) (response : ResponseParts) (l
     → Tells answers kind lives versions → all_judged answers kind response [] response.items ≡ verdicts_for kind lives versions response
 judged_all answers kind response lives versions tells =
     judged_from answers kind response lives versions [] (lives_left kind response lives) [] response.items refl none_among tells
-      (follows_first answers kind response lives versions tells)
+    (follows_first answers kind response lives versions tells)
+
+-- lists that are searched tell what they hold, of what is asked for without a name
+pub listed_tells : (kind : Kind) (lives : List Live) (versions : List KeptVersion) → is_by_name kind ≡ false → Tells (answers_of lives versions) kind lives versions
+listed_tells kind lives versions whole = record {
+  newest = λ k name. refl;
+  holders = λ address. refl;
+  watched = λ k name. refl;
+  kept = λ k name version. refl;
+  apart = λ by_name. absurd (false≢true (sym whole ∙ by_name));
+}
+
+-- the verdicts by look-ups are those of whatever lists they tell of
+pub judged_told : (answers : Answers) (k : Kind) (response : ResponseParts) (verdicts : List Verdict)
+    → verdicts ≡ all_judged answers k response [] response.items → response.kind ≡ Some k
+    → (kind : Kind) (lives : List Live) (versions : List KeptVersion) → response.kind ≡ Some kind → Tells answers kind lives versions
+    → verdicts ≡ verdicts_of lives versions response
+judged_told answers k response verdicts are of_k kind lives versions of_kind tells =
+    let same : kind ≡ k = ap (λ o. unwrap_or o k) (sym of_kind ∙ of_k) in
+    are
+    ∙ judged_all answers k response lives versions (subst (λ kd. Tells answers kd lives versions) same tells)
+    ∙ sym (ap (λ o. verdicts_by o lives versions response) of_k)
+
+if_ok_by : {V E : Type 0} (P Q : V → Type 0) (result : Result V E) → ((v : V) → P v → Q v) → IfOk result P → IfOk result Q
+if_ok_by P Q (Ok v) so p = so v p
+if_ok_by P Q (Err e) so p = p
+
+-- it is so of the verdicts where there are some
+pub told_where_ok : {E : Type 0} (answers : Answers) (k : Kind) (response : ResponseParts) (result : Result (List Verdict) E) → response.kind ≡ Some k
+    → IfOk result (λ verdicts. verdicts ≡ all_judged answers k response [] response.items)
+    → IfOk result (λ verdicts. (kind : Kind) (lives : List Live) (versions : List KeptVersion) → response.kind ≡ Some kind → Tells answers kind lives versions → verdicts ≡ verdicts_of lives versions response)
+told_where_ok answers k response result of_k are =
+    if_ok_by (λ verdicts. verdicts ≡ all_judged answers k response [] response.items)
+    (λ verdicts. (kind : Kind) (lives : List Live) (versions : List KeptVersion) → response.kind ≡ Some kind → Tells answers kind lives versions → verdicts ≡ verdicts_of lives versions response)
+    result (λ verdicts so. judged_told answers k response verdicts so of_k) are
+
+-- behind the last resource
+pub judged_to_end : (answers : Answers) (kind : Kind) (response : ResponseParts) (made : MadeKept) (verdicts want : List Verdict) (items : List ItemParts) (i : ℕ)
+    → length items ≤ i → verdicts ++ all_judged answers kind response made (drop i items) ≡ want → verdicts ≡ want
+judged_to_end answers kind response made verdicts want items i past so_far =
+    sym (append-nil verdicts) ∙ sym (ap (λ its. verdicts ++ all_judged answers kind response made its) (drop_all i items past)) ∙ so_far

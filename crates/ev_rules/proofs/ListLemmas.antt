@@ -1,12 +1,12 @@
 -- Lists that are searched and filtered.
-use Rattle.std.proofs.Common.{◌≡◌, ℕ, Bool, true, false, ◌&&◌, ◌||◌, not, cond, List, [], ◌∷◌, ◌++◌, filter, map, refl, ap, sym, ◌∙◌}
+use Rattle.std.proofs.Common.{◌≡◌, Bool, true, false, ◌&&◌, ◌||◌, List, [], ◌∷◌, filter, refl, ap}
 use Rattle.std.proofs.lemmas.Bool.{false≢true}
 use Rattle.std.specs.List.{list_any, AllByRecursion}
 
 any_filter_by : {X : Type 0} (p q : X → Bool) (x : X) (xs : List X) (b : Bool) → q x ≡ b
     → list_any p (filter q xs) ≡ list_any (λ y. q y && p y) xs
     → list_any p (filter q (x ∷ xs)) ≡ list_any (λ y. q y && p y) (x ∷ xs)
-any_filter_by p q x xs true is more = simp (is) ap (λ b. p x || b) more
+any_filter_by p q x xs true is more = simp (is) (ap (λ b. p x || b) more)
 any_filter_by p q x xs false is more = simp (is) more
 
 -- a search of what a filter leaves is a search of the whole
@@ -25,7 +25,7 @@ any_of_none p none (x ∷ xs) = (λ i. none x i || any_of_none p none xs i)
 
 within_by : {X : Type 0} (p q : X → Bool) (x : X) (xs : List X) (a b : Bool) → p x ≡ a → q x ≡ b → (a ≡ true → b ≡ true)
     → filter p (filter q xs) ≡ filter p xs → filter p (filter q (x ∷ xs)) ≡ filter p (x ∷ xs)
-within_by p q x xs true true pa qb implied more = simp (pa, qb) ap (λ ys. x ∷ ys) more
+within_by p q x xs true true pa qb implied more = simp (pa, qb) (ap (λ ys. x ∷ ys) more)
 within_by p q x xs true false pa qb implied more = absurd (false≢true (implied refl))
 within_by p q x xs false true pa qb implied more = simp (pa, qb) more
 within_by p q x xs false false pa qb implied more = simp (pa, qb) more
@@ -36,7 +36,7 @@ filter_within p q implied [] = refl
 filter_within p q implied (x ∷ xs) = within_by p q x xs (p x) (q x) refl refl (implied x) (filter_within p q implied xs)
 
 all_kept_by : {X : Type 0} (q : X → Bool) (x : X) (xs : List X) → q x ≡ true → filter q xs ≡ xs → filter q (x ∷ xs) ≡ x ∷ xs
-all_kept_by q x xs is more = simp (is) ap (λ ys. x ∷ ys) more
+all_kept_by q x xs is more = simp (is) (ap (λ ys. x ∷ ys) more)
 
 -- a filter that lets all through
 pub all_kept : {X : Type 0} (q : X → Bool) (P : X → Type 0) → ((x : X) → P x → q x ≡ true) → (xs : List X) → AllByRecursion P xs → filter q xs ≡ xs

@@ -45,7 +45,7 @@ fn judge_all<K: Known>(
     known: &K,
     response: &Response,
 ) -> Result<Seq<Verdict>, AllocError>
-    ensures { IfOk result (λ verdicts. verdicts ≡ all_judged (K.answers known.now) kind response.now [] response.now.items) }
+    ensures verdicts { IfOk result (λ verdicts. verdicts ≡ all_judged (K.answers known.now) kind response.now [] response.now.items) }
     ensures one_each { IfOk result (λ verdicts. length verdicts ≡ length response.now.items) }
 {
     let mentions = Mentions::of(alloc, response)?;
@@ -89,7 +89,15 @@ fn judge_body<K: Known>(
 {
     match &item.body {
         Body::Good(content) => {
-            judge_content(alloc, kind, known, mentions, made, item.name.as_str(), content)
+            judge_content(
+                alloc,
+                kind,
+                known,
+                mentions,
+                made,
+                item.name.as_str(),
+                content,
+            )
         }
         Body::Bad(rule) => Ok(Verdict::Refused(*rule)),
         Body::Beat => Ok(judge_beat(kind, known, item)),
@@ -146,11 +154,15 @@ fn keep_watched(watched: bool) -> Verdict
 
 // The verdict on a cluster or listener: it is the same where the newest generation has this content.
 fn compare(newest: Option<LiveRow<'_>>, content: &Content) -> Verdict
-    ensures { result ≡ against newest content.now }
+    ensures { result ≡ against newest.entry content.now }
 {
-    match newest {
-        Some(live) if *live.content == *content => Verdict::Same,
-        _ => Verdict::New,
+    let Some(live) = newest else {
+        return Verdict::New;
+    };
+    if *live.content == *content {
+        Verdict::Same
+    } else {
+        Verdict::New
     }
 }
 
@@ -216,7 +228,7 @@ fn note<'a>(
     verdict: Verdict,
     item: &'a Item,
 ) -> Result<Made<'a>, AllocError>
-    ensures { IfOk result (λ new. new ≡ made_by verdict item.now.name item.now.body made) }
+    ensures { IfOk result (λ new. new ≡ made_by verdict item.now.name item.now.body made.entry) }
 {
     match (verdict, &item.body) {
         (Verdict::New, Body::Good(content)) => made.with(alloc, item.name.as_str(), content),

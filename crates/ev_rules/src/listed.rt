@@ -41,9 +41,8 @@ impl<'a> Known for Listed<'a> {
     }
 
     fn is_kept(&self, kind: Kind, name: &str, version: &str) -> bool {
-        self.versions
-            .iter()
-            .any(|kept| is_version_of(kind, name, kept) && kept.version.as_str() == version)
+        self.versions.iter().any(|kept| is_version_of(kind, name, kept)
+            && kept.version.as_str() == version)
     }
 }
 
@@ -107,11 +106,7 @@ fn is_named(kind: Kind, name: &str, live: &LiveRow<'_>) -> bool
 }
 
 // The newest generation of a name.
-fn newest_of<'a, 'b>(
-    lives: &'b [LiveRow<'a>],
-    kind: Kind,
-    name: &str,
-) -> Option<&'b LiveRow<'a>>
+fn newest_of<'a, 'b>(lives: &'b [LiveRow<'a>], kind: Kind, name: &str) -> Option<&'b LiveRow<'a>>
     ensures { option_map (λ live. live.now) result ≡ newest_of lives.now kind name.now }
 {
     let mut newest: Option<&'b LiveRow<'a>> = None;

@@ -13,6 +13,7 @@ use std::alloc::{AllocError, Global};
 use std::marker::Model;
 
 type Names<'a> = IndexMap<NameKey<'a>, Option<AddressKey<'a>>>;
+
 type Addresses<'a> = IndexMap<AddressKey<'a>, Seq<NameKey<'a>>>;
 
 /// The generations that a response made so far: their names, each with the address of a listener. Contracts see the list.
@@ -64,8 +65,13 @@ impl<'a> Made<'a> {
     }
 
     /// With one more, where none of the name was made.
-    pub(crate) fn with(self, alloc: Global, name: &'a str, content: &'a Content) -> Result<Made<'a>, AllocError>
-        ensures { IfOk result (λ made. made ≡ with_made name.now content.now self) }
+    pub(crate) fn with(
+        self,
+        alloc: Global,
+        name: &'a str,
+        content: &'a Content,
+    ) -> Result<Made<'a>, AllocError>
+        ensures { IfOk result (λ made. made ≡ with_made name.now content.now self.entry) }
     {
         if self.has(name) {
             return Ok(self);
@@ -91,17 +97,23 @@ fn with_name<'a>(
     address: Option<&'a Host>,
 ) -> Result<Names<'a>, AllocError>
     requires absent { is_made table.entries name.now ≡ false }
-    ensures { IfOk result (λ new. new.entries ≡ table.entries ++ (name.now, option_map (λ a. a.now) address) ∷ []) }
+    ensures { IfOk result (λ new. new.entries ≡ table.entry.entries ++ (name.now, option_map (λ a. a.now) address.entry) ∷ []) }
 {
     let mut table = table;
-    let address = match address {
-        Some(address) => Some(AddressKey::new(address)),
-        None => None,
-    };
-    let Ok(_) = table.insert(NameKey::new(name), address) else {
+    let Ok(_) = table.insert(NameKey::new(name), key_of(address)) else {
         return Err(AllocError);
     };
     Ok(table)
+}
+
+// The key of an address, where there is one.
+fn key_of(address: Option<&Host>) -> Option<AddressKey<'_>>
+    ensures { result ≡ option_map (λ a. a.now) address.entry }
+{
+    match address {
+        Some(address) => Some(AddressKey::new(address)),
+        None => None,
+    }
 }
 
 // The table by address with one more name, where it has an address.
@@ -112,7 +124,7 @@ fn with_address<'a>(
     address: Option<&'a Host>,
 ) -> Result<Addresses<'a>, AllocError>
     ensures { IfOk result (λ new. (a : Host) → names_in new a
-        ≡ names_in table a ++ (if shares_address (option_map (λ h. h.now) address) (Some a) then name.now ∷ [] else [])) }
+        ≡ names_in table.entry a ++ (if shares_address (option_map (λ h. h.now) address.entry) (Some a) then name.now ∷ [] else [])) }
 {
     match address {
         Some(address) => with_name_at(alloc, table, name, address),
@@ -127,7 +139,7 @@ fn with_name_at<'a>(
     name: &'a str,
     address: &'a Host,
 ) -> Result<Addresses<'a>, AllocError>
-    ensures { IfOk result (λ new. (a : Host) → names_in new a ≡ names_in table a ++ (if host_same address.now a then name.now ∷ [] else [])) }
+    ensures { IfOk result (λ new. (a : Host) → names_in new a ≡ names_in table.entry a ++ (if host_same address.now a then name.now ∷ [] else [])) }
 {
     let mut table = table;
     if let Some(names) = table.get_mut(&AddressKey::new(address)) {

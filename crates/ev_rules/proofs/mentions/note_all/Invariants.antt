@@ -5,9 +5,8 @@ use Rattle.indexmap.specs.IndexSet.{contains}
 use Rattle.ev_model.specs.Verdicts.{items_named}
 use Rattle.ev_rules.proofs.mentions.note_all.Given as goal
 
-pub record NotedSo (l : goal.loop-item) : Type 0 where
-  pub named : (name : List ℕ) → contains bytes_eq l.named name ≡ nat_le 1 (length (items_named name (take l.item-index l.items)))
-  pub twice : (name : List ℕ) → contains bytes_eq l.twice name ≡ nat_le 2 (length (items_named name (take l.item-index l.items)))
-
 abbrev pub invariant-loop-item : goal.invariant-loop-item
-invariant-loop-item l = NotedSo l
+invariant-loop-item l = record {
+  named : (name : List ℕ) → contains bytes_eq l.named name ≡ nat_le 1 (length (items_named name (take l.item-index l.items)));
+  twice : (name : List ℕ) → contains bytes_eq l.twice name ≡ nat_le 2 (length (items_named name (take l.item-index l.items)));
+}
