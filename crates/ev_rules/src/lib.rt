@@ -16,4 +16,5 @@ pub use judging::verdicts;
 pub use known::Known;
 pub use listed::Listed;
 pub use lives::LiveRow;
+pub use mentions::Mentions;
 pub use removals::is_removed;

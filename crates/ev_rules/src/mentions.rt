@@ -9,9 +9,10 @@ use indexmap::IndexSet;
 use std::alloc::{AllocError, Global};
 use std::marker::Model;
 
-/// The names that a response mentions, each found by a look-up. Contracts see the response.
+/// The names that a response mentions, each found by a look-up: those of its resources, and those that it removes. Contracts see
+/// the response.
 #[derive(Drop)]
-pub(crate) struct Mentions<'a> {
+pub struct Mentions<'a> {
     response: &'a Response,
     named: IndexSet<NameKey<'a>>,
     twice: IndexSet<NameKey<'a>>,
@@ -32,8 +33,8 @@ impl<'a> Model for Mentions<'a> {
 }
 
 impl<'a> Mentions<'a> {
-    /// What this response mentions.
-    pub(crate) fn of(alloc: Global, response: &'a Response) -> Result<Mentions<'a>, AllocError>
+    /// What this response mentions. It is out of memory where a set has no room.
+    pub fn of(alloc: Global, response: &'a Response) -> Result<Mentions<'a>, AllocError>
         ensures { IfOk result (λ mentions. mentions ≡ response.now) }
     {
         let mut named = IndexSet::new(alloc);
@@ -48,8 +49,16 @@ impl<'a> Mentions<'a> {
         })
     }
 
+    /// The response.
+    pub fn response(&self) -> &'a Response
+        ensures { result.now ≡ self.now }
+    {
+        let _ = &self.named;
+        self.response
+    }
+
     /// Whether two resources or more have the name.
-    pub(crate) fn is_twice(&self, name: &str) -> bool
+    pub fn is_twice(&self, name: &str) -> bool
         ensures { result ≡ nat_le 2 (length (items_named name.now self.now.items)) }
     {
         let _ = &self.response;
@@ -57,15 +66,16 @@ impl<'a> Mentions<'a> {
     }
 
     /// Whether the name stands among the removed names.
-    pub(crate) fn is_listed(&self, name: &str) -> bool
+    pub fn is_listed(&self, name: &str) -> bool
         ensures { result ≡ is_among name.now self.now.removed }
     {
         let _ = &self.response;
         self.removed.contains(&NameKey::new(name))
     }
 
-    /// Whether the response removes the name: it stands among the removed names and at no resource.
-    pub(crate) fn is_removed(&self, name: &str) -> bool
+    /// Whether the response removes the name: it stands among the removed names and at no resource. A name that stands in both
+    /// isn't removed.
+    pub fn is_removed(&self, name: &str) -> bool
         ensures { result ≡ is_removed self.now name.now }
     {
         let _ = &self.response;
