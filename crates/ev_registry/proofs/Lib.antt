@@ -6,3 +6,4 @@ pub mod VersionLemmas
 pub mod TextLemmas
 pub mod ResponseLemmas
 pub mod NumberLemmas
+pub mod JudgedLemmas

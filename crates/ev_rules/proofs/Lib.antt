@@ -1,0 +1,4 @@
+pub mod ListLemmas
+pub mod MadeLemmas
+pub mod MentionLemmas
+pub mod FollowLemmas

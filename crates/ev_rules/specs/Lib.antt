@@ -1,0 +1,4 @@
+pub mod Mentions
+pub mod Known
+pub mod Judged
+pub mod Made
