@@ -51,7 +51,7 @@ held_more kind (e ∷ es) name held = by (name_order name e.0) (is_version_of ki
         → versions_in kind (insert_entry name_order es name held) ≡ with_version (version_at kind (name, held)) (versions_in kind es)
         → map (version_at kind) (match_ordering r ((name, held) ∷ e ∷ es) ((e.0, held) ∷ es) (e ∷ insert_entry name_order es name held))
         ≡ cond t (version_at kind (name, held) ∷ versions_in kind es)
-            (cond (is_lt r) (version_at kind (name, held) ∷ version_at kind e ∷ versions_in kind es) (version_at kind e ∷ with_version (version_at kind (name, held)) (versions_in kind es)))
+        (cond (is_lt r) (version_at kind (name, held) ∷ version_at kind e ∷ versions_in kind es) (version_at kind e ∷ with_version (version_at kind (name, held)) (versions_in kind es)))
     by Less true h same rest = absurd (false≢true h)
     by Less false h same rest = refl
     by Equal true h same rest = ap (λ n. version_at kind (n, held) ∷ versions_in kind es) (same refl)
@@ -134,7 +134,7 @@ held_found kind name test held_test same (e ∷ es) sorted =
         ≡ ((u && test (version_at kind e)) || list_any (λ (kept : KeptVersion). is_version_of kind name kept && test kept) (versions_in kind es))
     by true true at h rest =
         same e ∙ or_false (test (version_at kind e)) (list_any (λ (kept : KeptVersion). is_version_of kind name kept && test kept) (versions_in kind es))
-          (none_told kind name test es (none_past_head (eq_by_cmp_equiv nat_list_cmp_total) name e es (IsDistinct-from_sorted name_order (keys_of (e ∷ es)) sorted) at))
+        (none_told kind name test es (none_past_head (eq_by_cmp_equiv nat_list_cmp_total) name e es (IsDistinct-from_sorted name_order (keys_of (e ∷ es)) sorted) at))
     by true false at h rest = absurd (true≢false h)
     by false true at h rest = absurd (false≢true h)
     by false false at h rest = rest
@@ -167,7 +167,7 @@ bound_written name (e ∷ es) held sorted found = by (is_at (name_order name) e.
     by true at is rest =
         (λ i. (e.0, record (unwrap_or (sym is i) held) { bounded = true }) ∷ es)
         ∙ ap (λ vs. (e.0, record e.1 { bounded = true }) ∷ vs)
-          (sym (all_unbounded name es (none_past_head (eq_by_cmp_equiv nat_list_cmp_total) name e es (IsDistinct-from_sorted name_order (keys_of (e ∷ es)) sorted) at)))
+        (sym (all_unbounded name es (none_past_head (eq_by_cmp_equiv nat_list_cmp_total) name e es (IsDistinct-from_sorted name_order (keys_of (e ∷ es)) sorted) at)))
     by false at is rest = ap (λ vs. e ∷ vs) (rest is)
 
 -- where nothing is found nothing changes

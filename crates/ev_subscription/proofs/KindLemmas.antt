@@ -52,8 +52,8 @@ before_all new [] all = refl
 before_all new (kept ∷ others) all =
     placed (λ vs. vs ≡ new ∷ kept ∷ others) new kept others
     (λ same.
-      absurd (false≢true (sym (not_before_itself new.name)
-        ∙ ap (is_before new.name) (sym ((version_decides new.kind new.name kept).0 same).1) ∙ all.0)))
+    absurd (false≢true (sym (not_before_itself new.name)
+    ∙ ap (is_before new.name) (sym ((version_decides new.kind new.name kept).0 same).1) ∙ all.0)))
     (λ before. refl)
     (λ isnt behind. absurd (false≢true (sym behind ∙ all.0)))
 
@@ -117,7 +117,7 @@ kept_with new versions by_name k = by (kind_same k new.kind) refl
     by : (t : Bool) → kind_same k new.kind ≡ t → kept_of k (with_version new versions) ≡ cond t (with_version new (kept_of new.kind versions)) (kept_of k versions)
     by true is =
         subst (λ kind. kept_of k (with_version new versions) ≡ with_version new (kept_of kind versions)) ((kind_decides k new.kind).0 is)
-          (kept_with_same new k (same_by k new.kind true is) versions by_name)
+        (kept_with_same new k (same_by k new.kind true is) versions by_name)
     by false is = kept_with_other new k (same_by k new.kind false is) versions
 
 filters_swap : (p q : KeptVersion → Bool) (versions : List KeptVersion) → filter p (filter q versions) ≡ filter q (filter p versions)
@@ -138,7 +138,7 @@ left_whole kind k name apart (v ∷ vs) = by (kind_same v.kind k) refl (left_who
     by : (t : Bool) → kind_same v.kind k ≡ t → without_version kind name (kept_of k vs) ≡ kept_of k vs → without_version kind name (kept_of k (v ∷ vs)) ≡ kept_of k (v ∷ vs)
     by true is rest =
         let isnt : is_version_of kind name v ≡ false =
-            ap (λ kd. kind_same kd kind && bytes_eq v.name name) ((kind_decides v.kind k).0 is) ∙ ap (λ b. b && bytes_eq v.name name) apart in
+        ap (λ kd. kind_same kd kind && bytes_eq v.name name) ((kind_decides v.kind k).0 is) ∙ ap (λ b. b && bytes_eq v.name name) apart in
         simp (is, isnt) (ap (λ ws. v ∷ ws) rest)
     by false is rest = simp (is) rest
 
@@ -177,7 +177,7 @@ unmarked kind k name apart (v ∷ vs) = by (kind_same v.kind k) refl (unmarked k
     by : (t : Bool) → kind_same v.kind k ≡ t → renewed kind name (kept_of k vs) ≡ kept_of k vs → renewed kind name (kept_of k (v ∷ vs)) ≡ kept_of k (v ∷ vs)
     by true is rest =
         let isnt : is_version_of kind name v ≡ false =
-            ap (λ kd. kind_same kd kind && bytes_eq v.name name) ((kind_decides v.kind k).0 is) ∙ ap (λ b. b && bytes_eq v.name name) apart in
+        ap (λ kd. kind_same kd kind && bytes_eq v.name name) ((kind_decides v.kind k).0 is) ∙ ap (λ b. b && bytes_eq v.name name) apart in
         simp (is, isnt) (ap (λ ws. v ∷ ws) rest)
     by false is rest = simp (is) rest
 
@@ -351,7 +351,7 @@ left_removed kind response names name versions goes =
     one : (kept : KeptVersion) → (is_left kind response names kept && not (is_version_of kind name kept)) ≡ is_left kind response (names ++ name ∷ []) kept
     one kept =
         by (kind_same kept.kind kind) (is_removed response kept.name) (is_among kept.name names) (bytes_eq kept.name name)
-          (λ same. ap (is_removed response) ((bytes_eq-Decides kept.name name).0 same) ∙ goes)
+        (λ same. ap (is_removed response) ((bytes_eq-Decides kept.name name).0 same) ∙ goes)
         ∙ ap (λ m. not (kind_same kept.kind kind && (is_removed response kept.name && m))) (sym (among_more names name kept.name))
 
 -- a name that isn't removed leaves all
@@ -370,7 +370,7 @@ left_kept_name kind response names name versions stays =
     one : (kept : KeptVersion) → is_left kind response names kept ≡ is_left kind response (names ++ name ∷ []) kept
     one kept =
         by (kind_same kept.kind kind) (is_removed response kept.name) (is_among kept.name names) (bytes_eq kept.name name)
-          (λ same. ap (is_removed response) ((bytes_eq-Decides kept.name name).0 same) ∙ stays)
+        (λ same. ap (is_removed response) ((bytes_eq-Decides kept.name name).0 same) ∙ stays)
         ∙ ap (λ m. not (kind_same kept.kind kind && (is_removed response kept.name && m))) (sym (among_more names name kept.name))
 
 -- behind the last name those are left that the response doesn't remove

@@ -6,6 +6,8 @@ mod names;
 mod replies;
 mod requests;
 mod subscription;
+#[cfg(test)]
+mod tests;
 mod versions;
 
 pub use replies::reply_of;

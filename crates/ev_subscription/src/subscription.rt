@@ -1,4 +1,4 @@
-ghost use Rattle.std.specs.Prelude.{◌≡◌, ◌++◌, [], ◌∷◌, false, map, if◌then◌else◌, IfOk, OnOk, OnErr};
+ghost use Rattle.std.specs.Prelude.{◌≡◌, [], false, map, if◌then◌else◌, IfOk, OnOk, OnErr};
 ghost use Rattle.ev_types.specs.declared.contents.Kind.{Kind};
 ghost use Rattle.ev_model.specs.Rows.{versions_left};
 ghost use Rattle.ev_model.specs.Verdicts.{is_removed};
@@ -9,8 +9,8 @@ ghost use Rattle.ev_subscription.specs.Subscriptions.{StandsFor, held_of, with_h
 
 use crate::names::VersionName;
 use crate::versions::{self, Held, Versions};
-use ev_rules::is_removed;
-use ev_types::{Kind, Name, Response, Seq, Shared, Text, TryCopy};
+use ev_rules::Mentions;
+use ev_types::{Kind, Name, Seq, Shared, Text, TryCopy};
 use std::alloc::{AllocError, Global};
 use std::collections::BTreeMap;
 use std::marker::Model;
@@ -38,12 +38,12 @@ impl Model for Subscription {
     ghost Value = { SubscriptionParts };
 
     ghost view = { λ s. record {
-        node = s.node;
-        stream = s.stream;
-        clusters = versions_in Cds s.clusters.entries;
-        endpoints = versions_in Eds s.endpoints.entries;
-        listeners = versions_in Lds s.listeners.entries;
-        routes = versions_in Rds s.routes.entries;
+      node = s.node;
+      stream = s.stream;
+      clusters = versions_in Cds s.clusters.entries;
+      endpoints = versions_in Eds s.endpoints.entries;
+      listeners = versions_in Lds s.listeners.entries;
+      routes = versions_in Rds s.routes.entries;
     } };
 }
 
@@ -189,21 +189,22 @@ impl Subscription {
         self.put(kind, versions);
     }
 
-    /// Forgets the versions of the names that a response of this kind removes. It takes no memory.
-    pub fn forget_removed(&mut self, kind: Kind, response: &Response)
-        ensures { (world : World) → StandsFor self.old world → StandsFor self.new (record world { versions = versions_left kind response.now world.versions }) }
+    /// Forgets the versions of the names that a response of this kind removes, by what it mentions. It takes no memory, and looks
+    /// at the removed names alone.
+    pub fn forget_removed(&mut self, kind: Kind, mentions: &Mentions<'_>)
+        ensures { (world : World) → StandsFor self.old world → StandsFor self.new (record world { versions = versions_left kind mentions.now world.versions }) }
     {
-        for name in response.removed.as_slice() {
-            self.forget_where_removed(kind, response, name.as_str());
+        for name in mentions.response().removed.as_slice() {
+            self.forget_where_removed(kind, mentions, name.as_str());
         }
     }
 
     // Forgets the version of a name, where the response removes it.
-    fn forget_where_removed(&mut self, kind: Kind, response: &Response, name: &str)
+    fn forget_where_removed(&mut self, kind: Kind, mentions: &Mentions<'_>, name: &str)
         ensures { (world : World) → StandsFor self.old world
-            → StandsFor self.new (record world { versions = if is_removed response.now name.now then without_version kind name.now world.versions else world.versions }) }
+            → StandsFor self.new (record world { versions = if is_removed mentions.now name.now then without_version kind name.now world.versions else world.versions }) }
     {
-        if is_removed(response, name) {
+        if mentions.is_removed(name) {
             self.forget(kind, name);
         }
     }

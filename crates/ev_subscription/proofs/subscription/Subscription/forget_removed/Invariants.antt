@@ -6,4 +6,4 @@ use Rattle.ev_subscription.proofs.subscription.Subscription.forget_removed.Given
 
 abbrev pub invariant-loop-name : goal.invariant-loop-name
 invariant-loop-name l = (world : World) → StandsFor l.fn.self world
-    → StandsFor l.self (record world { versions = filter (is_left l.kind l.response (take l.name-index l.name-items)) world.versions })
+    → StandsFor l.self (record world { versions = filter (is_left l.kind l.mentions (take l.name-index l.name-items)) world.versions })

@@ -12,7 +12,7 @@ returns-clause-held c =
     ∙ (λ i. with_held c.args.kind (versions_in c.args.kind (c.bound.ensures i)) (c.take-versions.ensures.left i))
     ∙ with_put c.args.kind _ [] c.args.self.now
     ∙ ap (λ vs. with_held c.args.kind vs c.args.self.now)
-      (held_bounded c.args.kind c.args.name.now c.take-versions.result.entries ∙ ap (renewed c.args.kind c.args.name.now) c.take-versions.ensures.taken)
+    (held_bounded c.args.kind c.args.name.now c.take-versions.result.entries ∙ ap (renewed c.args.kind c.args.name.now) c.take-versions.ensures.taken)
 
 pub returns-clause-stands : goal.returns-clause-stands
 returns-clause-stands c = stands_renewed c.args.self.now c.put.new.self c.args.kind c.args.name.now (returns-clause-held c)
