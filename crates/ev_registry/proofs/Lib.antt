@@ -6,4 +6,3 @@ pub mod VersionLemmas
 pub mod TextLemmas
 pub mod ResponseLemmas
 pub mod NumberLemmas
-pub mod JudgedLemmas

@@ -13,7 +13,7 @@ ghost use Rattle.ev_registry.specs.Worlds.{world_of};
 use crate::items::made_names;
 use crate::requests::{connect_requests, reply_of, requests_of};
 use crate::rows;
-use ev_rules::{Listed, LiveRow, verdicts};
+use ev_rules::verdicts;
 use ev_types::{
     Actor, Answer, Event, Format, GenRow, KeptVersion, Kind, Phase, Response, Seq, Text, TryCopy,
     Verdict,
@@ -135,7 +135,7 @@ impl State {
             ≡ answered Cds response.now (verdicts_of (lives_of (world_of self.now)) self.now.versions response.now) (world_of self.now)) }
     {
         let lives = rows::lives_of(alloc, self.rows.as_slice())?;
-        let verdicts = judge(alloc, lives.as_slice(), self.versions.as_slice(), response)?;
+        let verdicts = verdicts(alloc, lives.as_slice(), self.versions.as_slice(), response)?;
         let next = self.change(alloc, response, verdicts.as_slice())?;
         let reply = reply_of(alloc, response, verdicts.as_slice())?;
         let requests = requests_of(alloc, self, &next, reply)?;
@@ -164,19 +164,4 @@ impl State {
         next.tidy(alloc)?;
         Ok(next)
     }
-}
-
-// The verdicts on a response of clusters, over the live rows and the versions that are kept.
-fn judge(
-    alloc: Global,
-    lives: &[LiveRow<'_>],
-    versions: &[KeptVersion],
-    response: &Response,
-) -> Result<Seq<Verdict>, AllocError>
-    requires of_clusters { response.now.kind ≡ Some Cds }
-    ensures verdicts { IfOk result (λ verdicts. verdicts ≡ verdicts_of lives.now versions.now response.now) }
-    ensures one_each { IfOk result (λ verdicts. length verdicts ≡ length response.now.items) }
-{
-    let known = Listed { lives, versions };
-    verdicts(alloc, &known, response)
 }

@@ -1,140 +1,90 @@
-ghost use Rattle.std.specs.Prelude.{◌≡◌, ◌&&◌, not, List, [], IfOk, IsSome, Some, length, if◌then◌else◌};
-ghost use Rattle.std.specs.List.{list_any};
-ghost use Rattle.std.specs.Str.{bytes_eq};
-ghost use Rattle.ev_types.specs.declared.contents.Kind.{Kind};
-ghost use Rattle.ev_types.specs.declared.contents.Kind.TheVariants.{Lds};
-ghost use Rattle.ev_types.specs.declared.events.Verdict.TheVariants.{Kept, Renewed, Unasked};
-ghost use Rattle.ev_types.specs.declared.rows.KeptVersion.{KeptVersion};
-ghost use Rattle.ev_types.specs.declared.rows.Live.{Live};
-ghost use Rattle.ev_model.specs.Verdicts.{verdicts_of, against, listening_address};
-ghost use Rattle.ev_rules.specs.Known.{Tells};
-ghost use Rattle.ev_rules.specs.Judged.{all_judged, judged, body_by, good_by, is_taken_by, is_held, made_by, stays};
+ghost use Rattle.std.specs.Prelude.{◌≡◌, IfOk, OnOk, IsSome, length, option_map, if◌then◌else◌};
+ghost use Rattle.ev_types.specs.declared.events.Verdict.TheVariants.{Kept, Unasked};
+ghost use Rattle.ev_model.specs.Verdicts.{verdicts_of, verdict_of, body_verdict, good_verdict, beat_verdict, against, lives_after, with_new};
 
-use crate::known::Known;
-use crate::lives::{LiveRow, address_of};
-use crate::made::Made;
-use crate::mentions::Mentions;
-use crate::rules::rule_of;
-use ev_types::{Body, Content, Host, Item, Kind, Response, Seq, Verdict};
+use crate::lives::{LiveRow, drop_warming, is_taken, is_watched, lives_left, newest, next_number};
+use crate::rules::{is_kept, rule_of};
+use ev_types::{Body, Content, Item, KeptVersion, Kind, Response, Seq, Verdict};
 use std::alloc::{AllocError, Global};
 
-/// The verdict on each resource of a response, in its order, by what is known before it. The response's type is one of the four.
-/// Each resource costs a few look-ups, and a heap allocation where it is a listener; nothing that is known is copied.
+/// The verdict on each resource of a response, in its order, over the live generations and the versions that are kept before
+/// it. The response's type is one of the four. Nothing of the live generations is copied.
 ///
-/// It is out of memory where a list or table has no room.
-pub fn verdicts<K: Known>(
+/// It is out of memory where the list of verdicts or the list of live generations has no room, and where a generation has
+/// the last number that there is.
+pub fn verdicts<'a>(
     alloc: Global,
-    known: &K,
-    response: &Response,
+    lives: &[LiveRow<'a>],
+    versions: &[KeptVersion],
+    response: &'a Response,
 ) -> Result<Seq<Verdict>, AllocError>
     requires { IsSome response.now.kind }
-    ensures verdicts { IfOk result (λ verdicts. (kind : Kind) (lives : List Live) (versions : List KeptVersion) → response.now.kind ≡ Some kind
-        → Tells (K.answers known.now) kind lives versions → verdicts ≡ verdicts_of lives versions response.now) }
+    ensures verdicts { IfOk result (λ verdicts. verdicts ≡ verdicts_of lives.now versions.now response.now) }
     ensures one_each { IfOk result (λ verdicts. length verdicts ≡ length response.now.items) }
 {
     let Some(kind) = response.kind else {
         return Ok(Seq::new(alloc));
     };
-    judge_all(alloc, kind, known, response)
-}
-
-// The verdicts on the resources of a response of this kind.
-fn judge_all<K: Known>(
-    alloc: Global,
-    kind: Kind,
-    known: &K,
-    response: &Response,
-) -> Result<Seq<Verdict>, AllocError>
-    ensures verdicts { IfOk result (λ verdicts. verdicts ≡ all_judged (K.answers known.now) kind response.now [] response.now.items) }
-    ensures one_each { IfOk result (λ verdicts. length verdicts ≡ length response.now.items) }
-{
-    let mentions = Mentions::of(alloc, response)?;
-    let mut made = Made::new(alloc);
+    let mut left = lives_left(alloc, kind, response, lives)?;
     let mut verdicts = Seq::new(alloc);
     for item in response.items.as_slice() {
-        let verdict = judge(alloc, kind, known, &mentions, &made, item)?;
-        made = note(alloc, made, verdict, item)?;
+        let verdict = judge(kind, response, left.as_slice(), versions, item);
+        note(kind, verdict, item, &mut left)?;
         verdicts.push(verdict)?;
     }
     Ok(verdicts)
 }
 
-// The verdict on one resource.
-fn judge<K: Known>(
-    alloc: Global,
+// The verdict on one resource, over the generations that are live before it.
+fn judge(
     kind: Kind,
-    known: &K,
-    mentions: &Mentions<'_>,
-    made: &Made<'_>,
+    response: &Response,
+    lives: &[LiveRow<'_>],
+    versions: &[KeptVersion],
     item: &Item,
-) -> Result<Verdict, AllocError>
-    ensures { IfOk result (λ verdict. verdict ≡ judged (K.answers known.now) kind mentions.now made.now item.now) }
+) -> Verdict
+    ensures { result ≡ verdict_of kind response.now lives.now versions.now item.now }
 {
-    match rule_of(kind, known, mentions, item) {
-        Some(rule) => Ok(Verdict::Refused(rule)),
-        None => judge_body(alloc, kind, known, mentions, made, item),
+    match rule_of(kind, response, lives, versions, item) {
+        Some(rule) => Verdict::Refused(rule),
+        None => judge_body(kind, lives, versions, item),
     }
 }
 
 // The verdict by the body of a resource that breaks no other rule.
-fn judge_body<K: Known>(
-    alloc: Global,
-    kind: Kind,
-    known: &K,
-    mentions: &Mentions<'_>,
-    made: &Made<'_>,
-    item: &Item,
-) -> Result<Verdict, AllocError>
-    ensures { IfOk result (λ verdict. verdict ≡ body_by (K.answers known.now) kind mentions.now made.now item.now item.now.body) }
+fn judge_body(kind: Kind, lives: &[LiveRow<'_>], versions: &[KeptVersion], item: &Item) -> Verdict
+    ensures { result ≡ body_verdict kind lives.now versions.now item.now item.now.body }
 {
     match &item.body {
-        Body::Good(content) => {
-            judge_content(
-                alloc,
-                kind,
-                known,
-                mentions,
-                made,
-                item.name.as_str(),
-                content,
-            )
-        }
-        Body::Bad(rule) => Ok(Verdict::Refused(*rule)),
-        Body::Beat => Ok(judge_beat(kind, known, item)),
+        Body::Good(content) => judge_content(kind, lives, item.name.as_str(), content),
+        Body::Bad(rule) => Verdict::Refused(*rule),
+        Body::Beat => judge_beat(kind, versions, item),
     }
 }
 
-// The verdict on a good resource that breaks no rule of its form.
-fn judge_content<K: Known>(
-    alloc: Global,
-    kind: Kind,
-    known: &K,
-    mentions: &Mentions<'_>,
-    made: &Made<'_>,
-    name: &str,
-    content: &Content,
-) -> Result<Verdict, AllocError>
-    ensures { IfOk result (λ verdict. verdict ≡ good_by (K.answers known.now) mentions.now made.now name.now content.now kind) }
+// The verdict on a resource that breaks no other rule.
+fn judge_content(kind: Kind, lives: &[LiveRow<'_>], name: &str, content: &Content) -> Verdict
+    ensures { result ≡ good_verdict kind lives.now name.now content.now }
 {
     match kind {
-        Kind::Cds => Ok(compare(known.newest(Kind::Cds, name), content)),
+        Kind::Cds => compare(newest(lives, Kind::Cds, name), content),
         Kind::Lds => {
-            if is_taken(alloc, known, mentions, made, name, content)? {
-                Ok(Verdict::Refused(15))
+            if is_taken(lives, name, content) {
+                Verdict::Refused(15)
             } else {
-                Ok(compare(known.newest(Kind::Lds, name), content))
+                compare(newest(lives, Kind::Lds, name), content)
             }
         }
-        Kind::Eds => Ok(keep_watched(known.is_watched(Kind::Eds, name))),
-        Kind::Rds => Ok(keep_watched(known.is_watched(Kind::Rds, name))),
+        Kind::Eds => keep_watched(is_watched(lives, Kind::Eds, name)),
+        Kind::Rds => keep_watched(is_watched(lives, Kind::Rds, name)),
     }
 }
 
 // The verdict on a heartbeat that isn't refused.
-fn judge_beat<K: Known>(kind: Kind, known: &K, item: &Item) -> Verdict
-    ensures { result ≡ (if (K.answers known.now).kept kind item.now.name item.now.version then Renewed else Unasked) }
+fn judge_beat(kind: Kind, versions: &[KeptVersion], item: &Item) -> Verdict
+    ensures { result ≡ beat_verdict kind versions.now item.now }
 {
-    if known.is_kept(kind, item.name.as_str(), item.version.as_str()) {
+    if is_kept(versions, kind, item.name.as_str(), item.version.as_str()) {
         Verdict::Renewed
     } else {
         Verdict::Unasked
@@ -153,85 +103,47 @@ fn keep_watched(watched: bool) -> Verdict
 }
 
 // The verdict on a cluster or listener: it is the same where the newest generation has this content.
-fn compare(newest: Option<LiveRow<'_>>, content: &Content) -> Verdict
-    ensures { result ≡ against newest.entry content.now }
+fn compare(newest: Option<&LiveRow<'_>>, content: &Content) -> Verdict
+    ensures { result ≡ against (option_map (λ live. live.now) newest.entry) content.now }
 {
-    let Some(live) = newest else {
-        return Verdict::New;
-    };
-    if *live.content == *content {
-        Verdict::Same
-    } else {
-        Verdict::New
+    match newest {
+        Some(live) if *live.content == *content => Verdict::Same,
+        _ => Verdict::New,
     }
 }
 
-// Whether a listener of another name has the address of this content.
-fn is_taken<K: Known>(
-    alloc: Global,
-    known: &K,
-    mentions: &Mentions<'_>,
-    made: &Made<'_>,
-    name: &str,
-    content: &Content,
-) -> Result<bool, AllocError>
-    ensures { IfOk result (λ taken. taken ≡ is_taken_by Lds mentions.now (K.answers known.now) made.now name.now (listening_address content.now)) }
-{
-    match address_of(content) {
-        Some(address) => is_held(alloc, known, mentions, made, name, address),
-        None => Ok(false),
-    }
-}
-
-// Whether a listener of another name has the address.
-fn is_held<K: Known>(
-    alloc: Global,
-    known: &K,
-    mentions: &Mentions<'_>,
-    made: &Made<'_>,
-    name: &str,
-    address: &Host,
-) -> Result<bool, AllocError>
-    ensures { IfOk result (λ held. held ≡ is_held Lds mentions.now (K.answers known.now) made.now name.now address.now) }
-{
-    let holders = known.holders(alloc, address)?;
-    let held = has_another(holders.as_slice(), mentions, made, name);
-    Ok(held || made.has_another_at(address, name))
-}
-
-// Whether one of these that is still live has another name.
-fn has_another(
-    holders: &[LiveRow<'_>],
-    mentions: &Mentions<'_>,
-    made: &Made<'_>,
-    name: &str,
-) -> bool
-    ensures { result ≡ list_any (λ live. stays Lds mentions.now made.now live && not (bytes_eq live.name name.now)) holders.now }
-{
-    holders
-        .iter()
-        .any(|live| stays(mentions, made, live) && live.name != name)
-}
-
-// Whether a listener that was live before the response still is.
-fn stays(mentions: &Mentions<'_>, made: &Made<'_>, live: &LiveRow<'_>) -> bool
-    ensures { result ≡ stays Lds mentions.now made.now live.now }
-{
-    !(live.kind.is(Kind::Lds)
-        && (mentions.is_removed(live.name) || live.warming && made.has(live.name)))
-}
-
-// What the response made with this verdict on a resource.
+// Notes what is live after a verdict.
 fn note<'a>(
-    alloc: Global,
-    made: Made<'a>,
+    kind: Kind,
     verdict: Verdict,
     item: &'a Item,
-) -> Result<Made<'a>, AllocError>
-    ensures { IfOk result (λ new. new ≡ made_by verdict item.now.name item.now.body made.entry) }
+    lives: &mut Vec<LiveRow<'a>>,
+) -> Result<(), AllocError>
+    ensures { OnOk result (lives.new.items ≡ lives_after kind verdict item.now.name item.now.body lives.old.items) }
 {
     match (verdict, &item.body) {
-        (Verdict::New, Body::Good(content)) => made.with(alloc, item.name.as_str(), content),
-        _ => Ok(made),
+        (Verdict::New, Body::Good(content)) => add(kind, item.name.as_str(), content, lives),
+        _ => Ok(()),
     }
+}
+
+// Lets a new generation warm, in the place of one that warmed under its name.
+fn add<'a>(
+    kind: Kind,
+    name: &'a str,
+    content: &'a Content,
+    lives: &mut Vec<LiveRow<'a>>,
+) -> Result<(), AllocError>
+    ensures { OnOk result (lives.new.items ≡ with_new kind name.now content.now lives.old.items) }
+{
+    let number = next_number(lives.as_slice())?;
+    drop_warming(kind, name, lives);
+    lives.push(LiveRow {
+        kind,
+        number,
+        name,
+        content,
+        warming: true,
+    })?;
+    Ok(())
 }

@@ -1,20 +1,10 @@
-//! The verdicts on the resources of a response, by the rules and by what is known before it: the generations that are live, and
-//! the versions that are kept. What is known is asked by look-ups.
+//! The verdicts on the resources of a response, by the rules, the generations that are live and the versions that are kept.
 #![tactic(auto)]
 
 mod judging;
-mod keys;
-mod known;
-mod listed;
 mod lives;
-mod made;
-mod mentions;
-mod removals;
 mod rules;
 
 pub use judging::verdicts;
-pub use known::Known;
-pub use listed::Listed;
 pub use lives::LiveRow;
-pub use mentions::Mentions;
-pub use removals::is_removed;
+pub use rules::is_removed;

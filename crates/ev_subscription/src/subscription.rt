@@ -9,8 +9,8 @@ ghost use Rattle.ev_subscription.specs.Subscriptions.{StandsFor, held_of, with_h
 
 use crate::names::VersionName;
 use crate::versions::{self, Held, Versions};
-use ev_rules::Mentions;
 use ev_types::{Kind, Name, Seq, Shared, Text, TryCopy};
+use ev_verdicts::Mentions;
 use std::alloc::{AllocError, Global};
 use std::collections::BTreeMap;
 use std::marker::Model;

@@ -1,6 +1,6 @@
 use crate::{NameChange, Subscription, reply_of};
-use ev_rules::Mentions;
 use ev_types::{Item, Kind, Name, Request, Response, Seq, Text, TryCopy};
+use ev_verdicts::Mentions;
 use std::alloc::Global;
 use std::test::Fail;
 

@@ -1,7 +1,8 @@
 use ev_model_laws::{acknowledges_exactly, has_a_replay, has_one_replay, replay_holds_operations};
 use ev_registry::Registry;
-use ev_rules::{Listed, LiveRow, verdicts};
+use ev_rules::{LiveRow, verdicts};
 use ev_types::{Actor, Arrival, Body, Event, Format, Gen, Response, Text, TryCopy, Verdict};
+use ev_verdicts::{Listed, verdicts as verdicts_by};
 use ev_wire::read_response;
 use serde_json::Value;
 use std::alloc::Global;
@@ -68,12 +69,14 @@ fn judges_addresses_and_watched_names(rt: HostRuntime) -> Result<(), Fail> {
         let lives = live(alloc, &earlier, warming)?;
         let response = read(alloc, message)?;
         assert!(rt; response.kind.is_some());
+        let found = verdicts(alloc, lives.as_slice(), &[], &response)?;
+        assert_eq!(rt; found.as_slice(), [want].as_slice(), "{message}");
         let known = Listed {
             lives: lives.as_slice(),
             versions: &[],
         };
-        let found = verdicts(alloc, &known, &response)?;
-        assert_eq!(rt; found.as_slice(), [want].as_slice(), "{message}");
+        let looked_up = verdicts_by(alloc, &known, &response)?;
+        assert_eq!(rt; looked_up.as_slice(), [want].as_slice(), "{message}");
     }
     Ok(())
 }

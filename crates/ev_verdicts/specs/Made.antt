@@ -1,0 +1,15 @@
+-- The table by which the rows that a response made are found by address.
+use Rattle.std.specs.Prelude.{◌≡◌, ℕ, List, []}
+use Rattle.std.specs.Option.{unwrap_or}
+use Rattle.indexmap.specs.IndexMap.{IndexMap, get}
+use Rattle.ev_types.specs.SameHosts.{host_same}
+use Rattle.ev_types.specs.declared.hosts.Host.{Host}
+use Rattle.ev_verdicts.specs.Judged.{MadeKept, names_at}
+
+-- the names that a table has at an address; no entry is none
+abbrev pub names_in : {S : Type 0} → IndexMap Host (List (List ℕ)) S → Host → List (List ℕ)
+names_in table address = unwrap_or (get host_same table address) []
+
+-- the names at each address are what a search finds
+abbrev pub AreByAddress : {S : Type 0} → MadeKept → IndexMap Host (List (List ℕ)) S → Type 0
+AreByAddress made table = (address : Host) → names_in table address ≡ names_at address made

@@ -1,0 +1,238 @@
+ghost use Rattle.std.specs.Prelude.{◌≡◌, ◌&&◌, not, List, [], IfOk, IsSome, Some, length, if◌then◌else◌};
+ghost use Rattle.std.specs.List.{list_any};
+ghost use Rattle.std.specs.Str.{bytes_eq};
+ghost use Rattle.ev_types.specs.declared.contents.Kind.{Kind};
+ghost use Rattle.ev_types.specs.declared.contents.Kind.TheVariants.{Lds};
+ghost use Rattle.ev_types.specs.declared.events.Verdict.TheVariants.{Kept, Renewed, Unasked};
+ghost use Rattle.ev_types.specs.declared.rows.KeptVersion.{KeptVersion};
+ghost use Rattle.ev_types.specs.declared.rows.Live.{Live};
+ghost use Rattle.ev_model.specs.Verdicts.{verdicts_of, against, listening_address};
+ghost use Rattle.ev_verdicts.specs.Known.{Tells};
+ghost use Rattle.ev_verdicts.specs.Judged.{all_judged, judged, body_by, good_by, is_taken_by, is_held, made_by, stays};
+
+use crate::addresses::address_of;
+use crate::known::Known;
+use crate::made::Made;
+use crate::mentions::Mentions;
+use crate::rules::rule_of;
+use ev_rules::LiveRow;
+use ev_types::{Body, Content, Host, Item, Kind, Response, Seq, Verdict};
+use std::alloc::{AllocError, Global};
+
+/// The verdict on each resource of a response, in its order, by what is known before it. The response's type is one of the four.
+/// Each resource costs a few look-ups, and a heap allocation where it is a listener; nothing that is known is copied.
+///
+/// It is out of memory where a list or table has no room.
+pub fn verdicts<K: Known>(
+    alloc: Global,
+    known: &K,
+    response: &Response,
+) -> Result<Seq<Verdict>, AllocError>
+    requires { IsSome response.now.kind }
+    ensures verdicts { IfOk result (λ verdicts. (kind : Kind) (lives : List Live) (versions : List KeptVersion) → response.now.kind ≡ Some kind
+        → Tells (K.answers known.now) kind lives versions → verdicts ≡ verdicts_of lives versions response.now) }
+    ensures one_each { IfOk result (λ verdicts. length verdicts ≡ length response.now.items) }
+{
+    let Some(kind) = response.kind else {
+        return Ok(Seq::new(alloc));
+    };
+    judge_all(alloc, kind, known, response)
+}
+
+// The verdicts on the resources of a response of this kind.
+fn judge_all<K: Known>(
+    alloc: Global,
+    kind: Kind,
+    known: &K,
+    response: &Response,
+) -> Result<Seq<Verdict>, AllocError>
+    ensures verdicts { IfOk result (λ verdicts. verdicts ≡ all_judged (K.answers known.now) kind response.now [] response.now.items) }
+    ensures one_each { IfOk result (λ verdicts. length verdicts ≡ length response.now.items) }
+{
+    let mentions = Mentions::of(alloc, response)?;
+    let mut made = Made::new(alloc);
+    let mut verdicts = Seq::new(alloc);
+    for item in response.items.as_slice() {
+        let verdict = judge(alloc, kind, known, &mentions, &made, item)?;
+        made = note(alloc, made, verdict, item)?;
+        verdicts.push(verdict)?;
+    }
+    Ok(verdicts)
+}
+
+// The verdict on one resource.
+fn judge<K: Known>(
+    alloc: Global,
+    kind: Kind,
+    known: &K,
+    mentions: &Mentions<'_>,
+    made: &Made<'_>,
+    item: &Item,
+) -> Result<Verdict, AllocError>
+    ensures { IfOk result (λ verdict. verdict ≡ judged (K.answers known.now) kind mentions.now made.now item.now) }
+{
+    match rule_of(kind, known, mentions, item) {
+        Some(rule) => Ok(Verdict::Refused(rule)),
+        None => judge_body(alloc, kind, known, mentions, made, item),
+    }
+}
+
+// The verdict by the body of a resource that breaks no other rule.
+fn judge_body<K: Known>(
+    alloc: Global,
+    kind: Kind,
+    known: &K,
+    mentions: &Mentions<'_>,
+    made: &Made<'_>,
+    item: &Item,
+) -> Result<Verdict, AllocError>
+    ensures { IfOk result (λ verdict. verdict ≡ body_by (K.answers known.now) kind mentions.now made.now item.now item.now.body) }
+{
+    match &item.body {
+        Body::Good(content) => {
+            judge_content(
+                alloc,
+                kind,
+                known,
+                mentions,
+                made,
+                item.name.as_str(),
+                content,
+            )
+        }
+        Body::Bad(rule) => Ok(Verdict::Refused(*rule)),
+        Body::Beat => Ok(judge_beat(kind, known, item)),
+    }
+}
+
+// The verdict on a good resource that breaks no rule of its form.
+fn judge_content<K: Known>(
+    alloc: Global,
+    kind: Kind,
+    known: &K,
+    mentions: &Mentions<'_>,
+    made: &Made<'_>,
+    name: &str,
+    content: &Content,
+) -> Result<Verdict, AllocError>
+    ensures { IfOk result (λ verdict. verdict ≡ good_by (K.answers known.now) mentions.now made.now name.now content.now kind) }
+{
+    match kind {
+        Kind::Cds => Ok(compare(known.newest(Kind::Cds, name), content)),
+        Kind::Lds => {
+            if is_taken(alloc, known, mentions, made, name, content)? {
+                Ok(Verdict::Refused(15))
+            } else {
+                Ok(compare(known.newest(Kind::Lds, name), content))
+            }
+        }
+        Kind::Eds => Ok(keep_watched(known.is_watched(Kind::Eds, name))),
+        Kind::Rds => Ok(keep_watched(known.is_watched(Kind::Rds, name))),
+    }
+}
+
+// The verdict on a heartbeat that isn't refused.
+fn judge_beat<K: Known>(kind: Kind, known: &K, item: &Item) -> Verdict
+    ensures { result ≡ (if (K.answers known.now).kept kind item.now.name item.now.version then Renewed else Unasked) }
+{
+    if known.is_kept(kind, item.name.as_str(), item.version.as_str()) {
+        Verdict::Renewed
+    } else {
+        Verdict::Unasked
+    }
+}
+
+// The verdict on endpoints or routes: they are kept where their name is watched.
+fn keep_watched(watched: bool) -> Verdict
+    ensures { result ≡ (if watched then Kept else Unasked) }
+{
+    if watched {
+        Verdict::Kept
+    } else {
+        Verdict::Unasked
+    }
+}
+
+// The verdict on a cluster or listener: it is the same where the newest generation has this content.
+fn compare(newest: Option<LiveRow<'_>>, content: &Content) -> Verdict
+    ensures { result ≡ against newest.entry content.now }
+{
+    let Some(live) = newest else {
+        return Verdict::New;
+    };
+    if *live.content == *content {
+        Verdict::Same
+    } else {
+        Verdict::New
+    }
+}
+
+// Whether a listener of another name has the address of this content.
+fn is_taken<K: Known>(
+    alloc: Global,
+    known: &K,
+    mentions: &Mentions<'_>,
+    made: &Made<'_>,
+    name: &str,
+    content: &Content,
+) -> Result<bool, AllocError>
+    ensures { IfOk result (λ taken. taken ≡ is_taken_by Lds mentions.now (K.answers known.now) made.now name.now (listening_address content.now)) }
+{
+    match address_of(content) {
+        Some(address) => is_held(alloc, known, mentions, made, name, address),
+        None => Ok(false),
+    }
+}
+
+// Whether a listener of another name has the address.
+fn is_held<K: Known>(
+    alloc: Global,
+    known: &K,
+    mentions: &Mentions<'_>,
+    made: &Made<'_>,
+    name: &str,
+    address: &Host,
+) -> Result<bool, AllocError>
+    ensures { IfOk result (λ held. held ≡ is_held Lds mentions.now (K.answers known.now) made.now name.now address.now) }
+{
+    let holders = known.holders(alloc, address)?;
+    let held = has_another(holders.as_slice(), mentions, made, name);
+    Ok(held || made.has_another_at(address, name))
+}
+
+// Whether one of these that is still live has another name.
+fn has_another(
+    holders: &[LiveRow<'_>],
+    mentions: &Mentions<'_>,
+    made: &Made<'_>,
+    name: &str,
+) -> bool
+    ensures { result ≡ list_any (λ live. stays Lds mentions.now made.now live && not (bytes_eq live.name name.now)) holders.now }
+{
+    holders
+        .iter()
+        .any(|live| stays(mentions, made, live) && live.name != name)
+}
+
+// Whether a listener that was live before the response still is.
+fn stays(mentions: &Mentions<'_>, made: &Made<'_>, live: &LiveRow<'_>) -> bool
+    ensures { result ≡ stays Lds mentions.now made.now live.now }
+{
+    !(live.kind.is(Kind::Lds)
+        && (mentions.is_removed(live.name) || live.warming && made.has(live.name)))
+}
+
+// What the response made with this verdict on a resource.
+fn note<'a>(
+    alloc: Global,
+    made: Made<'a>,
+    verdict: Verdict,
+    item: &'a Item,
+) -> Result<Made<'a>, AllocError>
+    ensures { IfOk result (λ new. new ≡ made_by verdict item.now.name item.now.body made.entry) }
+{
+    match (verdict, &item.body) {
+        (Verdict::New, Body::Good(content)) => made.with(alloc, item.name.as_str(), content),
+        _ => Ok(made),
+    }
+}

@@ -1,0 +1,155 @@
+ghost use Rattle.std.specs.Prelude.{◌≡◌, ◌++◌, [], ◌∷◌, List, ℕ, Some, false, option_map, if◌then◌else◌, IfOk};
+ghost use Rattle.ev_types.specs.SameHosts.{host_same};
+ghost use Rattle.ev_types.specs.declared.hosts.Host.{Host};
+ghost use Rattle.ev_model.specs.Verdicts.{shares_address};
+ghost use Rattle.ev_verdicts.specs.Judged.{has_other, is_made, names_at, with_made};
+ghost use Rattle.ev_verdicts.specs.Made.{names_in};
+
+use crate::addresses::address_of;
+use crate::keys::{AddressKey, NameKey};
+use ev_types::{Content, Host, Seq};
+use indexmap::IndexMap;
+use std::alloc::{AllocError, Global};
+use std::marker::Model;
+
+type Names<'a> = IndexMap<NameKey<'a>, Option<AddressKey<'a>>>;
+
+type Addresses<'a> = IndexMap<AddressKey<'a>, Seq<NameKey<'a>>>;
+
+/// The generations that a response made so far: their names, each with the address of a listener. Contracts see the list.
+#[derive(Drop)]
+pub(crate) struct Made<'a> {
+    names: Names<'a>,
+    by_address: Addresses<'a>,
+}
+
+impl<'a> Model for Made<'a> {
+    ghost use Rattle.ev_verdicts.specs.Judged.{MadeKept};
+    ghost use Rattle.ev_verdicts.specs.Made.{AreByAddress};
+
+    ghost Value = { MadeKept };
+
+    ghost view = { λ m. m.names.entries };
+
+    ghost invariant = { λ m. AreByAddress m.names.entries m.by_address };
+}
+
+impl<'a> Made<'a> {
+    /// Nothing yet. It takes no memory.
+    pub(crate) fn new(alloc: Global) -> Made<'a>
+        ensures { result ≡ [] }
+    {
+        Made {
+            names: IndexMap::new(alloc),
+            by_address: IndexMap::new(alloc),
+        }
+    }
+
+    /// Whether one of this name was made.
+    pub(crate) fn has(&self, name: &str) -> bool
+        ensures { result ≡ is_made self.now name.now }
+    {
+        let _ = &self.by_address;
+        self.names.contains_key(&NameKey::new(name))
+    }
+
+    /// Whether one of another name that was made listens at the address.
+    pub(crate) fn has_another_at(&self, address: &Host, name: &str) -> bool
+        ensures { result ≡ has_other name.now (names_at address.now self.now) }
+    {
+        let _ = &self.names;
+        match self.by_address.get(&AddressKey::new(address)) {
+            Some(names) => has_other(names.as_slice(), name),
+            None => false,
+        }
+    }
+
+    /// With one more, where none of the name was made.
+    pub(crate) fn with(
+        self,
+        alloc: Global,
+        name: &'a str,
+        content: &'a Content,
+    ) -> Result<Made<'a>, AllocError>
+        ensures { IfOk result (λ made. made ≡ with_made name.now content.now self.entry) }
+    {
+        if self.has(name) {
+            return Ok(self);
+        }
+        let address = address_of(content);
+        let by_address = with_address(alloc, self.by_address, name, address)?;
+        let names = with_name(self.names, name, address)?;
+        Ok(Made { names, by_address })
+    }
+}
+
+// Whether one of these names is another.
+fn has_other(names: &[NameKey<'_>], name: &str) -> bool
+    ensures { result ≡ has_other name.now names.now }
+{
+    names.iter().any(|other| other.as_str() != name)
+}
+
+// The table by name with one more at the end, with its address.
+fn with_name<'a>(
+    table: Names<'a>,
+    name: &'a str,
+    address: Option<&'a Host>,
+) -> Result<Names<'a>, AllocError>
+    requires absent { is_made table.entries name.now ≡ false }
+    ensures { IfOk result (λ new. new.entries ≡ table.entry.entries ++ (name.now, option_map (λ a. a.now) address.entry) ∷ []) }
+{
+    let mut table = table;
+    let Ok(_) = table.insert(NameKey::new(name), key_of(address)) else {
+        return Err(AllocError);
+    };
+    Ok(table)
+}
+
+// The key of an address, where there is one.
+fn key_of(address: Option<&Host>) -> Option<AddressKey<'_>>
+    ensures { result ≡ option_map (λ a. a.now) address.entry }
+{
+    match address {
+        Some(address) => Some(AddressKey::new(address)),
+        None => None,
+    }
+}
+
+// The table by address with one more name, where it has an address.
+fn with_address<'a>(
+    alloc: Global,
+    table: Addresses<'a>,
+    name: &'a str,
+    address: Option<&'a Host>,
+) -> Result<Addresses<'a>, AllocError>
+    ensures { IfOk result (λ new. (a : Host) → names_in new a
+        ≡ names_in table.entry a ++ (if shares_address (option_map (λ h. h.now) address.entry) (Some a) then name.now ∷ [] else [])) }
+{
+    match address {
+        Some(address) => with_name_at(alloc, table, name, address),
+        None => Ok(table),
+    }
+}
+
+// The table by address with one more name at an address.
+fn with_name_at<'a>(
+    alloc: Global,
+    table: Addresses<'a>,
+    name: &'a str,
+    address: &'a Host,
+) -> Result<Addresses<'a>, AllocError>
+    ensures { IfOk result (λ new. (a : Host) → names_in new a ≡ names_in table.entry a ++ (if host_same address.now a then name.now ∷ [] else [])) }
+{
+    let mut table = table;
+    if let Some(names) = table.get_mut(&AddressKey::new(address)) {
+        names.push(NameKey::new(name))?;
+        return Ok(table);
+    }
+    let mut names = Seq::new(alloc);
+    names.push(NameKey::new(name))?;
+    let Ok(_) = table.insert(AddressKey::new(address), names) else {
+        return Err(AllocError);
+    };
+    Ok(table)
+}

@@ -1,0 +1,107 @@
+ghost use Rattle.std.specs.Prelude.{◌≡◌, ◌&&◌, not};
+ghost use Rattle.ev_model.specs.Verdicts.{twice_rule, removed_rule, form_rule, lesser};
+ghost use Rattle.ev_verdicts.specs.Judged.{rule_by, stale_by, is_heard_by};
+
+use crate::known::Known;
+use crate::mentions::Mentions;
+use ev_types::{Body, Item, Kind};
+
+/// The least rule that a resource breaks, taken addresses left aside.
+pub(crate) fn rule_of<K: Known>(
+    kind: Kind,
+    known: &K,
+    mentions: &Mentions<'_>,
+    item: &Item,
+) -> Option<u8>
+    ensures { result ≡ rule_by (K.answers known.now) kind mentions.now item.now }
+{
+    let beat = stale_rule(kind, known, item);
+    let twice = twice_rule(mentions, item);
+    let removed = removed_rule(mentions, item);
+    lesser(beat, lesser(twice, lesser(removed, form_rule(&item.body))))
+}
+
+// Rule 1: the resource is a heartbeat of a version that isn't kept, and somebody hears it.
+fn stale_rule<K: Known>(kind: Kind, known: &K, item: &Item) -> Option<u8>
+    ensures { result ≡ stale_by (K.answers known.now) kind item.now item.now.body }
+{
+    match &item.body {
+        Body::Good(_) | Body::Bad(_) => None,
+        Body::Beat => {
+            if is_stale(kind, known, item) {
+                Some(1)
+            } else {
+                None
+            }
+        }
+    }
+}
+
+// Whether the version isn't the one that is kept, and somebody hears the resource.
+fn is_stale<K: Known>(kind: Kind, known: &K, item: &Item) -> bool
+    ensures { result ≡ (not ((K.answers known.now).kept kind item.now.name item.now.version) && is_heard_by (K.answers known.now) kind item.now.name) }
+{
+    !known.is_kept(kind, item.name.as_str(), item.version.as_str())
+        && is_heard(kind, known, item.name.as_str())
+}
+
+// Whether somebody hears a resource of this kind and name.
+fn is_heard<K: Known>(kind: Kind, known: &K, name: &str) -> bool
+    ensures { result ≡ is_heard_by (K.answers known.now) kind name.now }
+{
+    match kind {
+        Kind::Cds | Kind::Lds => true,
+        Kind::Eds => known.is_watched(Kind::Eds, name),
+        Kind::Rds => known.is_watched(Kind::Rds, name),
+    }
+}
+
+// Rule 4: the name stands twice in the response.
+fn twice_rule(mentions: &Mentions<'_>, item: &Item) -> Option<u8>
+    ensures { result ≡ twice_rule mentions.now item.now }
+{
+    if mentions.is_twice(item.name.as_str()) {
+        Some(4)
+    } else {
+        None
+    }
+}
+
+// Rule 5: the name is removed too.
+fn removed_rule(mentions: &Mentions<'_>, item: &Item) -> Option<u8>
+    ensures { result ≡ removed_rule mentions.now item.now }
+{
+    if mentions.is_listed(item.name.as_str()) {
+        Some(5)
+    } else {
+        None
+    }
+}
+
+// The form rule that a body breaks.
+fn form_rule(body: &Body) -> Option<u8>
+    ensures { result ≡ form_rule body.now }
+{
+    match body {
+        Body::Good(_) => None,
+        Body::Bad(rule) => Some(*rule),
+        Body::Beat => None,
+    }
+}
+
+// The lesser of two rules, where there are any.
+fn lesser(rule: Option<u8>, other: Option<u8>) -> Option<u8>
+    ensures { result ≡ lesser rule other }
+{
+    match (rule, other) {
+        (None, other) => other,
+        (Some(rule), None) => Some(rule),
+        (Some(rule), Some(other)) => {
+            if rule <= other {
+                Some(rule)
+            } else {
+                Some(other)
+            }
+        }
+    }
+}
