@@ -4,3 +4,5 @@ pub mod Priorities
 pub mod Indexes
 pub mod Patterns
 pub mod Named
+pub mod Lowest
+pub mod Eligible

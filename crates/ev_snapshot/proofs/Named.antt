@@ -1,5 +1,5 @@
 -- A choice names only generations that the picture shows.
-use Rattle.std.proofs.Common.{◌≡◌, ℕ, ◌++◌, ◌&&◌, ◌||◌, ◌==◌, ◌/◌, Bool, true, false, cond, List, [], ◌∷◌, Option, Some, None, find, map, refl, ap, sym, ◌∙◌, arith}
+use Rattle.std.proofs.Common.{◌≡◌, ℕ, ◌&&◌, ◌||◌, ◌==◌, ◌/◌, Bool, true, false, cond, List, [], ◌∷◌, Option, Some, None, find, map, refl, ◌∙◌, arith}
 use Rattle.std.specs.List.{list_any}
 use Rattle.std.proofs.lemmas.Grind.{common_steps}
 use Rattle.std.proofs.lemmas.List.Folds.{list_any-append}

@@ -1,11 +1,11 @@
 -- A domain that a host goes by and that isn't the host is a pattern.
-use Rattle.std.proofs.Common.{◌≡◌, ℕ, ◌++◌, ◌&&◌, ◌||◌, Bool, true, false, cond, List, [], ◌∷◌, Option, Some, None, filter, find, refl, ap, sym, ◌∙◌, arith}
+use Rattle.std.proofs.Common.{◌≡◌, ℕ, ◌++◌, ◌||◌, Bool, true, false, cond, List, [], ◌∷◌, Option, Some, None, filter, find, refl, ap, sym, ◌∙◌, arith}
 use Rattle.std.specs.Cmp.{first_so}
 use Rattle.std.specs.Option.{option_or}
 use Rattle.std.proofs.lemmas.Grind.{common_steps}
 use Rattle.std.proofs.lemmas.List.Elements.{filter-append}
 use Rattle.std.proofs.lemmas.List.Folds.{find-append}
-use Rattle.ev_model.specs.Choice.{HostDomain, by_prefix, by_suffix, domain_for, has_prefix, has_suffix, is_any, is_domain, is_prefix_form, is_suffix_form, longest}
+use Rattle.ev_model.specs.Choice.{HostDomain, domain_for, has_prefix, has_suffix, is_any, is_domain, is_prefix_form, is_suffix_form, longest}
 use Rattle.ev_snapshot.specs.Domains.{AreListed, is_pattern, pattern_for}
 
 filter_kept : (p q : HostDomain → Bool) → ((d : HostDomain) → p d ≡ true → q d ≡ true) → (b c : Bool) (d : HostDomain) (ds rest : List HostDomain)

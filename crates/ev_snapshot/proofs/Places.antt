@@ -1,5 +1,5 @@
 -- The search for the first place where a running sum is above a number, from a place on.
-use Rattle.std.proofs.Common.{◌≡◌, ℕ, ◌+◌, ◌-◌, ◌<◌, ◌≤◌, Bool, true, false, cond, List, [], ◌∷◌, length, map, take, sum, find, None, Some, Option, refl, arith, nat_lt, get_or, ap, sym, ◌∙◌, subst, suc}
+use Rattle.std.proofs.Common.{◌≡◌, ℕ, ◌+◌, ◌-◌, ◌<◌, ◌≤◌, Bool, true, false, cond, List, ◌∷◌, length, map, take, sum, find, None, Some, Option, arith, nat_lt, get_or, ap, ◌∙◌, subst, suc}
 use Rattle.std.specs.List.{range_with_len}
 use Rattle.ev_model.specs.Choice.{place_above}
 use Rattle.std.proofs.lemmas.Grind.{common_steps}

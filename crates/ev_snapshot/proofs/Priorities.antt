@@ -1,10 +1,11 @@
 -- The lowest priority of hosts.
-use Rattle.std.proofs.Common.{◌≡◌, ℕ, ◌<◌, ◌==◌, ◌||◌, min, true, List, [], ◌∷◌, length, refl, arith, zero, suc, ◌⊎◌, inl, inr, ap, sym, subst}
+use Rattle.std.proofs.Common.{◌≡◌, ℕ, ◌<◌, ◌≤◌, ◌==◌, min, map, sum, true, List, [], ◌∷◌, length, refl, arith, ◌⊎◌, inl, inr, ap, sym, ◌∙◌, subst}
 use Rattle.std.specs.List.{list_any}
 use Rattle.std.proofs.lemmas.Bool.{cases_lt}
 use Rattle.std.proofs.lemmas.Grind.{common_steps}
 use Rattle.ev_types.specs.Hosts.{HostRowParts}
-use Rattle.ev_model.specs.Choice.{lowest_priority}
+use Rattle.ev_model.specs.Choice.{lowest_priority, weight_at}
+use Rattle.ev_snapshot.specs.Weighed.{IsWeighed}
 
 -- that of one more host
 pub lowest_more : (h : HostRowParts) (hs : List HostRowParts) → 0 < length hs → lowest_priority (h ∷ hs) ≡ min h.priority (lowest_priority hs)
@@ -28,3 +29,14 @@ pub lowest_among : (hs : List HostRowParts) → 0 < length hs → list_any (λ (
 lowest_among [] some = absurd (omega arith)
 lowest_among (h ∷ []) some = grind (arith, common_steps)
 lowest_among (h ∷ next ∷ hs) some = lesser_among h (next ∷ hs) _ (lowest_among (next ∷ hs) (omega arith))
+
+-- what is kept beside the hosts
+pub weighed : (hosts : List HostRowParts) (priority total : ℕ) → priority ≡ lowest_priority hosts → total ≡ sum (map (weight_at priority) hosts)
+    → (list_any (λ (h : HostRowParts). h.priority == priority) hosts ≡ true → 1 ≤ total) → IsWeighed hosts priority total
+weighed hosts priority total lowest summed some =
+    let Among : ℕ → Type 0 = λ n. list_any (λ (h : HostRowParts). h.priority == n) hosts ≡ true in
+    record {
+      lowest = lowest;
+      summed = summed ∙ ap (λ p. sum (map (weight_at p) hosts)) lowest;
+      some = λ there. some (subst Among (sym lowest) (lowest_among hosts there));
+    }

@@ -1,6 +1,10 @@
--- What an answer of `choose` names.
-use Rattle.std.specs.Prelude.{ℕ, Bool, List, [], ◌∷◌, Option, Some, None, option_map, slice_get}
+-- What an answer of `choose` names, and which host it goes to.
+use Rattle.std.specs.Prelude.{◌≡◌, ◌≤◌, ℕ, Bool, true, ⊤, All, Contains, List, [], ◌∷◌, filter, Option, Some, None, option_map, slice_get}
 use Rattle.std.specs.List.{list_all}
+use Rattle.ev_types.specs.Statuses.{is_active}
+use Rattle.ev_types.specs.declared.rows.GenRow.{GenRow}
+use Rattle.ev_model.specs.World.{World}
+use Rattle.ev_model.specs.Warming.{assignment_of, is_eligible}
 use Rattle.ev_types.specs.Hosts.{HostRowParts}
 use Rattle.ev_types.specs.declared.hosts.Host.{Host}
 use Rattle.ev_model.specs.Picture.{is_shown}
@@ -33,3 +37,38 @@ numbers_named (Served listener cluster host) = listener ∷ cluster ∷ []
 -- all of them are shown
 abbrev pub names_shown : Shown → Choice → Bool
 names_shown shown choice = list_all (λ number. is_shown number shown) (numbers_named choice)
+
+-- the host stands at this place of these hosts, and none of them has a lower priority
+pub record IsLowestAt (hosts : List HostRowParts) (place : ℕ) (host : HostRowParts) : Type 0 where
+  pub there : slice_get hosts place ≡ Some host
+  pub lowest : All (λ (other : HostRowParts). host.priority ≤ other.priority) hosts
+
+-- where a choice goes to a host, a cluster of its number is shown with the host at its place, and with none of a lower priority
+abbrev pub TakesLowest : Shown → Choice → Type 0
+TakesLowest shown NoListener = ⊤
+TakesLowest shown (NoRoute listener) = ⊤
+TakesLowest shown (Local listener status) = ⊤
+TakesLowest shown (Redirect listener) = ⊤
+TakesLowest shown (NoCluster listener) = ⊤
+TakesLowest shown (NoEndpoint listener) = ⊤
+TakesLowest shown (Served listener number place) =
+    (cluster : ServedCluster) × (host : HostRowParts)
+    × Contains shown.clusters cluster × (cluster.number ≡ number) × IsLowestAt cluster.hosts place host
+
+-- the row serves in the world, the host at this place of its eligible ones is this one, and no eligible one has a lower priority
+pub record IsBestHost (world : World) (row : GenRow) (place : ℕ) (host : HostRowParts) : Type 0 where
+  pub known : Contains world.rows row
+  pub serves : is_active row.status ≡ true
+  pub eligible : is_eligible world row host ≡ true
+  pub lowest : IsLowestAt (filter (is_eligible world row) (assignment_of world row)) place host
+
+-- where a choice goes to a host, it is an eligible one of its generation in the world, of the lowest priority that has one
+abbrev pub TakesEligible : World → Choice → Type 0
+TakesEligible world NoListener = ⊤
+TakesEligible world (NoRoute listener) = ⊤
+TakesEligible world (Local listener status) = ⊤
+TakesEligible world (Redirect listener) = ⊤
+TakesEligible world (NoCluster listener) = ⊤
+TakesEligible world (NoEndpoint listener) = ⊤
+TakesEligible world (Served listener number place) =
+    (row : GenRow) × (host : HostRowParts) × (row.number ≡ number) × IsBestHost world row place host

@@ -1,3 +1,4 @@
 pub mod Domains
 pub mod Tables
 pub mod Chosen
+pub mod Weighed

@@ -6,7 +6,7 @@ ghost use Rattle.ev_model.specs.Choice.{cluster_named};
 ghost use Rattle.ev_snapshot.specs.Tables.{cluster_numbered};
 
 use crate::names::ClusterName;
-use ev_model::ServedCluster;
+use crate::weighed::WeighedCluster;
 use ev_types::{Gen, Seq, Shared};
 use indexmap::IndexMap;
 use std::alloc::{AllocError, Global};
@@ -15,9 +15,9 @@ use std::marker::Model;
 /// The clusters of a picture, in order, with tables by name and by number. Contracts see the list. Each cluster is shared.
 #[derive(Drop)]
 pub(crate) struct Clusters {
-    list: Seq<Shared<ServedCluster>>,
-    by_name: IndexMap<ClusterName, Shared<ServedCluster>>,
-    by_number: IndexMap<u32, Shared<ServedCluster>>,
+    list: Seq<Shared<WeighedCluster>>,
+    by_name: IndexMap<ClusterName, Shared<WeighedCluster>>,
+    by_number: IndexMap<u32, Shared<WeighedCluster>>,
 }
 
 impl Model for Clusters {
@@ -47,7 +47,7 @@ impl Clusters {
     }
 
     /// The clusters with one more at the end. A table keeps the first of a name, and of a number.
-    pub(crate) fn with(self, cluster: Shared<ServedCluster>) -> Result<Clusters, AllocError>
+    pub(crate) fn with(self, cluster: Shared<WeighedCluster>) -> Result<Clusters, AllocError>
         ensures { IfOk result (λ clusters. clusters ≡ self ++ cluster ∷ []) }
     {
         let mut list = self.list;
@@ -62,7 +62,7 @@ impl Clusters {
     }
 
     /// The first cluster of this name.
-    pub(crate) fn named(&self, name: &str) -> Option<&ServedCluster>
+    pub(crate) fn named(&self, name: &str) -> Option<&WeighedCluster>
         ensures { option_copied result ≡ cluster_named self.now name.now }
     {
         let _ = &self.list;
@@ -73,7 +73,7 @@ impl Clusters {
     }
 
     /// The first cluster of this number.
-    pub(crate) fn numbered(&self, number: Gen) -> Option<&Shared<ServedCluster>>
+    pub(crate) fn numbered(&self, number: Gen) -> Option<&Shared<WeighedCluster>>
         ensures { option_copied result ≡ cluster_numbered self.now number }
     {
         let _ = &self.list;
@@ -83,9 +83,9 @@ impl Clusters {
 
 // The table by name with one more cluster, which is kept where it is the first of its name.
 fn with_name(
-    table: IndexMap<ClusterName, Shared<ServedCluster>>,
-    cluster: &Shared<ServedCluster>,
-) -> Result<IndexMap<ClusterName, Shared<ServedCluster>>, AllocError>
+    table: IndexMap<ClusterName, Shared<WeighedCluster>>,
+    cluster: &Shared<WeighedCluster>,
+) -> Result<IndexMap<ClusterName, Shared<WeighedCluster>>, AllocError>
     ensures { IfOk result (λ new. (name : List ℕ) → get bytes_eq new name ≡ option_or (get bytes_eq table name) (cluster_named (cluster.now ∷ []) name)) }
 {
     let mut table = table;
@@ -101,13 +101,13 @@ fn with_name(
 
 // The table by number with one more cluster, which is kept where it is the first of its number.
 fn with_number(
-    table: IndexMap<u32, Shared<ServedCluster>>,
-    cluster: &Shared<ServedCluster>,
-) -> Result<IndexMap<u32, Shared<ServedCluster>>, AllocError>
+    table: IndexMap<u32, Shared<WeighedCluster>>,
+    cluster: &Shared<WeighedCluster>,
+) -> Result<IndexMap<u32, Shared<WeighedCluster>>, AllocError>
     ensures { IfOk result (λ new. (number : ℕ) → get nat_eq new number ≡ option_or (get nat_eq table number) (cluster_numbered (cluster.now ∷ []) number)) }
 {
     let mut table = table;
-    let number = cluster.get().number.number();
+    let number = cluster.get().served().number.number();
     if table.contains_key(&number) {
         return Ok(table);
     }

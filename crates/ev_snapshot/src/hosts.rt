@@ -2,30 +2,18 @@ ghost use Rattle.std.specs.Prelude.{◌≡◌, ◌==◌, ◌≤◌, ◌<◌, ◌
 ghost use Rattle.std.specs.List.{list_any};
 ghost use Rattle.ev_types.specs.Hosts.{HostRowParts};
 ghost use Rattle.ev_types.specs.declared.limits.TheConstants.{ROW_LIMIT};
-ghost use Rattle.ev_model.specs.Choice.{host_place, lowest_priority, place_above, weight_at};
+ghost use Rattle.ev_model.specs.Choice.{lowest_priority, place_above, weight_at};
 
 use ev_types::HostRow;
 
-/// The place of the host that a pick takes: the first of the lowest priority where the sum of the first weights is above the
-/// pick modulo the whole sum. There is none where there is no host.
-#[tactic(auto, using(crate::proofs::Priorities::lowest_among))]
-pub(crate) fn host_place(hosts: &[HostRow], pick: u64) -> Option<u32>
-    requires { length hosts.now < ROW_LIMIT }
-    ensures { result ≡ host_place hosts.now pick }
-{
-    if hosts.len() == 0 {
-        return None;
-    }
-    let priority = lowest_priority(hosts);
-    place_above(hosts, priority, pick % weight_sum(hosts, priority))
-}
-
-// The lowest priority of these hosts.
+/// The lowest priority of these hosts; without one it is 0.
 #[tactic(auto, using(crate::proofs::Priorities::lowest_more))]
-fn lowest_priority(hosts: &[HostRow]) -> u8
-    requires { 0 < length hosts.now }
+pub(crate) fn lowest_priority(hosts: &[HostRow]) -> u8
     ensures lowest { result ≡ lowest_priority hosts.now }
 {
+    if hosts.len() == 0 {
+        return 0;
+    }
     let last = &hosts[hosts.len() - 1];
     let mut lowest = last.priority;
     for place in (0..hosts.len() - 1).rev() {
@@ -47,8 +35,8 @@ fn weight_at(priority: u8, row: &HostRow) -> u32
     }
 }
 
-// What the weights of this priority add up to.
-fn weight_sum(hosts: &[HostRow], priority: u8) -> u64
+/// What the weights of this priority add up to.
+pub(crate) fn weight_sum(hosts: &[HostRow], priority: u8) -> u64
     requires { length hosts.now < ROW_LIMIT }
     ensures sum { result ≡ sum (map (weight_at priority) hosts.now) }
     ensures some { list_any (λ (h : HostRowParts). h.priority == priority) hosts.now ≡ true → 1 ≤ result }
@@ -60,9 +48,9 @@ fn weight_sum(hosts: &[HostRow], priority: u8) -> u64
     sum
 }
 
-// The first place where the weights of this priority up to it, and its own, sum to more than n.
+/// The first place where the weights of this priority up to it, and its own, sum to more than n.
 #[tactic(auto, using(crate::proofs::Places::from_start, crate::proofs::Places::passed, crate::proofs::Places::reached, crate::proofs::Places::none_left, crate::proofs::Places::sum_more, crate::proofs::Places::sum_fits))]
-fn place_above(hosts: &[HostRow], priority: u8, n: u64) -> Option<u32>
+pub(crate) fn place_above(hosts: &[HostRow], priority: u8, n: u64) -> Option<u32>
     requires few { length hosts.now < ROW_LIMIT }
     requires fits { sum (map (weight_at priority) hosts.now) < 2 ^ 64 }
     ensures { result ≡ place_above n (map (weight_at priority) hosts.now) }

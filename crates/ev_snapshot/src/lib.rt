@@ -15,5 +15,9 @@ mod routes;
 mod snapshot;
 mod targets;
 mod texts;
+mod weighed;
 
 pub use snapshot::Snapshot;
+
+#[cfg(test)]
+mod tests;

@@ -1,6 +1,6 @@
 ghost use Rattle.std.specs.Prelude.{◌≡◌};
 
-use ev_model::ServedCluster;
+use crate::weighed::WeighedCluster;
 use ev_types::Shared;
 use indexmap::Equivalent;
 use std::hash::{Hash, Hasher};
@@ -9,7 +9,7 @@ use std::marker::Model;
 /// A cluster as the key of its name.
 #[derive(Drop)]
 pub(crate) struct ClusterName {
-    cluster: Shared<ServedCluster>,
+    cluster: Shared<WeighedCluster>,
 }
 
 impl Model for ClusterName {
@@ -22,7 +22,7 @@ impl Model for ClusterName {
 
 impl ClusterName {
     /// The key of this cluster's name.
-    pub(crate) fn new(cluster: Shared<ServedCluster>) -> ClusterName
+    pub(crate) fn new(cluster: Shared<WeighedCluster>) -> ClusterName
         ensures { result ≡ cluster.name }
     {
         ClusterName { cluster }
@@ -32,7 +32,7 @@ impl ClusterName {
     pub(crate) fn as_str(&self) -> &str
         ensures { result.now ≡ self.now }
     {
-        self.cluster.get().name.as_str()
+        self.cluster.get().served().name.as_str()
     }
 }
 

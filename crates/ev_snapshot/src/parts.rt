@@ -3,8 +3,9 @@ ghost use Rattle.std.specs.Prelude.{◌≡◌, IfOk};
 use crate::clusters::Clusters;
 use crate::listeners::Listeners;
 use crate::routed::RoutedListener;
+use crate::weighed::WeighedCluster;
 use ev_model::{ServedCluster, ServedListener};
-use ev_types::{Shared, TryCopy};
+use ev_types::Shared;
 use std::alloc::{AllocError, Global};
 
 /// The clusters of a picture, with those that are as before taken over.
@@ -27,15 +28,15 @@ fn shared_cluster(
     alloc: Global,
     cluster: &ServedCluster,
     before: &Clusters,
-) -> Result<Shared<ServedCluster>, AllocError>
+) -> Result<Shared<WeighedCluster>, AllocError>
     ensures { IfOk result (λ shared. shared ≡ cluster.now) }
 {
     if let Some(held) = before.numbered(cluster.number) {
-        if *held.get() == *cluster {
+        if *held.get().served() == *cluster {
             return held.share();
         }
     }
-    Shared::new(alloc, cluster.copy(alloc)?)
+    Shared::new(alloc, WeighedCluster::new(alloc, cluster)?)
 }
 
 /// The listeners of a picture, with those that are as before taken over.

@@ -4,16 +4,18 @@ ghost use Rattle.std.specs.Option.{option_copied};
 ghost use Rattle.ev_model.specs.Choice.{by_host, by_route, by_routing, choice_in, choice_of, forwarded};
 ghost use Rattle.ev_model.specs.declared.pictures.ServedCluster.{ServedCluster};
 ghost use Rattle.ev_model.specs.declared.pictures.ServedListener.{ServedListener};
-ghost use Rattle.ev_snapshot.specs.Chosen.{host_of, names_shown};
+ghost use Rattle.ev_model.specs.Picture.{shown_of};
+ghost use Rattle.ev_model.specs.World.{World};
+ghost use Rattle.ev_snapshot.specs.Chosen.{TakesEligible, TakesLowest, host_of, names_shown};
 
 use crate::clusters::Clusters;
-use crate::hosts::host_place;
 use crate::listeners::Listeners;
 use crate::parts::{all_clusters, all_listeners};
 use crate::routed::RoutedListener;
 use crate::routes::route_for;
 use crate::targets::{target_name, target_weight};
-use ev_model::{Choice, Picture, Routing, ServedCluster};
+use crate::weighed::WeighedCluster;
+use ev_model::{Choice, Picture, Routing};
 use ev_types::{Action, Ask, Gen, Host, Route, Target, VirtualHost};
 use std::alloc::{AllocError, Global};
 use std::marker::Model;
@@ -88,7 +90,7 @@ impl Snapshot {
         let Some(served) = self.clusters.numbered(cluster) else {
             return None;
         };
-        match served.get().hosts.rows().get(place as usize) {
+        match served.get().served().hosts.rows().get(place as usize) {
             Some(row) => Some(&row.host),
             None => None,
         }
@@ -96,10 +98,12 @@ impl Snapshot {
 
     /// Where a connection goes: by its listener, the virtual host and the first route of its host text and path, the weights of
     /// the route's clusters, and the lowest priority and the weights of the cluster's hosts. It takes no memory.
-    #[tactic(auto, using(crate::proofs::Named::choice_shown))]
+    #[tactic(auto, using(crate::proofs::Named::choice_shown, crate::proofs::Lowest::choice_takes_lowest, crate::proofs::Eligible::takes_eligible))]
     pub fn choose(&self, ask: &Ask) -> Choice
         ensures choice { result ≡ choice_of self.now ask.now }
         ensures generations { names_shown self.now.shown result ≡ true }
+        ensures lowest { TakesLowest self.now.shown result }
+        ensures eligible { (world : World) → self.now.shown ≡ shown_of world → TakesEligible world result }
     {
         self.choose_by_address(ask)
     }
@@ -168,16 +172,16 @@ impl Snapshot {
 }
 
 // The choice with the cluster.
-fn choose_host(listener: Gen, cluster: Option<&ServedCluster>, pick: u64) -> Choice
+fn choose_host(listener: Gen, cluster: Option<&WeighedCluster>, pick: u64) -> Choice
     ensures { result ≡ choice_in listener (option_copied cluster.entry) pick }
 {
     let Some(cluster) = cluster else {
         return Choice::NoCluster { listener };
     };
-    match host_place(cluster.hosts.rows(), pick) {
+    match cluster.host_place(pick) {
         Some(host) => Choice::Served {
             listener,
-            cluster: cluster.number,
+            cluster: cluster.served().number,
             host,
         },
         None => Choice::NoEndpoint { listener },

@@ -1,4 +1,4 @@
-use Rattle.std.proofs.Common.{◌≡◌, drop, filter}
+use Rattle.std.proofs.Common.{◌≡◌, drop}
 use Rattle.std.specs.Option.{option_copied}
 use Rattle.std.specs.Str.{str_to_ascii_lowercase}
 use Rattle.ev_model.specs.Choice.{by_suffix}

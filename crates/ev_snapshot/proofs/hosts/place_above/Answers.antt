@@ -1,4 +1,4 @@
-use Rattle.std.proofs.Common.{◌≡◌, ◌<◌, ◌+◌, sum, take, map, length, sym, ◌∙◌, arith}
+use Rattle.std.proofs.Common.{◌<◌, ◌+◌, sum, take, map, length, sym, ◌∙◌, arith}
 use Rattle.ev_model.specs.Choice.{weight_at}
 use Rattle.ev_snapshot.proofs.Places.{reached, sum_more}
 use Rattle.ev_snapshot.proofs.hosts.place_above.Goals as goal

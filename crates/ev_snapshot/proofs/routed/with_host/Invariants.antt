@@ -1,6 +1,5 @@
 use Rattle.std.proofs.Common.{◌≡◌, ◌++◌, take, map}
 use Rattle.std.specs.Str.{str_to_ascii_lowercase}
-use Rattle.ev_model.specs.Choice.{HostDomain}
 use Rattle.ev_snapshot.specs.Domains.{host_at}
 use Rattle.ev_snapshot.proofs.routed.with_host.Given as goal
 

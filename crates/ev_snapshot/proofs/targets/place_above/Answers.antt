@@ -1,4 +1,4 @@
-use Rattle.std.proofs.Common.{◌≡◌, ◌<◌, ◌+◌, sum, take, map, length, sym, ◌∙◌, arith}
+use Rattle.std.proofs.Common.{◌<◌, ◌+◌, sum, take, map, length, sym, ◌∙◌, arith}
 use Rattle.ev_types.specs.declared.routes.WeightedCluster.{WeightedCluster}
 use Rattle.ev_snapshot.proofs.Places.{reached, sum_more}
 use Rattle.ev_snapshot.proofs.targets.place_above.Goals as goal

@@ -1,4 +1,4 @@
-use Rattle.std.proofs.Common.{◌≡◌, ◌+◌, drop, take}
+use Rattle.std.proofs.Common.{◌≡◌, take}
 use Rattle.ev_types.specs.Weights.{weight_sum}
 use Rattle.ev_snapshot.proofs.targets.weight_sum.Given as goal
 

@@ -1,8 +1,8 @@
-use Rattle.std.proofs.Common.{◌≡◌, ℕ, List, Some, None, find, filter, ap, sym, ◌∙◌}
+use Rattle.std.proofs.Common.{◌≡◌, None, find, ap, sym, ◌∙◌}
 use Rattle.std.specs.Str.{bytes_eq, str_to_ascii_lowercase}
 use Rattle.indexmap.specs.IndexMap.{get}
 use Rattle.ev_model.specs.Choice.{domain_for, is_domain}
-use Rattle.ev_snapshot.specs.Domains.{is_pattern, pattern_for}
+use Rattle.ev_snapshot.specs.Domains.{pattern_for}
 use Rattle.ev_snapshot.proofs.Patterns.{found_first, found_none, pattern_for_patterns}
 use Rattle.ev_snapshot.proofs.domain_table.Domains.find.Goals as goal
 

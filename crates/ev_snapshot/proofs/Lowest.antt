@@ -1,0 +1,130 @@
+-- A choice goes to a host that its cluster shows, of the lowest priority there.
+use Rattle.std.proofs.Common.{◌≡◌, ℕ, ◌+◌, ◌/◌, ◌%◌, ◌<◌, ◌≤◌, ◌==◌, min, Bool, true, false, cond, List, [], ◌∷◌, length, map, take, sum, find, Option, Some, None, All, Contains, zero, suc, refl, sym, ◌∙◌, subst, inl, inr, arith, get_or}
+use Rattle.std.proofs.lemmas.Bool.{cases_lt}
+use Rattle.std.proofs.lemmas.Bool.Decides.{nat_tests}
+use Rattle.std.proofs.lemmas.List.Elements.{All-cons, All-nil, All-weaker}
+use Rattle.std.proofs.lemmas.Option.{slice_get-get_or}
+use Rattle.ev_types.specs.Hosts.{HostRowParts}
+use Rattle.ev_types.specs.declared.events.Ask.{Ask}
+use Rattle.ev_types.specs.declared.routes.Action.{Action}
+use Rattle.ev_types.specs.declared.routes.Action.TheVariants.{Forward, Redirect as redirect, Local as local}
+use Rattle.ev_types.specs.declared.routes.Route.{Route}
+use Rattle.ev_types.specs.declared.routes.Target.{Target}
+use Rattle.ev_types.specs.declared.routes.VirtualHost.{VirtualHost}
+use Rattle.std.specs.Str.{bytes_eq}
+use Rattle.ev_model.specs.Choice.{acted, by_host, by_listener, by_route, by_routing, choice_in, choice_of, cluster_named, counted_weights, forwarded, host_place, listener_at, lowest_priority, route_for, served_at, target_name, target_weight, virtual_host_for, weight_at}
+use Rattle.ev_model.specs.declared.pictures.Picture.{Picture}
+use Rattle.ev_model.specs.declared.pictures.Shown.{Shown}
+use Rattle.ev_model.specs.declared.pictures.Routing.{Routing}
+use Rattle.ev_model.specs.declared.pictures.Routing.TheVariants.{Table, Tcp}
+use Rattle.ev_model.specs.declared.pictures.ServedCluster.{ServedCluster}
+use Rattle.ev_model.specs.declared.pictures.ServedListener.{ServedListener}
+use Rattle.ev_snapshot.specs.Chosen.{IsLowestAt, TakesLowest}
+use Rattle.ev_snapshot.proofs.Places.{place_from, from_start, passed, reached, none_left, sum_more}
+
+-- what stands at the place that a search by running sums finds has some weight
+found_weighs : {X : Type 0} (weight : X → ℕ) (xs : List X) (n x : ℕ) (d : X) (left i : ℕ) → length xs ≤ i + left → sum (take i (map weight xs)) ≤ n
+    → place_from weight xs n i ≡ Some x → (x < length xs) × (0 < weight (get_or xs x d))
+found_weighs weight xs n x d zero i all below found =
+    let none : place_from weight xs n i ≡ None = none_left weight xs n i (omega arith) in absurd (cc)
+found_weighs weight xs n x d (suc left) i all below found =
+    elim (cases_lt i (length xs)) [
+      | inl less ↦ elim (cases_lt n (sum (take (i + 1) (map weight xs)))) [
+        | inl above ↦
+            let here : place_from weight xs n i ≡ Some i = reached weight xs n i less above in
+            let same : i ≡ x = cc in
+            let P : ℕ → Type 0 = λ k. (k < length xs) × (0 < weight (get_or xs k d)) in
+            subst P same (less, omega (arith, sum_more weight xs i d less))
+        | inr le ↦ found_weighs weight xs n x d left (i + 1) (omega arith) le (sym (passed weight xs n i less le) ∙ found)
+      ]
+      | inr past ↦ let none : place_from weight xs n i ≡ None = none_left weight xs n i past in absurd (cc)
+    ]
+
+-- only a host of this priority weighs anything
+weighs_only : (priority : ℕ) (h : HostRowParts) → 0 < weight_at priority h → h.priority ≡ priority
+weighs_only priority h weighs = by (h.priority == priority) refl weighs
+  where
+    by : (b : Bool) → (h.priority == priority) ≡ b → 0 < cond b h.weight 0 → h.priority ≡ priority
+    by true same weighs = grind (arith, nat_tests)
+    by false other weighs = absurd (omega arith)
+
+-- the lowest priority is above none
+lowest_below : (hosts : List HostRowParts) → All (λ (h : HostRowParts). lowest_priority hosts ≤ h.priority) hosts
+lowest_below [] = All-nil (λ (h : HostRowParts). 0 ≤ h.priority)
+lowest_below (h ∷ []) =
+    let P : HostRowParts → Type 0 = λ (x : HostRowParts). h.priority ≤ x.priority in
+    All-cons P h [] (omega arith) (All-nil P)
+lowest_below (h ∷ next ∷ hosts) =
+    let P : HostRowParts → Type 0 = λ (x : HostRowParts). lowest_priority (next ∷ hosts) ≤ x.priority in
+    let Q : HostRowParts → Type 0 = λ (x : HostRowParts). min h.priority (lowest_priority (next ∷ hosts)) ≤ x.priority in
+    All-cons Q h (next ∷ hosts) (omega arith) (All-weaker P Q (λ x le. omega arith) (next ∷ hosts) (lowest_below (next ∷ hosts)))
+
+-- a host that is picked is of the lowest priority
+chosen_lowest : (hosts : List HostRowParts) (pick place : ℕ) → host_place hosts pick ≡ Some place → (host : HostRowParts) × IsLowestAt hosts place host
+chosen_lowest [] pick place found = absurd (cc)
+chosen_lowest (h ∷ hs) pick place found =
+    let weight : HostRowParts → ℕ = weight_at (lowest_priority (h ∷ hs)) in
+    let n : ℕ = pick % sum (counted_weights (h ∷ hs)) in
+    let first : place_from weight (h ∷ hs) n 0 ≡ Some place = sym (from_start weight (h ∷ hs) n) ∙ found in
+    let weighs : (place < length (h ∷ hs)) × (0 < weight (get_or (h ∷ hs) place h)) =
+    found_weighs weight (h ∷ hs) n place h (length (h ∷ hs)) 0 (omega arith) (omega arith) first in
+    let same : (get_or (h ∷ hs) place h).priority ≡ lowest_priority (h ∷ hs) =
+    weighs_only (lowest_priority (h ∷ hs)) (get_or (h ∷ hs) place h) weighs.1 in
+    let P : ℕ → Type 0 = λ p. All (λ (x : HostRowParts). p ≤ x.priority) (h ∷ hs) in (
+      get_or (h ∷ hs) place h,
+      record {
+        there = slice_get-get_or (h ∷ hs) place h weighs.0;
+        lowest = subst P (sym same) (lowest_below (h ∷ hs));
+      },
+    )
+
+-- what a search finds is in the list
+pub found_contained : {X : Type 0} (p : X → Bool) (xs : List X) (x : X) → find p xs ≡ Some x → Contains xs x
+found_contained p [] x found = absurd (cc)
+found_contained {X} p (y ∷ ys) x found = by (p y) found (found_contained p ys x)
+  where
+    by : (b : Bool) → cond b (Some y) (find p ys) ≡ Some x → (find p ys ≡ Some x → Contains ys x) → Contains (y ∷ ys) x
+    by true here rest = let same : y ≡ x = cc in (0, omega arith, same)
+    by false later rest = let among : Contains ys x = rest later in (suc among.0, omega (arith, among.1), among.2)
+
+served_takes : (shown : Shown) (listener : ℕ) (cluster : ServedCluster) (pick : ℕ) (place : Option ℕ) → Contains shown.clusters cluster
+    → host_place cluster.hosts pick ≡ place → TakesLowest shown (served_at listener cluster.number place)
+served_takes shown listener cluster pick None among is = tt
+served_takes shown listener cluster pick (Some place) among is =
+    let chosen : (host : HostRowParts) × IsLowestAt cluster.hosts place host = chosen_lowest cluster.hosts pick place is in
+    (cluster, chosen.0, among, refl, chosen.1)
+
+choice_in_takes : (shown : Shown) (listener : ℕ) (found : Option ServedCluster) (pick : ℕ)
+    → ((c : ServedCluster) → found ≡ Some c → Contains shown.clusters c) → TakesLowest shown (choice_in listener found pick)
+choice_in_takes shown listener None pick among = tt
+choice_in_takes shown listener (Some cluster) pick among =
+    served_takes shown listener cluster pick (host_place cluster.hosts pick) (among cluster refl) refl
+
+forwarded_takes : (picture : Picture) (pick listener : ℕ) (target : Target) → TakesLowest picture.shown (forwarded picture pick listener target)
+forwarded_takes picture pick listener target =
+    choice_in_takes picture.shown listener (cluster_named picture.shown.clusters (target_name target pick)) (pick / target_weight target)
+    (found_contained (λ (c : ServedCluster). bytes_eq c.name (target_name target pick)) picture.shown.clusters)
+
+acted_takes : (picture : Picture) (pick listener : ℕ) (action : Action) → TakesLowest picture.shown (acted picture pick listener action)
+acted_takes picture pick listener (Forward target) = forwarded_takes picture pick listener target
+acted_takes picture pick listener redirect = tt
+acted_takes picture pick listener (local status) = tt
+
+by_route_takes : (picture : Picture) (pick listener : ℕ) (route : Option Route) → TakesLowest picture.shown (by_route picture pick listener route)
+by_route_takes picture pick listener None = tt
+by_route_takes picture pick listener (Some route) = acted_takes picture pick listener route.action
+
+by_host_takes : (picture : Picture) (ask : Ask) (listener : ℕ) (host : Option VirtualHost) → TakesLowest picture.shown (by_host picture ask listener host)
+by_host_takes picture ask listener None = tt
+by_host_takes picture ask listener (Some host) = by_route_takes picture ask.pick listener (route_for host ask.path)
+
+by_routing_takes : (picture : Picture) (ask : Ask) (listener : ℕ) (routing : Routing) → TakesLowest picture.shown (by_routing picture ask listener routing)
+by_routing_takes picture ask listener (Table table) = by_host_takes picture ask listener (virtual_host_for table ask.host)
+by_routing_takes picture ask listener (Tcp target) = forwarded_takes picture ask.pick listener target
+
+by_listener_takes : (picture : Picture) (ask : Ask) (found : Option ServedListener) → TakesLowest picture.shown (by_listener picture ask found)
+by_listener_takes picture ask None = tt
+by_listener_takes picture ask (Some listener) = by_routing_takes picture ask listener.number listener.routing
+
+pub choice_takes_lowest : (picture : Picture) (ask : Ask) → TakesLowest picture.shown (choice_of picture ask)
+choice_takes_lowest picture ask = by_listener_takes picture ask (listener_at picture.shown.listeners ask.address)
