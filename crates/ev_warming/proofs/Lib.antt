@@ -5,6 +5,14 @@ pub mod IndexLemmas
 pub mod PromotionLemmas
 pub mod WayLemmas
 pub mod AddLemmas
+pub mod SoundLemmas
 pub mod WorldLemmas
+pub mod AddedLemmas
 pub mod ArrivalLemmas
 pub mod NewLemmas
+pub mod ForgettingLemmas
+pub mod ForgottenLemmas
+pub mod DrainLemmas
+pub mod TidyLemmas
+pub mod ResponseLemmas
+pub mod RemovalLemmas

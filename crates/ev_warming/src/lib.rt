@@ -3,13 +3,19 @@
 #![tactic(auto)]
 
 mod due;
+mod forgetting;
+mod manager;
 mod names;
 mod ready;
+mod removal;
+mod response;
 mod state;
 mod watches;
 
 pub use due::Due;
+pub use manager::{Added, Manager};
 pub use names::{Names, Standing};
 pub use ready::{is_ready, limited, needed, refresh};
-pub use state::State;
+pub use response::Applied;
+pub use state::{Promoted, State};
 pub use watches::{Watch, Watches};
