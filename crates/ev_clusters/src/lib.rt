@@ -2,7 +2,7 @@
 //! host, and which are due to serve. Whatever is asked for by a name or a number is found without a walk.
 #![tactic(auto)]
 
-ghost use Rattle.std.specs.Prelude.{◌≡◌, ◌+◌, ◌*◌, ◌^◌, ◌≤◌, ◌<◌, [], ◌∷◌, ◌++◌, ℕ, List, Some, true, length, option_to_list, IfOk, OnOk};
+ghost use Rattle.std.specs.Prelude.{◌≡◌, ◌+◌, ◌*◌, ◌^◌, ◌≤◌, ◌<◌, [], ◌∷◌, ◌++◌, ℕ, List, Some, true, EachIndex, slice_index, length, option_to_list, IfOk, OnOk};
 ghost use Rattle.std.specs.List.{list_any};
 ghost use Rattle.ev_types.specs.declared.contents.Kind.TheVariants.{Cds, Eds};
 ghost use Rattle.ev_model.specs.World.{World, opening};
@@ -14,7 +14,7 @@ ghost use Rattle.ev_warming.specs.Due.{is_among};
 ghost use Rattle.ev_warming.specs.Ready.{is_due_at};
 ghost use Rattle.ev_warming.specs.Indexes.{depends_on, serves, warms, numbers_where};
 ghost use Rattle.ev_warming.specs.Worlds.{StandsFor};
-ghost use Rattle.ev_warming.specs.Changes.{began_to_drain, is_over};
+ghost use Rattle.ev_warming.specs.Changes.{began_to_drain, has_retired, is_over};
 
 use ev_generations::Steps;
 use ev_types::{Arrival, Gen, GenRow, Kind, Name, Response, Verdict};
@@ -67,6 +67,8 @@ impl Clusters {
         requires room { self.old.state.table.made + length response.now.items < 2 ^ 32 }
         ensures kept { OnOk result (AreKept self.new) }
         ensures made { IfOk result (λ applied. self.new.state.table.made ≡ self.old.state.table.made + length applied.made) }
+        ensures numbers { IfOk result (λ applied. EachIndex applied.made (λ k. slice_index applied.made k ≡ self.old.state.table.made + k + 1)) }
+        ensures retired { IfOk result (λ applied. (n : ℕ) → is_among applied.retired n ≡ has_retired n self.old.state.table.rows self.new.state.table.rows) }
         // Whatever world they stood for, they stand for that world once the response's removals and resources are in.
         ensures stands { OnOk result ((world : World) → StandsFor self.old.state world → StandsFor self.new.state (add_items Cds verdicts.now response.now.items (with_removals Cds response.now world))) }
     {

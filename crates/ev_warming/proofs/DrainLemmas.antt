@@ -30,7 +30,7 @@ status-promoted ready rows n row at =
     ap status_in (row_in-with_statuses n f rows) ∙ (λ i. status_in (option_map (λ (r : GenRow). record r { status = f r }) (at i)))
 
 -- a number whose row isn't there, or fails the test, isn't among those that pass
-absent-where : (test : GenRow → Bool) (n : ℕ) (rows : List GenRow) → IsDistinct nat_eq (numbers_of rows) → row_in n rows ≡ None → is_among (numbers_where test rows) n ≡ false
+pub absent-where : (test : GenRow → Bool) (n : ℕ) (rows : List GenRow) → IsDistinct nat_eq (numbers_of rows) → row_in n rows ≡ None → is_among (numbers_where test rows) n ≡ false
 absent-where test n rows apart none = by (is_among (numbers_where test rows) n) refl
   where
     by : (b : Bool) → is_among (numbers_where test rows) n ≡ b → b ≡ false

@@ -241,7 +241,7 @@ any-numbered f n row rows at apart = by (is_live row.status && f row) refl
     by false e = none rows e (all-found n row rows at apart)
 
 -- what holds of each row holds of one that is found
-all-at : (P : GenRow → Type 0) (n : ℕ) (row : GenRow) (rows : List GenRow) → row_in n rows ≡ Some row → AllByRecursion P rows → P row
+pub all-at : (P : GenRow → Type 0) (n : ℕ) (row : GenRow) (rows : List GenRow) → row_in n rows ≡ Some row → AllByRecursion P rows → P row
 all-at P n row [] at all = cc
 all-at P n row (r ∷ rows) at all = by (nat_eq n r.number) at (λ h. all-at P n row rows h all.1)
   where

@@ -16,3 +16,4 @@ pub mod DrainLemmas
 pub mod TidyLemmas
 pub mod ResponseLemmas
 pub mod RemovalLemmas
+pub mod RetiredLemmas

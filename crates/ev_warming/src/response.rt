@@ -1,4 +1,4 @@
-ghost use Rattle.std.specs.Prelude.{◌≡◌, ◌+◌, ◌^◌, ◌<◌, ◌≤◌, ◌++◌, ℕ, [], ◌∷◌, Some, All, length, IfOk, OnOk};
+ghost use Rattle.std.specs.Prelude.{◌≡◌, ◌+◌, ◌^◌, ◌<◌, ◌≤◌, ◌++◌, ℕ, [], ◌∷◌, Some, All, EachIndex, slice_index, length, IfOk, OnOk};
 ghost use Rattle.ev_types.specs.Items.{IsBodyOf, content_kind};
 ghost use Rattle.ev_types.specs.declared.contents.Body.TheVariants.{Good};
 ghost use Rattle.ev_types.specs.declared.events.Verdict.TheVariants.{New};
@@ -8,7 +8,7 @@ ghost use Rattle.ev_model.specs.Rows.{rows_left, rows_with_new, with_statuses, w
 ghost use Rattle.ev_model.specs.Signals.{rows_ended};
 ghost use Rattle.ev_warming.specs.Due.{is_among};
 ghost use Rattle.ev_warming.specs.Worlds.{StandsFor};
-ghost use Rattle.ev_warming.specs.Changes.{has_retired, status_left_by};
+ghost use Rattle.ev_warming.specs.Changes.{has_retired, status_left_by, Draws, Tells};
 ghost use Rattle.ev_warming.specs.Managers.{IsKept};
 
 use crate::Manager;
@@ -43,6 +43,8 @@ impl Manager {
         ensures kept { OnOk result (IsKept self.new) }
         ensures kind { OnOk result (self.new.state.kind ≡ self.old.state.kind) }
         ensures made { IfOk result (λ applied. self.new.state.table.made ≡ self.old.state.table.made + length applied.made) }
+        ensures numbers { IfOk result (λ applied. EachIndex applied.made (λ k. slice_index applied.made k ≡ self.old.state.table.made + k + 1)) }
+        ensures retired { IfOk result (λ applied. (n : ℕ) → is_among applied.retired n ≡ has_retired n self.old.state.table.rows self.new.state.table.rows) }
         // Whatever world the manager stood for, it stands for that world once the response's removals and resources are in.
         ensures stands { OnOk result ((world : World) → StandsFor self.old.state world → StandsFor self.new.state (add_items self.old.state.kind verdicts.now response.now.items (with_removals self.old.state.kind response.now world))) }
     {
@@ -74,6 +76,7 @@ impl Manager {
         ensures kind { OnOk result (self.new.state.kind ≡ self.old.state.kind) }
         ensures made { OnOk result (self.new.state.table.made ≡ self.old.state.table.made) }
         ensures others { OnOk result (applied.new.made ≡ applied.old.made) }
+        ensures told { OnOk result (Tells self.old.state.table.rows self.new.state.table.rows applied.old.retired applied.new.retired) }
         ensures stands { OnOk result ((world : World) → StandsFor self.old.state world → StandsFor self.new.state (record world { rows = rows_left self.old.state.kind response.now world.rows })) }
     {
         for name in response.removed.as_slice() {
@@ -96,6 +99,7 @@ impl Manager {
         ensures kind { OnOk result (self.new.state.kind ≡ self.old.state.kind) }
         ensures made { OnOk result (self.new.state.table.made ≡ self.old.state.table.made) }
         ensures others { OnOk result (applied.new.made ≡ applied.old.made) }
+        ensures told { OnOk result (Tells self.old.state.table.rows self.new.state.table.rows applied.old.retired applied.new.retired) }
         ensures stands { OnOk result ((world : World) → StandsFor self.old.state world → StandsFor self.new.state (record world { rows = with_statuses (status_left_by self.old.state.kind response.now (name.now ∷ [])) world.rows })) }
     {
         if times_named(name.as_str(), response.items.as_slice()) >= 1 {
@@ -119,6 +123,7 @@ impl Manager {
         ensures kind { OnOk result (self.new.state.kind ≡ self.old.state.kind) }
         ensures made { OnOk result (self.new.state.table.made ≡ self.old.state.table.made) }
         ensures others { OnOk result (applied.new.made ≡ applied.old.made) }
+        ensures told { OnOk result (Tells self.old.state.table.rows self.new.state.table.rows applied.old.retired applied.new.retired) }
         ensures stands { OnOk result ((world : World) → StandsFor self.old.state world → StandsFor self.new.state (record world { rows = rows_ended self.old.state.kind name.now world.rows })) }
     {
         let ended = self.end(name, steps)?;
@@ -141,7 +146,8 @@ impl Manager {
         requires room { self.old.state.table.made + length items.now < 2 ^ 32 }
         ensures kept { OnOk result (IsKept self.new) }
         ensures kind { OnOk result (self.new.state.kind ≡ self.old.state.kind) }
-        ensures made { OnOk result (self.new.state.table.made + length applied.old.made ≡ self.old.state.table.made + length applied.new.made) }
+        ensures drawn { OnOk result (Draws self.old.state.table.made self.new.state.table.made applied.old.made applied.new.made) }
+        ensures told { OnOk result (Tells self.old.state.table.rows self.new.state.table.rows applied.old.retired applied.new.retired) }
         ensures stands { OnOk result ((world : World) → StandsFor self.old.state world → StandsFor self.new.state (add_items self.old.state.kind verdicts.now items.now world)) }
     {
         for (place, item) in items.iter().enumerate() {
@@ -164,7 +170,8 @@ impl Manager {
         requires room { self.old.state.table.made + 1 < 2 ^ 32 }
         ensures kept { OnOk result (IsKept self.new) }
         ensures kind { OnOk result (self.new.state.kind ≡ self.old.state.kind) }
-        ensures made { OnOk result (self.new.state.table.made + length applied.old.made ≡ self.old.state.table.made + length applied.new.made) }
+        ensures drawn { OnOk result (Draws self.old.state.table.made self.new.state.table.made applied.old.made applied.new.made) }
+        ensures told { OnOk result (Tells self.old.state.table.rows self.new.state.table.rows applied.old.retired applied.new.retired) }
         ensures few { OnOk result (self.new.state.table.made ≤ self.old.state.table.made + 1) }
         ensures stands { OnOk result ((world : World) → StandsFor self.old.state world → StandsFor self.new.state (add_item self.old.state.kind verdict item.now world)) }
     {
@@ -187,7 +194,8 @@ impl Manager {
         requires room { self.old.state.table.made + 1 < 2 ^ 32 }
         ensures kept { OnOk result (IsKept self.new) }
         ensures kind { OnOk result (self.new.state.kind ≡ self.old.state.kind) }
-        ensures made { OnOk result (self.new.state.table.made + length applied.old.made ≡ self.old.state.table.made + length applied.new.made) }
+        ensures drawn { OnOk result (Draws self.old.state.table.made self.new.state.table.made applied.old.made applied.new.made) }
+        ensures told { OnOk result (Tells self.old.state.table.rows self.new.state.table.rows applied.old.retired applied.new.retired) }
         ensures few { OnOk result (self.new.state.table.made ≤ self.old.state.table.made + 1) }
         ensures stands { OnOk result ((world : World) → StandsFor self.old.state world → StandsFor self.new.state (add_item self.old.state.kind New item.now world)) }
     {
@@ -212,8 +220,9 @@ impl Manager {
         requires room { self.old.state.table.made + 1 < 2 ^ 32 }
         ensures kept { OnOk result (IsKept self.new) }
         ensures kind { OnOk result (self.new.state.kind ≡ self.old.state.kind) }
-        ensures made { OnOk result (self.new.state.table.made ≡ self.old.state.table.made + 1) }
-        ensures told { OnOk result (length applied.new.made ≡ length applied.old.made + 1) }
+        ensures drawn { OnOk result (Draws self.old.state.table.made self.new.state.table.made applied.old.made applied.new.made) }
+        ensures few { OnOk result (self.new.state.table.made ≤ self.old.state.table.made + 1) }
+        ensures told { OnOk result (Tells self.old.state.table.rows self.new.state.table.rows applied.old.retired applied.new.retired) }
         ensures stands { OnOk result ((world : World) → StandsFor self.old.state world → StandsFor self.new.state (record world { rows = rows_with_new self.old.state.kind world.made item.now.name content.now world.rows; made = world.made + 1 })) }
     {
         let name = item.resource_name(alloc)?;

@@ -6,6 +6,7 @@ use Rattle.ev_warming.specs.Worlds.{StandsFor}
 use Rattle.ev_warming.proofs.IndexLemmas.{on_ok}
 use Rattle.ev_warming.proofs.ResponseLemmas.{listed-stands, unnamed-stands, ended-stands, is_unlisted-some, is_unlisted-none}
 use Rattle.ev_warming.proofs.manager.Manager.remove_name.Goals as goal
+use Rattle.ev_warming.proofs.RetiredLemmas.{tells-none}
 
 pub returns-then-times_named-ge1-clause-stands : goal.returns-then-times_named-ge1-clause-stands
 returns-then-times_named-ge1-clause-stands g c =
@@ -35,3 +36,9 @@ returns-in-Err-Length-clause-stands g c =
     let bad : IsName text → ⊥ = λ named. ⊎_elim (λ none. absurd (omega (arith, named.given, none))) (λ long. absurd (omega (arith, named.short, long))) (c.in-Err-Length.ensures.length.0 (λ i. Err (c.in-Err-Length.field-0-is i))) in
     λ world stands.
     unnamed-stands c.args.self.now.state world c.args.self.now.state.kind c.args.response.now name (λ named. bad (subst IsName (sym c.as_str-2.ensures.bytes) named)) stands
+
+pub returns-then-times_named-ge1-clause-told : goal.returns-then-times_named-ge1-clause-told
+returns-then-times_named-ge1-clause-told g c = tells-none c.args.self.now.state.table.rows c.args.applied.now.retired
+
+pub returns-in-Err-Length-clause-told : goal.returns-in-Err-Length-clause-told
+returns-in-Err-Length-clause-told g c = tells-none c.args.self.now.state.table.rows c.args.applied.now.retired

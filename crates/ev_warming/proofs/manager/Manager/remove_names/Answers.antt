@@ -4,6 +4,7 @@ use Rattle.ev_types.specs.declared.contents.Kind.{Kind}
 use Rattle.ev_model.specs.Rows.{with_statuses}
 use Rattle.ev_warming.specs.Changes.{status_left_by}
 use Rattle.ev_warming.specs.Worlds.{StandsFor}
+use Rattle.ev_warming.proofs.RetiredLemmas.{tells-none, tells-then}
 use Rattle.ev_warming.proofs.ResponseLemmas.{nothing-stands, more-stands}
 use Rattle.ev_warming.proofs.manager.Manager.remove_names.Goals as goal
 
@@ -13,6 +14,7 @@ loop-name-init g c = record {
   kind = refl;
   made = refl;
   others = refl;
+  told = tells-none c.args.self.now.state.table.rows c.args.applied.now.retired;
   stands = λ world stands. nothing-stands c.args.self.now.state world c.args.response.now stands;
 }
 
@@ -30,6 +32,7 @@ loop-name-preserved g c =
       kind = e.kind ∙ i.kind;
       made = e.made ∙ i.made;
       others = e.others ∙ i.others;
+      told = tells-then c.args.self.now.state.table.rows s.table.rows t.table.rows c.args.applied.now.retired c.loop-name.applied.retired c.remove_name.new.applied.retired i.told e.told;
       stands = λ world stands.
           more-stands s t world kind response c.as_slice-name-items.result.now c.loop-name.name-index name c.loop-name-test.true c.name-item.is (i.stands world stands)
           (λ w standing. subst (λ (k : Kind). StandsFor t (record w { rows = with_statuses (status_left_by k response (name ∷ [])) w.rows })) i.kind (e.stands w standing));

@@ -1,10 +1,21 @@
-use Rattle.std.proofs.Common.{◌∙◌, ◌<◌, length, get_or, subst, arith}
+use Rattle.std.proofs.Common.{◌∙◌, ◌<◌, length, get_or, subst, arith, refl}
 use Rattle.ev_types.specs.declared.contents.Kind.{Kind}
 use Rattle.ev_types.specs.declared.events.Verdict.TheVariants.{New}
 use Rattle.ev_model.specs.Rows.{add_item}
 use Rattle.ev_warming.specs.Worlds.{StandsFor}
+use Rattle.ev_warming.proofs.RetiredLemmas.{tells-none, tells-then, draws-none, draws-then}
 use Rattle.ev_warming.proofs.ResponseLemmas.{item-more}
 use Rattle.ev_warming.proofs.manager.Manager.take_items.Goals as goal
+
+pub loop-place-init : goal.loop-place-init
+loop-place-init g c = record {
+  kept = c.requires.kept;
+  kind = refl;
+  drawn = draws-none c.args.self.now.state.table.made c.args.applied.now.made;
+  told = tells-none c.args.self.now.state.table.rows c.args.applied.now.retired;
+  few = omega arith;
+  stands = λ world stands. (world, stands, refl);
+}
 
 pub loop-place-preserved : goal.loop-place-preserved
 loop-place-preserved g c =
@@ -18,7 +29,8 @@ loop-place-preserved g c =
     record {
       kept = e.kept;
       kind = e.kind ∙ i.kind;
-      made = omega (arith, e.made, i.made);
+      drawn = draws-then c.args.self.now.state.table.made c.loop-place.self.state.table.made t.table.made c.args.applied.now.made c.loop-place.applied.made c.take_item.new.applied.made i.drawn e.drawn;
+      told = tells-then c.args.self.now.state.table.rows c.loop-place.self.state.table.rows t.table.rows c.args.applied.now.retired c.loop-place.applied.retired c.take_item.new.applied.retired i.told e.told;
       few = omega (arith, e.few, i.few);
       stands = λ world stands.
           let w = i.stands world stands in (
