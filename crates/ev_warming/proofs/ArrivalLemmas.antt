@@ -50,7 +50,7 @@ came_for-push (a ∷ arrivals) kind arrival name q = by (kind_same a.kind kind &
     by true h = ap (λ (xs : List Arrival). a.arrival ∷ xs) h
     by false h = h
 
-last_or-append : {A : Type 0} (o : Option A) (xs ys : List A) → last_or o (xs ++ ys) ≡ last_or (last_or o xs) ys
+pub last_or-append : {A : Type 0} (o : Option A) (xs ys : List A) → last_or o (xs ++ ys) ≡ last_or (last_or o xs) ys
 last_or-append o [] ys = refl
 last_or-append o (x ∷ xs) ys = last_or-append (Some x) xs ys
 

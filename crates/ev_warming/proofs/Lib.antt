@@ -17,3 +17,7 @@ pub mod TidyLemmas
 pub mod ResponseLemmas
 pub mod RemovalLemmas
 pub mod RetiredLemmas
+pub mod HealthLemmas
+pub mod SortLemmas
+pub mod ReadLemmas
+pub mod ShownLemmas

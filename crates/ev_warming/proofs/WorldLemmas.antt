@@ -95,7 +95,7 @@ module _ (s : State) (world : World) (stands : StandsFor s world) where
   answered (a_listener listener) k = serve_answer (ap needs_of (sym k)) (is_limited (a_listener listener)) listener.serve
   answered (routes table) k = refl
 
-  hosts : (content : Content) → content_kind content ≡ s.kind → assignment_in s.watches content ≡ assignment_by world.arrivals content
+  pub hosts : (content : Content) → content_kind content ≡ s.kind → assignment_in s.watches content ≡ assignment_by world.arrivals content
   hosts = hosts-by s.kind s.watches world.arrivals stands.value
 
   -- the same rows are ready

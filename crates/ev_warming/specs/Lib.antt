@@ -9,3 +9,5 @@ pub mod Worlds
 pub mod Forgetting
 pub mod Changes
 pub mod Managers
+pub mod Health
+pub mod Reads

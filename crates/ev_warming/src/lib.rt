@@ -2,14 +2,21 @@
 //! the kind of what they wait for are values, so that clusters and listeners share it.
 #![tactic(auto)]
 
+mod copies;
 mod due;
 mod forgetting;
+mod health;
+mod hosts;
 mod manager;
 mod names;
+mod reads;
 mod ready;
 mod removal;
 mod response;
+mod routings;
+mod shown;
 mod state;
+mod watched;
 mod watches;
 
 pub use due::Due;
