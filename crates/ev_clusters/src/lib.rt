@@ -16,6 +16,9 @@ ghost use Rattle.ev_warming.specs.Indexes.{depends_on, serves, warms, numbers_wh
 ghost use Rattle.ev_warming.specs.Worlds.{StandsFor};
 ghost use Rattle.ev_warming.specs.Changes.{began_to_drain, has_retired, is_over};
 
+mod health;
+mod reads;
+
 use ev_generations::Steps;
 use ev_types::{Arrival, Gen, GenRow, Kind, Name, Response, Verdict};
 use ev_warming::{Applied, Manager, Promoted, Standing};

@@ -1,4 +1,4 @@
-use Rattle.std.proofs.Common.{◌≡◌, ◌∙◌, ◌++◌, option_to_list, append_assoc, sym, subst}
+use Rattle.std.proofs.Common.{◌∙◌, ◌++◌, option_to_list, append_assoc, sym, subst}
 use Rattle.ev_warming.specs.Changes.{Tells}
 use Rattle.ev_warming.proofs.IndexLemmas.{on_ok}
 use Rattle.ev_warming.proofs.RetiredLemmas.{tells-ended}

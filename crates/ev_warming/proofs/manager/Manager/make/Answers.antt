@@ -1,7 +1,7 @@
-use Rattle.std.proofs.Common.{◌≡◌, ◌∙◌, ◌++◌, option_to_list, sym, subst}
-use Rattle.ev_warming.specs.Changes.{Draws, Tells}
+use Rattle.std.proofs.Common.{sym, subst}
+use Rattle.ev_warming.specs.Changes.{Tells}
 use Rattle.ev_warming.proofs.IndexLemmas.{on_ok}
-use Rattle.ev_warming.proofs.RetiredLemmas.{tells-added, draws-one}
+use Rattle.ev_warming.proofs.RetiredLemmas.{tells-added}
 use Rattle.ev_warming.proofs.manager.Manager.make.Goals as goal
 
 pub returns-clause-told : goal.returns-clause-told

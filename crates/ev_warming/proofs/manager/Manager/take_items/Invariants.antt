@@ -1,4 +1,4 @@
-use Rattle.std.proofs.Common.{◌≡◌, ◌+◌, ◌≤◌, length, drop}
+use Rattle.std.proofs.Common.{◌≡◌, ◌+◌, ◌≤◌, drop}
 use Rattle.ev_model.specs.World.{World}
 use Rattle.ev_model.specs.Rows.{add_items}
 use Rattle.ev_warming.specs.Changes.{Draws, Tells}
