@@ -16,6 +16,7 @@ ghost use Rattle.ev_warming.specs.Indexes.{depends_on, serves, warms, numbers_wh
 ghost use Rattle.ev_warming.specs.Worlds.{StandsFor};
 ghost use Rattle.ev_warming.specs.Changes.{began_to_drain, has_retired, is_over};
 
+mod arrivals;
 mod health;
 mod reads;
 

@@ -17,7 +17,9 @@ pub mod TidyLemmas
 pub mod ResponseLemmas
 pub mod RemovalLemmas
 pub mod RetiredLemmas
+pub mod NeedLemmas
 pub mod HealthLemmas
 pub mod SortLemmas
 pub mod ReadLemmas
 pub mod ShownLemmas
+pub mod AbsenceLemmas

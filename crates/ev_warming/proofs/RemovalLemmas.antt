@@ -15,7 +15,7 @@ use Rattle.ev_model.specs.World.{World}
 use Rattle.ev_model.specs.Watching.{is_limited}
 use Rattle.ev_generations.specs.Tables.{GenerationsParts, IsTable, is_number, row_in, numbers_of, without_row}
 use Rattle.ev_warming.specs.declared.manager.Manager.{Manager}
-use Rattle.ev_warming.specs.Ready.{name_needed, is_ready_in, is_due_found, is_due_at}
+use Rattle.ev_warming.specs.Ready.{name_needed, is_ready_in, is_due_found, is_due_at, IsNeedName}
 use Rattle.ev_warming.specs.Indexes.{depends_on, waits_limited, serves, warms, is_needed, numbers_where}
 use Rattle.ev_warming.specs.Worlds.{rows_of_kind, StandsFor}
 use Rattle.ev_warming.specs.Changes.{is_over}
@@ -180,6 +180,8 @@ module _ (m : Manager) (number : ℕ) (kept : IsKept m) (forgotten : m.stale ≡
       due = λ n. kept.indexed.due n ∙ due n;
       drawn = λ n h above. kept.indexed.drawn n h (subst (λ k. k < n) made above);
     };
+    needs = subst (AllByRecursion (λ (r : GenRow). IsNeedName (name_needed r.content))) (sym rows)
+        (all-filter (λ (r : GenRow). IsNeedName (name_needed r.content)) (λ (r : GenRow). not (is_number number r)) m.state.table.rows kept.needs);
     tidy = record {
       marks = λ q none unneeded. kept.tidy.marks q (any-same q none) (λ i. is_need_of m.state.table.rows (forgotten i) q);
       results = λ n row h at absent lost. kept.tidy.results n row h (found-before (nat_eq number n) (row_in n m.state.table.rows) row (sym (found n) ∙ at)) absent lost;
@@ -232,6 +234,7 @@ module _ (m : Manager) (kept : IsKept m) (table : GenerationsParts) (rows : tabl
       due = λ n. kept.indexed.due n ∙ (λ i. is_due_at m.state.watches m.state.results n (sym rows i));
       drawn = λ n h above. kept.indexed.drawn n h (omega arith);
     };
+    needs = subst (AllByRecursion (λ (r : GenRow). IsNeedName (name_needed r.content))) (sym rows) kept.needs;
     tidy = subst (λ (rs : List GenRow). IsTidyBut (record m.state { table = record { rows = rs; made = table.made } }) m.stale) (sym rows)
         (record { marks = kept.tidy.marks; results = kept.tidy.results });
   }

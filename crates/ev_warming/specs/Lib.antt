@@ -9,5 +9,6 @@ pub mod Worlds
 pub mod Forgetting
 pub mod Changes
 pub mod Managers
+pub mod Arrivals
 pub mod Health
 pub mod Reads

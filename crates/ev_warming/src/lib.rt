@@ -2,6 +2,7 @@
 //! the kind of what they wait for are values, so that clusters and listeners share it.
 #![tactic(auto)]
 
+mod arrivals;
 mod copies;
 mod due;
 mod forgetting;

@@ -233,7 +233,7 @@ impl Manager {
 }
 
 // How many resources have this name.
-fn times_named(name: &str, items: &[Item]) -> usize
+pub(crate) fn times_named(name: &str, items: &[Item]) -> usize
     ensures { result ≡ length (items_named name.now items.now) }
 {
     items

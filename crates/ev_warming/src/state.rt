@@ -9,7 +9,7 @@ ghost use Rattle.ev_generations.specs.Tables.{row_in, with_status};
 ghost use Rattle.ev_warming.specs.Kept.{Sets};
 ghost use Rattle.ev_warming.specs.Watched.{unwatched, watch_in, watched_less, watched_too, with_arrival};
 ghost use Rattle.ev_warming.specs.Standings.{standing_in};
-ghost use Rattle.ev_warming.specs.Ready.{name_needed, is_ready_in, is_due_at};
+ghost use Rattle.ev_warming.specs.Ready.{name_needed, IsNeedName, is_ready_in, is_due_at};
 ghost use Rattle.ev_warming.specs.Due.{is_among};
 ghost use Rattle.ev_model.specs.World.{World, opening};
 ghost use Rattle.ev_model.specs.Tidy.{promoted};
@@ -244,6 +244,7 @@ impl State {
         ensures marks { OnOk result (SameMarks self.old.watches self.new.watches) }
         ensures others { OnOk result (self.new ≡ record self.old { table = self.new.table; names = self.new.names; watches = self.new.watches; due = self.new.due }) }
         ensures steps { OnOk result (steps.new ≤ steps.old + 2) }
+        ensures needs { OnOk result (IsNeedName (name_needed content)) }
         // Whatever world the state stood for, it stands for that world with the new generation.
         ensures stands { OnOk result ((world : World) → StandsFor self.old world → StandsFor self.new (record world { rows = rows_with_new self.old.kind world.made name content world.rows; made = world.made + 1 })) }
     {
@@ -318,6 +319,7 @@ impl State {
         ensures marks { OnOk result (SameMarks self.old.watches self.new.watches) }
         ensures others { OnOk result (self.new ≡ record self.old { table = self.new.table; names = self.new.names; watches = self.new.watches; due = self.new.due }) }
         ensures steps { OnOk result (steps.new ≡ steps.old + 1) }
+        ensures needs { OnOk result (IsNeedName (name_needed content)) }
     {
         let active = self.names.standing(&name).active;
         let number = self
@@ -384,7 +386,8 @@ fn watch(
     content: &Content,
     number: Gen,
 ) -> Result<(), AllocError>
-    ensures { OnOk result ((q : List ℕ) → watch_in watches.new q ≡ (if is_needed q (name_needed content.now) then watched_too number (is_limited content.now) (watch_in watches.old q) else watch_in watches.old q)) }
+    ensures watched { OnOk result ((q : List ℕ) → watch_in watches.new q ≡ (if is_needed q (name_needed content.now) then watched_too number (is_limited content.now) (watch_in watches.old q) else watch_in watches.old q)) }
+    ensures named { IsNeedName (name_needed content.now) }
 {
     match needed(content) {
         Some(name) => watches.watch(alloc, name, number, limited(content)),

@@ -1,5 +1,7 @@
-use Rattle.std.proofs.Common.{◌≡◌, ◌∙◌, ◌++◌, true, sym, subst}
-use Rattle.std.specs.List.{list_any}
+use Rattle.std.proofs.Common.{◌≡◌, ◌∙◌, ◌++◌, true, List, sym, subst}
+use Rattle.std.specs.List.{list_any, AllByRecursion}
+use Rattle.ev_types.specs.declared.rows.GenRow.{GenRow}
+use Rattle.ev_warming.specs.Ready.{name_needed, IsNeedName}
 use Rattle.ev_model.specs.Watching.{is_by_name}
 use Rattle.ev_warming.specs.declared.state.State.{State}
 use Rattle.ev_warming.specs.Watched.{watch_in}
@@ -22,6 +24,7 @@ returns-clause-kept g c =
     on_ok4 c.arrive.result c.arrive.ensures.indexed c.arrive.ensures.told c.arrive.ensures.others c.arrive.ensures.steps (λ after told others steps. record {
       rows = (λ i. is_by_name (others i).kind) ∙ (λ i. is_by_name (e i).state.kind) ∙ c.requires.kept.rows;
       indexed = after;
+      needs = subst (λ (rows : List GenRow). AllByRecursion (λ (r : GenRow). IsNeedName (name_needed r.content)) rows) (sym ((λ i. (others i).table.rows) ∙ (λ i. (e i).state.table.rows))) c.requires.kept.needs;
       tidy = subst (IsTidyBut t) ((λ i. m.stale ++ (watch_in (e i).state.watches name).rows) ∙ sym (λ i. (e i).stale))
           (tidy-arrived s t name c.args.arrival.now m.stale indexed watched (λ i. (others i).table) told (λ i. (others i).results) tidy);
     })

@@ -23,6 +23,6 @@ returns-clause-indexed g c =
     c.enter.new.self
     (λ q. c.in_ok-enter.ensures q ∙ (λ i. cond (bytes_eq name q) (record { active = (c.standing-active.ensures i).active; warming = Some (number i) }) (standing_in s.names q)))
     c.watch.new.watches
-    (λ q. c.in_ok-watch.ensures q ∙ (λ i. cond (is_needed q (name_needed content)) (watched_too (number i) (is_limited content) (watch_in s.watches q)) (watch_in s.watches q)))
+    (λ q. c.in_ok-watch.ensures.watched q ∙ (λ i. cond (is_needed q (name_needed content)) (watched_too (number i) (is_limited content) (watch_in s.watches q)) (watch_in s.watches q)))
     c.refresh.new.due
     (λ n. c.in_ok-refresh.ensures.due n ∙ (λ i. cond (is_among (number i ∷ []) n) (is_due_at c.watch.new.watches s.results n c.add.new.self.rows) (is_among s.due n)))
