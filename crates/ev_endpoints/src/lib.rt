@@ -1,14 +1,14 @@
 //! Health results by generation and host, found without a walk.
 #![tactic(auto)]
 
-ghost use Rattle.std.specs.Prelude.{◌≡◌, [], ◌&&◌, ◌||◌, not, false, if◌then◌else◌, None, Some, IfOk, unwrap_or, is_some, OnOk, OnErr};
+ghost use Rattle.std.specs.Prelude.{◌≡◌, [], ◌∷◌, ◌++◌, nat_eq, ◌&&◌, ◌||◌, not, false, if◌then◌else◌, None, Some, IfOk, unwrap_or, is_some, OnOk, OnErr};
 ghost use Rattle.std.specs.List.{list_all};
 ghost use Rattle.ev_types.specs.Hosts.{HostRowParts};
 ghost use Rattle.ev_types.specs.SameHosts.{host_same};
 ghost use Rattle.ev_types.specs.declared.hosts.Host as declared;
 ghost use Rattle.indexmap.specs.IndexMap.{get};
 ghost use Rattle.ev_model.specs.Tidy.{has_host};
-ghost use Rattle.ev_endpoints.specs.Results.{result_in, Notes, Forgets, Trims};
+ghost use Rattle.ev_endpoints.specs.Results.{result_in, results_of, Notes, Forgets, Trims};
 
 use ev_types::{Assignment, Gen, Host, HostRow, TryCopy};
 use indexmap::IndexMap;
@@ -117,6 +117,56 @@ impl Endpoints {
         };
         Ok(())
     }
+}
+
+impl TryCopy for Endpoints {
+    fn copy(&self, alloc: Global) -> Result<Endpoints, AllocError> {
+        let mut copied = IndexMap::new(alloc);
+        for (number, hosts) in &self.results {
+            put_hosts(&mut copied, *number, copy_hosts(alloc, hosts)?)?;
+        }
+        Ok(Endpoints { results: copied })
+    }
+}
+
+// Puts the results of a number that has none behind the others.
+fn put_hosts(
+    results: &mut IndexMap<u32, IndexMap<Host, bool>>,
+    number: u32,
+    hosts: IndexMap<Host, bool>,
+) -> Result<(), AllocError>
+    requires { get nat_eq results.old number ≡ None }
+    ensures { OnOk result (results_of results.new.entries ≡ results_of results.old.entries ++ (number, hosts.entries) ∷ []) }
+{
+    let Ok(_) = results.insert(number, hosts) else {
+        return Err(AllocError);
+    };
+    Ok(())
+}
+
+// The same results in the same order, in memory of their own.
+fn copy_hosts(
+    alloc: Global,
+    hosts: &IndexMap<Host, bool>,
+) -> Result<IndexMap<Host, bool>, AllocError>
+    ensures { IfOk result (λ copied. copied.entries ≡ hosts.now.entries) }
+{
+    let mut copied = IndexMap::new(alloc);
+    for (host, healthy) in hosts {
+        put_new(&mut copied, host.copy(alloc)?, *healthy)?;
+    }
+    Ok(copied)
+}
+
+// Puts the result of a host that has none behind the others.
+fn put_new(hosts: &mut IndexMap<Host, bool>, host: Host, healthy: bool) -> Result<(), AllocError>
+    requires { get host_same hosts.old host ≡ None }
+    ensures { OnOk result (hosts.new.entries ≡ hosts.old.entries ++ (host, healthy) ∷ []) }
+{
+    let Ok(_) = hosts.insert(host, healthy) else {
+        return Err(AllocError);
+    };
+    Ok(())
 }
 
 // The results of the hosts that stand among these rows.

@@ -1,13 +1,13 @@
 -- A new generation warms, and one that warmed under its name is dropped: the indexes stay searches of the rows.
-use Rattle.std.proofs.Common.{◌≡◌, ◌∙◌, ℕ, Bool, true, false, cond, not, ◌&&◌, ◌||◌, nat_eq, ◌+◌, ◌<◌, List, [], ◌∷◌, ◌++◌, Option, None, Some, option_to_list, filter, refl, sym, ap, subst, true≢false, arith, append-nil}
-use Rattle.std.specs.List.{list_any, AllByRecursion}
+use Rattle.std.proofs.Common.{◌≡◌, ◌∙◌, ℕ, Bool, true, false, cond, ◌&&◌, ◌||◌, nat_eq, ◌+◌, List, [], ◌∷◌, ◌++◌, Option, None, Some, option_to_list, filter, refl, sym, ap, subst, true≢false, arith, append-nil}
+use Rattle.std.specs.List.{AllByRecursion}
 use Rattle.std.specs.Option.{option_or}
 use Rattle.std.specs.Str.{bytes_eq}
 use Rattle.std.proofs.lemmas.Bool.{eq-eqb, and_parts}
 use Rattle.std.proofs.lemmas.List.Folds.{find-append}
 use Rattle.ev_types.specs.Kinds.{kind_same, kind_decides}
 use Rattle.ev_types.specs.Same.{bytes_decide}
-use Rattle.ev_types.specs.Statuses.{is_warming, is_active, is_live}
+use Rattle.ev_types.specs.Statuses.{is_warming, is_live}
 use Rattle.ev_types.specs.declared.contents.Content.{Content}
 use Rattle.ev_types.specs.declared.contents.Kind.{Kind}
 use Rattle.ev_types.specs.declared.rows.RowStatus.{RowStatus}
@@ -16,7 +16,6 @@ use Rattle.ev_types.specs.declared.rows.GenRow.{GenRow}
 use Rattle.ev_model.specs.Rows.{removed_status, replaced_status, is_row_of, with_statuses, new_row}
 use Rattle.ev_model.specs.Watching.{is_limited}
 use Rattle.ev_generations.specs.Tables.{GenerationsParts, IsTable, is_number, row_in, status_with, with_status, numbers_of}
-use Rattle.ev_warming.specs.declared.names.Standing.{Standing}
 use Rattle.ev_warming.specs.declared.watches.Watch.{Watch}
 use Rattle.ev_warming.specs.declared.state.State.{State}
 use Rattle.ev_warming.specs.Due.{is_among}
@@ -113,7 +112,7 @@ kinds-push kind row (r ∷ rows) k all = (all.0, kinds-push kind row rows k all.
 
 -- a new generation warms under a name
 module _ (s : State) (x : IsIndexed s) (name : List ℕ) (content : Content) (alone : (standing_in s.names name).warming ≡ None)
-    (table : GenerationsParts) (rows : table.rows ≡ s.table.rows ++ new_row s.kind s.table.made name content ∷ []) (tabled : IsTable table)
+    (table : GenerationsParts) (rows : table.rows ≡ s.table.rows ++ new_row s.kind s.table.made name content ∷ []) (made : table.made ≡ s.table.made + 1) (tabled : IsTable table)
     (names : NamesKept) (stands : Sets nobody s.names names name (record { active = (standing_in s.names name).active; warming = Some (s.table.made + 1) }))
     (watches : WatchesKept)
     (more : (q : List ℕ) → watch_in watches q ≡ cond (is_needed q (name_needed content)) (watched_too (s.table.made + 1) (is_limited content) (watch_in s.watches q)) (watch_in s.watches q))
@@ -181,4 +180,5 @@ module _ (s : State) (x : IsIndexed s) (name : List ℕ) (content : Content) (al
     watchers = λ q. (λ i. (more q i).rows) ∙ watchers_too q (is_needed q (name_needed content)) ∙ sym (pushed (depends_on q));
     limited = λ q. (λ i. (more q i).limited) ∙ limited_too q (is_needed q (name_needed content)) (is_limited content) ∙ sym (pushed (waits_limited q));
     due = λ n. looked n ∙ due_too n (nat_eq n (s.table.made + 1)) refl;
+    drawn = λ n h above. x.drawn n h (omega (arith, made, above));
   }

@@ -1,15 +1,13 @@
 -- A state that stands for a world stands for it once something came for a name, and once a name has come to its end.
-use Rattle.std.proofs.Common.{◌≡◌, ◌∙◌, ℕ, Bool, true, false, cond, not, ◌&&◌, ◌||◌, List, [], ◌∷◌, ◌++◌, Option, None, Some, IsSome, is_some, unwrap_or, map, filter, refl, sym, ap, subst, true≢false, append-nil}
+use Rattle.std.proofs.Common.{◌≡◌, ◌∙◌, ℕ, Bool, true, false, cond, ◌&&◌, ◌||◌, List, [], ◌∷◌, ◌++◌, Option, None, Some, IsSome, is_some, unwrap_or, map, filter, refl, sym, ap, subst, true≢false}
 use Rattle.std.specs.List.{list_any, filter_map, last_or, AllByRecursion}
 use Rattle.std.specs.Str.{bytes_eq}
 use Rattle.std.proofs.lemmas.List.Folds.{list_any-append}
 use Rattle.std.proofs.lemmas.List.Elements.{filter_map-append}
-use Rattle.ev_types.specs.Items.{content_kind}
 use Rattle.ev_types.specs.Kinds.{kind_same, kind_decides}
 use Rattle.ev_types.specs.Same.{bytes_decide}
 use Rattle.ev_types.specs.Statuses.{is_warming, is_active}
 use Rattle.ev_types.specs.declared.contents.Kind.{Kind}
-use Rattle.ev_types.specs.declared.contents.Content.{Content}
 use Rattle.ev_types.specs.declared.rows.Arrival.{Arrival}
 use Rattle.ev_types.specs.declared.rows.Arrival.TheVariants.{Value, Absent, Bad, TimedOut}
 use Rattle.ev_types.specs.declared.rows.RowStatus.{RowStatus}
@@ -17,7 +15,7 @@ use Rattle.ev_types.specs.declared.rows.RowStatus.TheVariants.{Warming, Active, 
 use Rattle.ev_types.specs.declared.rows.GenRow.{GenRow}
 use Rattle.ev_model.specs.World.{World, Arrived}
 use Rattle.ev_model.specs.Warming.{came_for, content_in, is_word, is_timeout, is_told_by, is_timed_by, value_by}
-use Rattle.ev_model.specs.Rows.{arrived, is_row_of, with_statuses, replaced_status, removed_status}
+use Rattle.ev_model.specs.Rows.{arrived, with_statuses, replaced_status, removed_status}
 use Rattle.ev_model.specs.Signals.{ended_status}
 use Rattle.ev_endpoints.specs.Results.{result_in}
 use Rattle.ev_generations.specs.Tables.{row_in}
@@ -25,11 +23,12 @@ use Rattle.ev_warming.specs.declared.watches.Watch.{Watch}
 use Rattle.ev_warming.specs.declared.state.State.{State}
 use Rattle.ev_warming.specs.Kept.{Sets}
 use Rattle.ev_warming.specs.Watched.{WatchesKept, unwatched, watch_in, with_arrival}
-use Rattle.ev_warming.specs.Indexes.{SameMarks, serves}
+use Rattle.ev_warming.specs.Indexes.{SameMarks}
 use Rattle.ev_warming.specs.Promotion.{status_drained}
 use Rattle.ev_warming.specs.Worlds.{needs_of, rows_of_kind, StandsFor}
 use Rattle.ev_warming.proofs.PromotionLemmas.{all_then, statuses_agree, with_statuses-twice}
-use Rattle.ev_warming.proofs.WorldLemmas.{rows_of_kind-with_statuses, contents-with_statuses, there_before}
+use Rattle.ev_warming.proofs.SoundLemmas.{sound-with_statuses}
+use Rattle.ev_warming.proofs.WorldLemmas.{rows_of_kind-with_statuses, there_before}
 
 -- what came for a name, after one thing more
 came_for-push : (arrivals : List Arrived) (kind : Kind) (arrival : Arrival) (name q : List ℕ)
@@ -51,7 +50,7 @@ came_for-push (a ∷ arrivals) kind arrival name q = by (kind_same a.kind kind &
     by true h = ap (λ (xs : List Arrival). a.arrival ∷ xs) h
     by false h = h
 
-last_or-append : {A : Type 0} (o : Option A) (xs ys : List A) → last_or o (xs ++ ys) ≡ last_or (last_or o xs) ys
+pub last_or-append : {A : Type 0} (o : Option A) (xs ys : List A) → last_or o (xs ++ ys) ≡ last_or (last_or o xs) ys
 last_or-append o [] ys = refl
 last_or-append o (x ∷ xs) ys = last_or-append (Some x) xs ys
 
@@ -128,8 +127,8 @@ module _ (s : State) (world : World) (stands : StandsFor s world) (name : List �
 
   pub arrived-stands : (due : List ℕ) → StandsFor (record s { watches = watches; due = due }) (record world { arrivals = world.arrivals ++ arrived (needs_of s.kind) arrival name ∷ [] })
   arrived-stands due = record {
+    sound = record { table = stands.sound.table; typed = stands.sound.typed; named = stands.sound.named; heard = stands.sound.heard };
     rows = stands.rows;
-    contents = stands.contents;
     made = stands.made;
     told = told_after;
     timed = timed_after;
@@ -142,9 +141,8 @@ module _ (s : State) (world : World) (stands : StandsFor s world) (name : List �
 pub statused-stands : (s t : State) (world : World) (f : GenRow → RowStatus) → StandsFor s world → t.kind ≡ s.kind → t.results ≡ s.results → t.table.made ≡ s.table.made → SameMarks s.watches t.watches
     → t.table.rows ≡ with_statuses f s.table.rows → StandsFor t (record world { rows = with_statuses f world.rows })
 statused-stands s t world f stands kind results made marks rows = record {
+  sound = sound-with_statuses world f stands.sound;
   rows = rows ∙ ap (with_statuses f) stands.rows ∙ sym (rows_of_kind-with_statuses s.kind f world.rows) ∙ (λ i. rows_of_kind (sym kind i) (with_statuses f world.rows));
-  contents = subst (λ (k : Kind). AllByRecursion (λ (r : GenRow). content_kind r.content ≡ k) t.table.rows) (sym kind)
-      (subst (AllByRecursion (λ (r : GenRow). content_kind r.content ≡ s.kind)) (sym rows) (contents-with_statuses s.kind f s.table.rows stands.contents));
   made = made ∙ stands.made;
   told = λ name. (marks name).0 ∙ stands.told name ∙ (λ i. is_told_by world.arrivals (needs_of (sym kind i)) name);
   timed = λ name. (marks name).1 ∙ stands.timed name ∙ (λ i. is_timed_by world.arrivals (needs_of (sym kind i)) name);

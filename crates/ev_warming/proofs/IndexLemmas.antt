@@ -1,6 +1,6 @@
 -- What each step does to the indexes: they stay searches of the rows.
-use Rattle.std.proofs.Common.{◌≡◌, ◌∙◌, ℕ, Bool, true, false, cond, not, ◌&&◌, ◌||◌, nat_eq, List, [], ◌∷◌, Option, None, Some, IsSome, option_to_list, refl, sym, ap, subst, true≢false, Result, Ok, Err, OnOk}
-use Rattle.std.specs.List.{list_any, IsDistinct, AllByRecursion}
+use Rattle.std.proofs.Common.{◌≡◌, ◌∙◌, ◌<◌, ℕ, Bool, true, false, cond, not, ◌&&◌, nat_eq, List, Option, None, Some, IsSome, option_to_list, refl, sym, ap, subst, true≢false, Result, Ok, Err, OnOk}
+use Rattle.std.specs.List.{list_any, AllByRecursion}
 use Rattle.std.specs.Map.{lookup}
 use Rattle.std.specs.Str.{bytes_eq}
 use Rattle.std.proofs.lemmas.Bool.{false_from_ne_true, and_right, and_parts}
@@ -14,16 +14,16 @@ use Rattle.ev_types.specs.declared.rows.GenRow.{GenRow}
 use Rattle.ev_model.specs.Watching.{is_limited}
 use Rattle.ev_model.specs.Rows.{removed_status}
 use Rattle.ev_endpoints.specs.Results.{ResultsKept}
-use Rattle.ev_generations.specs.Tables.{GenerationsParts, IsTable, row_in, status_with, with_status, numbers_of}
+use Rattle.ev_generations.specs.Tables.{GenerationsParts, IsTable, row_in, status_with, with_status}
 use Rattle.ev_generations.proofs.TableLemmas.{table-with_status}
 use Rattle.ev_warming.specs.declared.names.Standing.{Standing}
 use Rattle.ev_warming.specs.declared.watches.Watch.{Watch}
 use Rattle.ev_warming.specs.declared.state.State.{State}
 use Rattle.ev_warming.specs.Due.{is_among}
-use Rattle.ev_warming.specs.Kept.{kept_at, Sets}
+use Rattle.ev_warming.specs.Kept.{Sets}
 use Rattle.ev_warming.specs.Standings.{NamesKept, nobody, standing_in}
 use Rattle.ev_warming.specs.Watched.{WatchesKept, unwatched, watch_in, watched_less, with_arrival, without_number}
-use Rattle.ev_warming.specs.Ready.{name_needed, is_ready_in, is_due_in, is_due_found, is_due_at}
+use Rattle.ev_warming.specs.Ready.{name_needed, is_ready_in, is_due_found, is_due_at}
 use Rattle.ev_warming.specs.Indexes.{IsIndexed, is_needed, depends_on, waits_limited, serves, warms, numbers_where}
 use Rattle.ev_warming.proofs.KeptLemmas.{kept_at-found}
 use Rattle.ev_warming.proofs.WhereLemmas.{kinds-with_statuses, row_with, among-where, where-left, where-absent, where-kept, where-one, where-some, without-one}
@@ -121,6 +121,7 @@ module _ (s : State) (name : List ℕ) (arrival : Arrival) (watches : WatchesKep
     watchers = λ q. part (λ (w : Watch). w.rows) (rows-with_arrival arrival) q ∙ x.watchers q;
     limited = λ q. part (λ (w : Watch). w.limited) (limited-with_arrival arrival) q ∙ x.limited q;
     due = λ n. looked n ∙ by n (is_among (watch_in watches name).rows n) refl;
+    drawn = x.drawn;
   }
     where
       by : (n : ℕ) (b : Bool) → is_among (watch_in watches name).rows n ≡ b
@@ -236,6 +237,7 @@ module _ (s : State) (number : ℕ) (row : GenRow) (status : RowStatus) (x : IsI
           ∙ sym (is_due_at-with_status s.watches s.results number status (cold status ended).0 n s.table.rows)
           ∙ sym (is_due_at-agrees s.watches watches s.results agrees n (with_status number status s.table.rows))
           ∙ (λ i. is_due_at watches s.results n (sym rows i));
+      drawn = λ n h above. x.drawn n h (subst (λ m. m < n) made above);
     }
 
 -- a row that warms serves
@@ -271,6 +273,7 @@ module _ (s : State) (number : ℕ) (row : GenRow) (x : IsIndexed s) (found : ro
         dues n ∙ ap (λ b. not (nat_eq number n) && b) (x.due n)
         ∙ sym (is_due_at-with_status s.watches s.results number Active refl n s.table.rows)
         ∙ (λ i. is_due_at s.watches s.results n (sym rows i));
+    drawn = λ n h above. x.drawn n h (subst (λ m. m < n) made above);
   }
 
 -- the status of a live row that is removed

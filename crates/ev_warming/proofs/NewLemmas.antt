@@ -1,24 +1,23 @@
 -- A state in which nothing is known: its indexes are searches of no rows, and it stands for a world in which nothing happened.
-use Rattle.std.proofs.Common.{◌≡◌, ◌∙◌, ℕ, Bool, true, false, List, [], Option, None, Some, IsSome, is_some, unwrap_or, option_to_list, refl, sym, ap, subst}
+use Rattle.std.proofs.Common.{◌≡◌, ◌∙◌, ℕ, true, false, List, [], IsSome, option_to_list, refl, sym, subst}
 use Rattle.std.specs.List.{IsDistinct, AllByRecursion}
-use Rattle.ev_types.specs.Items.{content_kind}
 use Rattle.ev_types.specs.declared.rows.GenRow.{GenRow}
-use Rattle.ev_model.specs.World.{World, opening}
+use Rattle.ev_model.specs.World.{opening}
 use Rattle.ev_endpoints.specs.Results.{result_in}
-use Rattle.ev_generations.specs.Tables.{GenerationsParts, IsTable, row_in}
+use Rattle.ev_generations.specs.Tables.{IsTable, row_in}
 use Rattle.ev_warming.specs.declared.state.State.{State}
 use Rattle.ev_warming.specs.Due.{is_among}
 use Rattle.ev_warming.specs.Standings.{standing_in}
 use Rattle.ev_warming.specs.Watched.{watch_in}
 use Rattle.ev_warming.specs.Ready.{is_due_at}
 use Rattle.ev_warming.specs.Indexes.{IsIndexed, serves, warms, depends_on, waits_limited, numbers_where}
-use Rattle.ev_warming.specs.Worlds.{rows_of_kind, StandsFor}
+use Rattle.ev_warming.specs.Worlds.{StandsFor}
 
 empty_table : (made : ℕ) → IsTable (record { rows = []; made = made })
 unfolding IsDistinct
 empty_table made = record { apart = tt; drawn = λ number above. refl }
 
-module _ (s : State) (rows : s.table.rows ≡ []) (names : s.names ≡ []) (watches : s.watches ≡ []) (due : s.due ≡ []) where
+module _ (s : State) (rows : s.table.rows ≡ []) (names : s.names ≡ []) (watches : s.watches ≡ []) (results : s.results ≡ []) (due : s.due ≡ []) where
   pub indexed-new : IsIndexed s
   indexed-new = record {
     table =
@@ -30,12 +29,13 @@ module _ (s : State) (rows : s.table.rows ≡ []) (names : s.names ≡ []) (watc
     watchers = λ q. (λ i. (watch_in (watches i) q).rows) ∙ (λ i. numbers_where (depends_on q) (sym rows i));
     limited = λ q. (λ i. (watch_in (watches i) q).limited) ∙ (λ i. numbers_where (waits_limited q) (sym rows i));
     due = λ n. (λ i. is_among (due i) n) ∙ (λ i. is_due_at s.watches s.results n (sym rows i));
+    drawn = λ n h above. (λ i. result_in (results i) n h);
   }
 
   pub stands-new : s.table.made ≡ 0 → (workers : ℕ) (node : List ℕ) → StandsFor s (opening workers node)
   stands-new made workers node = record {
+    sound = record { table = empty_table 0; typed = tt; named = tt; heard = λ n h above. refl };
     rows = rows;
-    contents = subst (AllByRecursion (λ (row : GenRow). content_kind row.content ≡ s.kind)) (sym rows) tt;
     made = made;
     told = λ q. λ i. (watch_in (watches i) q).told;
     timed = λ q. λ i. (watch_in (watches i) q).timed;

@@ -1,5 +1,5 @@
 -- What readiness looks at: of the names that are watched only the one that a row depends on, and of a row not its status.
-use Rattle.std.proofs.Common.{◌≡◌, ◌∙◌, ℕ, Bool, true, false, cond, not, ◌&&◌, ◌||◌, nat_eq, List, Option, None, Some, option_map, refl, sym, ap}
+use Rattle.std.proofs.Common.{◌≡◌, ◌∙◌, ℕ, Bool, true, false, cond, not, ◌&&◌, ◌||◌, nat_eq, List, Option, None, Some, option_map, refl, ap}
 use Rattle.ev_types.specs.declared.contents.Content.{Content}
 use Rattle.ev_types.specs.declared.contents.Content.TheVariants.{Cluster as a_cluster, Assignment as an_assignment, Listener as a_listener, Routes as routes}
 use Rattle.ev_types.specs.declared.clusters.Discovery.{Discovery}
@@ -13,7 +13,7 @@ use Rattle.ev_endpoints.specs.Results.{ResultsKept}
 use Rattle.ev_generations.specs.Tables.{row_in, status_with, with_status}
 use Rattle.ev_generations.proofs.TableLemmas.{row_in-with_statuses, number-row_in}
 use Rattle.ev_warming.specs.Watched.{WatchesKept, watch_in}
-use Rattle.ev_warming.specs.Ready.{name_needed, has_answer_in, discovered_in, assignment_in, are_results_in, is_answered_in, is_ready_in, is_due_in, is_due_found, is_due_at}
+use Rattle.ev_warming.specs.Ready.{name_needed, has_answer_in, discovered_in, assignment_in, are_results_in, is_ready_in, is_due_in, is_due_found, is_due_at}
 
 -- what came for the name is the same
 pub record Agrees (old new : WatchesKept) (name : List ℕ) : Type 0 where
@@ -32,7 +32,7 @@ discovered_in-agrees : (old new : WatchesKept) (d : Discovery) → ((name : List
 discovered_in-agrees old new (Static rows) agrees = refl
 discovered_in-agrees old new (by_eds service limited) agrees = ap rows_in (agrees service refl).value
 
-assignment_in-agrees : (old new : WatchesKept) (content : Content) → ((name : List ℕ) → name_needed content ≡ Some name → Agrees old new name) → assignment_in new content ≡ assignment_in old content
+pub assignment_in-agrees : (old new : WatchesKept) (content : Content) → ((name : List ℕ) → name_needed content ≡ Some name → Agrees old new name) → assignment_in new content ≡ assignment_in old content
 assignment_in-agrees old new (a_cluster cluster) agrees = discovered_in-agrees old new cluster.discovery agrees
 assignment_in-agrees old new (an_assignment rows) agrees = refl
 assignment_in-agrees old new (a_listener listener) agrees = refl

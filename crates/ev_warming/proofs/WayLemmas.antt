@@ -1,6 +1,5 @@
 -- A generation that is due makes its predecessor drain and serves: by numbers as the code does it, and by names as promotion says it.
-use Rattle.std.proofs.Common.{◌≡◌, ◌∙◌, ℕ, Bool, true, false, cond, not, ◌&&◌, ◌||◌, nat_eq, List, [], ◌∷◌, ◌++◌, Option, None, Some, option_map, option_to_list, refl, sym, ap, subst, true≢false}
-use Rattle.std.specs.List.{list_any, AllByRecursion}
+use Rattle.std.proofs.Common.{◌≡◌, ◌∙◌, ℕ, Bool, true, false, cond, not, ◌&&◌, ◌||◌, nat_eq, List, [], ◌∷◌, ◌++◌, Option, None, Some, option_map, option_to_list, refl, sym, ap, true≢false}
 use Rattle.std.specs.Str.{bytes_eq}
 use Rattle.std.proofs.lemmas.Bool.{eqb-true, eq-eqb, false_from_ne_true, and_parts, and_from}
 use Rattle.ev_types.specs.Same.{bytes_decide}
@@ -15,12 +14,12 @@ use Rattle.ev_warming.specs.declared.state.State.{State}
 use Rattle.ev_warming.specs.Due.{is_among}
 use Rattle.ev_warming.specs.Standings.{standing_in}
 use Rattle.ev_warming.specs.Watched.{without_number}
-use Rattle.ev_warming.specs.Ready.{is_ready_in, is_due_in, is_due_found, is_due_at}
-use Rattle.ev_warming.specs.Indexes.{IsIndexed, serves, warms, SameMarks, numbers_where, status_in, name_in}
+use Rattle.ev_warming.specs.Ready.{is_ready_in, is_due_in, is_due_found}
+use Rattle.ev_warming.specs.Indexes.{IsIndexed, serves, warms, SameMarks, numbers_where, status_in}
 use Rattle.ev_warming.specs.Promotion.{rows_promoted, status_drained}
 use Rattle.ev_warming.specs.Watched.{WatchesKept}
 use Rattle.ev_endpoints.specs.Results.{ResultsKept}
-use Rattle.ev_warming.proofs.ReadyLemmas.{Agrees, is_ready_in-agrees}
+use Rattle.ev_warming.proofs.ReadyLemmas.{is_ready_in-agrees}
 use Rattle.std.proofs.lemmas.List.Folds.{list_any-append}
 use Rattle.ev_warming.proofs.WhereLemmas.{own-rows, row_with, among-where, where-left, where-members, found-where, any-found, all-found, flipped, only, emptied, or_false, without-one}
 use Rattle.ev_warming.proofs.PromotionLemmas.{all_then, both_all, statuses_agree, with_statuses-twice, statuses_same, status_once, rows_once, rows_promoted-once, rows_promoted-none}

@@ -1,5 +1,5 @@
 -- The numbers of the rows that pass a test, and what a changed status of one row does to them.
-use Rattle.std.proofs.Common.{◌≡◌, ◌∙◌, ℕ, Bool, true, false, cond, not, ◌&&◌, ◌||◌, nat_eq, List, [], ◌∷◌, ◌++◌, Option, None, Some, option_map, option_to_list, filter, refl, sym, ap, true≢false}
+use Rattle.std.proofs.Common.{◌≡◌, ◌∙◌, ℕ, Bool, true, false, cond, not, ◌||◌, nat_eq, List, [], ◌∷◌, Option, None, Some, option_to_list, filter, refl, sym, ap, true≢false}
 use Rattle.std.specs.List.{list_any, IsDistinct, AllByRecursion}
 use Rattle.std.proofs.lemmas.Bool.{eqb-true, eqb-false, eq-eqb, ne_eqb}
 use Rattle.std.proofs.lemmas.Map.Keys.{IsDistinct-head, IsDistinct-tail}
@@ -7,7 +7,7 @@ use Rattle.ev_types.specs.declared.contents.Kind.{Kind}
 use Rattle.ev_types.specs.declared.rows.RowStatus.{RowStatus}
 use Rattle.ev_model.specs.Rows.{with_statuses}
 use Rattle.ev_types.specs.declared.rows.GenRow.{GenRow}
-use Rattle.ev_generations.specs.Tables.{is_number, row_in, numbers_of, with_status}
+use Rattle.ev_generations.specs.Tables.{row_in, numbers_of, with_status}
 use Rattle.ev_generations.proofs.TableLemmas.{with_status-absent}
 use Rattle.ev_warming.specs.Due.{is_among}
 use Rattle.ev_warming.specs.Watched.{without_number}

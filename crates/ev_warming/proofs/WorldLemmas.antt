@@ -1,6 +1,6 @@
 -- A state that stands for a world finds the same rows ready, and promotes as the machine does.
-use Rattle.std.proofs.Common.{◌≡◌, ◌∙◌, ℕ, Bool, true, false, cond, not, ◌&&◌, ◌||◌, List, [], ◌∷◌, Option, None, Some, IsSome, is_some, option_map, unwrap_or, filter, refl, sym, ap, subst, true≢false}
-use Rattle.std.specs.List.{list_any, list_all, AllByRecursion}
+use Rattle.std.proofs.Common.{◌≡◌, ◌∙◌, ℕ, Bool, true, false, cond, not, ◌&&◌, ◌||◌, List, [], ◌∷◌, Option, None, Some, IsSome, is_some, option_map, unwrap_or, refl, sym, ap, subst, true≢false}
+use Rattle.std.specs.List.{list_any, AllByRecursion}
 use Rattle.std.specs.Str.{bytes_eq}
 use Rattle.std.proofs.lemmas.Bool.{and_parts}
 use Rattle.ev_types.specs.Hosts.{HostRowParts}
@@ -8,7 +8,7 @@ use Rattle.ev_types.specs.Items.{content_kind}
 use Rattle.ev_types.specs.Kinds.{kind_same}
 use Rattle.ev_types.specs.Statuses.{is_warming}
 use Rattle.ev_types.specs.declared.contents.Kind.{Kind}
-use Rattle.ev_types.specs.declared.contents.Kind.TheVariants.{Cds, Eds, Lds, Rds}
+use Rattle.ev_types.specs.declared.contents.Kind.TheVariants.{Eds, Rds}
 use Rattle.ev_types.specs.declared.contents.Content.{Content}
 use Rattle.ev_types.specs.declared.contents.Content.TheVariants.{Cluster as a_cluster, Assignment as an_assignment, Listener as a_listener, Routes as routes}
 use Rattle.ev_types.specs.declared.clusters.Discovery.{Discovery}
@@ -17,21 +17,22 @@ use Rattle.ev_types.specs.declared.listeners.Serve.{Serve}
 use Rattle.ev_types.specs.declared.listeners.Serve.TheVariants.{Rds as by_rds, Inline, Tcp}
 use Rattle.ev_types.specs.declared.rows.RowStatus.{RowStatus}
 use Rattle.ev_types.specs.declared.rows.GenRow.{GenRow}
-use Rattle.ev_model.specs.World.{World, HealthResult}
-use Rattle.ev_model.specs.Watching.{Dependency, dependency_of, discovery_dependency, serve_dependency, is_limited}
+use Rattle.ev_model.specs.World.{World, Arrived, HealthResult}
+use Rattle.ev_model.specs.Watching.{Dependency, discovery_dependency, serve_dependency, is_limited}
 use Rattle.ev_model.specs.Warming.{has_answer, discovered, assignment_by, rows_in, has_result, has_all_results, value_by, is_told_by, is_timed_by, is_answered_by, is_ready_by, is_checked}
 use Rattle.ev_model.specs.Rows.{is_row_of, with_statuses}
 use Rattle.ev_model.specs.Tidy.{is_due, has_successor, status_by, promoted_status, promoted_rows, promoted}
 use Rattle.ev_endpoints.specs.Results.{ResultsKept, result_in}
-use Rattle.ev_generations.specs.Tables.{row_in, numbers_of}
+use Rattle.ev_generations.specs.Tables.{row_in}
 use Rattle.ev_generations.proofs.TableLemmas.{row_in-with_statuses}
 use Rattle.ev_warming.specs.declared.state.State.{State}
-use Rattle.ev_warming.specs.Watched.{watch_in}
-use Rattle.ev_warming.specs.Ready.{name_needed, has_answer_in, discovered_in, assignment_in, are_results_in, is_round_done_in, is_answered_in, is_ready_in}
+use Rattle.ev_warming.specs.Watched.{WatchesKept, watch_in}
+use Rattle.ev_warming.specs.Ready.{has_answer_in, discovered_in, assignment_in, are_results_in, is_answered_in, is_ready_in}
 use Rattle.ev_warming.specs.Indexes.{IsIndexed, SameMarks}
 use Rattle.ev_warming.specs.Promotion.{succeeded_by, rows_promoted}
 use Rattle.ev_warming.specs.Worlds.{needs_of, rows_of_kind, StandsFor}
 use Rattle.ev_warming.proofs.WhereLemmas.{own-rows}
+use Rattle.ev_warming.proofs.SoundLemmas.{contents-of, sound-with_statuses}
 use Rattle.ev_warming.proofs.PromotionLemmas.{any_agrees, all_then, both_all, statuses_agree}
 
 pub rows_of_kind-with_statuses : (kind : Kind) (f : GenRow → RowStatus) (rows : List GenRow) → rows_of_kind kind (with_statuses f rows) ≡ with_statuses f (rows_of_kind kind rows)
@@ -60,6 +61,18 @@ all_results : (results : ResultsKept) (world_results : List HealthResult) (numbe
 all_results results world_results number same [] = refl
 all_results results world_results number same (h ∷ hosts) = λ i. same h i && all_results results world_results number same hosts i
 
+-- where names have the same values, contents of a kind have the same assignments
+module _ (kind : Kind) (watches : WatchesKept) (arrivals : List Arrived) (values : (name : List ℕ) → (watch_in watches name).value ≡ value_by arrivals (needs_of kind) name) where
+  found_hosts : needs_of kind ≡ Eds → (d : Discovery) → discovered_in watches d ≡ discovered arrivals d
+  found_hosts k (Static rows) = refl
+  found_hosts k (by_eds service l) = ap rows_in (values service) ∙ (λ i. rows_in (value_by arrivals (k i) service))
+
+  pub hosts-by : (content : Content) → content_kind content ≡ kind → assignment_in watches content ≡ assignment_by arrivals content
+  hosts-by (a_cluster cluster) k = found_hosts (ap needs_of (sym k)) cluster.discovery
+  hosts-by (an_assignment rows) k = refl
+  hosts-by (a_listener listener) k = refl
+  hosts-by (routes table) k = refl
+
 module _ (s : State) (world : World) (stands : StandsFor s world) where
   discovery_answer : needs_of s.kind ≡ Eds → (limited : Bool) (d : Discovery)
       → has_answer_in s.watches limited (option_map (λ (d : Dependency). d.name) (discovery_dependency d)) ≡ has_answer world.arrivals limited (discovery_dependency d)
@@ -82,15 +95,8 @@ module _ (s : State) (world : World) (stands : StandsFor s world) where
   answered (a_listener listener) k = serve_answer (ap needs_of (sym k)) (is_limited (a_listener listener)) listener.serve
   answered (routes table) k = refl
 
-  found_hosts : needs_of s.kind ≡ Eds → (d : Discovery) → discovered_in s.watches d ≡ discovered world.arrivals d
-  found_hosts k (Static rows) = refl
-  found_hosts k (by_eds service l) = ap rows_in (stands.value service) ∙ (λ i. rows_in (value_by world.arrivals (k i) service))
-
-  hosts : (content : Content) → content_kind content ≡ s.kind → assignment_in s.watches content ≡ assignment_by world.arrivals content
-  hosts (a_cluster cluster) k = found_hosts (ap needs_of (sym k)) cluster.discovery
-  hosts (an_assignment rows) k = refl
-  hosts (a_listener listener) k = refl
-  hosts (routes table) k = refl
+  pub hosts : (content : Content) → content_kind content ≡ s.kind → assignment_in s.watches content ≡ assignment_by world.arrivals content
+  hosts = hosts-by s.kind s.watches world.arrivals stands.value
 
   -- the same rows are ready
   pub ready_too : (row : GenRow) → content_kind row.content ≡ s.kind → IsSome (row_in row.number s.table.rows) → is_ready_in s.watches s.results row ≡ is_ready_by world.arrivals world.results row
@@ -105,7 +111,7 @@ module _ (s : State) (world : World) (stands : StandsFor s world) where
     ready_all =
         all_then (λ (r : GenRow). (content_kind r.content ≡ s.kind) × (row_in r.number s.table.rows ≡ Some r)) (λ (r : GenRow). is_ready_in s.watches s.results r ≡ is_ready_by world.arrivals world.results r)
         s.table.rows (λ r (k, own). ready_too r k (subst IsSome (sym own) refl))
-        (both_all (λ (r : GenRow). content_kind r.content ≡ s.kind) (λ (r : GenRow). row_in r.number s.table.rows ≡ Some r) s.table.rows stands.contents (own-rows s.table.rows x.table.apart))
+        (both_all (λ (r : GenRow). content_kind r.content ≡ s.kind) (λ (r : GenRow). row_in r.number s.table.rows ≡ Some r) s.table.rows (contents-of s world stands) (own-rows s.table.rows x.table.apart))
 
     successor : (row : GenRow) → row.kind ≡ s.kind → succeeded_by (is_ready_in s.watches s.results) s.table.rows row ≡ has_successor world.arrivals world.results world.rows row
     successor row k =
@@ -128,11 +134,6 @@ module _ (s : State) (world : World) (stands : StandsFor s world) where
         ∙ ap (with_statuses (promoted_status world.arrivals world.results world.rows)) stands.rows
         ∙ sym (rows_of_kind-with_statuses s.kind (promoted_status world.arrivals world.results world.rows) world.rows)
 
-pub contents-with_statuses : (kind : Kind) (f : GenRow → RowStatus) (rows : List GenRow) → AllByRecursion (λ (r : GenRow). content_kind r.content ≡ kind) rows
-    → AllByRecursion (λ (r : GenRow). content_kind r.content ≡ kind) (with_statuses f rows)
-contents-with_statuses kind f [] all = tt
-contents-with_statuses kind f (row ∷ rows) all = (all.0, contents-with_statuses kind f rows all.1)
-
 -- rows with other statuses are found as before
 pub there_before : (number : ℕ) (f : GenRow → RowStatus) (rows : List GenRow) → IsSome (row_in number (with_statuses f rows)) → IsSome (row_in number rows)
 there_before number f rows there = by (row_in number rows) (subst IsSome (row_in-with_statuses number f rows) there)
@@ -147,9 +148,8 @@ pub promoted-stands : (s t : State) (world : World) → IsIndexed s → StandsFo
 promoted-stands s t world x stands kind results made marks rows =
     let f = λ (r : GenRow). status_by (succeeded_by (is_ready_in s.watches s.results) s.table.rows r) (is_ready_in s.watches s.results r) r.status in
     record {
+      sound = sound-with_statuses world (promoted_status world.arrivals world.results world.rows) stands.sound;
       rows = rows ∙ promoted_too s world stands x ∙ (λ i. rows_of_kind (sym kind i) (promoted_rows world.arrivals world.results world.rows));
-      contents = subst (λ (k : Kind). AllByRecursion (λ (r : GenRow). content_kind r.content ≡ k) t.table.rows) (sym kind)
-          (subst (AllByRecursion (λ (r : GenRow). content_kind r.content ≡ s.kind)) (sym rows) (contents-with_statuses s.kind f s.table.rows stands.contents));
       made = made ∙ stands.made;
       told = λ name. (marks name).0 ∙ stands.told name ∙ (λ i. is_told_by world.arrivals (needs_of (sym kind i)) name);
       timed = λ name. (marks name).1 ∙ stands.timed name ∙ (λ i. is_timed_by world.arrivals (needs_of (sym kind i)) name);

@@ -1,7 +1,12 @@
 -- Sets of numbers.
-use Rattle.std.specs.Prelude.{ℕ, Bool, nat_eq, List}
+use Rattle.std.specs.Prelude.{ℕ, Bool, true, false, nat_eq, List, [], ◌∷◌}
 use Rattle.std.specs.List.{list_any}
 
 -- the number stands among these
 abbrev pub is_among : List ℕ → ℕ → Bool
 is_among numbers number = list_any (nat_eq number) numbers
+
+-- there is a number
+abbrev pub is_filled : List ℕ → Bool
+is_filled [] = false
+is_filled (number ∷ numbers) = true

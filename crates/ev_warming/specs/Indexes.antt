@@ -1,13 +1,14 @@
 -- What the indexes of the table say: each look-up is a search of the rows.
-use Rattle.std.specs.Prelude.{◌≡◌, ℕ, Bool, false, ◌&&◌, List, [], Option, Some, None, filter, option_to_list}
+use Rattle.std.specs.Prelude.{◌≡◌, ◌<◌, ℕ, Bool, false, ◌&&◌, List, [], Option, Some, None, filter, option_to_list}
 use Rattle.std.specs.List.{AllByRecursion}
 use Rattle.std.specs.Str.{bytes_eq}
 use Rattle.ev_types.specs.Statuses.{is_warming, is_active, is_live}
-use Rattle.ev_types.specs.declared.contents.Content.{Content}
 use Rattle.ev_types.specs.declared.rows.RowStatus.{RowStatus}
 use Rattle.ev_types.specs.declared.rows.RowStatus.TheVariants.{Dropped}
 use Rattle.ev_types.specs.declared.rows.GenRow.{GenRow}
+use Rattle.ev_types.specs.declared.hosts.Host.{Host}
 use Rattle.ev_model.specs.Watching.{is_limited}
+use Rattle.ev_endpoints.specs.Results.{result_in}
 use Rattle.ev_generations.specs.Tables.{IsTable, numbers_of}
 use Rattle.ev_warming.specs.Due.{is_among}
 use Rattle.ev_warming.specs.Standings.{standing_in}
@@ -55,7 +56,7 @@ abbrev pub SameMarks : WatchesKept → WatchesKept → Type 0
 SameMarks old new = (name : List ℕ) →
     ((watch_in new name).told ≡ (watch_in old name).told) × ((watch_in new name).timed ≡ (watch_in old name).timed) × ((watch_in new name).value ≡ (watch_in old name).value)
 
--- each index is a search of the rows
+-- each index is a search of the rows, and no result is of a number that wasn't drawn
 pub record IsIndexed (s : State) : Type 0 where
   pub table : IsTable s.table
   pub kinds : AllByRecursion (λ (row : GenRow). row.kind ≡ s.kind) s.table.rows
@@ -64,3 +65,4 @@ pub record IsIndexed (s : State) : Type 0 where
   pub watchers : (name : List ℕ) → (watch_in s.watches name).rows ≡ numbers_where (depends_on name) s.table.rows
   pub limited : (name : List ℕ) → (watch_in s.watches name).limited ≡ numbers_where (waits_limited name) s.table.rows
   pub due : (number : ℕ) → is_among s.due number ≡ is_due_at s.watches s.results number s.table.rows
+  pub drawn : (number : ℕ) (host : Host) → s.table.made < number → result_in s.results number host ≡ None

@@ -6,3 +6,9 @@ pub mod Ready
 pub mod Indexes
 pub mod Promotion
 pub mod Worlds
+pub mod Forgetting
+pub mod Changes
+pub mod Managers
+pub mod Arrivals
+pub mod Health
+pub mod Reads

@@ -3,7 +3,7 @@ use Rattle.std.specs.Prelude.{ℕ, Bool, ◌&&◌, if◌then◌else◌, List}
 use Rattle.std.specs.List.{list_any}
 use Rattle.ev_types.specs.Statuses.{is_warming}
 use Rattle.ev_types.specs.declared.rows.RowStatus.{RowStatus}
-use Rattle.ev_types.specs.declared.rows.RowStatus.TheVariants.{Active, Draining}
+use Rattle.ev_types.specs.declared.rows.RowStatus.TheVariants.{Draining}
 use Rattle.ev_types.specs.declared.rows.GenRow.{GenRow}
 use Rattle.ev_model.specs.Rows.{is_row_of, with_statuses}
 use Rattle.ev_model.specs.Tidy.{status_by}

@@ -1,9 +1,10 @@
 -- Which rows are due, by what is known of names and by the results that are kept: the machine's words, where what came is looked
 -- up. Source: cluster manager warming of Envoy's documentation.
-use Rattle.std.specs.Prelude.{ℕ, Bool, true, false, not, ◌&&◌, ◌||◌, List, [], Option, Some, None, is_some, option_map}
+use Rattle.std.specs.Prelude.{⊤, ℕ, Bool, true, false, not, ◌&&◌, ◌||◌, List, [], Option, Some, None, is_some, option_map}
 use Rattle.std.specs.List.{list_all}
 use Rattle.ev_types.specs.Hosts.{HostRowParts}
 use Rattle.ev_types.specs.Statuses.{is_warming}
+use Rattle.ev_types.specs.Texts.{IsName}
 use Rattle.ev_types.specs.declared.contents.Content.{Content}
 use Rattle.ev_types.specs.declared.contents.Content.TheVariants.{Cluster as a_cluster, Assignment as an_assignment, Listener as a_listener, Routes as routes}
 use Rattle.ev_types.specs.declared.clusters.Discovery.{Discovery}
@@ -18,6 +19,11 @@ use Rattle.ev_warming.specs.Watched.{WatchesKept, watch_in}
 -- the name that a generation of this content depends on
 abbrev pub name_needed : Content → Option (List ℕ)
 name_needed content = option_map (λ (d : Dependency). d.name) (dependency_of content)
+
+-- what is needed has 1 to 512 bytes
+abbrev pub IsNeedName : Option (List ℕ) → Type 0
+IsNeedName None = ⊤
+IsNeedName (Some name) = IsName name
 
 -- the name was told of, or timed out where the wait is limited
 abbrev pub has_answer_in : WatchesKept → Bool → Option (List ℕ) → Bool

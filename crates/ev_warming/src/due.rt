@@ -1,7 +1,7 @@
 ghost use Rattle.std.specs.Prelude.{◌≡◌, ◌||◌, ◌&&◌, not, true, false, if◌then◌else◌, ◌+◌, length, ℕ, [], nat_eq, IfSome, IfNone, OnOk};
 ghost use Rattle.ev_warming.specs.Due.{is_among};
 
-use ev_types::Gen;
+use ev_types::{Gen, TryCopy};
 use indexmap::IndexSet;
 use std::alloc::{AllocError, Global};
 use std::marker::Model;
@@ -54,5 +54,13 @@ impl Due {
         ensures count { length self.new + (if is_among self.old number then 1 else 0) ≡ length self.old }
     {
         self.numbers.swap_remove(&number);
+    }
+}
+
+impl TryCopy for Due {
+    fn copy(&self, _alloc: Global) -> Result<Due, AllocError> {
+        Ok(Due {
+            numbers: self.numbers.clone()?,
+        })
     }
 }

@@ -4,7 +4,8 @@ ghost use Rattle.std.specs.Str.{bytes_eq};
 ghost use Rattle.ev_warming.specs.Kept.{Sets};
 ghost use Rattle.ev_warming.specs.Standings.{nobody, standing_in};
 
-use ev_types::{Gen, Name};
+use crate::copies::copy_map;
+use ev_types::{Gen, Name, TryCopy};
 use indexmap::IndexMap;
 use std::alloc::{AllocError, Global};
 use std::marker::Model;
@@ -76,5 +77,13 @@ impl Names {
             unreachable!()
         };
         *place = standing;
+    }
+}
+
+impl TryCopy for Names {
+    fn copy(&self, alloc: Global) -> Result<Names, AllocError> {
+        Ok(Names {
+            names: copy_map(alloc, &self.names)?,
+        })
     }
 }

@@ -1,10 +1,11 @@
-ghost use Rattle.std.specs.Prelude.{◌≡◌, ◌+◌, ℕ, if◌then◌else◌, length, OnOk};
+ghost use Rattle.std.specs.Prelude.{◌≡◌, ◌+◌, Some, ℕ, if◌then◌else◌, length, OnOk};
 ghost use Rattle.std.specs.Option.{option_copied};
+ghost use Rattle.ev_types.specs.Texts.{IsName};
 ghost use Rattle.ev_model.specs.Watching.{is_limited};
 ghost use Rattle.ev_model.specs.Warming.{rows_in};
 ghost use Rattle.ev_warming.specs.Due.{is_among};
 ghost use Rattle.ev_warming.specs.Watched.{watch_in};
-ghost use Rattle.ev_warming.specs.Ready.{name_needed, are_results_in, is_answered_in, is_round_done_in, is_ready_in, is_due_at};
+ghost use Rattle.ev_warming.specs.Ready.{name_needed, IsNeedName, are_results_in, is_answered_in, is_round_done_in, is_ready_in, is_due_at};
 
 use crate::{Due, Watches};
 use ev_endpoints::Endpoints;
@@ -15,19 +16,29 @@ use std::sync::ledger::Ledger;
 
 /// The name that a generation of this content depends on.
 pub fn needed(content: &Content) -> Option<&Name>
-    ensures { option_copied result ≡ name_needed content.now }
+    ensures value { option_copied result ≡ name_needed content.now }
+    ensures named { IsNeedName (name_needed content.now) }
 {
     match content {
         Content::Cluster(cluster) => match &cluster.get().discovery {
             Discovery::Static(_) => None,
-            Discovery::Eds { service, .. } => Some(service),
+            Discovery::Eds { service, .. } => given(service),
         },
         Content::Listener(listener) => match &listener.get().serve {
-            Serve::Rds { name, .. } => Some(name),
+            Serve::Rds { name, .. } => given(name),
             _ => None,
         },
         _ => None,
     }
+}
+
+// A name that is given has 1 to 512 bytes.
+fn given(name: &Name) -> Option<&Name>
+    ensures value { option_copied result ≡ Some name.now }
+    ensures named { IsName name.now }
+{
+    let _text = name.as_str();
+    Some(name)
 }
 
 /// Whether the wait of a generation of this content ends at the initial fetch timeout.

@@ -1,20 +1,22 @@
-ghost use Rattle.std.specs.Prelude.{◌≡◌, ◌+◌, ◌*◌, ◌^◌, ◌≤◌, [], ◌∷◌, ◌++◌, IfOk, ◌<◌, ◌&&◌, not, nat_eq, ℕ, List, true, if◌then◌else◌, length, None, OnOk};
+ghost use Rattle.std.specs.Prelude.{◌≡◌, ◌+◌, ◌*◌, ◌^◌, ◌≤◌, [], ◌∷◌, ◌++◌, IfOk, ◌<◌, ◌&&◌, not, nat_eq, ℕ, List, true, if◌then◌else◌, length, None, OnOk, option_to_list};
 ghost use Rattle.std.specs.List.{list_any};
 ghost use Rattle.ev_model.specs.Rows.{arrived, removed_status, replaced_status, with_statuses, new_row, rows_with_new};
 ghost use Rattle.ev_model.specs.Watching.{is_limited};
 ghost use Rattle.ev_types.specs.declared.rows.RowStatus.TheVariants.{Active};
+ghost use Rattle.ev_types.specs.Items.{content_kind};
 ghost use Rattle.ev_types.specs.Statuses.{is_live, is_warming};
 ghost use Rattle.ev_generations.specs.Tables.{row_in, with_status};
 ghost use Rattle.ev_warming.specs.Kept.{Sets};
 ghost use Rattle.ev_warming.specs.Watched.{unwatched, watch_in, watched_less, watched_too, with_arrival};
 ghost use Rattle.ev_warming.specs.Standings.{standing_in};
-ghost use Rattle.ev_warming.specs.Ready.{name_needed, is_ready_in, is_due_at};
+ghost use Rattle.ev_warming.specs.Ready.{name_needed, IsNeedName, is_ready_in, is_due_at};
 ghost use Rattle.ev_warming.specs.Due.{is_among};
 ghost use Rattle.ev_model.specs.World.{World, opening};
 ghost use Rattle.ev_model.specs.Tidy.{promoted};
 ghost use Rattle.ev_model.specs.Signals.{rows_ended};
 ghost use Rattle.ev_warming.specs.Worlds.{StandsFor, needs_of};
 ghost use Rattle.ev_warming.specs.Promotion.{rows_promoted, status_drained};
+ghost use Rattle.ev_warming.specs.Changes.{began_to_drain};
 ghost use Rattle.ev_warming.specs.Indexes.{IsIndexed, SameMarks, depends_on, is_needed, numbers_where, status_in, name_in};
 
 use crate::{Due, Names, Standing, Watches, limited, needed, refresh};
@@ -33,6 +35,13 @@ pub struct State {
     pub watches: Watches,
     pub results: Endpoints,
     pub due: Due,
+}
+
+/// What a promotion changed: the numbers of the generations that came to serve, and of those that served before and drain.
+#[derive(Drop)]
+pub struct Promoted {
+    pub served: Seq<Gen>,
+    pub drained: Seq<Gen>,
 }
 
 impl State {
@@ -133,8 +142,13 @@ impl State {
         self.table.warm(number);
     }
 
-    // The generation that served the name of one that warms drains, where there was one.
-    fn make_way<L: Ledger>(&mut self, number: Gen, active: Option<Gen>, steps: &mut Steps<L>)
+    // The generation that served the name of one that warms drains, where there was one, which is the answer.
+    fn make_way<L: Ledger>(
+        &mut self,
+        number: Gen,
+        active: Option<Gen>,
+        steps: &mut Steps<L>,
+    ) -> Option<Gen>
         requires indexed { IsIndexed self.old }
         requires warms { is_warming (status_in (row_in number self.old.table.rows)) ≡ true }
         requires active { active ≡ (standing_in self.old.names (name_in (row_in number self.old.table.rows))).active }
@@ -148,17 +162,22 @@ impl State {
         ensures due { (n : ℕ) → is_among self.new.due n ≡ is_among self.old.due n }
         ensures count { length self.new.due ≤ length self.old.due }
         ensures steps { steps.new ≤ steps.old + 1 }
+        ensures before { result ≡ active }
     {
-        if let Some(before) = active {
-            self.retire(before, steps);
-        }
+        let Some(before) = active else {
+            return None;
+        };
+        self.retire(before, steps);
+        Some(before)
     }
 
-    // The generation of this number, which is due, serves, and the one that served its name drains.
-    fn promote_one<L: Ledger>(&mut self, number: Gen, steps: &mut Steps<L>)
+    // The generation of this number, which is due, serves, and the one that served its name, which is the answer, drains.
+    fn promote_one<L: Ledger>(&mut self, number: Gen, steps: &mut Steps<L>) -> Option<Gen>
         requires indexed { IsIndexed self.old }
         requires due { is_among self.old.due number ≡ true }
         ensures indexed { IsIndexed self.new }
+        ensures before { result ≡ (standing_in self.old.names (name_in (row_in number self.old.table.rows))).active }
+        ensures changed { self.new.table.rows ≡ with_status number Active (with_statuses (status_drained (name_in (row_in number self.old.table.rows))) self.old.table.rows) }
         ensures rows { rows_promoted (is_ready_in self.old.watches self.old.results) self.new.table.rows ≡ rows_promoted (is_ready_in self.old.watches self.old.results) self.old.table.rows }
         ensures made { self.new.table.made ≡ self.old.table.made }
         ensures marks { SameMarks self.old.watches self.new.watches }
@@ -171,38 +190,43 @@ impl State {
             unreachable!()
         };
         let active = self.names.standing(&row.name).active;
-        self.make_way(number, active, steps);
+        let before = self.make_way(number, active, steps);
         self.serve(number, steps);
+        before
     }
 
     /// Each generation that is due serves, and the one that served its name before it drains; none is due then. Answers the
-    /// numbers of those that came to serve. Each costs at most three look-ups. Without memory nothing is promised of the state.
+    /// numbers of those that came to serve, and of those that began to drain. Each of the first costs at most three look-ups.
+    /// Without memory nothing is promised of the state.
     pub fn promote<L: Ledger>(
         &mut self,
         alloc: Global,
         steps: &mut Steps<L>,
-    ) -> Result<Seq<Gen>, AllocError>
+    ) -> Result<Promoted, AllocError>
         requires indexed { IsIndexed self.old }
         ensures indexed { OnOk result (IsIndexed self.new) }
         ensures rows { OnOk result (self.new.table.rows ≡ rows_promoted (is_ready_in self.old.watches self.old.results) self.old.table.rows) }
-        ensures served { IfOk result (λ numbers. (n : ℕ) → is_among numbers n ≡ is_due_at self.old.watches self.old.results n self.old.table.rows) }
+        ensures served { IfOk result (λ promoted. (n : ℕ) → is_among promoted.served n ≡ is_due_at self.old.watches self.old.results n self.old.table.rows) }
+        ensures drained { IfOk result (λ promoted. (n : ℕ) → is_among promoted.drained n ≡ began_to_drain n self.old.table.rows self.new.table.rows) }
         ensures made { OnOk result (self.new.table.made ≡ self.old.table.made) }
         ensures marks { OnOk result (SameMarks self.old.watches self.new.watches) }
         ensures others { OnOk result (self.new ≡ record self.old { table = self.new.table; names = self.new.names; watches = self.new.watches; due = [] }) }
-        ensures steps { IfOk result (λ numbers. steps.new ≤ steps.old + 3 * length numbers) }
+        ensures steps { IfOk result (λ promoted. steps.new ≤ steps.old + 3 * length promoted.served) }
         // Whatever world the state stood for, it stands for that world with all that are due promoted.
         ensures stands { OnOk result ((world : World) → StandsFor self.old world → StandsFor self.new (promoted world)) }
     {
         let mut served = Seq::new(alloc);
+        let mut drained = Seq::new(alloc);
         while let Some(number) = self.due.first() {
             served.push(number)?;
-            self.promote_one(number, steps);
+            let before = self.promote_one(number, steps);
+            put_one(&mut drained, &before)?;
         }
-        Ok(served)
+        Ok(Promoted { served, drained })
     }
 
-    /// A new generation of a name warms, and one that warmed under it before is dropped. It costs at most two look-ups. Without
-    /// memory nothing is promised of the state.
+    /// A new generation of a name warms, with content of the state's kind, and one that warmed under it before is dropped. It
+    /// costs at most two look-ups. Without memory nothing is promised of the state.
     pub fn add<L: Ledger>(
         &mut self,
         alloc: Global,
@@ -211,6 +235,7 @@ impl State {
         steps: &mut Steps<L>,
     ) -> Result<Gen, AllocError>
         requires indexed { IsIndexed self.old }
+        requires typed { content_kind content ≡ self.old.kind }
         requires room { self.old.table.made + 1 < 2 ^ 32 }
         ensures indexed { OnOk result (IsIndexed self.new) }
         ensures number { IfOk result (λ number. number ≡ self.old.table.made + 1) }
@@ -219,7 +244,11 @@ impl State {
         ensures marks { OnOk result (SameMarks self.old.watches self.new.watches) }
         ensures others { OnOk result (self.new ≡ record self.old { table = self.new.table; names = self.new.names; watches = self.new.watches; due = self.new.due }) }
         ensures steps { OnOk result (steps.new ≤ steps.old + 2) }
+        ensures needs { OnOk result (IsNeedName (name_needed content)) }
+        // Whatever world the state stood for, it stands for that world with the new generation.
+        ensures stands { OnOk result ((world : World) → StandsFor self.old world → StandsFor self.new (record world { rows = rows_with_new self.old.kind world.made name content world.rows; made = world.made + 1 })) }
     {
+        let _text = name.as_str();
         self.drop_warming(&name, steps);
         self.append(alloc, name, content, steps)
     }
@@ -290,6 +319,7 @@ impl State {
         ensures marks { OnOk result (SameMarks self.old.watches self.new.watches) }
         ensures others { OnOk result (self.new ≡ record self.old { table = self.new.table; names = self.new.names; watches = self.new.watches; due = self.new.due }) }
         ensures steps { OnOk result (steps.new ≡ steps.old + 1) }
+        ensures needs { OnOk result (IsNeedName (name_needed content)) }
     {
         let active = self.names.standing(&name).active;
         let number = self
@@ -311,6 +341,16 @@ impl State {
         )?;
         Ok(number)
     }
+}
+
+// Puts a number to the others, where there is one.
+pub(crate) fn put_one(numbers: &mut Seq<Gen>, number: &Option<Gen>) -> Result<(), AllocError>
+    ensures { OnOk result (numbers.new ≡ numbers.old ++ option_to_list number.now) }
+{
+    if let Some(number) = number {
+        numbers.push(*number)?;
+    }
+    Ok(())
 }
 
 // What stands of a name once the one that warms, or the one that serves, is gone.
@@ -346,7 +386,8 @@ fn watch(
     content: &Content,
     number: Gen,
 ) -> Result<(), AllocError>
-    ensures { OnOk result ((q : List ℕ) → watch_in watches.new q ≡ (if is_needed q (name_needed content.now) then watched_too number (is_limited content.now) (watch_in watches.old q) else watch_in watches.old q)) }
+    ensures watched { OnOk result ((q : List ℕ) → watch_in watches.new q ≡ (if is_needed q (name_needed content.now) then watched_too number (is_limited content.now) (watch_in watches.old q) else watch_in watches.old q)) }
+    ensures named { IsNeedName (name_needed content.now) }
 {
     match needed(content) {
         Some(name) => watches.watch(alloc, name, number, limited(content)),

@@ -5,6 +5,7 @@ ghost use Rattle.std.specs.Str.{bytes_eq};
 ghost use Rattle.ev_warming.specs.Kept.{Sets};
 ghost use Rattle.ev_warming.specs.Watched.{unwatched, watch_in, watched_too, watched_less, with_arrival, without_number};
 
+use crate::copies::copy_map;
 use ev_types::{Arrival, Content, Gen, Name, Seq, TryCopy};
 use indexmap::IndexMap;
 use std::alloc::{AllocError, Global};
@@ -99,6 +100,14 @@ impl Watches {
         ensures { Sets unwatched self.old self.new name.now unwatched }
     {
         self.watches.swap_remove(name);
+    }
+}
+
+impl TryCopy for Watches {
+    fn copy(&self, alloc: Global) -> Result<Watches, AllocError> {
+        Ok(Watches {
+            watches: copy_map(alloc, &self.watches)?,
+        })
     }
 }
 

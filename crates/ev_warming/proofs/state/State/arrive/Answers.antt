@@ -1,4 +1,4 @@
-use Rattle.std.proofs.Common.{◌≡◌, ◌∙◌, ℕ, List, cond, sym, Some}
+use Rattle.std.proofs.Common.{◌≡◌, ◌∙◌, cond, sym, Some}
 use Rattle.ev_warming.specs.Due.{is_among}
 use Rattle.ev_warming.specs.Ready.{is_due_at}
 use Rattle.ev_warming.specs.Watched.{watch_in, unwatched}

@@ -1,4 +1,4 @@
-use Rattle.std.proofs.Common.{◌≡◌, ◌∙◌, sym}
+use Rattle.std.proofs.Common.{◌∙◌, sym}
 use Rattle.ev_warming.proofs.WayLemmas.{way-none, way-live, way-rows}
 use Rattle.ev_warming.proofs.state.State.drain_active.Goals as goal
 

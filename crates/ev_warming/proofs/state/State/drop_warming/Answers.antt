@@ -1,5 +1,4 @@
-use Rattle.std.proofs.Common.{◌≡◌, ◌∙◌, Option, None, Some, ℕ, sym}
-use Rattle.ev_warming.specs.Standings.{standing_in}
+use Rattle.std.proofs.Common.{◌∙◌, sym}
 use Rattle.ev_warming.proofs.AddLemmas.{drop-none, drop-live, drop-rows, drop-alone}
 use Rattle.ev_warming.proofs.state.State.drop_warming.Goals as goal
 

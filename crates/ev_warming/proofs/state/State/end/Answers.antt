@@ -1,4 +1,4 @@
-use Rattle.std.proofs.Common.{◌≡◌, ◌∙◌, sym, ap}
+use Rattle.std.proofs.Common.{◌∙◌, ap}
 use Rattle.ev_model.specs.Rows.{with_statuses}
 use Rattle.ev_model.specs.Signals.{ended_status}
 use Rattle.ev_warming.specs.Promotion.{status_drained}

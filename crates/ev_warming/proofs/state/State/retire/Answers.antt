@@ -1,6 +1,6 @@
-use Rattle.std.proofs.Common.{◌≡◌, ◌∙◌, Bool, true, false, cond, sym, refl, Some, None}
+use Rattle.std.proofs.Common.{◌≡◌, ◌∙◌, Bool, true, false, cond, sym, refl, None}
 use Rattle.std.specs.Str.{bytes_eq}
-use Rattle.ev_types.specs.Statuses.{is_live, is_warming}
+use Rattle.ev_types.specs.Statuses.{is_live}
 use Rattle.ev_types.specs.declared.rows.RowStatus.TheVariants.{Draining, Dropped}
 use Rattle.ev_model.specs.Rows.{removed_status}
 use Rattle.ev_generations.specs.Tables.{with_status}

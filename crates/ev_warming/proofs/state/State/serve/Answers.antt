@@ -1,4 +1,4 @@
-use Rattle.std.proofs.Common.{◌≡◌, ◌∙◌, sym}
+use Rattle.std.proofs.Common.{◌∙◌, sym}
 use Rattle.ev_types.specs.Statuses.{is_warming}
 use Rattle.ev_warming.specs.Standings.{standing_in}
 use Rattle.ev_warming.specs.Indexes.{status_in, name_in}

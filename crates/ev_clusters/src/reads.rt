@@ -1,0 +1,78 @@
+ghost use Rattle.std.specs.Prelude.{◌≡◌, map, filter, IfOk};
+ghost use Rattle.std.specs.List.{list_any};
+ghost use Rattle.ev_types.specs.Kinds.{kind_same};
+ghost use Rattle.ev_types.specs.declared.contents.Kind.TheVariants.{Cds, Eds};
+ghost use Rattle.ev_types.specs.declared.rows.Live.{Live};
+ghost use Rattle.ev_model.specs.World.{World};
+ghost use Rattle.ev_model.specs.Live.{live_of, lives_of};
+ghost use Rattle.ev_model.specs.Picture.{served_clusters};
+ghost use Rattle.ev_model.specs.Signals.{is_awaited};
+ghost use Rattle.ev_model.specs.Watching.{is_watched, watched_of};
+ghost use Rattle.ev_warming.specs.Indexes.{depends_on};
+ghost use Rattle.ev_warming.specs.Reads.{live_rows, names_watched, is_timeout_due, clusters_in};
+ghost use Rattle.ev_warming.specs.Worlds.{StandsFor};
+
+use crate::Clusters;
+use ev_model::ServedCluster;
+use ev_rules::LiveRow;
+use ev_types::{Name, Seq, TryCopy};
+use std::alloc::{AllocError, Global};
+
+impl Clusters {
+    ghost use Rattle.ev_clusters.specs.Clusters.{AreKept};
+
+    /// Whether a live cluster depends on a name of endpoints.
+    pub fn is_watched(&self, name: &Name) -> bool
+        requires kept { AreKept self.now }
+        ensures rows { result ≡ list_any (depends_on name.now) self.now.state.table.rows }
+        ensures world { (world : World) → StandsFor self.now.state world → result ≡ is_watched (lives_of world) Eds name.now }
+    {
+        self.manager.state.is_watched(name)
+    }
+
+    /// The names of endpoints that live clusters depend on, in the order of their bytes, each once. It goes over all clusters.
+    pub fn watched(&self, alloc: Global) -> Result<Seq<Name>, AllocError>
+        requires kept { AreKept self.now }
+        ensures rows { IfOk result (λ names. names ≡ names_watched self.now.state.table.rows) }
+        ensures world { IfOk result (λ names. (world : World) → StandsFor self.now.state world → names ≡ watched_of world Eds) }
+    {
+        self.manager.state.watched(alloc)
+    }
+
+    /// Whether the fetch timeout of a name of endpoints is due: a live cluster waits for it within a limit, and it was neither
+    /// told of nor timed out.
+    pub fn timeout_due(&self, name: &Name) -> bool
+        requires kept { AreKept self.now }
+        ensures rows { result ≡ is_timeout_due self.now.state.watches self.now.state.table.rows name.now }
+        ensures world { (world : World) → StandsFor self.now.state world → result ≡ is_awaited world.arrivals world.rows Eds name.now }
+    {
+        self.manager.state.timeout_due(name)
+    }
+
+    /// The live clusters, in order, as verdicts take them. It goes over all clusters.
+    pub fn live<'a>(&'a self, alloc: Global) -> Result<Vec<LiveRow<'a>>, AllocError>
+        requires kept { AreKept self.now }
+        ensures rows { IfOk result (λ lives. lives.items ≡ map live_of (live_rows self.now.state.table.rows)) }
+        ensures world { IfOk result (λ lives. (world : World) → StandsFor self.now.state world → lives.items ≡ filter (λ (live : Live). kind_same live.kind Cds) (lives_of world)) }
+    {
+        self.manager.state.live(alloc)
+    }
+
+    /// What a picture shows of clusters now: each active one with its hosts that may be chosen, in the order of their names. It
+    /// goes over all clusters.
+    pub fn shown(&self, alloc: Global) -> Result<Seq<ServedCluster>, AllocError>
+        requires kept { AreKept self.now }
+        ensures rows { IfOk result (λ served. served ≡ clusters_in self.now.state.watches self.now.state.results self.now.state.table.rows) }
+        ensures world { IfOk result (λ served. (world : World) → StandsFor self.now.state world → served ≡ served_clusters world.arrivals world.results world.rows) }
+    {
+        self.manager.state.clusters(alloc)
+    }
+}
+
+impl TryCopy for Clusters {
+    fn copy(&self, alloc: Global) -> Result<Clusters, AllocError> {
+        Ok(Clusters {
+            manager: self.manager.copy(alloc)?,
+        })
+    }
+}

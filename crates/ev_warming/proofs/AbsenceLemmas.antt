@@ -1,0 +1,155 @@
+-- What a response of endpoints or routes does to a world that a state stands for.
+use Rattle.std.proofs.Common.{◌≡◌, ◌∙◌, ◌+◌, ◌<◌, ℕ, Bool, true, false, cond, ◌&&◌, ◌||◌, List, [], ◌∷◌, ◌++◌, Option, None, Some, map, filter, length, take, get_or, refl, sym, ap, subst, true≢false, append-nil, append_assoc}
+use Rattle.std.specs.List.{list_any, AllByRecursion}
+use Rattle.std.specs.Str.{bytes_eq}
+use Rattle.std.proofs.lemmas.List.{take_more, map-append}
+use Rattle.std.proofs.lemmas.List.Elements.{filter-append}
+use Rattle.std.proofs.lemmas.List.Folds.{list_any_at}
+use Rattle.ev_types.specs.Items.{ItemParts, ResponseParts}
+use Rattle.ev_types.specs.Same.{bytes_decide}
+use Rattle.ev_types.specs.Statuses.{is_live}
+use Rattle.ev_types.specs.Texts.{IsName}
+use Rattle.ev_types.specs.declared.contents.Kind.{Kind}
+use Rattle.ev_types.specs.declared.contents.Kind.TheVariants.{Cds, Eds, Lds, Rds}
+use Rattle.ev_types.specs.declared.contents.Content.{Content}
+use Rattle.ev_types.specs.declared.contents.Body.{Body}
+use Rattle.ev_types.specs.declared.contents.Body.TheVariants.{Good, Bad, Beat}
+use Rattle.ev_types.specs.declared.events.Verdict.{Verdict}
+use Rattle.ev_types.specs.declared.events.Verdict.TheVariants.{New, Same, Kept, Unasked, Renewed, Refused}
+use Rattle.ev_types.specs.declared.rows.Arrival.{Arrival}
+use Rattle.ev_types.specs.declared.rows.Arrival.TheVariants.{Absent, Bad as bad, Value}
+use Rattle.ev_types.specs.declared.rows.GenRow.{GenRow}
+use Rattle.ev_model.specs.World.{World, Arrived}
+use Rattle.ev_model.specs.Live.{lives_of}
+use Rattle.ev_model.specs.Watching.{is_watched, is_by_name}
+use Rattle.ev_model.specs.Verdicts.{is_among, is_removed}
+use Rattle.ev_model.specs.Rows.{arrived, absent_names, versions_left, with_removals, add_item, keep_version, keep_value, with_content, refuse, renew}
+use Rattle.ev_warming.specs.declared.state.State.{State}
+use Rattle.ev_warming.specs.Ready.{name_needed, IsNeedName}
+use Rattle.ev_warming.specs.Indexes.{is_needed, depends_on}
+use Rattle.ev_warming.specs.Worlds.{needs_of, StandsFor}
+use Rattle.ev_warming.specs.Changes.{is_unlisted}
+use Rattle.ev_warming.specs.Arrivals.{IsOnValue, told_where}
+use Rattle.ev_warming.proofs.ForgottenLemmas.{watched-same}
+use Rattle.ev_warming.proofs.ResponseLemmas.{versions-stand}
+
+-- nothing depends on a text that is no name
+pub unneeded : (q : List ℕ) → (IsName q → ⊥) → (rows : List GenRow) → AllByRecursion (λ (r : GenRow). IsNeedName (name_needed r.content)) rows → list_any (depends_on q) rows ≡ false
+unneeded q no_name [] all = refl
+unneeded q no_name (row ∷ rows) all = (λ i. by (is_live row.status) (name_needed row.content) all.0 i || list_any (depends_on q) rows) ∙ unneeded q no_name rows all.1
+  where
+    over : (name : List ℕ) → IsName name → (b : Bool) → bytes_eq name q ≡ b → b ≡ false
+    over name named true e = absurd (no_name (subst IsName ((bytes_decide name q).0 e) named))
+    over name named false e = refl
+
+    by : (l : Bool) (o : Option (List ℕ)) → IsNeedName o → (l && is_needed q o) ≡ false
+    by false o named = refl
+    by true None named = refl
+    by true (Some name) named = over name named (bytes_eq name q) refl
+
+-- the test of an absence
+abbrev is_absent : ResponseParts → Kind → World → List ℕ → Bool
+is_absent response kind world name = is_removed response name && is_watched (lives_of world) kind name
+
+-- the arrivals after the absences of these names
+abbrev pub with_absent : ResponseParts → Kind → World → List (List ℕ) → World
+with_absent response kind world names = record world { arrivals = world.arrivals ++ map (arrived kind Absent) (filter (is_absent response kind world) names) }
+
+absent-one : (kind : Kind) (name : List ℕ) (b : Bool) → map (arrived kind Absent) (cond b (name ∷ []) []) ≡ cond b (arrived kind Absent name ∷ []) []
+absent-one kind name true = refl
+absent-one kind name false = refl
+
+told-is : (b : Bool) (kind : Kind) (name : List ℕ) (world : World) (before : List Arrived)
+    → told_where b kind Absent name (record world { arrivals = world.arrivals ++ before }) ≡ record world { arrivals = world.arrivals ++ (before ++ cond b (arrived kind Absent name ∷ []) []) }
+told-is true kind name world before = λ i. record world { arrivals = append_assoc world.arrivals before (arrived kind Absent name ∷ []) i }
+told-is false kind name world before = λ i. record world { arrivals = world.arrivals ++ sym (append-nil before) i }
+
+pub absent-more : (s t : State) (world : World) (response : ResponseParts) (kind : Kind) (rows : List GenRow) (i : ℕ) (name : List ℕ)
+    → i < length response.removed → name ≡ get_or response.removed i name
+    → is_watched (lives_of world) kind name ≡ list_any (depends_on name) rows
+    → StandsFor s (with_absent response kind world (take i response.removed))
+    → ((w : World) → StandsFor s w → StandsFor t (told_where (is_unlisted response name && list_any (depends_on name) rows) kind Absent name w))
+    → StandsFor t (with_absent response kind world (take (i + 1) response.removed))
+absent-more s t world response kind rows i name within is watched before step =
+    subst (StandsFor t)
+    ((λ j. told_where (sym test j) kind Absent name (with_absent response kind world (take i response.removed)))
+    ∙ told-is (is_absent response kind world name) kind name world (map (arrived kind Absent) (filter (is_absent response kind world) (take i response.removed)))
+    ∙ (λ j. record world { arrivals = world.arrivals ++ sym more j }))
+    (step (with_absent response kind world (take i response.removed)) before)
+  where
+    among : is_among name response.removed ≡ true
+    among = list_any_at (λ n. bytes_eq n name) response.removed i name within ((λ j. bytes_eq (sym is j) name) ∙ (bytes_decide name name).1 refl)
+
+    test : is_absent response kind world name ≡ (is_unlisted response name && list_any (depends_on name) rows)
+    test = λ j. (among j && is_unlisted response name) && watched j
+
+    more : map (arrived kind Absent) (filter (is_absent response kind world) (take (i + 1) response.removed))
+        ≡ map (arrived kind Absent) (filter (is_absent response kind world) (take i response.removed)) ++ cond (is_absent response kind world name) (arrived kind Absent name ∷ []) []
+    more =
+        (λ j. map (arrived kind Absent) (filter (is_absent response kind world) (take_more response.removed i name within j)))
+        ∙ (λ j. map (arrived kind Absent) (filter (is_absent response kind world) (take i response.removed ++ sym is j ∷ [])))
+        ∙ ap (map (arrived kind Absent)) (filter-append (is_absent response kind world) (take i response.removed) (name ∷ []))
+        ∙ map-append (arrived kind Absent) (filter (is_absent response kind world) (take i response.removed)) (filter (is_absent response kind world) (name ∷ []))
+        ∙ ap (λ xs. map (arrived kind Absent) (filter (is_absent response kind world) (take i response.removed)) ++ xs) (absent-one kind name (is_absent response kind world name))
+
+pub absent-none : (s : State) (world : World) (response : ResponseParts) (kind : Kind) → StandsFor s world → StandsFor s (with_absent response kind world [])
+absent-none s world response kind stands = subst (λ (came : List Arrived). StandsFor s (record world { arrivals = came })) (sym (append-nil world.arrivals)) stands
+
+-- removals, where versions are left aside
+absences-are : (kind : Kind) (response : ResponseParts) (world : World) → is_by_name kind ≡ false
+    → record world { arrivals = world.arrivals ++ map (arrived (needs_of kind) Absent) (absent_names (needs_of kind) response world); versions = versions_left (needs_of kind) response world.versions }
+    ≡ with_removals (needs_of kind) response world
+absences-are Cds response world h = refl
+absences-are Lds response world h = refl
+absences-are Eds response world h = absurd (true≢false h)
+absences-are Rds response world h = absurd (true≢false h)
+
+pub absences-stand : (s : State) (world : World) (kind : Kind) (response : ResponseParts) → is_by_name kind ≡ false
+    → StandsFor s (record world { arrivals = world.arrivals ++ map (arrived (needs_of kind) Absent) (absent_names (needs_of kind) response world) })
+    → StandsFor s (with_removals (needs_of kind) response world)
+absences-stand s world kind response rows stands =
+    subst (StandsFor s) (absences-are kind response world rows)
+    (versions-stand s (record world { arrivals = world.arrivals ++ map (arrived (needs_of kind) Absent) (absent_names (needs_of kind) response world) }) (versions_left (needs_of kind) response world.versions) stands)
+
+-- a refusal
+refusal-is : (kind : Kind) (name : List ℕ) (world : World) → is_by_name kind ≡ false
+    → told_where (is_watched (lives_of world) (needs_of kind) name) (needs_of kind) bad name world ≡ refuse (needs_of kind) name world
+refusal-is Cds name world h = refl
+refusal-is Lds name world h = refl
+refusal-is Eds name world h = absurd (true≢false h)
+refusal-is Rds name world h = absurd (true≢false h)
+
+pub refusal-stands : (s t : State) (world : World) (name : List ℕ) → is_by_name s.kind ≡ false → StandsFor s world
+    → StandsFor t (told_where (list_any (depends_on name) s.table.rows) (needs_of s.kind) bad name world) → StandsFor t (refuse (needs_of s.kind) name world)
+refusal-stands s t world name rows stands told =
+    subst (StandsFor t) ((λ i. told_where (sym (watched-same s world stands rows name) i) (needs_of s.kind) bad name world) ∙ refusal-is s.kind name world rows) told
+
+-- a value with its version
+pub value-stands : (t : State) (world : World) (kind : Kind) (item : ItemParts) (content : Content)
+    → StandsFor t (record world { arrivals = world.arrivals ++ arrived kind (Value content) item.name ∷ [] }) → StandsFor t (keep_value kind item content world)
+value-stands t world kind item content stands =
+    versions-stand t (record world { arrivals = world.arrivals ++ arrived kind (Value content) item.name ∷ [] }) (keep_value kind item content world).versions stands
+
+same-stands : (s : State) (world : World) (kind : Kind) (item : ItemParts) (body : Body) → StandsFor s world → StandsFor s (with_content (λ content. keep_version kind item) body world)
+same-stands s world kind item (Good content) stands = versions-stand s world (keep_version kind item world).versions stands
+same-stands s world kind item (Bad rule) stands = stands
+same-stands s world kind item Beat stands = stands
+
+-- what is neither kept nor refused changes nothing that a state looks at
+pub rest-stands : (s : State) (world : World) (kind : Kind) (item : ItemParts) (verdict : Verdict) (watched : Bool) → IsOnValue verdict watched → (verdict ≡ Kept → ⊥) → ((rule : ℕ) → verdict ≡ Refused rule → ⊥)
+    → StandsFor s world → StandsFor s (add_item kind verdict item world)
+rest-stands s world kind item New watched on kept refused stands = absurd on
+rest-stands s world kind item Same watched on kept refused stands = same-stands s world kind item item.body stands
+rest-stands s world kind item Kept watched on kept refused stands = absurd (kept refl)
+rest-stands s world kind item Unasked watched on kept refused stands = stands
+rest-stands s world kind item Renewed watched on kept refused stands = versions-stand s world (renew kind item.name world).versions stands
+rest-stands s world kind item (Refused rule) watched on kept refused stands = absurd (refused rule refl)
+
+-- nothing came
+pub quiet-stands : (s : State) (world : World) (b : Bool) (kind : Kind) (arrival : Arrival) (name : List ℕ) → b ≡ false → StandsFor s world → StandsFor s (told_where b kind arrival name world)
+quiet-stands s world b kind arrival name e stands = subst (λ (w : Bool). StandsFor s (told_where w kind arrival name world)) (sym e) stands
+
+-- something came
+pub loud-stands : (s : State) (world : World) (b : Bool) (kind : Kind) (arrival : Arrival) (name : List ℕ) → b ≡ true
+    → StandsFor s (record world { arrivals = world.arrivals ++ arrived kind arrival name ∷ [] }) → StandsFor s (told_where b kind arrival name world)
+loud-stands s world b kind arrival name e stands = subst (λ (w : Bool). StandsFor s (told_where w kind arrival name world)) (sym e) stands

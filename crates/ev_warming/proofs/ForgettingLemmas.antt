@@ -1,0 +1,271 @@
+-- What forgetting does to a state: no live row looks at what goes, so the indexes stay searches of the rows.
+use Rattle.std.proofs.Common.{◌≡◌, ◌∙◌, ◌<◌, ℕ, Bool, true, false, cond, not, ◌&&◌, ◌||◌, nat_eq, List, [], ◌∷◌, Option, None, Some, is_some, filter, refl, sym, ap, subst, true≢false, ◌+◌, take, get_or, length, arith}
+use Rattle.std.specs.List.{list_any, AllByRecursion}
+use Rattle.std.proofs.lemmas.Bool.{eqb-true, ne_eqb}
+use Rattle.std.proofs.lemmas.List.Folds.{list_any_more}
+use Rattle.ev_types.specs.Hosts.{HostRowParts}
+use Rattle.ev_types.specs.Same.{bytes_decide}
+use Rattle.ev_types.specs.SameHosts.{host_same, host_decides}
+use Rattle.ev_types.specs.Statuses.{is_warming, is_live}
+use Rattle.ev_types.specs.declared.hosts.Host.{Host}
+use Rattle.ev_types.specs.declared.rows.GenRow.{GenRow}
+use Rattle.ev_model.specs.Tidy.{has_host}
+use Rattle.ev_model.specs.Warming.{is_checked}
+use Rattle.ev_endpoints.specs.Results.{ResultsKept, result_in, Forgets, Trims}
+use Rattle.ev_generations.specs.Tables.{row_in, numbers_of}
+use Rattle.ev_generations.proofs.TableLemmas.{number-row_in}
+use Rattle.ev_warming.specs.declared.watches.Watch.{Watch}
+use Rattle.ev_warming.specs.declared.state.State.{State}
+use Rattle.ev_warming.specs.Watched.{WatchesKept, unwatched, watch_in}
+use Rattle.ev_warming.specs.Ready.{name_needed, assignment_in, are_results_in, is_answered_in, is_ready_in, is_due_found, is_due_at}
+use Rattle.ev_warming.specs.Indexes.{IsIndexed, is_needed, depends_on, waits_limited, numbers_where}
+use Rattle.ev_warming.specs.Due.{is_among}
+use Rattle.ev_warming.specs.Forgetting.{need_in, is_need_of, is_idle, keeps_result, loses_result, IsUnheard, IsTidyBut}
+use Rattle.ev_warming.proofs.WhereLemmas.{any-found, where-some, flipped}
+use Rattle.ev_warming.proofs.ReadyLemmas.{Agrees, assignment_in-agrees, is_ready_in-agrees}
+use Rattle.ev_warming.proofs.IndexLemmas.{live-warming}
+
+-- where none passes, no number is among those that pass
+pub where-none : (test : GenRow → Bool) (rows : List GenRow) → list_any test rows ≡ false → numbers_where test rows ≡ []
+where-none test [] none = refl
+where-none test (row ∷ rows) none = by (test row) none (where-none test rows)
+  where
+    by : (b : Bool) → (b || list_any test rows) ≡ false → (list_any test rows ≡ false → numbers_where test rows ≡ [])
+        → numbers_of (cond b (row ∷ filter test rows) (filter test rows)) ≡ []
+    by true h rest = absurd (true≢false h)
+    by false h rest = rest h
+
+-- a narrower test passes no more
+any-less : (f g : GenRow → Bool) → ((r : GenRow) → g r ≡ true → f r ≡ true) → (rows : List GenRow) → list_any f rows ≡ false → list_any g rows ≡ false
+any-less f g less [] none = refl
+any-less f g less (row ∷ rows) none = by (f row) refl none (g row) refl (any-less f g less rows)
+  where
+    by : (a : Bool) → f row ≡ a → (a || list_any f rows) ≡ false → (b : Bool) → g row ≡ b → (list_any f rows ≡ false → list_any g rows ≡ false) → (b || list_any g rows) ≡ false
+    by true e h b d rest = absurd (true≢false h)
+    by false e h true d rest = absurd (true≢false (sym (less row d) ∙ e))
+    by false e h false d rest = rest h
+
+pub not_true : (b : Bool) → not b ≡ true → b ≡ false
+not_true true h = absurd (true≢false (sym h))
+not_true false h = refl
+
+late : (a b : Bool) → b ≡ true → (a || b) ≡ true
+late true b h = refl
+late false b h = h
+
+early : (a b : Bool) → (a && b) ≡ true → a ≡ true
+early true b h = refl
+early false b h = absurd (true≢false (sym h))
+
+all-map : {X : Type 0} (P Q : X → Type 0) → ((x : X) → P x → Q x) → (xs : List X) → AllByRecursion P xs → AllByRecursion Q xs
+all-map P Q f [] all = tt
+all-map P Q f (x ∷ xs) all = (f x all.0, all-map P Q f xs all.1)
+
+-- each of these hosts is among them
+hosts-own : (hosts : List HostRowParts) → AllByRecursion (λ (h : HostRowParts). has_host h.host hosts ≡ true) hosts
+hosts-own [] = tt
+hosts-own (h ∷ hosts) = (ap (λ b. b || has_host h.host hosts) ((host_decides h.host h.host).1 refl), more hosts (hosts-own hosts))
+  where
+    more : (hs : List HostRowParts) → AllByRecursion (λ (x : HostRowParts). has_host x.host hosts ≡ true) hs → AllByRecursion (λ (x : HostRowParts). has_host x.host (h ∷ hosts) ≡ true) hs
+    more [] all = tt
+    more (x ∷ hs) all = (late (host_same h.host x.host) (has_host x.host hosts) all.0, more hs all.1)
+
+results-same : (old new : ResultsKept) (n : ℕ) (hosts : List HostRowParts) → AllByRecursion (λ (h : HostRowParts). result_in new n h.host ≡ result_in old n h.host) hosts
+    → are_results_in new n hosts ≡ are_results_in old n hosts
+results-same old new n [] all = refl
+results-same old new n (h ∷ hosts) all = λ i. is_some (all.0 i) && results-same old new n hosts all.1 i
+
+agrees-same : (old new : WatchesKept) (q : List ℕ) → watch_in new q ≡ watch_in old q → Agrees old new q
+agrees-same old new q e = record { told = λ i. (e i).told; timed = λ i. (e i).timed; value = λ i. (e i).value }
+
+-- forgetting all results leaves none of hosts outside an assignment without hosts
+pub forgets-trims : (old new : ResultsKept) (number : ℕ) → Forgets old new number → Trims old new number []
+forgets-trims old new number forgets n h = forgets n h ∙ by (nat_eq number n)
+  where
+    by : (b : Bool) → cond b None (result_in old n h) ≡ cond (b && true) None (result_in old n h)
+    by true = refl
+    by false = refl
+
+-- names go that no live row depends on
+module _ (rows : List GenRow) (old new : WatchesKept) (test : List ℕ → Bool)
+    (forgot : (q : List ℕ) → watch_in new q ≡ cond (test q && is_idle rows q) unwatched (watch_in old q)) where
+  -- a name that a live row depends on is known as before
+  pub busy-same : (q : List ℕ) → list_any (depends_on q) rows ≡ true → watch_in new q ≡ watch_in old q
+  busy-same q busy = forgot q ∙ (λ i. cond (test q && not (busy i)) unwatched (watch_in old q)) ∙ by (test q)
+    where
+      by : (b : Bool) → cond (b && false) unwatched (watch_in old q) ≡ watch_in old q
+      by true = refl
+      by false = refl
+
+  need-same : (n : ℕ) (r : GenRow) → row_in n rows ≡ Some r → is_live r.status ≡ true → (q : List ℕ) → name_needed r.content ≡ Some q → Agrees old new q
+  need-same n r at live q needs =
+      agrees-same old new q
+      (busy-same q (any-found (depends_on q) n r rows at ((λ i. live i && is_needed q (needs i)) ∙ (bytes_decide q q).1 refl)))
+
+  -- the same results are kept
+  pub loses-same : (n : ℕ) (host : Host) → loses_result new host (row_in n rows) ≡ loses_result old host (row_in n rows)
+  loses-same n host = by (row_in n rows) refl
+    where
+      over : (r : GenRow) → row_in n rows ≡ Some r → (l : Bool) → is_live r.status ≡ l
+          → not (l && has_host host (assignment_in new r.content)) ≡ not (l && has_host host (assignment_in old r.content))
+      over r at false e = refl
+      over r at true e = λ i. not (has_host host (assignment_in-agrees old new r.content (need-same n r at e) i))
+
+      by : (o : Option GenRow) → row_in n rows ≡ o → loses_result new host o ≡ loses_result old host o
+      by None at = refl
+      by (Some r) at = over r at (is_live r.status) refl
+
+-- what nobody needs any more of one row went
+module _ (s : State) (number : ℕ) (row : GenRow) (x : IsIndexed s) (found : row_in number s.table.rows ≡ Some row)
+    (watches : WatchesKept)
+    (forgot : (q : List ℕ) → watch_in watches q ≡ cond (is_needed q (name_needed row.content) && is_idle s.table.rows q) unwatched (watch_in s.watches q))
+    (results : ResultsKept)
+    (trimmed : (n : ℕ) (h : Host) → result_in results n h ≡ cond (nat_eq number n && not (keeps_result s.watches h row)) None (result_in s.results n h)) where
+  own_row : (n : ℕ) (r : GenRow) → row_in n s.table.rows ≡ Some r → nat_eq number r.number ≡ true → r ≡ row
+  own_row n r at e =
+      let same : n ≡ number = sym (number-row_in n r s.table.rows at) ∙ sym (eqb-true number r.number e) in
+      let both : Some r ≡ Some row = sym at ∙ (λ i. row_in (same i) s.table.rows) ∙ found in
+      cc
+
+  -- the results of a live row's own hosts stay
+  round : (n : ℕ) (r : GenRow) → row_in n s.table.rows ≡ Some r → is_live r.status ≡ true
+      → are_results_in results r.number (assignment_in s.watches r.content) ≡ are_results_in s.results r.number (assignment_in s.watches r.content)
+  round n r at live =
+      results-same s.results results r.number (assignment_in s.watches r.content)
+      (all-map (λ (h : HostRowParts). has_host h.host (assignment_in s.watches r.content) ≡ true) (λ (h : HostRowParts). result_in results r.number h.host ≡ result_in s.results r.number h.host)
+      (λ h own. trimmed r.number h.host ∙ by h own (nat_eq number r.number) refl) (assignment_in s.watches r.content) (hosts-own (assignment_in s.watches r.content)))
+    where
+      by : (h : HostRowParts) → has_host h.host (assignment_in s.watches r.content) ≡ true → (b : Bool) → nat_eq number r.number ≡ b
+          → cond (b && not (keeps_result s.watches h.host row)) None (result_in s.results r.number h.host) ≡ result_in s.results r.number h.host
+      by h own false e = refl
+      by h own true e =
+          let kept : keeps_result s.watches h.host row ≡ true = (λ i. keeps_result s.watches h.host (sym (own_row n r at e) i)) ∙ (λ i. live i && own i) in
+          λ i. cond (not (kept i)) None (result_in s.results r.number h.host)
+
+  due_same : (n : ℕ) → is_due_at watches results n s.table.rows ≡ is_due_at s.watches s.results n s.table.rows
+  due_same n = by (row_in n s.table.rows) refl
+    where
+      over : (r : GenRow) → row_in n s.table.rows ≡ Some r → (w : Bool) → is_warming r.status ≡ w → (w && is_ready_in watches results r) ≡ (w && is_ready_in s.watches s.results r)
+      over r at false e = refl
+      over r at true e =
+          is_ready_in-agrees s.watches watches results r (need-same s.table.rows s.watches watches (λ q. is_needed q (name_needed row.content)) forgot n r at (live-warming r.status e))
+          ∙ (λ i. is_answered_in s.watches r.content && (not (is_checked r.content) || round n r at (live-warming r.status e) i))
+
+      by : (o : Option GenRow) → row_in n s.table.rows ≡ o → is_due_found watches results o ≡ is_due_found s.watches s.results o
+      by None at = refl
+      by (Some r) at = over r at (is_warming r.status) refl
+
+  waits : (test : GenRow → Bool) (q : List ℕ) (f : Watch → List ℕ) → f unwatched ≡ [] → f (watch_in s.watches q) ≡ numbers_where test s.table.rows
+      → ((r : GenRow) → test r ≡ true → depends_on q r ≡ true) → f (watch_in watches q) ≡ numbers_where test s.table.rows
+  waits test q f empty index narrower = ap f (forgot q) ∙ by (is_needed q (name_needed row.content)) (list_any (depends_on q) s.table.rows) refl
+    where
+      by : (a b : Bool) → list_any (depends_on q) s.table.rows ≡ b → f (cond (a && not b) unwatched (watch_in s.watches q)) ≡ numbers_where test s.table.rows
+      by false b e = index
+      by true true e = index
+      by true false e = empty ∙ sym (where-none test s.table.rows (any-less (depends_on q) test narrower s.table.rows e))
+
+  undrawn : (b : Bool) (o : Option Bool) → o ≡ None → cond b None o ≡ None
+  undrawn true o e = refl
+  undrawn false o e = e
+
+  pub indexed-forgot : IsIndexed (record s { watches = watches; results = results })
+  indexed-forgot = record {
+    table = x.table;
+    kinds = x.kinds;
+    active = x.active;
+    warming = x.warming;
+    watchers = λ q. waits (depends_on q) q (λ (w : Watch). w.rows) refl (x.watchers q) (λ r h. h);
+    limited = λ q. waits (waits_limited q) q (λ (w : Watch). w.limited) refl (x.limited q) (λ r h. early (depends_on q r) _ h);
+    due = λ n. x.due n ∙ sym (due_same n);
+    drawn = λ n h above. trimmed n h ∙ undrawn (nat_eq number n && not (keeps_result s.watches h row)) (result_in s.results n h) (x.drawn n h above);
+  }
+
+-- one more of the rows was looked at
+pub cond_more : {A : Type 0} (a b d : Bool) (u v : A) → cond (b && d) u (cond (a && d) u v) ≡ cond ((a || b) && d) u v
+cond_more true true true u v = refl
+cond_more true true false u v = refl
+cond_more true false true u v = refl
+cond_more true false false u v = refl
+cond_more false true true u v = refl
+cond_more false true false u v = refl
+cond_more false false true u v = refl
+cond_more false false false u v = refl
+
+-- all that nobody needs any more of these rows went
+module _ (s : State) (stale : List ℕ) (tidy : IsTidyBut s stale) (watches : WatchesKept)
+    (forgot : (q : List ℕ) → watch_in watches q ≡ cond (is_need_of s.table.rows stale q && is_idle s.table.rows q) unwatched (watch_in s.watches q))
+    (results : ResultsKept)
+    (trimmed : (n : ℕ) (h : Host) → result_in results n h ≡ cond (is_among stale n && loses_result s.watches h (row_in n s.table.rows)) None (result_in s.results n h)) where
+  pub tidy-forgot : IsTidyBut (record s { watches = watches; results = results }) []
+  tidy-forgot = record { marks = λ q none no. marks q none (is_need_of s.table.rows stale q) refl; results = λ n row h at no lost. gone n row h at lost (is_among stale n) refl }
+    where
+      marks : (q : List ℕ) → list_any (depends_on q) s.table.rows ≡ false → (b : Bool) → is_need_of s.table.rows stale q ≡ b → IsUnheard (watch_in watches q)
+      marks q none true e =
+          subst IsUnheard (sym (forgot q ∙ (λ i. cond (e i && not (none i)) unwatched (watch_in s.watches q)))) (record { told = refl; timed = refl; value = refl })
+      marks q none false e =
+          subst IsUnheard (sym (forgot q ∙ (λ i. cond (e i && is_idle s.table.rows q) unwatched (watch_in s.watches q)))) (tidy.marks q none e)
+
+      gone : (n : ℕ) (row : GenRow) (h : Host) → row_in n s.table.rows ≡ Some row → keeps_result watches h row ≡ false → (b : Bool) → is_among stale n ≡ b → result_in results n h ≡ None
+      gone n row h at lost b e =
+          let was : loses_result s.watches h (row_in n s.table.rows) ≡ true =
+          sym (loses-same s.table.rows s.watches watches (is_need_of s.table.rows stale) forgot n h) ∙ (λ i. loses_result watches h (at i)) ∙ ap not lost in
+          trimmed n h ∙ (λ i. cond (e i && was i) None (result_in s.results n h))
+          ∙ by b e (not_true (keeps_result s.watches h row) ((λ i. loses_result s.watches h (sym at i)) ∙ was))
+        where
+          by : (b : Bool) → is_among stale n ≡ b → keeps_result s.watches h row ≡ false → cond (b && true) None (result_in s.results n h) ≡ None
+          by true e lost = refl
+          by false e lost = tidy.results n row h at e lost
+
+-- the step of forgetting, row by row
+pub watch-more : (rows : List GenRow) (old now new : WatchesKept) (stale : List ℕ) (i number : ℕ) → i < length stale → number ≡ get_or stale i number
+    → ((q : List ℕ) → watch_in now q ≡ cond (is_need_of rows (take i stale) q && is_idle rows q) unwatched (watch_in old q))
+    → ((q : List ℕ) → watch_in new q ≡ cond (is_needed q (need_in (row_in number rows)) && is_idle rows q) unwatched (watch_in now q))
+    → (q : List ℕ) → watch_in new q ≡ cond (is_need_of rows (take (i + 1) stale) q && is_idle rows q) unwatched (watch_in old q)
+watch-more rows old now new stale i number within is before step q =
+    step q
+    ∙ (λ j. cond (is_needed q (need_in (row_in number rows)) && is_idle rows q) unwatched (before q j))
+    ∙ cond_more (is_need_of rows (take i stale) q) (is_needed q (need_in (row_in number rows))) (is_idle rows q) unwatched (watch_in old q)
+    ∙ (λ j. cond (sym one j && is_idle rows q) unwatched (watch_in old q))
+  where
+    one : is_need_of rows (take (i + 1) stale) q ≡ (is_need_of rows (take i stale) q || is_needed q (need_in (row_in number rows)))
+    one =
+        list_any_more (λ n. is_needed q (need_in (row_in n rows))) stale i number within
+        ∙ (λ j. is_need_of rows (take i stale) q || is_needed q (need_in (row_in (sym is j) rows)))
+
+pub result-more : (rows : List GenRow) (watches now : WatchesKept) (old mid new : ResultsKept) (stale : List ℕ) (i number : ℕ) → i < length stale → number ≡ get_or stale i number
+    → ((q : List ℕ) → watch_in now q ≡ cond (is_need_of rows (take i stale) q && is_idle rows q) unwatched (watch_in watches q))
+    → ((n : ℕ) (h : Host) → result_in mid n h ≡ cond (is_among (take i stale) n && loses_result watches h (row_in n rows)) None (result_in old n h))
+    → ((n : ℕ) (h : Host) → result_in new n h ≡ cond (nat_eq number n && loses_result now h (row_in n rows)) None (result_in mid n h))
+    → (n : ℕ) (h : Host) → result_in new n h ≡ cond (is_among (take (i + 1) stale) n && loses_result watches h (row_in n rows)) None (result_in old n h)
+result-more rows watches now old mid new stale i number within is forgot before step n h =
+    step n h
+    ∙ (λ j. cond (nat_eq number n && loses-same rows watches now (is_need_of rows (take i stale)) forgot n h j) None (before n h j))
+    ∙ cond_more (is_among (take i stale) n) (nat_eq number n) (loses_result watches h (row_in n rows)) None (result_in old n h)
+    ∙ (λ j. cond (sym one j && loses_result watches h (row_in n rows)) None (result_in old n h))
+  where
+    one : is_among (take (i + 1) stale) n ≡ (is_among (take i stale) n || nat_eq number n)
+    one =
+        list_any_more (nat_eq n) stale i number within
+        ∙ (λ j. is_among (take i stale) n || nat_eq n (sym is j))
+        ∙ (λ j. is_among (take i stale) n || flipped n number j)
+
+-- a name is idle where no number is in its index
+length-none : (ns : List ℕ) → length ns ≡ 0 → ns ≡ []
+length-none [] e = refl
+length-none (n ∷ ns) e = absurd (omega arith)
+
+pub idle-index : (s : State) → IsIndexed s → (q : List ℕ) → nat_eq (length (watch_in s.watches q).rows) 0 ≡ is_idle s.table.rows q
+idle-index s x q = (λ i. nat_eq (length (x.watchers q i)) 0) ∙ by (list_any (depends_on q) s.table.rows) refl
+  where
+    by : (b : Bool) → list_any (depends_on q) s.table.rows ≡ b → nat_eq (length (numbers_where (depends_on q) s.table.rows)) 0 ≡ not b
+    by true e = ne_eqb (length (numbers_where (depends_on q) s.table.rows)) 0 (λ none. where-some (depends_on q) s.table.rows e (length-none (numbers_where (depends_on q) s.table.rows) none))
+    by false e = λ i. nat_eq (length (where-none (depends_on q) s.table.rows e i)) 0
+
+-- the results that one row loses
+pub loses-at : (rows : List GenRow) (watches : WatchesKept) (number : ℕ) (row : GenRow) → row_in number rows ≡ Some row → (n : ℕ) (h : Host)
+    → (nat_eq number n && not (keeps_result watches h row)) ≡ (nat_eq number n && loses_result watches h (row_in n rows))
+loses-at rows watches number row found n h = by (nat_eq number n) refl
+  where
+    by : (b : Bool) → nat_eq number n ≡ b → (b && not (keeps_result watches h row)) ≡ (b && loses_result watches h (row_in n rows))
+    by true e = (λ i. loses_result watches h (sym found i)) ∙ (λ i. loses_result watches h (row_in (eqb-true number n e i) rows))
+    by false e = refl

@@ -1,0 +1,367 @@
+-- A state that stands for a world stands for it once both have forgotten what nobody needs any more.
+use Rattle.std.proofs.Common.{◌≡◌, ◌∙◌, ℕ, Bool, true, false, cond, not, ◌&&◌, ◌||◌, nat_eq, List, [], ◌∷◌, Option, None, Some, IsSome, is_some, option_map, unwrap_or, map, filter, refl, sym, ap, subst, true≢false}
+use Rattle.std.specs.List.{list_any, last_or, filter_map, AllByRecursion, IsDistinct}
+use Rattle.std.specs.Str.{bytes_eq}
+use Rattle.std.proofs.lemmas.Bool.{eqb-true, eq-eqb, and_parts}
+use Rattle.std.proofs.lemmas.Map.Keys.{IsDistinct-head, IsDistinct-tail}
+use Rattle.ev_types.specs.Items.{content_kind}
+use Rattle.ev_types.specs.Kinds.{kind_same, kind_decides}
+use Rattle.ev_types.specs.Same.{bytes_decide}
+use Rattle.ev_types.specs.SameHosts.{host_same, host_decides}
+use Rattle.ev_types.specs.Statuses.{is_live}
+use Rattle.ev_types.specs.declared.contents.Kind.{Kind}
+use Rattle.ev_types.specs.declared.contents.Kind.TheVariants.{Cds, Eds, Lds, Rds}
+use Rattle.ev_types.specs.declared.contents.Content.{Content}
+use Rattle.ev_types.specs.declared.contents.Content.TheVariants.{Cluster as a_cluster, Assignment as an_assignment, Listener as a_listener, Routes as routes}
+use Rattle.ev_types.specs.declared.clusters.Discovery.{Discovery}
+use Rattle.ev_types.specs.declared.clusters.Discovery.TheVariants.{Static, Eds as by_eds}
+use Rattle.ev_types.specs.declared.listeners.Serve.{Serve}
+use Rattle.ev_types.specs.declared.listeners.Serve.TheVariants.{Rds as by_rds, Inline, Tcp}
+use Rattle.ev_types.specs.declared.hosts.Host.{Host}
+use Rattle.ev_types.specs.declared.rows.Arrival.{Arrival}
+use Rattle.ev_types.specs.declared.rows.Live.{Live}
+use Rattle.ev_types.specs.declared.rows.GenRow.{GenRow}
+use Rattle.ev_model.specs.World.{World, Arrived, HealthResult}
+use Rattle.ev_model.specs.Live.{live_of, lives_of}
+use Rattle.ev_model.specs.Watching.{Dependency, dependency_of, discovery_dependency, serve_dependency, is_dependency, is_watched, is_by_name}
+use Rattle.ev_model.specs.Warming.{came_for, content_in, is_word, is_timeout, is_told_by, is_timed_by, value_by, has_result, is_healthy, is_result_of, assignment_by}
+use Rattle.ev_model.specs.Tidy.{arrivals_watched, without_unwatched, has_host, is_result_due, without_old_results}
+use Rattle.ev_endpoints.specs.Results.{ResultsKept, result_in}
+use Rattle.ev_generations.specs.Tables.{row_in, numbers_of}
+use Rattle.ev_generations.proofs.TableLemmas.{number-row_in}
+use Rattle.ev_warming.specs.declared.state.State.{State}
+use Rattle.ev_warming.specs.Due.{is_among}
+use Rattle.ev_warming.specs.Watched.{WatchesKept, unwatched, watch_in}
+use Rattle.ev_warming.specs.Ready.{name_needed}
+use Rattle.ev_warming.specs.Indexes.{is_needed, depends_on}
+use Rattle.ev_warming.specs.Worlds.{needs_of, rows_of_kind, StandsFor}
+use Rattle.ev_warming.specs.Forgetting.{is_need_of, is_idle, keeps_result, loses_result, IsUnheard, IsTidyBut}
+use Rattle.ev_warming.proofs.WhereLemmas.{any-found, all-found}
+use Rattle.ev_warming.proofs.PromotionLemmas.{any_agrees, all_then}
+use Rattle.ev_warming.proofs.SoundLemmas.{contents-of}
+use Rattle.ev_warming.proofs.WorldLemmas.{hosts-by}
+use Rattle.ev_warming.proofs.ForgettingLemmas.{busy-same, loses-same, tidy-forgot}
+
+-- who is watched in the world
+
+any-lives : (f : Live → Bool) (rows : List GenRow) → list_any f (map live_of (filter (λ (row : GenRow). is_live row.status) rows)) ≡ list_any (λ (row : GenRow). is_live row.status && f (live_of row)) rows
+any-lives f [] = refl
+any-lives f (row ∷ rows) = by (is_live row.status) (any-lives f rows)
+  where
+    by : (b : Bool) → list_any f (map live_of (filter (λ (r : GenRow). is_live r.status) rows)) ≡ list_any (λ (r : GenRow). is_live r.status && f (live_of r)) rows
+        → list_any f (map live_of (cond b (row ∷ filter (λ (r : GenRow). is_live r.status) rows) (filter (λ (r : GenRow). is_live r.status) rows)))
+        ≡ ((b && f (live_of row)) || list_any (λ (r : GenRow). is_live r.status && f (live_of r)) rows)
+    by true h = ap (λ b. f (live_of row) || b) h
+    by false h = h
+
+any-of_kind : (kind : Kind) (f : GenRow → Bool) (rows : List GenRow) → list_any f (rows_of_kind kind rows) ≡ list_any (λ (row : GenRow). kind_same row.kind kind && f row) rows
+any-of_kind kind f [] = refl
+any-of_kind kind f (row ∷ rows) = by (kind_same row.kind kind) (any-of_kind kind f rows)
+  where
+    by : (b : Bool) → list_any f (rows_of_kind kind rows) ≡ list_any (λ (r : GenRow). kind_same r.kind kind && f r) rows
+        → list_any f (cond b (row ∷ rows_of_kind kind rows) (rows_of_kind kind rows)) ≡ ((b && f row) || list_any (λ (r : GenRow). kind_same r.kind kind && f r) rows)
+    by true h = ap (λ b. f row || b) h
+    by false h = h
+
+discovery-needs : (kind : Kind) → is_by_name kind ≡ false → (q : List ℕ) (d : Discovery)
+    → is_dependency (needs_of kind) q (discovery_dependency d) ≡ (kind_same Cds kind && is_needed q (option_map (λ (d : Dependency). d.name) (discovery_dependency d)))
+discovery-needs Cds k q (Static rows) = refl
+discovery-needs Cds k q (by_eds service limited) = refl
+discovery-needs Lds k q (Static rows) = refl
+discovery-needs Lds k q (by_eds service limited) = refl
+discovery-needs Eds k q d = absurd (true≢false k)
+discovery-needs Rds k q d = absurd (true≢false k)
+
+serve-needs : (kind : Kind) → is_by_name kind ≡ false → (q : List ℕ) (v : Serve)
+    → is_dependency (needs_of kind) q (serve_dependency v) ≡ (kind_same Lds kind && is_needed q (option_map (λ (d : Dependency). d.name) (serve_dependency v)))
+serve-needs Cds k q (by_rds name limited) = refl
+serve-needs Cds k q (Inline table) = refl
+serve-needs Cds k q (Tcp target) = refl
+serve-needs Lds k q (by_rds name limited) = refl
+serve-needs Lds k q (Inline table) = refl
+serve-needs Lds k q (Tcp target) = refl
+serve-needs Eds k q v = absurd (true≢false k)
+serve-needs Rds k q v = absurd (true≢false k)
+
+nothing : (b : Bool) → false ≡ (b && false)
+nothing true = refl
+nothing false = refl
+
+needs-same : (kind : Kind) → is_by_name kind ≡ false → (q : List ℕ) (content : Content)
+    → is_dependency (needs_of kind) q (dependency_of content) ≡ (kind_same (content_kind content) kind && is_needed q (name_needed content))
+needs-same kind k q (a_cluster cluster) = discovery-needs kind k q cluster.discovery
+needs-same kind k q (an_assignment rows) = nothing (kind_same Eds kind)
+needs-same kind k q (a_listener listener) = serve-needs kind k q listener.serve
+needs-same kind k q (routes table) = nothing (kind_same Rds kind)
+
+swapped : (a b c : Bool) → (a && (b && c)) ≡ (b && (a && c))
+swapped true b c = refl
+swapped false true c = refl
+swapped false false c = refl
+
+pub watched-same : (s : State) (world : World) → StandsFor s world → is_by_name s.kind ≡ false → (q : List ℕ) → is_watched (lives_of world) (needs_of s.kind) q ≡ list_any (depends_on q) s.table.rows
+watched-same s world stands k q =
+    any-lives (λ (live : Live). is_dependency (needs_of s.kind) q (dependency_of live.content)) world.rows
+    ∙ any_agrees (λ (r : GenRow). is_live r.status && is_dependency (needs_of s.kind) q (dependency_of r.content)) (λ (r : GenRow). kind_same r.kind s.kind && depends_on q r) world.rows
+    (all_then (λ (r : GenRow). content_kind r.content ≡ r.kind)
+    (λ (r : GenRow). (is_live r.status && is_dependency (needs_of s.kind) q (dependency_of r.content)) ≡ (kind_same r.kind s.kind && depends_on q r)) world.rows
+    (λ r typed. (λ i. is_live r.status && needs-same s.kind k q r.content i) ∙ (λ i. is_live r.status && (kind_same (typed i) s.kind && is_needed q (name_needed r.content)))
+    ∙ swapped (is_live r.status) (kind_same r.kind s.kind) (is_needed q (name_needed r.content)))
+    stands.sound.typed)
+    ∙ sym (any-of_kind s.kind (depends_on q) world.rows)
+    ∙ ap (list_any (depends_on q)) (sym stands.rows)
+
+pub both-same : {A : Type 0} (x : A) (b : Bool) → x ≡ cond b x x
+both-same x true = refl
+both-same x false = refl
+
+abbrev is_for : Kind → List ℕ → Arrived → Bool
+is_for kind q other = kind_same other.kind kind && bytes_eq other.name q
+
+abbrev arrival_of : Arrived → Arrival
+arrival_of other = other.arrival
+
+-- what is left of what came for a name
+came-left : (lives : List Live) (arrivals : List Arrived) (kind : Kind) (q : List ℕ) → came_for (arrivals_watched lives arrivals) kind q ≡ cond (is_watched lives kind q) (came_for arrivals kind q) []
+came-left lives [] kind q = both-same [] (is_watched lives kind q)
+came-left lives (a ∷ arrivals) kind q = by (is_watched lives a.kind a.name) refl (kind_same a.kind kind && bytes_eq a.name q) refl (came-left lives arrivals kind q)
+  where
+    same : is_for kind q a ≡ true → is_watched lives kind q ≡ is_watched lives a.kind a.name
+    same e =
+        let p = and_parts (kind_same a.kind kind) (bytes_eq a.name q) e in
+        λ i. is_watched lives (sym ((kind_decides a.kind kind).0 p.0) i) (sym ((bytes_decide a.name q).0 p.1) i)
+
+    by : (w : Bool) → is_watched lives a.kind a.name ≡ w → (t : Bool) → is_for kind q a ≡ t
+        → came_for (arrivals_watched lives arrivals) kind q ≡ cond (is_watched lives kind q) (came_for arrivals kind q) []
+        → map arrival_of (filter (is_for kind q) (cond w (a ∷ arrivals_watched lives arrivals) (arrivals_watched lives arrivals)))
+        ≡ cond (is_watched lives kind q) (map arrival_of (cond t (a ∷ filter (is_for kind q) arrivals) (filter (is_for kind q) arrivals))) []
+    by true e true f h =
+        let on : is_watched lives kind q ≡ true = same f ∙ e in
+        (λ i. map arrival_of (cond (f i) (a ∷ filter (is_for kind q) (arrivals_watched lives arrivals)) (filter (is_for kind q) (arrivals_watched lives arrivals))))
+        ∙ ap (λ (xs : List Arrival). a.arrival ∷ xs) (h ∙ (λ i. cond (on i) (came_for arrivals kind q) []))
+        ∙ (λ i. cond (sym on i) (a.arrival ∷ came_for arrivals kind q) [])
+    by true e false f h = (λ i. map arrival_of (cond (f i) (a ∷ filter (is_for kind q) (arrivals_watched lives arrivals)) (filter (is_for kind q) (arrivals_watched lives arrivals)))) ∙ h
+    by false e true f h =
+        let off : is_watched lives kind q ≡ false = same f ∙ e in
+        h ∙ (λ i. cond (off i) (came_for arrivals kind q) []) ∙ (λ i. cond (sym off i) (a.arrival ∷ came_for arrivals kind q) [])
+    by false e false f h = h
+
+-- what is left of the results of one row and host
+module _ (due : HealthResult → Bool) (d : Bool) (n : ℕ) (h : Host) (same : (r : HealthResult) → is_result_of n h r ≡ true → due r ≡ d) where
+  results-left : (results : List HealthResult) → filter (is_result_of n h) (filter due results) ≡ cond d (filter (is_result_of n h) results) []
+  results-left [] = both-same [] d
+  results-left (r ∷ results) = by (due r) refl (is_result_of n h r) refl (results-left results)
+    where
+      by : (b : Bool) → due r ≡ b → (t : Bool) → is_result_of n h r ≡ t → filter (is_result_of n h) (filter due results) ≡ cond d (filter (is_result_of n h) results) []
+          → filter (is_result_of n h) (cond b (r ∷ filter due results) (filter due results)) ≡ cond d (cond t (r ∷ filter (is_result_of n h) results) (filter (is_result_of n h) results)) []
+      by true e true f rest =
+          let on : d ≡ true = sym (same r f) ∙ e in
+          (λ i. cond (f i) (r ∷ filter (is_result_of n h) (filter due results)) (filter (is_result_of n h) (filter due results)))
+          ∙ ap (λ (xs : List HealthResult). r ∷ xs) (rest ∙ (λ i. cond (on i) (filter (is_result_of n h) results) []))
+          ∙ (λ i. cond (sym on i) (r ∷ filter (is_result_of n h) results) [])
+      by true e false f rest = (λ i. cond (f i) (r ∷ filter (is_result_of n h) (filter due results)) (filter (is_result_of n h) (filter due results))) ∙ rest
+      by false e true f rest =
+          let off : d ≡ false = sym (same r f) ∙ e in
+          rest ∙ (λ i. cond (off i) (filter (is_result_of n h) results) []) ∙ (λ i. cond (sym off i) (r ∷ filter (is_result_of n h) results) [])
+      by false e false f rest = rest
+
+any-filtered : {A : Type 0} (p : A → Bool) (xs : List A) → list_any p (filter p xs) ≡ list_any p xs
+any-filtered p [] = refl
+any-filtered p (x ∷ xs) = by (p x) refl (any-filtered p xs)
+  where
+    by : (b : Bool) → p x ≡ b → list_any p (filter p xs) ≡ list_any p xs → list_any p (cond b (x ∷ filter p xs) (filter p xs)) ≡ (b || list_any p xs)
+    by true e h = (λ i. e i || list_any p (filter p xs))
+    by false e h = h
+
+none-left : {A : Type 0} (p keep : A → Bool) (xs : List A) → list_any p xs ≡ false → list_any p (filter keep xs) ≡ false
+none-left p keep [] h = refl
+none-left p keep (x ∷ xs) h = by (p x) refl h (keep x) (none-left p keep xs)
+  where
+    by : (b : Bool) → p x ≡ b → (b || list_any p xs) ≡ false → (k : Bool) → (list_any p xs ≡ false → list_any p (filter keep xs) ≡ false)
+        → list_any p (cond k (x ∷ filter keep xs) (filter keep xs)) ≡ false
+    by true e h k rest = absurd (true≢false h)
+    by false e h true rest = (λ i. e i || list_any p (filter keep xs)) ∙ rest h
+    by false e h false rest = rest h
+
+-- a row of the kind is the world's row of its number
+absent-far : (n : ℕ) (rows : List GenRow) → AllByRecursion (λ y. nat_eq n y ≡ false) (numbers_of rows) → row_in n rows ≡ None
+absent-far n [] far = refl
+absent-far n (row ∷ rows) far = (λ i. cond (far.0 i) (Some row) (row_in n rows)) ∙ absent-far n rows far.1
+
+found-of_kind : (kind : Kind) (n : ℕ) (row : GenRow) (rows : List GenRow) → IsDistinct nat_eq (numbers_of rows) → row_in n (rows_of_kind kind rows) ≡ Some row → row_in n rows ≡ Some row
+found-of_kind kind n row [] apart at = at
+found-of_kind kind n row (r ∷ rows) apart at = by (kind_same r.kind kind) at (found-of_kind kind n row rows (IsDistinct-tail nat_eq r.number (numbers_of rows) apart))
+  where
+    far : (b : Bool) → nat_eq n r.number ≡ b → row_in n rows ≡ Some row → cond b (Some r) (row_in n rows) ≡ Some row
+    far false e there = there
+    far true e there =
+        let none : row_in n rows ≡ None = (λ i. row_in (eqb-true n r.number e i) rows) ∙ absent-far r.number rows (IsDistinct-head nat_eq r.number (numbers_of rows) apart) in
+        cc
+
+    by : (k : Bool) → row_in n (cond k (r ∷ rows_of_kind kind rows) (rows_of_kind kind rows)) ≡ Some row → (row_in n (rows_of_kind kind rows) ≡ Some row → row_in n rows ≡ Some row)
+        → cond (nat_eq n r.number) (Some r) (row_in n rows) ≡ Some row
+    by true at rest = here (nat_eq n r.number) at
+      where
+        here : (b : Bool) → cond b (Some r) (row_in n (rows_of_kind kind rows)) ≡ Some row → cond b (Some r) (row_in n rows) ≡ Some row
+        here true h = h
+        here false h = rest h
+    by false at rest = far (nat_eq n r.number) refl (rest at)
+
+abbrev is_one : (GenRow → Bool) → ℕ → GenRow → Bool
+is_one f n r = is_live r.status && nat_eq r.number n && f r
+
+-- of rows with different numbers only the one of a number can pass a test that asks for it
+any-numbered : (f : GenRow → Bool) (n : ℕ) (row : GenRow) (rows : List GenRow) → row_in n rows ≡ Some row → IsDistinct nat_eq (numbers_of rows)
+    → list_any (is_one f n) rows ≡ (is_live row.status && f row)
+any-numbered f n row rows at apart = by (is_live row.status && f row) refl
+  where
+    joined : (a c : Bool) → (a && true && c) ≡ (a && c)
+    joined true c = refl
+    joined false c = refl
+
+    apart_too : (a c : Bool) → (a && false && c) ≡ false
+    apart_too true c = refl
+    apart_too false c = refl
+
+    fails : (r : GenRow) → (is_live row.status && f row) ≡ false → (nat_eq n r.number ≡ true → r ≡ row) → (b : Bool) → nat_eq r.number n ≡ b → is_one f n r ≡ false
+    fails r idle own true e =
+        let same : r ≡ row = own (eq-eqb n r.number (sym (eqb-true r.number n e))) in
+        (λ i. is_live r.status && e i && f r) ∙ joined (is_live r.status) (f r) ∙ (λ i. is_live (same i).status && f (same i)) ∙ idle
+    fails r idle own false e = (λ i. is_live r.status && e i && f r) ∙ apart_too (is_live r.status) (f r)
+
+    none : (rs : List GenRow) → (is_live row.status && f row) ≡ false → AllByRecursion (λ (r : GenRow). nat_eq n r.number ≡ true → r ≡ row) rs → list_any (is_one f n) rs ≡ false
+    none [] idle all = refl
+    none (r ∷ rs) idle all = (λ i. fails r idle all.0 (nat_eq r.number n) refl i || list_any (is_one f n) rs) ∙ none rs idle all.1
+
+    by : (b : Bool) → (is_live row.status && f row) ≡ b → list_any (is_one f n) rows ≡ b
+    by true e =
+        let p = and_parts (is_live row.status) (f row) e in
+        any-found (is_one f n) n row rows at
+        (λ i. p.0 i && eq-eqb row.number n (number-row_in n row rows at) i && p.1 i)
+    by false e = none rows e (all-found n row rows at apart)
+
+-- what holds of each row holds of one that is found
+pub all-at : (P : GenRow → Type 0) (n : ℕ) (row : GenRow) (rows : List GenRow) → row_in n rows ≡ Some row → AllByRecursion P rows → P row
+all-at P n row [] at all = cc
+all-at P n row (r ∷ rows) at all = by (nat_eq n r.number) at (λ h. all-at P n row rows h all.1)
+  where
+    by : (b : Bool) → cond b (Some r) (row_in n rows) ≡ Some row → (row_in n rows ≡ Some row → P row) → P row
+    by true h rest =
+        let same : r ≡ row = cc in
+        subst P same all.0
+    by false h rest = rest h
+
+-- a row that is there
+there-is : (o : Option GenRow) → IsSome o → (row : GenRow) × (o ≡ Some row)
+there-is None h = absurd (true≢false (sym h))
+there-is (Some row) h = (row, refl)
+
+module _ (s : State) (stale : List ℕ) (tidy : IsTidyBut s stale) (watches : WatchesKept)
+    (forgot : (q : List ℕ) → watch_in watches q ≡ cond (is_need_of s.table.rows stale q && is_idle s.table.rows q) unwatched (watch_in s.watches q))
+    (results : ResultsKept)
+    (trimmed : (n : ℕ) (h : Host) → result_in results n h ≡ cond (is_among stale n && loses_result s.watches h (row_in n s.table.rows)) None (result_in s.results n h))
+    (world : World) (stands : StandsFor s world) (rows : is_by_name s.kind ≡ false) where
+  abbrev arrivals : List Arrived
+  arrivals = arrivals_watched (lives_of world) world.arrivals
+
+  came-busy : (q : List ℕ) → list_any (depends_on q) s.table.rows ≡ true → came_for arrivals (needs_of s.kind) q ≡ came_for world.arrivals (needs_of s.kind) q
+  came-busy q e =
+      came-left (lives_of world) world.arrivals (needs_of s.kind) q
+      ∙ (λ i. cond ((watched-same s world stands rows q ∙ e) i) (came_for world.arrivals (needs_of s.kind) q) [])
+
+  came-idle : (q : List ℕ) → list_any (depends_on q) s.table.rows ≡ false → came_for arrivals (needs_of s.kind) q ≡ []
+  came-idle q e =
+      came-left (lives_of world) world.arrivals (needs_of s.kind) q
+      ∙ (λ i. cond ((watched-same s world stands rows q ∙ e) i) (came_for world.arrivals (needs_of s.kind) q) [])
+
+  busy : (q : List ℕ) → list_any (depends_on q) s.table.rows ≡ true → watch_in watches q ≡ watch_in s.watches q
+  busy q e = busy-same s.table.rows s.watches watches (is_need_of s.table.rows stale) forgot q e
+
+  idle : (q : List ℕ) → list_any (depends_on q) s.table.rows ≡ false → IsUnheard (watch_in watches q)
+  idle q e = (tidy-forgot s stale tidy watches forgot results trimmed).marks q e refl
+
+  told : (q : List ℕ) → (watch_in watches q).told ≡ is_told_by arrivals (needs_of s.kind) q
+  told q = by (list_any (depends_on q) s.table.rows) refl
+    where
+      by : (b : Bool) → list_any (depends_on q) s.table.rows ≡ b → (watch_in watches q).told ≡ is_told_by arrivals (needs_of s.kind) q
+      by true e = (λ i. (busy q e i).told) ∙ stands.told q ∙ sym (ap (list_any is_word) (came-busy q e))
+      by false e = (idle q e).told ∙ sym (ap (list_any is_word) (came-idle q e))
+
+  timed : (q : List ℕ) → (watch_in watches q).timed ≡ is_timed_by arrivals (needs_of s.kind) q
+  timed q = by (list_any (depends_on q) s.table.rows) refl
+    where
+      by : (b : Bool) → list_any (depends_on q) s.table.rows ≡ b → (watch_in watches q).timed ≡ is_timed_by arrivals (needs_of s.kind) q
+      by true e = (λ i. (busy q e i).timed) ∙ stands.timed q ∙ sym (ap (list_any is_timeout) (came-busy q e))
+      by false e = (idle q e).timed ∙ sym (ap (list_any is_timeout) (came-idle q e))
+
+  value : (q : List ℕ) → (watch_in watches q).value ≡ value_by arrivals (needs_of s.kind) q
+  value q = by (list_any (depends_on q) s.table.rows) refl
+    where
+      by : (b : Bool) → list_any (depends_on q) s.table.rows ≡ b → (watch_in watches q).value ≡ value_by arrivals (needs_of s.kind) q
+      by true e = (λ i. (busy q e i).value) ∙ stands.value q ∙ sym (ap (λ (xs : List Arrival). last_or None (filter_map content_in xs)) (came-busy q e))
+      by false e = (idle q e).value ∙ sym (ap (λ (xs : List Arrival). last_or None (filter_map content_in xs)) (came-idle q e))
+
+  -- the machine keeps the results that the state keeps
+  module _ (n : ℕ) (h : Host) (row : GenRow) (at : row_in n s.table.rows ≡ Some row) where
+    typed : content_kind row.content ≡ s.kind
+    typed = all-at (λ (r : GenRow). content_kind r.content ≡ s.kind) n row s.table.rows at (contents-of s world stands)
+
+    due-same : (r : HealthResult) → is_result_of n h r ≡ true → is_result_due arrivals world.rows r ≡ keeps_result watches h row
+    due-same r e =
+        let p = and_parts (nat_eq r.number n) (host_same r.host h) e in
+        (λ i. list_any (λ (other : GenRow). is_live other.status && nat_eq other.number (eqb-true r.number n p.0 i) && has_host ((host_decides r.host h).0 p.1 i) (assignment_by arrivals other.content)) world.rows)
+        ∙ any-numbered (λ (other : GenRow). has_host h (assignment_by arrivals other.content)) n row world.rows
+        (found-of_kind s.kind n row world.rows stands.sound.table.apart ((λ i. row_in n (sym stands.rows i)) ∙ at)) stands.sound.table.apart
+        ∙ (λ i. is_live row.status && has_host h (sym (hosts-by s.kind watches arrivals value row.content typed) i))
+
+    left : filter (is_result_of n h) (filter (is_result_due arrivals world.rows) world.results) ≡ cond (keeps_result watches h row) (filter (is_result_of n h) world.results) []
+    left = results-left (is_result_due arrivals world.rows) (keeps_result watches h row) n h due-same world.results
+
+    kept : keeps_result watches h row ≡ true → result_in results n h ≡ result_in s.results n h
+    kept k =
+        let was : loses_result s.watches h (row_in n s.table.rows) ≡ false =
+        sym (loses-same s.table.rows s.watches watches (is_need_of s.table.rows stale) forgot n h) ∙ (λ i. loses_result watches h (at i)) ∙ ap not k in
+        trimmed n h ∙ (λ i. cond (is_among stale n && was i) None (result_in s.results n h)) ∙ by (is_among stale n)
+      where
+        by : (b : Bool) → cond (b && false) None (result_in s.results n h) ≡ result_in s.results n h
+        by true = refl
+        by false = refl
+
+    lost : keeps_result watches h row ≡ false → result_in results n h ≡ None
+    lost k = (tidy-forgot s stale tidy watches forgot results trimmed).results n row h at refl k
+
+    resulted : is_some (result_in results n h) ≡ has_result (filter (is_result_due arrivals world.rows) world.results) n h
+    resulted =
+        by (keeps_result watches h row) refl
+        ∙ sym (sym (any-filtered (is_result_of n h) (filter (is_result_due arrivals world.rows) world.results)) ∙ ap (list_any (is_result_of n h)) left)
+      where
+        by : (k : Bool) → keeps_result watches h row ≡ k → is_some (result_in results n h) ≡ list_any (is_result_of n h) (cond k (filter (is_result_of n h) world.results) [])
+        by true k = ap is_some (kept k) ∙ stands.resulted n h (subst IsSome (sym at) refl) ∙ sym (any-filtered (is_result_of n h) world.results)
+        by false k = ap is_some (lost k)
+
+    healthy : unwrap_or (result_in results n h) false ≡ is_healthy (filter (is_result_due arrivals world.rows) world.results) n h
+    healthy =
+        by (keeps_result watches h row) refl
+        ∙ sym (ap (λ (xs : List HealthResult). unwrap_or (last_or None (map (λ (r : HealthResult). r.healthy) xs)) false) left)
+      where
+        by : (k : Bool) → keeps_result watches h row ≡ k
+            → unwrap_or (result_in results n h) false ≡ unwrap_or (last_or None (map (λ (r : HealthResult). r.healthy) (cond k (filter (is_result_of n h) world.results) []))) false
+        by true k = (λ i. unwrap_or (kept k i) false) ∙ stands.healthy n h (subst IsSome (sym at) refl)
+        by false k = (λ i. unwrap_or (lost k i) false)
+
+  pub forgot-stands : StandsFor (record s { watches = watches; results = results }) (without_old_results (without_unwatched world))
+  forgot-stands = record {
+    sound = record {
+      table = stands.sound.table;
+      typed = stands.sound.typed;
+      named = stands.sound.named;
+      heard = λ n h above. none-left (is_result_of n h) (is_result_due arrivals world.rows) world.results (stands.sound.heard n h above);
+    };
+    rows = stands.rows;
+    made = stands.made;
+    told = told;
+    timed = timed;
+    value = value;
+    resulted = λ n h there. let found = there-is (row_in n s.table.rows) there in resulted n h found.0 found.1;
+    healthy = λ n h there. let found = there-is (row_in n s.table.rows) there in healthy n h found.0 found.1;
+  }

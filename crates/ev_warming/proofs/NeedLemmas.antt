@@ -1,0 +1,23 @@
+-- What rows depend on are names, whatever their statuses.
+use Rattle.std.proofs.Common.{◌≡◌, ℕ, List, sym, subst}
+use Rattle.std.specs.List.{AllByRecursion}
+use Rattle.ev_types.specs.declared.contents.Kind.{Kind}
+use Rattle.ev_types.specs.declared.contents.Content.{Content}
+use Rattle.ev_types.specs.declared.rows.RowStatus.{RowStatus}
+use Rattle.ev_types.specs.declared.rows.GenRow.{GenRow}
+use Rattle.ev_model.specs.Rows.{with_statuses, replaced_status, new_row, rows_with_new}
+use Rattle.ev_warming.specs.Ready.{name_needed, IsNeedName}
+use Rattle.ev_warming.proofs.SoundLemmas.{all-with_statuses, all-push}
+
+pub needs-statused : (rows after : List GenRow) (f : GenRow → RowStatus) → after ≡ with_statuses f rows
+    → AllByRecursion (λ (r : GenRow). IsNeedName (name_needed r.content)) rows → AllByRecursion (λ (r : GenRow). IsNeedName (name_needed r.content)) after
+needs-statused rows after f e needs =
+    subst (AllByRecursion (λ (r : GenRow). IsNeedName (name_needed r.content))) (sym e)
+    (all-with_statuses (λ (r : GenRow). IsNeedName (name_needed r.content)) f (λ status r h. h) rows needs)
+
+pub needs-added : (kind : Kind) (made : ℕ) (name : List ℕ) (content : Content) (rows after : List GenRow) → after ≡ rows_with_new kind made name content rows
+    → AllByRecursion (λ (r : GenRow). IsNeedName (name_needed r.content)) rows → IsNeedName (name_needed content) → AllByRecursion (λ (r : GenRow). IsNeedName (name_needed r.content)) after
+needs-added kind made name content rows after e needs new =
+    subst (AllByRecursion (λ (r : GenRow). IsNeedName (name_needed r.content))) (sym e)
+    (all-push (λ (r : GenRow). IsNeedName (name_needed r.content)) (with_statuses (replaced_status kind name) rows) (new_row kind made name content)
+    (all-with_statuses (λ (r : GenRow). IsNeedName (name_needed r.content)) (replaced_status kind name) (λ status r h. h) rows needs) new)

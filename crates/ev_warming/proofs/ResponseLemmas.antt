@@ -1,0 +1,262 @@
+-- What a response does to a world that a state stands for.
+use Rattle.std.proofs.Common.{◌≡◌, ◌∙◌, ◌+◌, ◌<◌, ◌≤◌, ℕ, Bool, true, false, cond, not, ◌&&◌, ◌||◌, List, [], ◌∷◌, ◌++◌, None, map, filter, length, take, drop, get_or, nat_le, refl, sym, ap, subst, true≢false, append-nil}
+use Rattle.std.specs.List.{list_any, filter_map, last_or, AllByRecursion}
+use Rattle.std.specs.Str.{bytes_eq}
+use Rattle.std.proofs.lemmas.Bool.{false_from_ne_true, le-leb, lt-leb}
+use Rattle.std.proofs.lemmas.List.{take_more, drop_more, drop_all}
+use Rattle.std.proofs.lemmas.List.Elements.{filter-append}
+use Rattle.std.proofs.lemmas.List.Folds.{list_any-append}
+use Rattle.ev_types.specs.Items.{ItemParts, ResponseParts}
+use Rattle.ev_types.specs.Kinds.{kind_same}
+use Rattle.ev_types.specs.Same.{bytes_decide}
+use Rattle.ev_types.specs.Texts.{IsName}
+use Rattle.ev_types.specs.declared.contents.Kind.{Kind}
+use Rattle.ev_types.specs.declared.contents.Kind.TheVariants.{Cds, Eds, Lds, Rds}
+use Rattle.ev_types.specs.declared.contents.Content.{Content}
+use Rattle.ev_types.specs.declared.contents.Body.{Body}
+use Rattle.ev_types.specs.declared.contents.Body.TheVariants.{Good, Bad, Beat}
+use Rattle.ev_types.specs.declared.events.Verdict.{Verdict}
+use Rattle.ev_types.specs.declared.events.Verdict.TheVariants.{New, Same, Kept, Unasked, Renewed, Refused}
+use Rattle.ev_types.specs.declared.rows.Arrival.{Arrival}
+use Rattle.ev_types.specs.declared.rows.Arrival.TheVariants.{Value}
+use Rattle.ev_types.specs.declared.rows.RowStatus.{RowStatus}
+use Rattle.ev_types.specs.declared.rows.RowStatus.TheVariants.{Warming, Active, Draining, Dropped}
+use Rattle.ev_types.specs.declared.rows.KeptVersion.{KeptVersion}
+use Rattle.ev_types.specs.declared.rows.GenRow.{GenRow}
+use Rattle.ev_model.specs.World.{World, Arrived}
+use Rattle.ev_model.specs.Watching.{is_by_name}
+use Rattle.ev_model.specs.Warming.{came_for, content_in, is_word, is_timeout}
+use Rattle.ev_model.specs.Verdicts.{items_named, is_among}
+use Rattle.ev_model.specs.Rows.{versions_left, arrived, with_statuses, removed_status, rows_left, add_item, add_items, keep_version, keep_value, with_content, refuse, renew, with_removals}
+use Rattle.ev_model.specs.Signals.{ended_status, rows_ended}
+use Rattle.ev_warming.specs.declared.state.State.{State}
+use Rattle.ev_warming.specs.Changes.{is_unlisted, status_left_by}
+use Rattle.ev_warming.specs.Worlds.{needs_of, StandsFor}
+use Rattle.ev_warming.proofs.PromotionLemmas.{all_then, statuses_agree, statuses_same, with_statuses-twice}
+
+-- a state doesn't look at versions
+pub versions-stand : (s : State) (world : World) (versions : List KeptVersion) → StandsFor s world → StandsFor s (record world { versions = versions })
+versions-stand s world versions stands = record {
+  sound = record { table = stands.sound.table; typed = stands.sound.typed; named = stands.sound.named; heard = stands.sound.heard };
+  rows = stands.rows;
+  made = stands.made;
+  told = stands.told;
+  timed = stands.timed;
+  value = stands.value;
+  resulted = stands.resulted;
+  healthy = stands.healthy;
+}
+
+kinds-apart : (kind : Kind) → is_by_name kind ≡ false → kind_same kind (needs_of kind) ≡ false
+kinds-apart Cds h = refl
+kinds-apart Lds h = refl
+kinds-apart Eds h = absurd (true≢false h)
+kinds-apart Rds h = absurd (true≢false h)
+
+-- nor at what comes for other kinds
+came_for-other : (arrivals : List Arrived) (kind other : Kind) (arrival : Arrival) (name q : List ℕ) → kind_same other kind ≡ false
+    → came_for (arrivals ++ arrived other arrival name ∷ []) kind q ≡ came_for arrivals kind q
+came_for-other arrivals kind other arrival name q apart =
+    ap (map (λ (a : Arrived). a.arrival))
+    (filter-append (λ (a : Arrived). kind_same a.kind kind && bytes_eq a.name q) arrivals (arrived other arrival name ∷ [])
+    ∙ (λ i. filter (λ (a : Arrived). kind_same a.kind kind && bytes_eq a.name q) arrivals ++ cond (apart i && bytes_eq name q) (arrived other arrival name ∷ []) [])
+    ∙ append-nil (filter (λ (a : Arrived). kind_same a.kind kind && bytes_eq a.name q) arrivals))
+
+pub others-stand : (s : State) (world : World) (arrival : Arrival) (name : List ℕ) → is_by_name s.kind ≡ false → StandsFor s world
+    → StandsFor s (record world { arrivals = world.arrivals ++ arrived s.kind arrival name ∷ [] })
+others-stand s world arrival name rows stands =
+    let same = λ (q : List ℕ). sym (came_for-other world.arrivals (needs_of s.kind) s.kind arrival name q (kinds-apart s.kind rows)) in
+    record {
+      sound = record { table = stands.sound.table; typed = stands.sound.typed; named = stands.sound.named; heard = stands.sound.heard };
+      rows = stands.rows;
+      made = stands.made;
+      told = λ q. stands.told q ∙ ap (list_any is_word) (same q);
+      timed = λ q. stands.timed q ∙ ap (list_any is_timeout) (same q);
+      value = λ q. stands.value q ∙ ap (λ (xs : List Arrival). last_or None (filter_map content_in xs)) (same q);
+      resulted = stands.resulted;
+      healthy = stands.healthy;
+    }
+
+-- a resource that isn't new changes nothing that the state looks at
+kept-stands : (s : State) (world : World) (item : ItemParts) (body : Body) → StandsFor s world → StandsFor s (with_content (λ content. keep_version s.kind item) body world)
+kept-stands s world item (Good content) stands = versions-stand s world (keep_version s.kind item world).versions stands
+kept-stands s world item (Bad rule) stands = stands
+kept-stands s world item Beat stands = stands
+
+valued-stands : (s : State) (world : World) (item : ItemParts) (body : Body) → is_by_name s.kind ≡ false → StandsFor s world → StandsFor s (with_content (keep_value s.kind item) body world)
+valued-stands s world item (Good content) rows stands =
+    versions-stand s (record world { arrivals = world.arrivals ++ arrived s.kind (Value content) item.name ∷ [] }) (keep_value s.kind item content world).versions
+    (others-stand s world (Value content) item.name rows stands)
+valued-stands s world item (Bad rule) rows stands = stands
+valued-stands s world item Beat rows stands = stands
+
+refused-is : (kind : Kind) → is_by_name kind ≡ false → (name : List ℕ) (world : World) → world ≡ refuse kind name world
+refused-is Cds h name world = refl
+refused-is Lds h name world = refl
+refused-is Eds h name world = absurd (true≢false h)
+refused-is Rds h name world = absurd (true≢false h)
+
+pub other-stands : (s : State) (world : World) (item : ItemParts) (verdict : Verdict) → (verdict ≡ New → ⊥) → is_by_name s.kind ≡ false → StandsFor s world
+    → StandsFor s (add_item s.kind verdict item world)
+other-stands s world item New other rows stands = absurd (other refl)
+other-stands s world item Same other rows stands = kept-stands s world item item.body stands
+other-stands s world item Kept other rows stands = valued-stands s world item item.body rows stands
+other-stands s world item Unasked other rows stands = stands
+other-stands s world item Renewed other rows stands = versions-stand s world (renew s.kind item.name world).versions stands
+other-stands s world item (Refused rule) other rows stands = subst (StandsFor s) (refused-is s.kind rows item.name world) stands
+
+-- a new one without a content neither
+pub bad-stands : (s : State) (world : World) (item : ItemParts) (body : Body) (change : Content → World → World) → ((content : Content) → body ≡ Good content → ⊥) → StandsFor s world
+    → StandsFor s (with_content change body world)
+bad-stands s world item (Good content) change other stands = absurd (other content refl)
+bad-stands s world item (Bad rule) change other stands = stands
+bad-stands s world item Beat change other stands = stands
+
+removed-twice : (status : RowStatus) → removed_status (removed_status status) ≡ removed_status status
+removed-twice Warming = refl
+removed-twice Active = refl
+removed-twice Draining = refl
+removed-twice Dropped = refl
+
+-- one name more is removed
+left-more : (kind : Kind) (response : ResponseParts) (names : List (List ℕ)) (name : List ℕ) (rows : List GenRow)
+    → with_statuses (status_left_by kind response (name ∷ [])) (with_statuses (status_left_by kind response names) rows) ≡ with_statuses (status_left_by kind response (names ++ name ∷ [])) rows
+left-more kind response names name rows =
+    with_statuses-twice (status_left_by kind response (name ∷ [])) (status_left_by kind response names) rows
+    ∙ (λ i. with_statuses (λ (row : GenRow). over row i) rows)
+  where
+    by : (k a e u : Bool) (st : RowStatus) → cond (k && ((e || false) && u)) (removed_status (cond (k && (a && u)) (removed_status st) st)) (cond (k && (a && u)) (removed_status st) st)
+        ≡ cond (k && ((a || (e || false)) && u)) (removed_status st) st
+    by false a e u st = refl
+    by true true true true st = removed-twice st
+    by true true true false st = refl
+    by true true false true st = refl
+    by true true false false st = refl
+    by true false true true st = refl
+    by true false true false st = refl
+    by true false false true st = refl
+    by true false false false st = refl
+
+    over : (row : GenRow) → status_left_by kind response (name ∷ []) (record row { status = status_left_by kind response names row }) ≡ status_left_by kind response (names ++ name ∷ []) row
+    over row =
+        by (kind_same row.kind kind) (is_among row.name names) (bytes_eq name row.name) (is_unlisted response row.name) row.status
+        ∙ sym (λ i. cond (kind_same row.kind kind && (list_any-append (λ n. bytes_eq n row.name) names (name ∷ []) i && is_unlisted response row.name)) (removed_status row.status) row.status)
+
+-- a removed name that stands at no resource comes to its end
+ended-left : (kind : Kind) (response : ResponseParts) (name : List ℕ) (rows : List GenRow) → is_unlisted response name ≡ true
+    → with_statuses (ended_status kind name) rows ≡ with_statuses (status_left_by kind response (name ∷ [])) rows
+ended-left kind response name rows free = λ i. with_statuses (λ (row : GenRow). over row i) rows
+  where
+    by : (row : GenRow) (k b : Bool) → bytes_eq row.name name ≡ b → cond (k && b) (removed_status row.status) row.status
+        ≡ cond (k && ((bytes_eq name row.name || false) && is_unlisted response row.name)) (removed_status row.status) row.status
+    by row false b e = refl
+    by row true true e =
+        let same : row.name ≡ name = (bytes_decide row.name name).0 e in
+        sym (λ i. cond (((bytes_decide name row.name).1 (sym same) i || false) && ((λ j. is_unlisted response (same j)) ∙ free) i) (removed_status row.status) row.status)
+    by row true false e =
+        let far : bytes_eq name row.name ≡ false = false_from_ne_true (bytes_eq name row.name) (λ d. true≢false (sym ((bytes_decide row.name name).1 (sym ((bytes_decide name row.name).0 d))) ∙ e)) in
+        sym (λ i. cond ((far i || false) && is_unlisted response row.name) (removed_status row.status) row.status)
+
+    over : (row : GenRow) → ended_status kind name row ≡ status_left_by kind response (name ∷ []) row
+    over row = by row (kind_same row.kind kind) (bytes_eq row.name name) refl
+
+-- one that stands at a resource stays
+listed-left : (kind : Kind) (response : ResponseParts) (name : List ℕ) (rows : List GenRow) → is_unlisted response name ≡ false
+    → rows ≡ with_statuses (status_left_by kind response (name ∷ [])) rows
+listed-left kind response name rows listed = sym (statuses_same rows) ∙ (λ i. with_statuses (λ (row : GenRow). over row i) rows)
+  where
+    by : (row : GenRow) (k b : Bool) → bytes_eq name row.name ≡ b → row.status ≡ cond (k && ((b || false) && is_unlisted response row.name)) (removed_status row.status) row.status
+    by row false b e = refl
+    by row true false e = refl
+    by row true true e = λ i. cond (sym ((λ j. is_unlisted response (sym ((bytes_decide name row.name).0 e) j)) ∙ listed) i) (removed_status row.status) row.status
+
+    over : (row : GenRow) → row.status ≡ status_left_by kind response (name ∷ []) row
+    over row = by row (kind_same row.kind kind) (bytes_eq name row.name) refl
+
+-- and a text that is no name is no row's
+unnamed-left : (kind : Kind) (response : ResponseParts) (name : List ℕ) (rows : List GenRow) → (IsName name → ⊥) → AllByRecursion (λ (r : GenRow). IsName r.name) rows
+    → rows ≡ with_statuses (status_left_by kind response (name ∷ [])) rows
+unnamed-left kind response name rows bad named =
+    sym (statuses_same rows)
+    ∙ statuses_agree (λ (r : GenRow). r.status) (status_left_by kind response (name ∷ [])) rows
+    (all_then (λ (r : GenRow). IsName r.name) (λ (r : GenRow). r.status ≡ status_left_by kind response (name ∷ []) r) rows (λ r h. by r h (kind_same r.kind kind) (bytes_eq name r.name) refl) named)
+  where
+    by : (row : GenRow) → IsName row.name → (k b : Bool) → bytes_eq name row.name ≡ b → row.status ≡ cond (k && ((b || false) && is_unlisted response row.name)) (removed_status row.status) row.status
+    by row h false b e = refl
+    by row h true false e = refl
+    by row h true true e = absurd (bad (subst IsName (sym ((bytes_decide name row.name).0 e)) h))
+
+-- the same rows in a world that a state stands for
+pub rows-stand : (s : State) (world : World) (rows : List GenRow) → world.rows ≡ rows → StandsFor s world → StandsFor s (record world { rows = rows })
+rows-stand s world rows e stands = subst (λ (rs : List GenRow). StandsFor s (record world { rows = rs })) e stands
+
+-- one removed name
+pub ended-stands : (s : State) (world : World) (kind : Kind) (response : ResponseParts) (name : List ℕ) → is_unlisted response name ≡ true
+    → StandsFor s (record world { rows = rows_ended kind name world.rows }) → StandsFor s (record world { rows = with_statuses (status_left_by kind response (name ∷ [])) world.rows })
+ended-stands s world kind response name free stands =
+    subst (λ (rs : List GenRow). StandsFor s (record world { rows = rs })) (ended-left kind response name world.rows free) stands
+
+pub listed-stands : (s : State) (world : World) (kind : Kind) (response : ResponseParts) (name : List ℕ) → is_unlisted response name ≡ false
+    → StandsFor s world → StandsFor s (record world { rows = with_statuses (status_left_by kind response (name ∷ [])) world.rows })
+listed-stands s world kind response name listed stands = rows-stand s world (with_statuses (status_left_by kind response (name ∷ [])) world.rows) (listed-left kind response name world.rows listed) stands
+
+pub unnamed-stands : (s : State) (world : World) (kind : Kind) (response : ResponseParts) (name : List ℕ) → (IsName name → ⊥)
+    → StandsFor s world → StandsFor s (record world { rows = with_statuses (status_left_by kind response (name ∷ [])) world.rows })
+unnamed-stands s world kind response name bad stands =
+    rows-stand s world (with_statuses (status_left_by kind response (name ∷ [])) world.rows) (unnamed-left kind response name world.rows bad stands.sound.named) stands
+
+-- one removed name after others
+pub more-stands : (s t : State) (world : World) (kind : Kind) (response : ResponseParts) (names : List (List ℕ)) (i : ℕ) (name : List ℕ) → i < length names → name ≡ get_or names i name
+    → StandsFor s (record world { rows = with_statuses (status_left_by kind response (take i names)) world.rows })
+    → ((w : World) → StandsFor s w → StandsFor t (record w { rows = with_statuses (status_left_by kind response (name ∷ [])) w.rows }))
+    → StandsFor t (record world { rows = with_statuses (status_left_by kind response (take (i + 1) names)) world.rows })
+more-stands s t world kind response names i name within is before step =
+    subst (λ (rs : List GenRow). StandsFor t (record world { rows = rs }))
+    (left-more kind response (take i names) name world.rows
+    ∙ (λ j. with_statuses (status_left_by kind response (take i names ++ is j ∷ [])) world.rows)
+    ∙ (λ j. with_statuses (status_left_by kind response (sym (take_more names i name within) j)) world.rows))
+    (step (record world { rows = with_statuses (status_left_by kind response (take i names)) world.rows }) before)
+
+-- no name removed
+nothing-left : (kind : Kind) (response : ResponseParts) (rows : List GenRow) → rows ≡ with_statuses (status_left_by kind response []) rows
+nothing-left kind response rows = sym (statuses_same rows) ∙ (λ i. with_statuses (λ (row : GenRow). by row (kind_same row.kind kind) i) rows)
+  where
+    by : (row : GenRow) (k : Bool) → row.status ≡ cond (k && (false && is_unlisted response row.name)) (removed_status row.status) row.status
+    by row true = refl
+    by row false = refl
+
+pub nothing-stands : (s : State) (world : World) (response : ResponseParts) → StandsFor s world → StandsFor s (record world { rows = with_statuses (status_left_by s.kind response []) world.rows })
+nothing-stands s world response stands = rows-stand s world (with_statuses (status_left_by s.kind response []) world.rows) (nothing-left s.kind response world.rows) stands
+
+-- one resource more has come in
+pub item-more : (kind : Kind) (verdicts : List Verdict) (items : List ItemParts) (place : ℕ) (verdict : Verdict) (item : ItemParts) (world : World)
+    → place < length verdicts → place < length items → item ≡ get_or items place item
+    → add_items kind (drop (place + 1) verdicts) (drop (place + 1) items) (add_item kind (get_or verdicts place verdict) item world) ≡ add_items kind (drop place verdicts) (drop place items) world
+item-more kind verdicts items place verdict item world within here i =
+    (λ j. add_items kind (drop (place + 1) verdicts) (drop (place + 1) items) (add_item kind (get_or verdicts place verdict) (i j) world))
+    ∙ sym (λ j. add_items kind (drop_more verdicts place verdict within j) (drop_more items place item here j) world)
+
+pub items-done : (kind : Kind) (verdicts : List Verdict) (items : List ItemParts) (place : ℕ) (world : World) → length verdicts ≤ place → length items ≤ place
+    → add_items kind (drop place verdicts) (drop place items) world ≡ world
+items-done kind verdicts items place world v i = λ j. add_items kind (drop_all place verdicts v j) (drop_all place items i j) world
+
+-- removals, where versions are left aside
+removals-are : (kind : Kind) (response : ResponseParts) (world : World) → is_by_name kind ≡ false
+    → record world { rows = rows_left kind response world.rows; versions = versions_left kind response world.versions } ≡ with_removals kind response world
+removals-are Cds response world h = refl
+removals-are Lds response world h = refl
+removals-are Eds response world h = absurd (true≢false h)
+removals-are Rds response world h = absurd (true≢false h)
+
+pub removals-stand : (s : State) (world : World) (kind : Kind) (response : ResponseParts) → is_by_name kind ≡ false → StandsFor s (record world { rows = rows_left kind response world.rows })
+    → StandsFor s (with_removals kind response world)
+removals-stand s world kind response rows stands =
+    subst (StandsFor s) (removals-are kind response world rows)
+    (versions-stand s (record world { rows = rows_left kind response world.rows }) (versions_left kind response world.versions) stands)
+
+-- a name with a resource, and one without
+pub is_unlisted-some : (response : ResponseParts) (name : List ℕ) (count : ℕ) → count ≡ length (items_named name response.items) → 1 ≤ count → is_unlisted response name ≡ false
+is_unlisted-some response name count is some = (λ i. not (nat_le 1 (sym is i))) ∙ ap not (le-leb 1 count some)
+
+pub is_unlisted-none : (response : ResponseParts) (name : List ℕ) (count : ℕ) → count ≡ length (items_named name response.items) → count < 1 → is_unlisted response name ≡ true
+is_unlisted-none response name count is none = (λ i. not (nat_le 1 (sym is i))) ∙ ap not (lt-leb 1 count none)

@@ -1,0 +1,223 @@
+-- Which generations retired: what each step tells, and what steps tell together.
+use Rattle.std.proofs.Common.{◌≡◌, ◌∙◌, ◌+◌, get_or, length, length-append, arith, ⊎_elim, ℕ, Bool, true, false, cond, not, ◌&&◌, ◌||◌, nat_eq, List, [], ◌∷◌, ◌++◌, Option, None, Some, option_map, option_to_list, refl, sym, ap, true≢false}
+use Rattle.std.specs.List.{AllByRecursion, IsDistinct}
+use Rattle.std.specs.Option.{option_or}
+use Rattle.std.specs.Str.{bytes_eq}
+use Rattle.std.proofs.Math.Seq.{get_or-append_seam}
+use Rattle.std.proofs.lemmas.Bool.{cases_lt}
+use Rattle.std.proofs.lemmas.List.{get_or_append_left}
+use Rattle.std.proofs.lemmas.List.Folds.{list_any-append, find-append}
+use Rattle.ev_types.specs.Kinds.{kind_same, kind_decides}
+use Rattle.ev_types.specs.Statuses.{is_warming, is_active, is_live}
+use Rattle.ev_types.specs.declared.contents.Kind.{Kind}
+use Rattle.ev_types.specs.declared.contents.Content.{Content}
+use Rattle.ev_types.specs.declared.rows.RowStatus.{RowStatus}
+use Rattle.ev_types.specs.declared.rows.RowStatus.TheVariants.{Warming, Active, Draining, Dropped}
+use Rattle.ev_types.specs.declared.rows.GenRow.{GenRow}
+use Rattle.ev_model.specs.Rows.{with_statuses, replaced_status, removed_status, new_row, rows_with_new}
+use Rattle.ev_model.specs.Signals.{ended_status, rows_ended}
+use Rattle.ev_generations.specs.Tables.{is_number, row_in, numbers_of}
+use Rattle.ev_generations.proofs.TableLemmas.{row_in-with_statuses}
+use Rattle.ev_warming.specs.Due.{is_among}
+use Rattle.ev_warming.specs.Indexes.{serves, warms, numbers_where}
+use Rattle.ev_warming.specs.Changes.{is_over, has_retired, Draws, Tells}
+use Rattle.ev_warming.proofs.WhereLemmas.{among-where}
+use Rattle.ev_warming.proofs.DrainLemmas.{absent-where, fails-where}
+use Rattle.ev_warming.proofs.ForgottenLemmas.{all-at}
+use Rattle.ev_warming.proofs.ForgettingLemmas.{not_true}
+
+-- nothing changed, and nothing is told
+pub tells-none : (rows : List GenRow) (numbers : List ℕ) → Tells rows rows numbers numbers
+tells-none rows numbers = record { told = λ n. by (is_among numbers n) (is_over (row_in n rows)); stays = λ n h. h }
+  where
+    by : (a b : Bool) → a ≡ (a || (b && not b))
+    by true b = refl
+    by false true = refl
+    by false false = refl
+
+-- one change after another
+pub tells-then : (first second third : List GenRow) (xs ys zs : List ℕ) → Tells first second xs ys → Tells second third ys zs → Tells first third xs zs
+tells-then first second third xs ys zs p q = record {
+  told = λ n. q.told n ∙ (λ i. p.told n i || has_retired n second third) ∙ by (is_among xs n) (is_over (row_in n first)) (is_over (row_in n second)) (is_over (row_in n third)) (p.stays n) (q.stays n);
+  stays = λ n h. q.stays n (p.stays n h);
+}
+  where
+    by : (x a b c : Bool) → (a ≡ true → b ≡ true) → (b ≡ true → c ≡ true) → ((x || (b && not a)) || (c && not b)) ≡ (x || (c && not a))
+    by x true false c p q = absurd (true≢false (sym (p refl)))
+    by x a true false p q = absurd (true≢false (sym (q refl)))
+    by true true true true p q = refl
+    by false true true true p q = refl
+    by true false true true p q = refl
+    by false false true true p q = refl
+    by true false false c p q = refl
+    by false false false c p q = refl
+
+-- other statuses
+pub tells-statused : (f : GenRow → RowStatus) (before after : List GenRow) (numbers more : List ℕ) → after ≡ with_statuses f before
+    → ((n : ℕ) (row : GenRow) → row_in n before ≡ Some row → is_among more n ≡ (is_live row.status && not (is_live (f row))))
+    → ((n : ℕ) → row_in n before ≡ None → is_among more n ≡ false)
+    → ((row : GenRow) → is_live row.status ≡ false → is_live (f row) ≡ false)
+    → Tells before after numbers (numbers ++ more)
+tells-statused f before after numbers more rows some none ended = record {
+  told = λ n. list_any-append (nat_eq n) numbers more ∙ (λ i. is_among numbers n || gone n (row_in n before) refl i);
+  stays = λ n h. (λ i. is_over (found n i)) ∙ stays (row_in n before) h;
+}
+  where
+    found : (n : ℕ) → row_in n after ≡ option_map (λ (r : GenRow). record r { status = f r }) (row_in n before)
+    found n = (λ i. row_in n (rows i)) ∙ row_in-with_statuses n f before
+
+    flip : (a b : Bool) → (a && not b) ≡ (not b && not (not a))
+    flip true true = refl
+    flip true false = refl
+    flip false true = refl
+    flip false false = refl
+
+    gone : (n : ℕ) (o : Option GenRow) → row_in n before ≡ o → is_among more n ≡ has_retired n before after
+    gone n None at =
+        none n at ∙ (λ i. is_over (option_map (λ (r : GenRow). record r { status = f r }) (sym at i)) && not (is_over (row_in n before)))
+        ∙ (λ i. is_over (sym (found n) i) && not (is_over (row_in n before)))
+    gone n (Some r) at =
+        some n r at ∙ flip (is_live r.status) (is_live (f r))
+        ∙ (λ i. is_over (option_map (λ (r : GenRow). record r { status = f r }) (sym at i)) && not (is_over (sym at i)))
+        ∙ (λ i. is_over (sym (found n) i) && not (is_over (row_in n before)))
+
+    stays : (o : Option GenRow) → is_over o ≡ true → is_over (option_map (λ (r : GenRow). record r { status = f r }) o) ≡ true
+    stays None h = h
+    stays (Some r) h = ap not (ended r (not_true (is_live r.status) h))
+
+-- one row more, which warms
+pub tells-more : (before after : List GenRow) (new : GenRow) (numbers : List ℕ) → after ≡ before ++ new ∷ [] → is_live new.status ≡ true → Tells before after numbers numbers
+tells-more before after new numbers rows live = record {
+  told = λ n. by (is_among numbers n) (is_over (row_in n before)) ∙ (λ i. is_among numbers n || (sym (same n) i && not (is_over (row_in n before))));
+  stays = λ n h. same n ∙ h;
+}
+  where
+    by : (a b : Bool) → a ≡ (a || (b && not b))
+    by true b = refl
+    by false true = refl
+    by false false = refl
+
+    over : (o : Option GenRow) (b : Bool) → is_over (option_or o (cond b (Some new) None)) ≡ is_over o
+    over (Some r) b = refl
+    over None true = ap not live
+    over None false = refl
+
+    same : (n : ℕ) → is_over (row_in n after) ≡ is_over (row_in n before)
+    same n =
+        (λ i. is_over (row_in n (rows i))) ∙ ap is_over (find-append (is_number n) before (new ∷ []))
+        ∙ over (row_in n before) (nat_eq n new.number)
+
+-- whether the number of a row is among those that pass
+passing : (test : GenRow → Bool) (n : ℕ) (row : GenRow) (rows : List GenRow) → IsDistinct nat_eq (numbers_of rows) → row_in n rows ≡ Some row → is_among (numbers_where test rows) n ≡ test row
+passing test n row rows apart at = by (test row) refl
+  where
+    by : (b : Bool) → test row ≡ b → is_among (numbers_where test rows) n ≡ b
+    by true e = among-where test n row rows at e
+    by false e = fails-where test n row rows apart at e
+
+module _ (kind : Kind) (name : List ℕ) (rows : List GenRow) (apart : IsDistinct nat_eq (numbers_of rows)) (kinds : AllByRecursion (λ (r : GenRow). r.kind ≡ kind) rows) where
+  own_kind : (n : ℕ) (row : GenRow) → row_in n rows ≡ Some row → kind_same row.kind kind ≡ true
+  own_kind n row at = (λ i. kind_same (all-at (λ (r : GenRow). r.kind ≡ kind) n row rows at kinds i) kind) ∙ (kind_decides kind kind).1 refl
+
+  -- a name comes to its end
+  pub tells-ended : (warming active : Option ℕ) (after : List GenRow) (numbers : List ℕ) → option_to_list warming ≡ numbers_where (warms name) rows → option_to_list active ≡ numbers_where (serves name) rows
+      → after ≡ rows_ended kind name rows → Tells rows after numbers (numbers ++ (option_to_list warming ++ option_to_list active))
+  tells-ended warming active after numbers w a e =
+      tells-statused (ended_status kind name) rows after numbers (option_to_list warming ++ option_to_list active) e some none ended
+    where
+      by : (st : RowStatus) (k b : Bool) → k ≡ true → ((is_warming st && b) || (is_active st && b)) ≡ (is_live st && not (is_live (cond (k && b) (removed_status st) st)))
+      by st false b e = absurd (true≢false (sym e))
+      by Warming true true e = refl
+      by Warming true false e = refl
+      by Active true true e = refl
+      by Active true false e = refl
+      by Draining true b e = refl
+      by Dropped true b e = refl
+
+      some : (n : ℕ) (row : GenRow) → row_in n rows ≡ Some row → is_among (option_to_list warming ++ option_to_list active) n ≡ (is_live row.status && not (is_live (ended_status kind name row)))
+      some n row at =
+          list_any-append (nat_eq n) (option_to_list warming) (option_to_list active)
+          ∙ (λ i. is_among (w i) n || is_among (a i) n)
+          ∙ (λ i. passing (warms name) n row rows apart at i || passing (serves name) n row rows apart at i)
+          ∙ by row.status (kind_same row.kind kind) (bytes_eq row.name name) (own_kind n row at)
+
+      none : (n : ℕ) → row_in n rows ≡ None → is_among (option_to_list warming ++ option_to_list active) n ≡ false
+      none n at =
+          list_any-append (nat_eq n) (option_to_list warming) (option_to_list active)
+          ∙ (λ i. is_among (w i) n || is_among (a i) n)
+          ∙ (λ i. absent-where (warms name) n rows apart at i || absent-where (serves name) n rows apart at i)
+
+      ended : (row : GenRow) → is_live row.status ≡ false → is_live (ended_status kind name row) ≡ false
+      ended row over = ended-by row.status (kind_same row.kind kind && bytes_eq row.name name) over
+        where
+          ended-by : (st : RowStatus) (b : Bool) → is_live st ≡ false → is_live (cond b (removed_status st) st) ≡ false
+          ended-by Warming b h = absurd (true≢false h)
+          ended-by Active b h = absurd (true≢false h)
+          ended-by Draining true h = refl
+          ended-by Draining false h = refl
+          ended-by Dropped true h = refl
+          ended-by Dropped false h = refl
+
+  -- a new generation warms
+  pub tells-added : (made : ℕ) (content : Content) (warming : Option ℕ) (after : List GenRow) (numbers : List ℕ) → option_to_list warming ≡ numbers_where (warms name) rows
+      → after ≡ rows_with_new kind made name content rows → Tells rows after numbers (numbers ++ option_to_list warming)
+  tells-added made content warming after numbers w e =
+      tells-then rows (with_statuses (replaced_status kind name) rows) after numbers (numbers ++ option_to_list warming) (numbers ++ option_to_list warming)
+      (tells-statused (replaced_status kind name) rows (with_statuses (replaced_status kind name) rows) numbers (option_to_list warming) refl some none ended)
+      (tells-more (with_statuses (replaced_status kind name) rows) after (new_row kind made name content) (numbers ++ option_to_list warming) e refl)
+    where
+      by : (st : RowStatus) (k b : Bool) → k ≡ true → (is_warming st && b) ≡ (is_live st && not (is_live (cond ((k && b) && is_warming st) Dropped st)))
+      by st false b e = absurd (true≢false (sym e))
+      by Warming true true e = refl
+      by Warming true false e = refl
+      by Active true true e = refl
+      by Active true false e = refl
+      by Draining true b e = refl
+      by Dropped true b e = refl
+
+      some : (n : ℕ) (row : GenRow) → row_in n rows ≡ Some row → is_among (option_to_list warming) n ≡ (is_live row.status && not (is_live (replaced_status kind name row)))
+      some n row at =
+          (λ i. is_among (w i) n) ∙ passing (warms name) n row rows apart at
+          ∙ by row.status (kind_same row.kind kind) (bytes_eq row.name name) (own_kind n row at)
+
+      none : (n : ℕ) → row_in n rows ≡ None → is_among (option_to_list warming) n ≡ false
+      none n at = (λ i. is_among (w i) n) ∙ absent-where (warms name) n rows apart at
+
+      ended : (row : GenRow) → is_live row.status ≡ false → is_live (replaced_status kind name row) ≡ false
+      ended row over = ended-by row.status (kind_same row.kind kind && bytes_eq row.name name) over
+        where
+          ended-by : (st : RowStatus) (b : Bool) → is_live st ≡ false → is_live (cond (b && is_warming st) Dropped st) ≡ false
+          ended-by Warming b h = absurd (true≢false h)
+          ended-by Active b h = absurd (true≢false h)
+          ended-by Draining true h = refl
+          ended-by Draining false h = refl
+          ended-by Dropped true h = refl
+          ended-by Dropped false h = refl
+
+-- no number was drawn
+pub draws-none : (made : ℕ) (numbers : List ℕ) → Draws made made numbers numbers
+draws-none made numbers = record { grows = omega arith; count = refl; same = λ k h. refl; each = λ k low high. absurd (omega arith) }
+
+-- one number was drawn
+pub draws-one : (made drawn : ℕ) (numbers more : List ℕ) → drawn ≡ made + 1 → more ≡ numbers ++ drawn ∷ [] → Draws made drawn numbers more
+draws-one made drawn numbers more d e =
+    let size : length more ≡ length numbers + 1 = ap length e ∙ length-append numbers (drawn ∷ []) in
+    record {
+      grows = omega (arith, size);
+      count = omega (arith, size, d);
+      same = λ k h. (λ i. get_or (e i) k 0) ∙ get_or_append_left numbers (drawn ∷ []) 0 k h;
+      each = λ k low high.
+          let last : k ≡ length numbers = omega (arith, size, low, high) in
+          let value : get_or more k 0 ≡ drawn = (λ i. get_or (e i) (last i) 0) ∙ get_or-append_seam numbers drawn [] 0 in
+          omega (arith, value, d, last);
+    }
+
+-- some, and more
+pub draws-then : (made drawn later : ℕ) (xs ys zs : List ℕ) → Draws made drawn xs ys → Draws drawn later ys zs → Draws made later xs zs
+draws-then made drawn later xs ys zs p q = record {
+  grows = omega (arith, p.grows, q.grows);
+  count = omega (arith, p.count, q.count);
+  same = λ k h. q.same k (omega (arith, p.grows, h)) ∙ p.same k h;
+  each = λ k low high. ⊎_elim (λ early. (λ i. q.same k early i + length xs) ∙ p.each k low early)
+      (λ late. let there = q.each k late high in omega (arith, there, p.count)) (cases_lt k (length ys));
+}

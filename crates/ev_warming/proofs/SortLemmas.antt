@@ -1,0 +1,349 @@
+-- Sorted lists by a key that is a text: what a sort of the machine's leaves, and that two strictly sorted lists of the same elements are one.
+use Rattle.std.proofs.Common.{◌≡◌, ◌∙◌, ℕ, ◌+◌, Bool, true, false, cond, List, [], ◌∷◌, ◌++◌, ◌⊎◌, inl, inr, Ordering, refl, sym, ap, subst, true≢false, map, get_or, arith}
+use Rattle.std.specs.declared.cmp.Ordering.TheVariants.{Less, Equal, Greater}
+use Rattle.std.specs.Cmp.{IsTotalOrder, tied_itself, alike_right, both_ways, on_total}
+use Rattle.std.specs.Cmp.Lexicographic.{slice_cmp}
+use Rattle.std.specs.List.{AllByRecursion, IsDistinct, dedup, dedup_from, flat_map}
+use Rattle.std.specs.List.Sorted.{IsPermutation, IsSorted, IsStrictlySortedBy}
+use Rattle.std.specs.Ordering.{nat_cmp, is_lt, is_eq, ordering_reverse, eq_by_cmp}
+use Rattle.std.specs.Str.{bytes_eq}
+use Rattle.std.proofs.lemmas.Bool.{cond_both}
+use Rattle.std.proofs.lemmas.Cmp.{nat_list_cmp_total}
+use Rattle.std.proofs.lemmas.List.Elements.{All-from_recursion, recursion_from_All}
+use Rattle.std.proofs.lemmas.List.Kept.{IsStrictlySortedBy-dedup}
+use Rattle.std.proofs.lemmas.List.Sorted.{All-permutation, IsPermutation-sym}
+use Rattle.std.proofs.lemmas.Map.Keys.{IsDistinct-IsPermutation, apart_from_distinct, sorted_from_all_adjacent}
+use Rattle.std.proofs.lemmas.Map.Text.{is_eq-slice_cmp}
+use Rattle.ev_types.specs.Same.{bytes_decide}
+use Rattle.ev_model.specs.Sorted.{put_by, sorted_by}
+use Rattle.ev_model.specs.Versions.{is_before}
+
+-- what holds of each element stays so when the elements change places
+pub record SameElements {X : Type 0} (xs ys : List X) : Type 1 where
+  pub there : (P : X → Type 0) → AllByRecursion P xs → AllByRecursion P ys
+  pub back : (P : X → Type 0) → AllByRecursion P ys → AllByRecursion P xs
+
+pub same_elements-then : {X : Type 0} (xs ys zs : List X) → SameElements xs ys → SameElements ys zs → SameElements xs zs
+same_elements-then xs ys zs a b = record { there = λ P h. b.there P (a.there P h); back = λ P h. a.back P (b.back P h) }
+
+pub same_elements-back : {X : Type 0} (xs ys : List X) → SameElements xs ys → SameElements ys xs
+same_elements-back xs ys a = record { there = a.back; back = a.there }
+
+all_so : {X : Type 0} (P Q : X → Type 0) (ys : List X) → ((y : X) → P y → Q y) → AllByRecursion P ys → AllByRecursion Q ys
+all_so P Q [] so all = tt
+all_so P Q (y ∷ ys) so all = (so y all.0, all_so P Q ys so all.1)
+
+all_both : {X : Type 0} (P Q R : X → Type 0) (ys : List X) → ((y : X) → P y → Q y → R y) → AllByRecursion P ys → AllByRecursion Q ys → AllByRecursion R ys
+all_both P Q R [] so p q = tt
+all_both P Q R (y ∷ ys) so p q = (so y p.0 q.0, all_both P Q R ys so p.1 q.1)
+
+module _ {X : Type 0} (c : X → X → Ordering) (o : IsTotalOrder c) where
+  never : (x : X) → c x x ≡ Less → ⊥
+  never x h = true≢false (ap is_lt (sym h ∙ tied_itself o x))
+
+  turn : (x y : X) → c x y ≡ Less → c y x ≡ Less → ⊥
+  turn x y h k = true≢false (ap is_lt (sym h ∙ o.antisymm x y ∙ ap ordering_reverse k))
+
+  -- two strictly sorted lists of the same elements are one
+  pub sorted-unique : (xs ys : List X) → IsStrictlySortedBy c xs → IsStrictlySortedBy c ys → SameElements xs ys → xs ≡ ys
+  unfolding IsStrictlySortedBy
+  sorted-unique [] [] s t same = refl
+  sorted-unique [] (y ∷ ys) s t same = absurd (same.there (λ z. ⊥) tt).0
+  sorted-unique (x ∷ xs) [] s t same = absurd (same.back (λ z. ⊥) tt).0
+  sorted-unique (x ∷ xs) (y ∷ ys) s t same = λ i. head i ∷ sorted-unique xs ys s.1 t.1 rest i
+    where
+      among : (z : X) (zs : List X) → AllByRecursion (λ w. c z w ≡ Less) zs → AllByRecursion (λ w. (z ≡ w) ⊎ (c z w ≡ Less)) (z ∷ zs)
+      among z zs all = (inl refl, all_so (λ w. c z w ≡ Less) (λ w. (z ≡ w) ⊎ (c z w ≡ Less)) zs (λ w h. inr h) all)
+
+      decide : (y ≡ x) ⊎ (c y x ≡ Less) → (x ≡ y) ⊎ (c x y ≡ Less) → x ≡ y
+      decide (inl e) k = sym e
+      decide (inr h) (inl e) = e
+      decide (inr h) (inr k) = absurd (turn y x h k)
+
+      head : x ≡ y
+      head = decide (same.back (λ w. (y ≡ w) ⊎ (c y w ≡ Less)) (among y ys t.0)).0 (same.there (λ w. (x ≡ w) ⊎ (c x w ≡ Less)) (among x xs s.0)).0
+
+      rest : SameElements xs ys
+      rest = record {
+        there = λ P h. all_both (λ w. c y w ≡ Less) (λ w. c x w ≡ Less → P w) P ys (λ w l f. f ((λ i. c (head i) w) ∙ l)) t.0
+            (same.there (λ w. c x w ≡ Less → P w) ((λ l. absurd (never x l)), all_so P (λ w. c x w ≡ Less → P w) xs (λ w p l. p) h)).1;
+        back = λ P h. all_both (λ w. c x w ≡ Less) (λ w. c y w ≡ Less → P w) P xs (λ w l f. f ((λ i. c (sym head i) w) ∙ l)) s.0
+            (same.back (λ w. c y w ≡ Less → P w) ((λ l. absurd (never y l)), all_so P (λ w. c y w ≡ Less → P w) ys (λ w p l. p) h)).1;
+      }
+
+  -- a sort of the machine's, by the strict order
+  abbrev pub before : X → X → Bool
+  before x y = is_lt (c x y)
+
+  put_there : (P : X → Type 0) (x : X) (ys : List X) → P x → AllByRecursion P ys → AllByRecursion P (put_by before x ys)
+  put_there P x [] here all = (here, all)
+  put_there P x (y ∷ ys) here all =
+      cond_both (before x y) (x ∷ y ∷ ys) (y ∷ put_by before x ys) (AllByRecursion P) (λ e. (here, all)) (λ e. (all.0, put_there P x ys here all.1))
+
+  put_back : (P : X → Type 0) (x : X) (ys : List X) → AllByRecursion P (put_by before x ys) → P x × AllByRecursion P ys
+  put_back P x [] all = (all.0, tt)
+  put_back P x (y ∷ ys) all =
+      cond_both (before x y) (x ∷ y ∷ ys) (y ∷ put_by before x ys) (λ zs. AllByRecursion P zs → P x × AllByRecursion P (y ∷ ys))
+      (λ e whole. (whole.0, whole.1)) (λ e whole. let rest = put_back P x ys whole.1 in (rest.0, (whole.0, rest.1))) all
+
+  pub sorted_by-same : (xs : List X) → SameElements xs (sorted_by before xs)
+  sorted_by-same [] = record { there = λ P h. h; back = λ P h. h }
+  sorted_by-same (x ∷ xs) =
+      let rest = sorted_by-same xs in
+      record {
+        there = λ P h. put_there P x (sorted_by before xs) h.0 (rest.there P h.1);
+        back = λ P h. let parts = put_back P x (sorted_by before xs) h in (parts.0, rest.back P parts.1);
+      }
+
+  -- of elements that differ
+  put_strict : (x : X) (ys : List X) → AllByRecursion (λ y. eq_by_cmp c x y ≡ false) ys → IsStrictlySortedBy c ys → IsStrictlySortedBy c (put_by before x ys)
+  unfolding IsStrictlySortedBy
+  put_strict x [] apart s = (tt, tt)
+  put_strict x (y ∷ ys) apart s =
+      cond_both (before x y) (x ∷ y ∷ ys) (y ∷ put_by before x ys) (IsStrictlySortedBy c)
+      (λ e. let less = first (c x y) e in ((less, all_so (λ w. c y w ≡ Less) (λ w. c x w ≡ Less) ys (λ w l. o.trans x y w less l) s.0), s))
+      (λ e. (put_there (λ w. c y w ≡ Less) x ys (second (c x y) refl e apart.0) s.0, put_strict x ys apart.1 s.1))
+    where
+      first : (r : Ordering) → is_lt r ≡ true → r ≡ Less
+      first Less h = refl
+      first Equal h = absurd (true≢false (sym h))
+      first Greater h = absurd (true≢false (sym h))
+
+      second : (r : Ordering) → c x y ≡ r → is_lt r ≡ false → is_eq r ≡ false → c y x ≡ Less
+      second Less e h k = absurd (true≢false h)
+      second Equal e h k = absurd (true≢false k)
+      second Greater e h k = o.antisymm y x ∙ ap ordering_reverse e
+
+  pub sorted_by-strict : (xs : List X) → IsDistinct (eq_by_cmp c) xs → IsStrictlySortedBy c (sorted_by before xs)
+  unfolding IsStrictlySortedBy IsDistinct
+  sorted_by-strict [] apart = tt
+  sorted_by-strict (x ∷ xs) apart =
+      put_strict x (sorted_by before xs) ((sorted_by-same xs).there (λ y. eq_by_cmp c x y ≡ false) apart.0) (sorted_by-strict xs apart.1)
+
+  -- and of any: what repeats goes
+  abbrev Rises : List X → Type 0
+  Rises [] = Unit {0}
+  Rises (x ∷ xs) = AllByRecursion (λ y. before y x ≡ false) xs × Rises xs
+
+  put_rises : (x : X) (ys : List X) → Rises ys → Rises (put_by before x ys)
+  put_rises x [] rises = (tt, tt)
+  put_rises x (y ∷ ys) rises =
+      cond_both (before x y) (x ∷ y ∷ ys) (y ∷ put_by before x ys) Rises
+      (λ e. ((ap is_lt (o.antisymm y x) ∙ later (c x y) e, all_so (λ w. before w y ≡ false) (λ w. before w x ≡ false) ys (λ w h. after w (c x y) refl e h (c w x) refl) rises.0), rises))
+      (λ e. (put_there (λ w. before w y ≡ false) x ys e rises.0, put_rises x ys rises.1))
+    where
+      later : (r : Ordering) → is_lt r ≡ true → is_lt (ordering_reverse r) ≡ false
+      later Less h = refl
+      later Equal h = absurd (true≢false (sym h))
+      later Greater h = absurd (true≢false (sym h))
+
+      after : (w : X) (r : Ordering) → c x y ≡ r → is_lt r ≡ true → before w y ≡ false → (t : Ordering) → c w x ≡ t → is_lt t ≡ false
+      after w Equal e l h t f = absurd (true≢false (sym l))
+      after w Greater e l h t f = absurd (true≢false (sym l))
+      after w Less e l h Less f = absurd (true≢false (ap is_lt (sym (o.trans w x y f e)) ∙ h))
+      after w Less e l h Equal f = refl
+      after w Less e l h Greater f = refl
+
+  sorted_by-rises : (xs : List X) → Rises (sorted_by before xs)
+  sorted_by-rises [] = tt
+  sorted_by-rises (x ∷ xs) = put_rises x (sorted_by before xs) (sorted_by-rises xs)
+
+  module _ (E : X → X → Bool) (ties : (x y : X) → E x y ≡ eq_by_cmp c x y) (same : (x y : X) → E x y ≡ true → x ≡ y) where
+    dedup_there : (P : X → Type 0) (k : X) (xs : List X) → P k → AllByRecursion P xs → AllByRecursion P (dedup_from E k xs)
+    dedup_there P k [] here all = (here, all)
+    dedup_there P k (x ∷ xs) here all =
+        cond_both (E x k) (dedup_from E k xs) (k ∷ dedup_from E x xs) (AllByRecursion P) (λ e. dedup_there P k xs here all.1) (λ e. (here, dedup_there P x xs all.0 all.1))
+
+    dedup_back : (P : X → Type 0) (k : X) (xs : List X) → AllByRecursion P (dedup_from E k xs) → P k × AllByRecursion P xs
+    dedup_back P k [] all = (all.0, tt)
+    dedup_back P k (x ∷ xs) all =
+        cond_both (E x k) (dedup_from E k xs) (k ∷ dedup_from E x xs) (λ zs. AllByRecursion P zs → P k × AllByRecursion P (x ∷ xs))
+        (λ e whole. let rest = dedup_back P k xs whole in (rest.0, (subst P (sym (same x k e)) rest.0, rest.1)))
+        (λ e whole. let rest = dedup_back P x xs whole.1 in (whole.0, (rest.0, rest.1))) all
+
+    pub dedup-same : (xs : List X) → SameElements xs (dedup E xs)
+    dedup-same [] = record { there = λ P h. h; back = λ P h. h }
+    dedup-same (x ∷ xs) = record { there = λ P h. dedup_there P x xs h.0 h.1; back = λ P h. dedup_back P x xs h }
+
+    dedup_strict : (k : X) (xs : List X) → Rises (k ∷ xs) → IsStrictlySortedBy c (dedup_from E k xs)
+    unfolding IsStrictlySortedBy
+    dedup_strict k [] rises = (tt, tt)
+    dedup_strict k (x ∷ xs) rises =
+        cond_both (E x k) (dedup_from E k xs) (k ∷ dedup_from E x xs) (IsStrictlySortedBy c)
+        (λ e. dedup_strict k xs (rises.0.1, rises.1.1))
+        (λ e. let less = above (c k x) (o.antisymm x k) rises.0.0 (sym (ties x k) ∙ e) in (
+          dedup_there (λ w. c k w ≡ Less) x xs less (all_so (λ w. before w x ≡ false) (λ w. c k w ≡ Less) xs (λ w h. beyond w less (c x w) refl (ap is_lt (sym (o.antisymm w x)) ∙ h)) rises.1.0),
+          dedup_strict x xs rises.1,
+        ))
+      where
+        above : (r : Ordering) → c x k ≡ ordering_reverse r → is_lt (c x k) ≡ false → is_eq (c x k) ≡ false → r ≡ Less
+        above Less e h f = refl
+        above Equal e h f = absurd (true≢false (ap is_eq (sym e) ∙ f))
+        above Greater e h f = absurd (true≢false (ap is_lt (sym e) ∙ h))
+
+        beyond : (w : X) → c k x ≡ Less → (r : Ordering) → c x w ≡ r → is_lt (ordering_reverse r) ≡ false → c k w ≡ Less
+        beyond w less Less e h = o.trans k x w less e
+        beyond w less Equal e h = sym (alike_right o x w k e) ∙ less
+        beyond w less Greater e h = absurd (true≢false h)
+
+    pub sorted_by-dedup : (xs : List X) → IsStrictlySortedBy c (dedup E (sorted_by before xs))
+    unfolding IsStrictlySortedBy
+    sorted_by-dedup xs = by (sorted_by before xs) (sorted_by-rises xs)
+      where
+        by : (ys : List X) → Rises ys → IsStrictlySortedBy c (dedup E ys)
+        by [] rises = tt
+        by (y ∷ ys) rises = dedup_strict y ys rises
+
+  -- what a sort of std leaves
+  pub permuted-same : (xs ys : List X) → IsPermutation xs ys → SameElements xs ys
+  permuted-same xs ys moved = record {
+    there = λ P h. recursion_from_All P ys (All-permutation P xs ys moved (All-from_recursion P xs h));
+    back = λ P h. recursion_from_All P xs (All-permutation P ys xs (IsPermutation-sym xs ys moved) (All-from_recursion P ys h));
+  }
+
+  pub distinct-strict : (xs : List X) → IsDistinct (eq_by_cmp c) xs → IsSorted c xs → IsStrictlySortedBy c xs
+  unfolding IsStrictlySortedBy
+  distinct-strict [] apart sorted = tt
+  distinct-strict (x ∷ xs) apart sorted =
+      sorted_from_all_adjacent o (x ∷ xs) x (λ k within. by (c (get_or (x ∷ xs) k x) (get_or (x ∷ xs) (k + 1) x)) refl
+      (ap is_lt (sym (o.antisymm (get_or (x ∷ xs) (k + 1) x) (get_or (x ∷ xs) k x))) ∙ sorted k x (omega arith) within)
+      (apart_from_distinct (eq_by_cmp c) (x ∷ xs) k (k + 1) x apart (omega arith) within))
+    where
+      by : (r : Ordering) {a b : X} → c a b ≡ r → is_lt (ordering_reverse (c a b)) ≡ false → is_eq (c a b) ≡ false → c a b ≡ Less
+      by Less e h f = e
+      by Equal e h f = absurd (true≢false (ap is_eq (sym e) ∙ f))
+      by Greater e h f = absurd (true≢false (ap (λ r. is_lt (ordering_reverse r)) (sym e) ∙ h))
+
+-- names in the order of their bytes, each once: what a sort and a dedup leave is what the machine's leave
+pub names-sorted : (xs ys : List (List ℕ)) → IsPermutation xs ys → IsSorted (slice_cmp nat_cmp) ys → dedup bytes_eq ys ≡ dedup bytes_eq (sorted_by is_before xs)
+names-sorted xs ys moved sorted =
+    let o = nat_list_cmp_total in
+    let c = slice_cmp nat_cmp in
+    let ties : (a b : List ℕ) → bytes_eq a b ≡ eq_by_cmp c a b = λ a b. sym (is_eq-slice_cmp a b) in
+    let same : (a b : List ℕ) → bytes_eq a b ≡ true → a ≡ b = λ a b. (bytes_decide a b).0 in
+    sorted-unique c o (dedup bytes_eq ys) (dedup bytes_eq (sorted_by is_before xs))
+    (IsStrictlySortedBy-dedup o ties ys sorted)
+    (sorted_by-dedup c o bytes_eq ties same xs)
+    (same_elements-then (dedup bytes_eq ys) ys (dedup bytes_eq (sorted_by is_before xs)) (same_elements-back ys (dedup bytes_eq ys) (dedup-same c o bytes_eq ties same ys))
+    (same_elements-then ys xs (dedup bytes_eq (sorted_by is_before xs)) (same_elements-back xs ys (permuted-same c o xs ys moved))
+    (same_elements-then xs (sorted_by is_before xs) (dedup bytes_eq (sorted_by is_before xs)) (sorted_by-same c o xs) (dedup-same c o bytes_eq ties same (sorted_by is_before xs)))))
+
+-- what differs by its key, sorted by it
+module _ {X : Type 0} (key : X → List ℕ) where
+  abbrev pub by_key : X → X → Ordering
+  by_key x y = slice_cmp nat_cmp (key x) (key y)
+
+  keys_apart : (xs : List X) → IsDistinct bytes_eq (map key xs) → IsDistinct (eq_by_cmp by_key) xs
+  unfolding IsDistinct
+  keys_apart [] apart = tt
+  keys_apart (x ∷ xs) apart = (by xs apart.0, keys_apart xs apart.1)
+    where
+      by : (ys : List X) → AllByRecursion (λ k. bytes_eq (key x) k ≡ false) (map key ys) → AllByRecursion (λ y. eq_by_cmp by_key x y ≡ false) ys
+      by [] all = tt
+      by (y ∷ ys) all = (is_eq-slice_cmp (key x) (key y) ∙ all.0, by ys all.1)
+
+  pub key-sorted : (xs ys : List X) → IsDistinct bytes_eq (map key xs) → IsPermutation xs ys → IsSorted by_key ys → ys ≡ sorted_by (λ x y. is_before (key x) (key y)) xs
+  key-sorted xs ys apart moved sorted =
+      let o : IsTotalOrder by_key = on_total key nat_list_cmp_total in
+      let distinct = keys_apart xs apart in
+      let flips : (x y : X) → eq_by_cmp by_key x y ≡ eq_by_cmp by_key y x = λ x y. is_eq-slice_cmp (key x) (key y) ∙ turned (key x) (key y) ∙ sym (is_eq-slice_cmp (key y) (key x)) in
+      sorted-unique by_key o ys (sorted_by (λ x y. is_before (key x) (key y)) xs)
+      (distinct-strict by_key o ys (IsDistinct-IsPermutation (eq_by_cmp by_key) flips xs ys moved distinct) sorted)
+      (sorted_by-strict by_key o xs distinct)
+      (same_elements-then ys xs (sorted_by (λ x y. is_before (key x) (key y)) xs) (same_elements-back xs ys (permuted-same by_key o xs ys moved)) (sorted_by-same by_key o xs))
+    where
+      turned : (a b : List ℕ) → bytes_eq a b ≡ bytes_eq b a
+      turned a b = both_ways (bytes_eq a b) (bytes_eq b a) (λ h. (bytes_decide b a).1 (sym ((bytes_decide a b).0 h))) (λ h. (bytes_decide a b).1 (sym ((bytes_decide b a).0 h)))
+
+-- what keeps the key of each element may come before the sort or after it
+module _ {X Y : Type 0} (f : X → Y) (lt : X → X → Bool) (mt : Y → Y → Bool) (keeps : (x y : X) → mt (f x) (f y) ≡ lt x y) where
+  put_by-map : (x : X) (ys : List X) → put_by mt (f x) (map f ys) ≡ map f (put_by lt x ys)
+  put_by-map x [] = refl
+  put_by-map x (y ∷ ys) = (λ i. cond (keeps x y i) (f x ∷ f y ∷ map f ys) (f y ∷ put_by mt (f x) (map f ys))) ∙ by (lt x y) (put_by-map x ys)
+    where
+      by : (b : Bool) → put_by mt (f x) (map f ys) ≡ map f (put_by lt x ys) → cond b (f x ∷ f y ∷ map f ys) (f y ∷ put_by mt (f x) (map f ys)) ≡ map f (cond b (x ∷ y ∷ ys) (y ∷ put_by lt x ys))
+      by true h = refl
+      by false h = ap (λ zs. f y ∷ zs) h
+
+  pub sorted_by-map : (xs : List X) → sorted_by mt (map f xs) ≡ map f (sorted_by lt xs)
+  sorted_by-map [] = refl
+  sorted_by-map (x ∷ xs) = ap (put_by mt (f x)) (sorted_by-map xs) ∙ put_by-map x (sorted_by lt xs)
+
+-- what is made of each element, one or none, with its key
+module _ {X Y : Type 0} (key : X → List ℕ) (name : Y → List ℕ) (f : X → List Y) (shape : (x : X) → (f x ≡ []) ⊎ ((y : Y) × (f x ≡ y ∷ []) × (name y ≡ key x))) where
+  every_append : (P : Y → Type 0) (xs ys : List Y) → AllByRecursion P xs → AllByRecursion P ys → AllByRecursion P (xs ++ ys)
+  every_append P [] ys p q = q
+  every_append P (x ∷ xs) ys p q = (p.0, every_append P xs ys p.1 q)
+
+  every_front : (P : Y → Type 0) (xs ys : List Y) → AllByRecursion P (xs ++ ys) → AllByRecursion P xs × AllByRecursion P ys
+  every_front P [] ys p = (tt, p)
+  every_front P (x ∷ xs) ys p = let rest = every_front P xs ys p.1 in ((p.0, rest.0), rest.1)
+
+  flat_there : (P : Y → Type 0) (xs : List X) → AllByRecursion (λ x. AllByRecursion P (f x)) xs → AllByRecursion P (flat_map f xs)
+  flat_there P [] all = tt
+  flat_there P (x ∷ xs) all = every_append P (f x) (flat_map f xs) all.0 (flat_there P xs all.1)
+
+  flat_back : (P : Y → Type 0) (xs : List X) → AllByRecursion P (flat_map f xs) → AllByRecursion (λ x. AllByRecursion P (f x)) xs
+  flat_back P [] all = tt
+  flat_back P (x ∷ xs) all = let parts = every_front P (f x) (flat_map f xs) all in (parts.0, flat_back P xs parts.1)
+
+  flat-same : (xs ys : List X) → SameElements xs ys → SameElements (flat_map f xs) (flat_map f ys)
+  flat-same xs ys same = record {
+    there = λ P h. flat_there P ys (same.there (λ x. AllByRecursion P (f x)) (flat_back P xs h));
+    back = λ P h. flat_there P xs (same.back (λ x. AllByRecursion P (f x)) (flat_back P ys h));
+  }
+
+  -- a fact of keys
+  by_keys : (Q : List ℕ → Type 0) (x : X) → Q (key x) → AllByRecursion (λ y. Q (name y)) (f x)
+  by_keys Q x q = over (shape x)
+    where
+      over : (f x ≡ []) ⊎ ((y : Y) × (f x ≡ y ∷ []) × (name y ≡ key x)) → AllByRecursion (λ y. Q (name y)) (f x)
+      over (inl e) = subst (AllByRecursion (λ y. Q (name y))) (sym e) tt
+      over (inr (y, e, k)) = subst (AllByRecursion (λ y. Q (name y))) (sym e) (subst Q (sym k) q, tt)
+
+  flat-strict : (xs : List X) → IsStrictlySortedBy (by_key key) xs → IsStrictlySortedBy (by_key name) (flat_map f xs)
+  unfolding IsStrictlySortedBy
+  flat-strict [] s = tt
+  flat-strict (x ∷ xs) s = over (flat-strict xs s.1) (shape x)
+    where
+      over : IsStrictlySortedBy (by_key name) (flat_map f xs) → (f x ≡ []) ⊎ ((y : Y) × (f x ≡ y ∷ []) × (name y ≡ key x)) → IsStrictlySortedBy (by_key name) (f x ++ flat_map f xs)
+      over rest (inl e) = subst (λ ys. IsStrictlySortedBy (by_key name) (ys ++ flat_map f xs)) (sym e) rest
+      over rest (inr (y, e, k)) =
+          subst (λ ys. IsStrictlySortedBy (by_key name) (ys ++ flat_map f xs)) (sym e) (
+            flat_there (λ w. slice_cmp nat_cmp (name y) (name w) ≡ Less) xs (all_so (λ z. by_key key x z ≡ Less) (λ z. AllByRecursion (λ w. slice_cmp nat_cmp (name y) (name w) ≡ Less) (f z)) xs
+                (λ z less. by_keys (λ q. slice_cmp nat_cmp (name y) q ≡ Less) z ((λ i. slice_cmp nat_cmp (k i) (key z)) ∙ less)) s.0),
+            rest,
+          )
+
+  pub flat-apart : (xs : List X) → IsDistinct bytes_eq (map key xs) → IsDistinct bytes_eq (map name (flat_map f xs))
+  unfolding IsDistinct
+  flat-apart [] apart = tt
+  flat-apart (x ∷ xs) apart = over (flat-apart xs apart.1) (shape x)
+    where
+      mapped : (Q : List ℕ → Type 0) (ys : List Y) → AllByRecursion (λ y. Q (name y)) ys → AllByRecursion Q (map name ys)
+      mapped Q [] all = tt
+      mapped Q (y ∷ ys) all = (all.0, mapped Q ys all.1)
+
+      far : (y : Y) → name y ≡ key x → (zs : List X) → AllByRecursion (λ q. bytes_eq (key x) q ≡ false) (map key zs) → AllByRecursion (λ w. bytes_eq (name y) (name w) ≡ false) (flat_map f zs)
+      far y k [] all = tt
+      far y k (z ∷ zs) all =
+          every_append (λ w. bytes_eq (name y) (name w) ≡ false) (f z) (flat_map f zs)
+          (by_keys (λ q. bytes_eq (name y) q ≡ false) z ((λ i. bytes_eq (k i) (key z)) ∙ all.0)) (far y k zs all.1)
+
+      over : IsDistinct bytes_eq (map name (flat_map f xs)) → (f x ≡ []) ⊎ ((y : Y) × (f x ≡ y ∷ []) × (name y ≡ key x)) → IsDistinct bytes_eq (map name (f x ++ flat_map f xs))
+      over rest (inl e) = subst (λ ys. IsDistinct bytes_eq (map name (ys ++ flat_map f xs))) (sym e) rest
+      over rest (inr (y, e, k)) =
+          subst (λ ys. IsDistinct bytes_eq (map name (ys ++ flat_map f xs))) (sym e)
+          (mapped (λ q. bytes_eq (name y) q ≡ false) (flat_map f xs) (far y k xs apart.0), rest)
+
+  pub flat-sorted : (xs : List X) → IsDistinct bytes_eq (map key xs)
+      → sorted_by (λ x y. is_before (name x) (name y)) (flat_map f xs) ≡ flat_map f (sorted_by (λ x y. is_before (key x) (key y)) xs)
+  flat-sorted xs apart =
+      let o : IsTotalOrder (by_key key) = on_total key nat_list_cmp_total in
+      let p : IsTotalOrder (by_key name) = on_total name nat_list_cmp_total in
+      sorted-unique (by_key name) p (sorted_by (λ x y. is_before (name x) (name y)) (flat_map f xs)) (flat_map f (sorted_by (λ x y. is_before (key x) (key y)) xs))
+      (sorted_by-strict (by_key name) p (flat_map f xs) (keys_apart name (flat_map f xs) (flat-apart xs apart)))
+      (flat-strict (sorted_by (λ x y. is_before (key x) (key y)) xs) (sorted_by-strict (by_key key) o xs (keys_apart key xs apart)))
+      (same_elements-then (sorted_by (λ x y. is_before (name x) (name y)) (flat_map f xs)) (flat_map f xs) (flat_map f (sorted_by (λ x y. is_before (key x) (key y)) xs))
+      (same_elements-back (flat_map f xs) (sorted_by (λ x y. is_before (name x) (name y)) (flat_map f xs)) (sorted_by-same (by_key name) p (flat_map f xs)))
+      (flat-same xs (sorted_by (λ x y. is_before (key x) (key y)) xs) (sorted_by-same (by_key key) o xs)))

@@ -1,0 +1,48 @@
+use Rattle.std.proofs.Common.{◌∙◌, List, ℕ, [], ◌∷◌, refl, subst}
+use Rattle.std.proofs.lemmas.List.{take_all}
+use Rattle.ev_types.specs.declared.contents.Kind.{Kind}
+use Rattle.ev_model.specs.Rows.{with_statuses}
+use Rattle.ev_warming.specs.Changes.{status_left_by}
+use Rattle.ev_warming.specs.Worlds.{StandsFor}
+use Rattle.ev_warming.proofs.RetiredLemmas.{tells-none, tells-then}
+use Rattle.ev_warming.proofs.ResponseLemmas.{nothing-stands, more-stands}
+use Rattle.ev_warming.proofs.manager.Manager.remove_names.Goals as goal
+
+pub loop-name-init : goal.loop-name-init
+loop-name-init g c = record {
+  kept = c.requires.kept;
+  kind = refl;
+  made = refl;
+  others = refl;
+  told = tells-none c.args.self.now.state.table.rows c.args.applied.now.retired;
+  stands = λ world stands. nothing-stands c.args.self.now.state world c.args.response.now stands;
+}
+
+pub loop-name-preserved : goal.loop-name-preserved
+loop-name-preserved g c =
+    let i = c.loop-name.invariant in
+    let e = c.in_ok-remove_name.ensures in
+    let s = c.loop-name.self.state in
+    let t = c.remove_name.new.self.state in
+    let kind = c.args.self.now.state.kind in
+    let response = c.args.response.now in
+    let name = c.name-item.result in
+    record {
+      kept = e.kept;
+      kind = e.kind ∙ i.kind;
+      made = e.made ∙ i.made;
+      others = e.others ∙ i.others;
+      told = tells-then c.args.self.now.state.table.rows s.table.rows t.table.rows c.args.applied.now.retired c.loop-name.applied.retired c.remove_name.new.applied.retired i.told e.told;
+      stands = λ world stands.
+          more-stands s t world kind response c.as_slice-name-items.result.now c.loop-name.name-index name c.loop-name-test.true c.name-item.is (i.stands world stands)
+          (λ w standing. subst (λ (k : Kind). StandsFor t (record w { rows = with_statuses (status_left_by k response (name ∷ [])) w.rows })) i.kind (e.stands w standing));
+    }
+
+pub returns-clause-stands : goal.returns-clause-stands
+returns-clause-stands g c =
+    let response = c.args.response.now in
+    let kind = c.args.self.now.state.kind in
+    λ world stands.
+    subst (λ (names : List (List ℕ)). StandsFor c.loop-name.self.state (record world { rows = with_statuses (status_left_by kind response names) world.rows }))
+    (take_all c.loop-name.name-index c.as_slice-name-items.result.now c.loop-name-test.false ∙ c.as_slice-name-items.ensures.elements ∙ (λ i. (c.response.view_is i).removed))
+    (c.loop-name.invariant.stands world stands)

@@ -1,0 +1,18 @@
+use Rattle.std.proofs.Common.{◌≡◌, take}
+use Rattle.ev_model.specs.World.{World}
+use Rattle.ev_model.specs.Rows.{with_statuses}
+use Rattle.ev_warming.specs.Changes.{status_left_by, Tells}
+use Rattle.ev_warming.specs.Managers.{IsKept}
+use Rattle.ev_warming.specs.Worlds.{StandsFor}
+use Rattle.ev_warming.proofs.manager.Manager.remove_names.Given as goal
+
+abbrev pub invariant-loop-name : goal.invariant-loop-name
+invariant-loop-name g l = record {
+  kept : IsKept l.self;
+  kind : l.self.state.kind ≡ l.initial.self.state.kind;
+  made : l.self.state.table.made ≡ l.initial.self.state.table.made;
+  others : l.applied.made ≡ l.initial.applied.made;
+  told : Tells l.initial.self.state.table.rows l.self.state.table.rows l.initial.applied.retired l.applied.retired;
+  stands : (world : World) → StandsFor l.initial.self.state world
+      → StandsFor l.self.state (record world { rows = with_statuses (status_left_by l.initial.self.state.kind l.response (take l.name-index l.name-items)) world.rows });
+}

@@ -1,0 +1,11 @@
+use Rattle.std.proofs.Common.{◌∙◌, map}
+use Rattle.std.proofs.lemmas.Result.{IfOk-weaker}
+use Rattle.ev_model.specs.Live.{live_of}
+use Rattle.ev_warming.specs.Reads.{live_rows}
+use Rattle.ev_warming.proofs.ReadLemmas.{lives-world}
+use Rattle.ev_warming.proofs.state.State.live.Goals as goal
+
+pub returns-clause-world : goal.returns-clause-world
+returns-clause-world c =
+    IfOk-weaker c.lives.result _ _ (λ lives e world stands.
+    e ∙ (λ i. map live_of (live_rows ((c.rows.ensures.rows ∙ stands.rows) i))) ∙ lives-world c.args.self.now.kind world.rows) c.lives.ensures

@@ -1,0 +1,6 @@
+use Rattle.std.proofs.Common.{◌≡◌, take}
+use Rattle.ev_warming.specs.Reads.{names_needed}
+use Rattle.ev_warming.proofs.watched.needs.Given as goal
+
+abbrev pub invariant-loop-row : goal.invariant-loop-row
+invariant-loop-row l = l.names.items ≡ names_needed (take l.row-index l.rows)

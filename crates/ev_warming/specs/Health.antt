@@ -1,0 +1,44 @@
+-- Which generations a health result is for, and what it does to what is kept: the machine's words, where what came is looked up.
+-- Source: cluster manager warming of Envoy's documentation: a checked cluster waits for a first result of each host.
+use Rattle.std.specs.Prelude.{◌≡◌, ℕ, Bool, false, ◌&&◌, if◌then◌else◌, List, Option, None, Some, option_and_then}
+use Rattle.std.specs.Str.{bytes_eq}
+use Rattle.ev_types.specs.SameHosts.{host_same}
+use Rattle.ev_types.specs.Statuses.{is_live}
+use Rattle.ev_types.specs.declared.hosts.Host.{Host}
+use Rattle.ev_types.specs.declared.contents.Content.{Content}
+use Rattle.ev_types.specs.declared.rows.GenRow.{GenRow}
+use Rattle.ev_model.specs.Warming.{is_checked}
+use Rattle.ev_model.specs.Tidy.{has_host}
+use Rattle.ev_endpoints.specs.Results.{ResultsKept, result_in}
+use Rattle.ev_generations.specs.Tables.{row_in}
+use Rattle.ev_warming.specs.Due.{is_among}
+use Rattle.ev_warming.specs.Watched.{WatchesKept}
+use Rattle.ev_warming.specs.Ready.{assignment_in}
+use Rattle.ev_warming.specs.Indexes.{numbers_where}
+
+-- the hosts of a generation of this content are health checked, and the host is one of them now
+abbrev pub takes_result : WatchesKept → Host → Content → Bool
+takes_result watches host content = is_checked content && has_host host (assignment_in watches content)
+
+-- a row is found, and it passes
+abbrev pub passes : (GenRow → Bool) → Option GenRow → Bool
+passes test None = false
+passes test (Some row) = test row
+
+-- there is a row of this number, where there is a number, and it takes a result of the host
+abbrev pub takes_at : WatchesKept → Host → Option ℕ → List GenRow → Bool
+takes_at watches host number rows =
+    passes (λ (row : GenRow). takes_result watches host row.content) (option_and_then (λ n. row_in n rows) number)
+
+-- a result of the host is for this row: a live one of the name
+abbrev pub is_meant_in : WatchesKept → List ℕ → Host → GenRow → Bool
+is_meant_in watches name host row = is_live row.status && bytes_eq row.name name && takes_result watches host row.content
+
+-- the numbers of the rows that a result of the host is for
+abbrev pub numbers_meant : WatchesKept → List ℕ → Host → List GenRow → List ℕ
+numbers_meant watches name host rows = numbers_where (is_meant_in watches name host) rows
+
+-- each of these numbers has this result of the host, and every other result stays
+abbrev pub NotesEach : ResultsKept → ResultsKept → List ℕ → Host → Bool → Type 0
+NotesEach old new numbers host healthy =
+    (n : ℕ) (h : Host) → result_in new n h ≡ (if is_among numbers n && host_same host h then Some healthy else result_in old n h)

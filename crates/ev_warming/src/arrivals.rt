@@ -1,0 +1,193 @@
+ghost use Rattle.std.specs.Prelude.{◌≡◌, ◌++◌, ◌&&◌, true, ℕ, [], ◌∷◌, Some, map, length, OnOk};
+ghost use Rattle.std.specs.List.{list_any};
+ghost use Rattle.ev_types.specs.Items.{IsBodyOf};
+ghost use Rattle.ev_types.specs.declared.contents.Body.TheVariants.{Good};
+ghost use Rattle.ev_types.specs.declared.events.Verdict.TheVariants.{Kept};
+ghost use Rattle.ev_types.specs.declared.rows.Arrival.TheVariants.{Absent};
+ghost use Rattle.ev_model.specs.World.{World};
+ghost use Rattle.ev_model.specs.Rows.{arrived, absent_names, with_removals, add_item, add_items};
+ghost use Rattle.ev_warming.specs.Indexes.{depends_on};
+ghost use Rattle.ev_warming.specs.Worlds.{StandsFor, needs_of};
+ghost use Rattle.ev_warming.specs.Changes.{is_unlisted};
+ghost use Rattle.ev_warming.specs.Managers.{IsKept};
+ghost use Rattle.ev_warming.specs.Arrivals.{IsOnValue, AreOnValues, told_where};
+
+use crate::Manager;
+use crate::response::times_named;
+use ev_generations::Steps;
+use ev_types::{Arrival, Body, Item, Name, NameError, Response, Text, TryCopy, Verdict};
+use std::alloc::{AllocError, Global};
+use std::sync::ledger::Ledger;
+
+impl Manager {
+    /// A response of what the manager's generations depend on, with the verdicts on its resources: a watched name that is removed
+    /// is told of as absent; then, in order, each resource that is kept arrives, and one that is refused is told of where its
+    /// name is watched. Look-ups are counted: one for each generation that depends on a name that something came for.
+    pub fn arrive_all<L: Ledger>(
+        &mut self,
+        alloc: Global,
+        response: &Response,
+        verdicts: &[Verdict],
+        steps: &mut Steps<L>,
+    ) -> Result<(), AllocError>
+        requires kept { IsKept self.old }
+        requires typed { response.now.kind ≡ Some (needs_of self.old.state.kind) }
+        requires one_each { length verdicts.now ≡ length response.now.items }
+        requires on_values { AreOnValues self.old.state.table.rows verdicts.now response.now.items }
+        ensures kept { OnOk result (IsKept self.new) }
+        ensures kind { OnOk result (self.new.state.kind ≡ self.old.state.kind) }
+        ensures table { OnOk result (self.new.state.table ≡ self.old.state.table) }
+        // Whatever world the manager stood for, it stands for that world once the response's removals and resources are in.
+        ensures stands { OnOk result ((world : World) → StandsFor self.old.state world → StandsFor self.new.state (add_items (needs_of self.old.state.kind) verdicts.now response.now.items (with_removals (needs_of self.old.state.kind) response.now world))) }
+    {
+        self.tell_absences(alloc, response, steps)?;
+        self.take_values(alloc, response.items.as_slice(), verdicts, steps)?;
+        Ok(())
+    }
+
+    // Watched names that a response removes are told of, but those that stand at a resource.
+    fn tell_absences<L: Ledger>(
+        &mut self,
+        alloc: Global,
+        response: &Response,
+        steps: &mut Steps<L>,
+    ) -> Result<(), AllocError>
+        requires kept { IsKept self.old }
+        ensures kept { OnOk result (IsKept self.new) }
+        ensures kind { OnOk result (self.new.state.kind ≡ self.old.state.kind) }
+        ensures table { OnOk result (self.new.state.table ≡ self.old.state.table) }
+        ensures stands { OnOk result ((world : World) → StandsFor self.old.state world → StandsFor self.new.state (record world { arrivals = world.arrivals ++ map (arrived (needs_of self.old.state.kind) Absent) (absent_names (needs_of self.old.state.kind) response.now world) })) }
+    {
+        for name in response.removed.as_slice() {
+            self.tell_absence(alloc, response, name, steps)?;
+        }
+        Ok(())
+    }
+
+    // A name that is removed is told of, where it is watched and stands at no resource.
+    fn tell_absence<L: Ledger>(
+        &mut self,
+        alloc: Global,
+        response: &Response,
+        name: &Text,
+        steps: &mut Steps<L>,
+    ) -> Result<(), AllocError>
+        requires kept { IsKept self.old }
+        ensures kept { OnOk result (IsKept self.new) }
+        ensures kind { OnOk result (self.new.state.kind ≡ self.old.state.kind) }
+        ensures table { OnOk result (self.new.state.table ≡ self.old.state.table) }
+        ensures stands { OnOk result ((world : World) → StandsFor self.old.state world → StandsFor self.new.state (told_where (is_unlisted response.now name.now && list_any (depends_on name.now) self.old.state.table.rows) (needs_of self.old.state.kind) Absent name.now world)) }
+    {
+        if times_named(name.as_str(), response.items.as_slice()) >= 1 {
+            return Ok(());
+        }
+        self.tell(alloc, name, &Arrival::Absent, steps)
+    }
+
+    // Something came for a text, where it is a name that is watched.
+    fn tell<L: Ledger>(
+        &mut self,
+        alloc: Global,
+        name: &Text,
+        arrival: &Arrival,
+        steps: &mut Steps<L>,
+    ) -> Result<(), AllocError>
+        requires kept { IsKept self.old }
+        ensures kept { OnOk result (IsKept self.new) }
+        ensures kind { OnOk result (self.new.state.kind ≡ self.old.state.kind) }
+        ensures table { OnOk result (self.new.state.table ≡ self.old.state.table) }
+        ensures stands { OnOk result ((world : World) → StandsFor self.old.state world → StandsFor self.new.state (told_where (list_any (depends_on name.now) self.old.state.table.rows) (needs_of self.old.state.kind) arrival.now name.now world)) }
+    {
+        match Name::new(alloc, name.as_str()) {
+            Ok(name) => self.tell_name(alloc, &name, arrival, steps),
+            Err(NameError::Length) => Ok(()),
+            Err(NameError::OutOfMemory) => Err(AllocError),
+        }
+    }
+
+    // Something came for a name, where it is watched.
+    fn tell_name<L: Ledger>(
+        &mut self,
+        alloc: Global,
+        name: &Name,
+        arrival: &Arrival,
+        steps: &mut Steps<L>,
+    ) -> Result<(), AllocError>
+        requires kept { IsKept self.old }
+        ensures kept { OnOk result (IsKept self.new) }
+        ensures kind { OnOk result (self.new.state.kind ≡ self.old.state.kind) }
+        ensures table { OnOk result (self.new.state.table ≡ self.old.state.table) }
+        ensures stands { OnOk result ((world : World) → StandsFor self.old.state world → StandsFor self.new.state (told_where (list_any (depends_on name.now) self.old.state.table.rows) (needs_of self.old.state.kind) arrival.now name.now world)) }
+    {
+        if self.state.is_watched(name) {
+            return self.arrive(alloc, name, arrival, steps);
+        }
+        Ok(())
+    }
+
+    // The resources of a response come in, in order, each by its verdict.
+    fn take_values<L: Ledger>(
+        &mut self,
+        alloc: Global,
+        items: &[Item],
+        verdicts: &[Verdict],
+        steps: &mut Steps<L>,
+    ) -> Result<(), AllocError>
+        requires kept { IsKept self.old }
+        requires one_each { length verdicts.now ≡ length items.now }
+        requires on_values { AreOnValues self.old.state.table.rows verdicts.now items.now }
+        ensures kept { OnOk result (IsKept self.new) }
+        ensures kind { OnOk result (self.new.state.kind ≡ self.old.state.kind) }
+        ensures table { OnOk result (self.new.state.table ≡ self.old.state.table) }
+        ensures stands { OnOk result ((world : World) → StandsFor self.old.state world → StandsFor self.new.state (add_items (needs_of self.old.state.kind) verdicts.now items.now world)) }
+    {
+        for (place, item) in items.iter().enumerate() {
+            self.take_value(alloc, verdicts[place], item, steps)?;
+        }
+        Ok(())
+    }
+
+    // One resource comes in.
+    fn take_value<L: Ledger>(
+        &mut self,
+        alloc: Global,
+        verdict: Verdict,
+        item: &Item,
+        steps: &mut Steps<L>,
+    ) -> Result<(), AllocError>
+        requires kept { IsKept self.old }
+        requires on_value { IsOnValue verdict (list_any (depends_on item.now.name) self.old.state.table.rows) }
+        ensures kept { OnOk result (IsKept self.new) }
+        ensures kind { OnOk result (self.new.state.kind ≡ self.old.state.kind) }
+        ensures table { OnOk result (self.new.state.table ≡ self.old.state.table) }
+        ensures stands { OnOk result ((world : World) → StandsFor self.old.state world → StandsFor self.new.state (add_item (needs_of self.old.state.kind) verdict item.now world)) }
+    {
+        match verdict {
+            Verdict::Kept => self.keep_value(alloc, item, steps),
+            Verdict::Refused(_) => self.tell(alloc, &item.name, &Arrival::Bad, steps),
+            _ => Ok(()),
+        }
+    }
+
+    // A resource of a watched name arrives, where it has content.
+    fn keep_value<L: Ledger>(
+        &mut self,
+        alloc: Global,
+        item: &Item,
+        steps: &mut Steps<L>,
+    ) -> Result<(), AllocError>
+        requires kept { IsKept self.old }
+        requires watched { list_any (depends_on item.now.name) self.old.state.table.rows ≡ true }
+        ensures kept { OnOk result (IsKept self.new) }
+        ensures kind { OnOk result (self.new.state.kind ≡ self.old.state.kind) }
+        ensures table { OnOk result (self.new.state.table ≡ self.old.state.table) }
+        ensures stands { OnOk result ((world : World) → StandsFor self.old.state world → StandsFor self.new.state (add_item (needs_of self.old.state.kind) Kept item.now world)) }
+    {
+        let Body::Good(content) = &item.body else {
+            return Ok(());
+        };
+        let name = item.resource_name(alloc)?;
+        let arrival = Arrival::Value(content.copy(alloc)?);
+        self.arrive(alloc, &name, &arrival, steps)
+    }
+}

@@ -1,0 +1,157 @@
+ghost use Rattle.std.specs.Prelude.{◌≡◌, ◌+◌, ◌&&◌, not, false, Some, nat_eq, ℕ, List, [], None, if◌then◌else◌, length, OnOk};
+ghost use Rattle.ev_types.specs.declared.hosts.Host as declared;
+ghost use Rattle.ev_model.specs.World.{World};
+ghost use Rattle.ev_model.specs.Watching.{is_by_name};
+ghost use Rattle.ev_model.specs.Warming.{rows_in};
+ghost use Rattle.ev_model.specs.Tidy.{without_unwatched, without_old_results};
+ghost use Rattle.ev_endpoints.specs.Results.{result_in, Trims};
+ghost use Rattle.ev_generations.specs.Tables.{row_in};
+ghost use Rattle.ev_warming.specs.Watched.{unwatched, watch_in};
+ghost use Rattle.ev_warming.specs.Ready.{name_needed, assignment_in};
+ghost use Rattle.ev_warming.specs.Indexes.{IsIndexed, is_needed};
+ghost use Rattle.ev_warming.specs.Worlds.{StandsFor};
+ghost use Rattle.ev_warming.specs.Forgetting.{need_in, is_idle, keeps_result, loses_result, IsTidyBut};
+
+use crate::{State, Watches, needed};
+use ev_endpoints::Endpoints;
+use ev_generations::Steps;
+use ev_types::{Content, Discovery, Gen, GenRow, Name};
+use std::alloc::{AllocError, Global};
+use std::sync::ledger::Ledger;
+
+impl State {
+    /// Forgets what nobody needs any more: what came for names that no live generation depends on, the results of generations
+    /// that retired, and those of hosts that left their cluster's assignment. It looks at the generations of these numbers
+    /// alone, each once: those that retired or whose assignment may have changed since the last time. Without memory nothing is
+    /// promised of the state.
+    pub fn forget<L: Ledger>(
+        &mut self,
+        alloc: Global,
+        stale: &[Gen],
+        steps: &mut Steps<L>,
+    ) -> Result<(), AllocError>
+        requires indexed { IsIndexed self.old }
+        requires tidy { IsTidyBut self.old stale.now }
+        requires rows { is_by_name self.old.kind ≡ false }
+        ensures indexed { OnOk result (IsIndexed self.new) }
+        ensures tidy { OnOk result (IsTidyBut self.new []) }
+        ensures others { OnOk result (self.new ≡ record self.old { watches = self.new.watches; results = self.new.results }) }
+        ensures steps { OnOk result (steps.new ≡ steps.old + length stale.now) }
+        // Whatever world the state stood for, it stands for that world once the machine has forgotten.
+        ensures stands { OnOk result ((world : World) → StandsFor self.old world → StandsFor self.new (without_old_results (without_unwatched world))) }
+    {
+        for number in stale {
+            self.forget_row(alloc, *number, steps)?;
+        }
+        Ok(())
+    }
+
+    // Forgets what nobody needs any more of the generation of this number and of the name that it depends on.
+    fn forget_row<L: Ledger>(
+        &mut self,
+        alloc: Global,
+        number: Gen,
+        steps: &mut Steps<L>,
+    ) -> Result<(), AllocError>
+        requires indexed { IsIndexed self.old }
+        ensures indexed { OnOk result (IsIndexed self.new) }
+        ensures watches { OnOk result ((q : List ℕ) → watch_in self.new.watches q ≡ (if is_needed q (need_in (row_in number self.old.table.rows)) && is_idle self.old.table.rows q then unwatched else watch_in self.old.watches q)) }
+        ensures results { OnOk result ((n : ℕ) (h : declared.Host) → result_in self.new.results n h ≡ (if nat_eq number n && loses_result self.old.watches h (row_in n self.old.table.rows) then None else result_in self.old.results n h)) }
+        ensures others { OnOk result (self.new ≡ record self.old { watches = self.new.watches; results = self.new.results }) }
+        ensures steps { OnOk result (steps.new ≡ steps.old + 1) }
+    {
+        let Some(row) = self.table.row(number, steps) else {
+            return Ok(());
+        };
+        trim(&self.watches, &mut self.results, alloc, row)?;
+        forget_need(&mut self.watches, &row.content);
+        Ok(())
+    }
+}
+
+// Forgets the results that a row doesn't keep.
+fn trim(
+    watches: &Watches,
+    results: &mut Endpoints,
+    alloc: Global,
+    row: &GenRow,
+) -> Result<(), AllocError>
+    ensures { OnOk result ((n : ℕ) (h : declared.Host) → result_in results.new n h ≡ (if nat_eq row.now.number n && not (keeps_result watches.now h row.now) then None else result_in results.old n h)) }
+{
+    if !row.status.is_live() {
+        results.forget(row.number);
+        return Ok(());
+    }
+    trim_hosts(watches, results, alloc, row.number, &row.content)
+}
+
+// Forgets the results of a generation for hosts that aren't in its assignment.
+fn trim_hosts(
+    watches: &Watches,
+    results: &mut Endpoints,
+    alloc: Global,
+    number: Gen,
+    content: &Content,
+) -> Result<(), AllocError>
+    ensures { OnOk result (Trims results.old results.new number (assignment_in watches.now content.now)) }
+{
+    let Content::Cluster(cluster) = content else {
+        results.forget(number);
+        return Ok(());
+    };
+    match &cluster.get().discovery {
+        Discovery::Static(rows) => results.trim(alloc, number, rows),
+        Discovery::Eds { service, .. } => trim_value(watches, results, alloc, number, service),
+    }
+}
+
+// Forgets the results of a generation for hosts that aren't in the value of a name.
+fn trim_value(
+    watches: &Watches,
+    results: &mut Endpoints,
+    alloc: Global,
+    number: Gen,
+    service: &Name,
+) -> Result<(), AllocError>
+    ensures { OnOk result (Trims results.old results.new number (rows_in (watch_in watches.now service.now).value)) }
+{
+    let Some(watch) = watches.get(service) else {
+        results.forget(number);
+        return Ok(());
+    };
+    match &watch.value {
+        Some(Content::Assignment(rows)) => results.trim(alloc, number, rows.get()),
+        _ => {
+            results.forget(number);
+            Ok(())
+        }
+    }
+}
+
+// Forgets what came for the name that a generation of this content depends on, where no live one does.
+fn forget_need(watches: &mut Watches, content: &Content)
+    ensures { (q : List ℕ) → watch_in watches.new q ≡ (if is_needed q (name_needed content.now) && nat_eq (length (watch_in watches.old q).rows) 0 then unwatched else watch_in watches.old q) }
+{
+    if let Some(name) = needed(content) {
+        forget_idle(watches, name);
+    }
+}
+
+// Forgets what came for a name that no live generation depends on.
+fn forget_idle(watches: &mut Watches, name: &Name)
+    ensures { (q : List ℕ) → watch_in watches.new q ≡ (if is_needed q (Some name.now) && nat_eq (length (watch_in watches.old q).rows) 0 then unwatched else watch_in watches.old q) }
+{
+    if is_idle(watches, name) {
+        watches.forget(name);
+    }
+}
+
+// Whether no live generation depends on a name.
+fn is_idle(watches: &Watches, name: &Name) -> bool
+    ensures { result ≡ nat_eq (length (watch_in watches.now name.now).rows) 0 }
+{
+    match watches.get(name) {
+        Some(watch) => watch.rows.len() == 0,
+        None => true,
+    }
+}

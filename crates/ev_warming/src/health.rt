@@ -1,0 +1,111 @@
+ghost use Rattle.std.specs.Prelude.{◌≡◌, ◌+◌, ◌*◌, ◌≤◌, ℕ, List, [], length, if◌then◌else◌, option_to_list, IfOk, OnOk};
+ghost use Rattle.std.specs.List.{list_any};
+ghost use Rattle.ev_types.specs.declared.contents.Kind.TheVariants.{Cds};
+ghost use Rattle.ev_model.specs.World.{World};
+ghost use Rattle.ev_model.specs.Signals.{is_meant, rows_meant, with_results};
+ghost use Rattle.ev_warming.specs.Forgetting.{IsTidyBut};
+ghost use Rattle.ev_warming.specs.Health.{takes_at, is_meant_in, numbers_meant, NotesEach};
+ghost use Rattle.ev_warming.specs.Indexes.{IsIndexed};
+ghost use Rattle.ev_warming.specs.Worlds.{StandsFor};
+
+use crate::hosts::takes_result;
+use crate::{Manager, State, refresh};
+use ev_generations::Steps;
+use ev_types::{Gen, Host, Name};
+use std::alloc::{AllocError, Global};
+use std::sync::ledger::Ledger;
+
+impl Manager {
+    ghost use Rattle.ev_warming.specs.Managers.{IsKept};
+
+    /// A health result of a host of a cluster is kept for each live generation of the cluster whose hosts are health checked and
+    /// have the host now. Answers whether there is one; where there is none, all stays as it was. It costs at most four look-ups.
+    pub fn note<L: Ledger>(
+        &mut self,
+        alloc: Global,
+        name: &Name,
+        host: &Host,
+        healthy: bool,
+        steps: &mut Steps<L>,
+    ) -> Result<bool, AllocError>
+        requires kept { IsKept self.old }
+        ensures kept { OnOk result (IsKept self.new) }
+        ensures kind { OnOk result (self.new.state.kind ≡ self.old.state.kind) }
+        ensures table { OnOk result (self.new.state.table ≡ self.old.state.table) }
+        ensures meant { IfOk result (λ meant. meant ≡ list_any (is_meant_in self.old.state.watches name.now host.now) self.old.state.table.rows) }
+        ensures results { OnOk result (NotesEach self.old.state.results self.new.state.results (numbers_meant self.old.state.watches name.now host.now self.old.state.table.rows) host.now healthy) }
+        ensures steps { OnOk result (steps.new ≤ steps.old + 4) }
+        // Whatever world clusters stood for, they stand for that world with the result, which means something to the same rows.
+        ensures stands { OnOk result (self.old.state.kind ≡ Cds → (world : World) → StandsFor self.old.state world → StandsFor self.new.state (with_results host.now healthy (rows_meant world.arrivals name.now host.now world.rows) world)) }
+        ensures ignored { IfOk result (λ meant. self.old.state.kind ≡ Cds → (world : World) → StandsFor self.old.state world → meant ≡ list_any (is_meant world.arrivals name.now host.now) world.rows) }
+    {
+        self.state.note(alloc, name, host, healthy, steps)
+    }
+}
+
+impl State {
+    /// A health result of a host of a cluster is kept for each live generation of the cluster whose hosts are health checked and
+    /// have the host now. Answers whether there is one; where there is none, all stays as it was. It costs at most four look-ups.
+    /// Without memory nothing is promised of the state.
+    pub fn note<L: Ledger>(
+        &mut self,
+        alloc: Global,
+        name: &Name,
+        host: &Host,
+        healthy: bool,
+        steps: &mut Steps<L>,
+    ) -> Result<bool, AllocError>
+        requires indexed { IsIndexed self.old }
+        ensures indexed { OnOk result (IsIndexed self.new) }
+        ensures meant { IfOk result (λ meant. meant ≡ list_any (is_meant_in self.old.watches name.now host.now) self.old.table.rows) }
+        ensures results { OnOk result (NotesEach self.old.results self.new.results (numbers_meant self.old.watches name.now host.now self.old.table.rows) host.now healthy) }
+        ensures others { OnOk result (self.new ≡ record self.old { results = self.new.results; due = self.new.due }) }
+        ensures steps { OnOk result (steps.new ≤ steps.old + 4) }
+        ensures tidy { OnOk result ((stale : List ℕ) → IsTidyBut self.old stale → IsTidyBut self.new stale) }
+        // Whatever world clusters stood for, they stand for that world with the result, which means something to the same rows.
+        ensures stands { OnOk result (self.old.kind ≡ Cds → (world : World) → StandsFor self.old world → StandsFor self.new (with_results host.now healthy (rows_meant world.arrivals name.now host.now world.rows) world)) }
+        ensures ignored { IfOk result (λ meant. self.old.kind ≡ Cds → (world : World) → StandsFor self.old world → meant ≡ list_any (is_meant world.arrivals name.now host.now) world.rows) }
+    {
+        let standing = self.names.standing(name);
+        let served = self.note_at(alloc, standing.active, host, healthy, steps)?;
+        let warmed = self.note_at(alloc, standing.warming, host, healthy, steps)?;
+        Ok(served || warmed)
+    }
+
+    // The same for the generation of this number, where there is one.
+    fn note_at<L: Ledger>(
+        &mut self,
+        alloc: Global,
+        number: Option<Gen>,
+        host: &Host,
+        healthy: bool,
+        steps: &mut Steps<L>,
+    ) -> Result<bool, AllocError>
+        requires indexed { IsIndexed self.old }
+        ensures indexed { OnOk result (IsIndexed self.new) }
+        ensures meant { IfOk result (λ meant. meant ≡ takes_at self.old.watches host.now number self.old.table.rows) }
+        ensures results { IfOk result (λ meant. NotesEach self.old.results self.new.results (if meant then option_to_list number else []) host.now healthy) }
+        ensures others { OnOk result (self.new ≡ record self.old { results = self.new.results; due = self.new.due }) }
+        ensures steps { OnOk result (steps.new ≤ steps.old + 2) }
+    {
+        let Some(number) = number else {
+            return Ok(false);
+        };
+        let Some(row) = self.table.row(number, steps) else {
+            return Ok(false);
+        };
+        if !takes_result(&self.watches, host, &row.content) {
+            return Ok(false);
+        }
+        self.results.note(alloc, number, host, healthy)?;
+        refresh(
+            &self.table,
+            &self.watches,
+            &self.results,
+            &mut self.due,
+            &[number],
+            steps,
+        )?;
+        Ok(true)
+    }
+}

@@ -1,0 +1,192 @@
+ghost use Rattle.std.specs.Prelude.{◌≡◌, ◌+◌, ◌*◌, ◌^◌, ◌≤◌, ◌<◌, [], ◌∷◌, ◌++◌, ℕ, List, true, false, length, option_to_list, IfOk, OnOk};
+ghost use Rattle.std.specs.List.{list_any};
+ghost use Rattle.ev_types.specs.Items.{content_kind};
+ghost use Rattle.ev_model.specs.World.{World, opening};
+ghost use Rattle.ev_model.specs.Watching.{is_by_name};
+ghost use Rattle.ev_model.specs.Rows.{arrived, rows_with_new};
+ghost use Rattle.ev_model.specs.Signals.{rows_ended};
+ghost use Rattle.ev_model.specs.Tidy.{promoted, without_unwatched, without_old_results};
+ghost use Rattle.ev_warming.specs.Due.{is_among};
+ghost use Rattle.ev_warming.specs.Ready.{is_due_at};
+ghost use Rattle.ev_warming.specs.Watched.{watch_in};
+ghost use Rattle.ev_warming.specs.Indexes.{depends_on, serves, warms, numbers_where};
+ghost use Rattle.ev_warming.specs.Worlds.{StandsFor, needs_of};
+ghost use Rattle.ev_warming.specs.Changes.{began_to_drain};
+
+use crate::state::put_one;
+use crate::{Promoted, Standing, State};
+use ev_generations::Steps;
+use ev_types::{Arrival, Content, Gen, Kind, Name, Seq};
+use std::alloc::{AllocError, Global};
+use std::mem;
+use std::sync::ledger::Ledger;
+
+/// The core of a manager: the generations of one kind with their indexes, and the numbers of those that the next forgetting
+/// looks at, since they retired or their assignment may have changed. A call says what stands after it; without memory
+/// nothing is promised of the manager, and its holder goes on with a copy.
+#[derive(Drop)]
+pub struct Manager {
+    pub state: State,
+    pub stale: Seq<Gen>,
+}
+
+/// What a new generation changed: its number, and that of the one that warmed under its name before and is dropped.
+#[derive(Clone, Copy, Debug, PartialEq, Eq)]
+pub struct Added {
+    pub number: Gen,
+    pub dropped: Option<Gen>,
+}
+
+impl Manager {
+    ghost use Rattle.ev_warming.specs.Managers.{IsKept};
+
+    /// No generation of clusters or of listeners, and nothing known. It takes no memory, and stands for every world in which
+    /// nothing happened.
+    pub fn new(alloc: Global, kind: Kind) -> Manager
+        requires rows { is_by_name kind ≡ false }
+        ensures kind { result.state.kind ≡ kind }
+        ensures kept { IsKept result }
+        ensures stands { (workers : ℕ) (node : List ℕ) → StandsFor result.state (opening workers node) }
+    {
+        Manager {
+            state: State::new(alloc, kind),
+            stale: Seq::new(alloc),
+        }
+    }
+
+    /// Something came for a name that a live generation depends on. Each that depends on it is looked at once.
+    pub fn arrive<L: Ledger>(
+        &mut self,
+        alloc: Global,
+        name: &Name,
+        arrival: &Arrival,
+        steps: &mut Steps<L>,
+    ) -> Result<(), AllocError>
+        requires kept { IsKept self.old }
+        requires watched { list_any (depends_on name.now) self.old.state.table.rows ≡ true }
+        ensures kept { OnOk result (IsKept self.new) }
+        ensures kind { OnOk result (self.new.state.kind ≡ self.old.state.kind) }
+        ensures table { OnOk result (self.new.state.table ≡ self.old.state.table) }
+        ensures steps { OnOk result (steps.new ≡ steps.old + length (numbers_where (depends_on name.now) self.old.state.table.rows)) }
+        // Whatever world the manager stood for, it stands for that world with the arrival.
+        ensures stands { OnOk result ((world : World) → StandsFor self.old.state world → StandsFor self.new.state (record world { arrivals = world.arrivals ++ arrived (needs_of self.old.state.kind) arrival.now name.now ∷ [] })) }
+    {
+        self.touch(name)?;
+        self.state.arrive(alloc, name, arrival, steps)
+    }
+
+    // The next forgetting looks at the generations that depend on a name.
+    fn touch(&mut self, name: &Name) -> Result<(), AllocError>
+        ensures { OnOk result (self.new ≡ record self.old { stale = self.old.stale ++ (watch_in self.old.state.watches name.now).rows }) }
+    {
+        let Some(watch) = self.state.watches.get(name) else {
+            return Ok(());
+        };
+        put_all(&mut self.stale, watch.rows.as_slice())
+    }
+
+    /// What a name stands for has come to its end, or is removed: the generation that warms under it is dropped, and the one that
+    /// serves it drains; these are the answer. It costs at most two look-ups.
+    pub fn end<L: Ledger>(
+        &mut self,
+        name: &Name,
+        steps: &mut Steps<L>,
+    ) -> Result<Standing, AllocError>
+        requires kept { IsKept self.old }
+        ensures kept { OnOk result (IsKept self.new) }
+        ensures kind { OnOk result (self.new.state.kind ≡ self.old.state.kind) }
+        ensures drains { IfOk result (λ ended. option_to_list ended.active ≡ numbers_where (serves name.now) self.old.state.table.rows) }
+        ensures dropped { IfOk result (λ ended. option_to_list ended.warming ≡ numbers_where (warms name.now) self.old.state.table.rows) }
+        ensures rows { OnOk result (self.new.state.table.rows ≡ rows_ended self.old.state.kind name.now self.old.state.table.rows) }
+        ensures made { OnOk result (self.new.state.table.made ≡ self.old.state.table.made) }
+        ensures steps { OnOk result (steps.new ≤ steps.old + 2) }
+        // Whatever world the manager stood for, it stands for that world where the name has come to its end.
+        ensures stands { OnOk result ((world : World) → StandsFor self.old.state world → StandsFor self.new.state (record world { rows = rows_ended self.old.state.kind name.now world.rows })) }
+    {
+        let ended = self.state.names.standing(name);
+        put_one(&mut self.stale, &ended.warming)?;
+        put_one(&mut self.stale, &ended.active)?;
+        self.state.end(name, steps);
+        Ok(ended)
+    }
+
+    /// A new generation of a name warms, with content of the manager's kind, and one that warmed under it before is dropped. It
+    /// costs at most two look-ups.
+    pub fn add<L: Ledger>(
+        &mut self,
+        alloc: Global,
+        name: Name,
+        content: Content,
+        steps: &mut Steps<L>,
+    ) -> Result<Added, AllocError>
+        requires kept { IsKept self.old }
+        requires typed { content_kind content ≡ self.old.state.kind }
+        requires room { self.old.state.table.made + 1 < 2 ^ 32 }
+        ensures kept { OnOk result (IsKept self.new) }
+        ensures kind { OnOk result (self.new.state.kind ≡ self.old.state.kind) }
+        ensures number { IfOk result (λ added. added.number ≡ self.old.state.table.made + 1) }
+        ensures dropped { IfOk result (λ added. option_to_list added.dropped ≡ numbers_where (warms name) self.old.state.table.rows) }
+        ensures rows { OnOk result (self.new.state.table.rows ≡ rows_with_new self.old.state.kind self.old.state.table.made name content self.old.state.table.rows) }
+        ensures made { OnOk result (self.new.state.table.made ≡ self.old.state.table.made + 1) }
+        ensures steps { OnOk result (steps.new ≤ steps.old + 2) }
+        // Whatever world the manager stood for, it stands for that world with the new generation.
+        ensures stands { OnOk result ((world : World) → StandsFor self.old.state world → StandsFor self.new.state (record world { rows = rows_with_new self.old.state.kind world.made name content world.rows; made = world.made + 1 })) }
+    {
+        let dropped = self.state.names.standing(&name).warming;
+        put_one(&mut self.stale, &dropped)?;
+        let number = self.state.add(alloc, name, content, steps)?;
+        Ok(Added { number, dropped })
+    }
+
+    /// Each generation that is due serves, and the one that served its name before it drains. Answers the numbers of both. Each of
+    /// the first costs at most three look-ups.
+    pub fn promote<L: Ledger>(
+        &mut self,
+        alloc: Global,
+        steps: &mut Steps<L>,
+    ) -> Result<Promoted, AllocError>
+        requires kept { IsKept self.old }
+        ensures kept { OnOk result (IsKept self.new) }
+        ensures kind { OnOk result (self.new.state.kind ≡ self.old.state.kind) }
+        ensures served { IfOk result (λ promoted. (n : ℕ) → is_among promoted.served n ≡ is_due_at self.old.state.watches self.old.state.results n self.old.state.table.rows) }
+        ensures drained { IfOk result (λ promoted. (n : ℕ) → is_among promoted.drained n ≡ began_to_drain n self.old.state.table.rows self.new.state.table.rows) }
+        ensures made { OnOk result (self.new.state.table.made ≡ self.old.state.table.made) }
+        ensures steps { IfOk result (λ promoted. steps.new ≤ steps.old + 3 * length promoted.served) }
+        // Whatever world the manager stood for, it stands for that world with all that are due promoted.
+        ensures stands { OnOk result ((world : World) → StandsFor self.old.state world → StandsFor self.new.state (promoted world)) }
+    {
+        let promoted = self.state.promote(alloc, steps)?;
+        put_all(&mut self.stale, promoted.drained.as_slice())?;
+        Ok(promoted)
+    }
+
+    /// After an event: forgets what nobody needs any more, of names, of generations that retired, and of hosts that left their
+    /// cluster's assignment.
+    pub fn forget<L: Ledger>(
+        &mut self,
+        alloc: Global,
+        steps: &mut Steps<L>,
+    ) -> Result<(), AllocError>
+        requires kept { IsKept self.old }
+        ensures kept { OnOk result (IsKept self.new) }
+        ensures kind { OnOk result (self.new.state.kind ≡ self.old.state.kind) }
+        ensures done { OnOk result (self.new.stale ≡ []) }
+        ensures table { OnOk result (self.new.state.table ≡ self.old.state.table) }
+        ensures steps { OnOk result (steps.new ≡ steps.old + length self.old.stale) }
+        // Whatever world the manager stood for, it stands for that world once the machine has forgotten.
+        ensures stands { OnOk result ((world : World) → StandsFor self.old.state world → StandsFor self.new.state (without_old_results (without_unwatched world))) }
+    {
+        let stale = mem::replace(&mut self.stale, Seq::new(alloc));
+        self.state.forget(alloc, stale.as_slice(), steps)
+    }
+}
+
+// Puts numbers to the others.
+fn put_all(numbers: &mut Seq<Gen>, more: &[Gen]) -> Result<(), AllocError>
+    ensures { OnOk result (numbers.new ≡ numbers.old ++ more.now) }
+{
+    for number in more {
+        numbers.push(*number)?;
+    }
+    Ok(())
+}

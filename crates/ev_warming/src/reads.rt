@@ -1,0 +1,93 @@
+ghost use Rattle.std.specs.Prelude.{◌≡◌, ◌++◌, [], ◌∷◌, ◌&&◌, ◌||◌, not, ℕ, false, map, filter, IfOk, OnOk};
+ghost use Rattle.std.specs.List.{list_any};
+ghost use Rattle.ev_types.specs.Kinds.{kind_same};
+ghost use Rattle.ev_types.specs.declared.rows.Live.{Live};
+ghost use Rattle.ev_model.specs.World.{World};
+ghost use Rattle.ev_model.specs.Live.{live_of, lives_of};
+ghost use Rattle.ev_model.specs.Signals.{is_awaited};
+ghost use Rattle.ev_model.specs.Watching.{is_by_name, is_watched};
+ghost use Rattle.ev_warming.specs.Due.{is_filled};
+ghost use Rattle.ev_warming.specs.Indexes.{IsIndexed, depends_on};
+ghost use Rattle.ev_warming.specs.Reads.{live_rows, is_timeout_due};
+ghost use Rattle.ev_warming.specs.Worlds.{StandsFor, needs_of};
+
+use crate::{State, Watch};
+use ev_rules::LiveRow;
+use ev_types::{Gen, GenRow, Name, Seq};
+use std::alloc::{AllocError, Global};
+
+impl State {
+    /// Whether a live generation depends on the name.
+    pub fn is_watched(&self, name: &Name) -> bool
+        requires indexed { IsIndexed self.now }
+        ensures rows { result ≡ list_any (depends_on name.now) self.now.table.rows }
+        ensures world { (world : World) → is_by_name self.now.kind ≡ false → StandsFor self.now world → result ≡ is_watched (lives_of world) (needs_of self.now.kind) name.now }
+    {
+        match self.watches.get(name) {
+            Some(watch) => is_filled(&watch.rows),
+            None => false,
+        }
+    }
+
+    /// Whether the fetch timeout of the name is due: a live generation waits for it within a limit, and it was neither told of
+    /// nor timed out.
+    pub fn timeout_due(&self, name: &Name) -> bool
+        requires indexed { IsIndexed self.now }
+        ensures rows { result ≡ is_timeout_due self.now.watches self.now.table.rows name.now }
+        ensures world { (world : World) → is_by_name self.now.kind ≡ false → StandsFor self.now world → result ≡ is_awaited world.arrivals world.rows (needs_of self.now.kind) name.now }
+    {
+        match self.watches.get(name) {
+            Some(watch) => is_awaited(watch),
+            None => false,
+        }
+    }
+
+    /// The live generations, in order, as verdicts take them. It goes over the whole table.
+    pub fn live<'a>(&'a self, alloc: Global) -> Result<Vec<LiveRow<'a>>, AllocError>
+        ensures rows { IfOk result (λ lives. lives.items ≡ map live_of (live_rows self.now.table.rows)) }
+        ensures world { IfOk result (λ lives. (world : World) → StandsFor self.now world → lives.items ≡ filter (λ (live : Live). kind_same live.kind self.now.kind) (lives_of world)) }
+    {
+        lives(alloc, self.table.rows())
+    }
+}
+
+// Whether there is a number.
+fn is_filled(numbers: &Seq<Gen>) -> bool
+    ensures { result ≡ is_filled numbers.now }
+{
+    !numbers.is_empty()
+}
+
+// Whether a row waits within a limit for a name, which was neither told of nor timed out.
+fn is_awaited(watch: &Watch) -> bool
+    ensures { result ≡ (is_filled watch.now.limited && not (watch.now.told || watch.now.timed)) }
+{
+    is_filled(&watch.limited) && !(watch.told || watch.timed)
+}
+
+// The live ones of these rows.
+fn lives<'a>(alloc: Global, rows: &'a [GenRow]) -> Result<Vec<LiveRow<'a>>, AllocError>
+    ensures { IfOk result (λ lives. lives.items ≡ map live_of (live_rows rows.now)) }
+{
+    let mut lives = Vec::new(alloc);
+    for row in rows {
+        push_live(row, &mut lives)?;
+    }
+    Ok(lives)
+}
+
+// Puts what is seen of a row to the others, where it is live.
+fn push_live<'a>(row: &'a GenRow, lives: &mut Vec<LiveRow<'a>>) -> Result<(), AllocError>
+    ensures { OnOk result (lives.new.items ≡ lives.old.items ++ map live_of (live_rows (row.now ∷ []))) }
+{
+    if row.status.is_live() {
+        lives.push(LiveRow {
+            kind: row.kind,
+            number: row.number,
+            name: row.name.as_str(),
+            content: &row.content,
+            warming: row.status.is_warming(),
+        })?;
+    }
+    Ok(())
+}

@@ -1,0 +1,48 @@
+ghost use Rattle.std.specs.Prelude.{◌≡◌, ◌≤◌, [], Some, true};
+ghost use Rattle.ev_model.specs.World.{World};
+ghost use Rattle.ev_generations.specs.Tables.{row_in, without_row};
+ghost use Rattle.ev_warming.specs.Changes.{is_over};
+ghost use Rattle.ev_warming.specs.Worlds.{StandsFor};
+ghost use Rattle.ev_warming.specs.Managers.{IsKept};
+
+use crate::Manager;
+use ev_types::{Gen, GenRow};
+
+impl Manager {
+    /// Takes out a generation that drains or was dropped, once all is forgotten that nobody needs. Finding it takes no walk; the
+    /// rows behind it move up.
+    pub fn remove(&mut self, number: Gen) -> GenRow
+        requires kept { IsKept self.old }
+        requires forgotten { self.old.stale ≡ [] }
+        requires over { is_over (row_in number self.old.state.table.rows) ≡ true }
+        ensures kept { IsKept self.new }
+        ensures row { row_in number self.old.state.table.rows ≡ Some result }
+        ensures rows { self.new.state.table.rows ≡ without_row number self.old.state.table.rows }
+        ensures others { self.new ≡ record self.old { state = record self.old.state { table = self.new.state.table } } }
+        // Whatever world the manager stood for, it stands for that world without the generation.
+        ensures stands { (world : World) → StandsFor self.old.state world → StandsFor self.new.state (record world { rows = without_row number world.rows }) }
+    {
+        self.state.table.remove(number)
+    }
+
+    /// How many numbers were drawn.
+    pub fn made(&self) -> u32
+        ensures { result ≡ self.now.state.table.made }
+    {
+        self.state.table.made()
+    }
+
+    /// Numbers go on after this one: both managers draw from one counter.
+    pub fn advance(&mut self, made: u32)
+        requires kept { IsKept self.old }
+        requires later { self.old.state.table.made ≤ made }
+        ensures kept { IsKept self.new }
+        ensures made { self.new.state.table.made ≡ made }
+        ensures rows { self.new.state.table.rows ≡ self.old.state.table.rows }
+        ensures others { self.new ≡ record self.old { state = record self.old.state { table = self.new.state.table } } }
+        // Whatever world the manager stood for, it stands for that world with so many numbers drawn.
+        ensures stands { (world : World) → StandsFor self.old.state world → StandsFor self.new.state (record world { made = made }) }
+    {
+        self.state.table.advance(made);
+    }
+}

@@ -1,0 +1,243 @@
+ghost use Rattle.std.specs.Prelude.{◌≡◌, ◌+◌, ◌^◌, ◌<◌, ◌≤◌, ◌++◌, ℕ, [], ◌∷◌, Some, All, EachIndex, slice_index, length, IfOk, OnOk};
+ghost use Rattle.ev_types.specs.Items.{IsBodyOf, content_kind};
+ghost use Rattle.ev_types.specs.declared.contents.Body.TheVariants.{Good};
+ghost use Rattle.ev_types.specs.declared.events.Verdict.TheVariants.{New};
+ghost use Rattle.ev_model.specs.World.{World};
+ghost use Rattle.ev_model.specs.Verdicts.{items_named};
+ghost use Rattle.ev_model.specs.Rows.{rows_left, rows_with_new, with_statuses, with_removals, add_item, add_items};
+ghost use Rattle.ev_model.specs.Signals.{rows_ended};
+ghost use Rattle.ev_warming.specs.Due.{is_among};
+ghost use Rattle.ev_warming.specs.Worlds.{StandsFor};
+ghost use Rattle.ev_warming.specs.Changes.{has_retired, status_left_by, Draws, Tells};
+ghost use Rattle.ev_warming.specs.Managers.{IsKept};
+
+use crate::Manager;
+use crate::state::put_one;
+use ev_generations::Steps;
+use ev_types::{Body, Content, Gen, Item, Name, NameError, Response, Seq, Text, TryCopy, Verdict};
+use std::alloc::{AllocError, Global};
+use std::sync::ledger::Ledger;
+
+/// What a response changed: the numbers of the generations that it made, and of those that began to drain or were dropped.
+#[derive(Drop)]
+pub struct Applied {
+    pub made: Seq<Gen>,
+    pub retired: Seq<Gen>,
+}
+
+impl Manager {
+    /// A response of the manager's own kind, with the verdicts on its resources: removed generations drain, or are dropped where
+    /// they warmed; then each new resource makes a generation, in order, and one that warmed under its name is dropped. Other
+    /// resources change nothing here. Look-ups are counted, and not bounded.
+    pub fn apply<L: Ledger>(
+        &mut self,
+        alloc: Global,
+        response: &Response,
+        verdicts: &[Verdict],
+        steps: &mut Steps<L>,
+    ) -> Result<Applied, AllocError>
+        requires kept { IsKept self.old }
+        requires typed { response.now.kind ≡ Some self.old.state.kind }
+        requires one_each { length verdicts.now ≡ length response.now.items }
+        requires room { self.old.state.table.made + length response.now.items < 2 ^ 32 }
+        ensures kept { OnOk result (IsKept self.new) }
+        ensures kind { OnOk result (self.new.state.kind ≡ self.old.state.kind) }
+        ensures made { IfOk result (λ applied. self.new.state.table.made ≡ self.old.state.table.made + length applied.made) }
+        ensures numbers { IfOk result (λ applied. EachIndex applied.made (λ k. slice_index applied.made k ≡ self.old.state.table.made + k + 1)) }
+        ensures retired { IfOk result (λ applied. (n : ℕ) → is_among applied.retired n ≡ has_retired n self.old.state.table.rows self.new.state.table.rows) }
+        // Whatever world the manager stood for, it stands for that world once the response's removals and resources are in.
+        ensures stands { OnOk result ((world : World) → StandsFor self.old.state world → StandsFor self.new.state (add_items self.old.state.kind verdicts.now response.now.items (with_removals self.old.state.kind response.now world))) }
+    {
+        let mut applied = Applied {
+            made: Seq::new(alloc),
+            retired: Seq::new(alloc),
+        };
+        self.remove_names(alloc, response, &mut applied, steps)?;
+        self.take_items(
+            alloc,
+            response.items.as_slice(),
+            verdicts,
+            &mut applied,
+            steps,
+        )?;
+        Ok(applied)
+    }
+
+    // The removed names of a response come to their end, but those that stand at a resource.
+    fn remove_names<L: Ledger>(
+        &mut self,
+        alloc: Global,
+        response: &Response,
+        applied: &mut Applied,
+        steps: &mut Steps<L>,
+    ) -> Result<(), AllocError>
+        requires kept { IsKept self.old }
+        ensures kept { OnOk result (IsKept self.new) }
+        ensures kind { OnOk result (self.new.state.kind ≡ self.old.state.kind) }
+        ensures made { OnOk result (self.new.state.table.made ≡ self.old.state.table.made) }
+        ensures others { OnOk result (applied.new.made ≡ applied.old.made) }
+        ensures told { OnOk result (Tells self.old.state.table.rows self.new.state.table.rows applied.old.retired applied.new.retired) }
+        ensures stands { OnOk result ((world : World) → StandsFor self.old.state world → StandsFor self.new.state (record world { rows = rows_left self.old.state.kind response.now world.rows })) }
+    {
+        for name in response.removed.as_slice() {
+            self.remove_name(alloc, response, name, applied, steps)?;
+        }
+        Ok(())
+    }
+
+    // A removed name comes to its end, where it stands at none of these resources.
+    fn remove_name<L: Ledger>(
+        &mut self,
+        alloc: Global,
+        response: &Response,
+        name: &Text,
+        applied: &mut Applied,
+        steps: &mut Steps<L>,
+    ) -> Result<(), AllocError>
+        requires kept { IsKept self.old }
+        ensures kept { OnOk result (IsKept self.new) }
+        ensures kind { OnOk result (self.new.state.kind ≡ self.old.state.kind) }
+        ensures made { OnOk result (self.new.state.table.made ≡ self.old.state.table.made) }
+        ensures others { OnOk result (applied.new.made ≡ applied.old.made) }
+        ensures told { OnOk result (Tells self.old.state.table.rows self.new.state.table.rows applied.old.retired applied.new.retired) }
+        ensures stands { OnOk result ((world : World) → StandsFor self.old.state world → StandsFor self.new.state (record world { rows = with_statuses (status_left_by self.old.state.kind response.now (name.now ∷ [])) world.rows })) }
+    {
+        if times_named(name.as_str(), response.items.as_slice()) >= 1 {
+            return Ok(());
+        }
+        match Name::new(alloc, name.as_str()) {
+            Ok(name) => self.end_name(&name, applied, steps),
+            Err(NameError::Length) => Ok(()),
+            Err(NameError::OutOfMemory) => Err(AllocError),
+        }
+    }
+    // A name comes to its end, and what retired is told.
+    fn end_name<L: Ledger>(
+        &mut self,
+        name: &Name,
+        applied: &mut Applied,
+        steps: &mut Steps<L>,
+    ) -> Result<(), AllocError>
+        requires kept { IsKept self.old }
+        ensures kept { OnOk result (IsKept self.new) }
+        ensures kind { OnOk result (self.new.state.kind ≡ self.old.state.kind) }
+        ensures made { OnOk result (self.new.state.table.made ≡ self.old.state.table.made) }
+        ensures others { OnOk result (applied.new.made ≡ applied.old.made) }
+        ensures told { OnOk result (Tells self.old.state.table.rows self.new.state.table.rows applied.old.retired applied.new.retired) }
+        ensures stands { OnOk result ((world : World) → StandsFor self.old.state world → StandsFor self.new.state (record world { rows = rows_ended self.old.state.kind name.now world.rows })) }
+    {
+        let ended = self.end(name, steps)?;
+        put_one(&mut applied.retired, &ended.warming)?;
+        put_one(&mut applied.retired, &ended.active)
+    }
+
+    // The resources of a response come in, in order, each by its verdict.
+    fn take_items<L: Ledger>(
+        &mut self,
+        alloc: Global,
+        items: &[Item],
+        verdicts: &[Verdict],
+        applied: &mut Applied,
+        steps: &mut Steps<L>,
+    ) -> Result<(), AllocError>
+        requires kept { IsKept self.old }
+        requires typed { All (λ item. IsBodyOf self.old.state.kind item.body) items.now }
+        requires one_each { length verdicts.now ≡ length items.now }
+        requires room { self.old.state.table.made + length items.now < 2 ^ 32 }
+        ensures kept { OnOk result (IsKept self.new) }
+        ensures kind { OnOk result (self.new.state.kind ≡ self.old.state.kind) }
+        ensures drawn { OnOk result (Draws self.old.state.table.made self.new.state.table.made applied.old.made applied.new.made) }
+        ensures told { OnOk result (Tells self.old.state.table.rows self.new.state.table.rows applied.old.retired applied.new.retired) }
+        ensures stands { OnOk result ((world : World) → StandsFor self.old.state world → StandsFor self.new.state (add_items self.old.state.kind verdicts.now items.now world)) }
+    {
+        for (place, item) in items.iter().enumerate() {
+            self.take_item(alloc, verdicts[place], item, applied, steps)?;
+        }
+        Ok(())
+    }
+
+    // One resource comes in.
+    fn take_item<L: Ledger>(
+        &mut self,
+        alloc: Global,
+        verdict: Verdict,
+        item: &Item,
+        applied: &mut Applied,
+        steps: &mut Steps<L>,
+    ) -> Result<(), AllocError>
+        requires kept { IsKept self.old }
+        requires typed { IsBodyOf self.old.state.kind item.now.body }
+        requires room { self.old.state.table.made + 1 < 2 ^ 32 }
+        ensures kept { OnOk result (IsKept self.new) }
+        ensures kind { OnOk result (self.new.state.kind ≡ self.old.state.kind) }
+        ensures drawn { OnOk result (Draws self.old.state.table.made self.new.state.table.made applied.old.made applied.new.made) }
+        ensures told { OnOk result (Tells self.old.state.table.rows self.new.state.table.rows applied.old.retired applied.new.retired) }
+        ensures few { OnOk result (self.new.state.table.made ≤ self.old.state.table.made + 1) }
+        ensures stands { OnOk result ((world : World) → StandsFor self.old.state world → StandsFor self.new.state (add_item self.old.state.kind verdict item.now world)) }
+    {
+        match verdict {
+            Verdict::New => self.take_new(alloc, item, applied, steps),
+            _ => Ok(()),
+        }
+    }
+
+    // A resource that is new makes a generation, where it has content.
+    fn take_new<L: Ledger>(
+        &mut self,
+        alloc: Global,
+        item: &Item,
+        applied: &mut Applied,
+        steps: &mut Steps<L>,
+    ) -> Result<(), AllocError>
+        requires kept { IsKept self.old }
+        requires typed { IsBodyOf self.old.state.kind item.now.body }
+        requires room { self.old.state.table.made + 1 < 2 ^ 32 }
+        ensures kept { OnOk result (IsKept self.new) }
+        ensures kind { OnOk result (self.new.state.kind ≡ self.old.state.kind) }
+        ensures drawn { OnOk result (Draws self.old.state.table.made self.new.state.table.made applied.old.made applied.new.made) }
+        ensures told { OnOk result (Tells self.old.state.table.rows self.new.state.table.rows applied.old.retired applied.new.retired) }
+        ensures few { OnOk result (self.new.state.table.made ≤ self.old.state.table.made + 1) }
+        ensures stands { OnOk result ((world : World) → StandsFor self.old.state world → StandsFor self.new.state (add_item self.old.state.kind New item.now world)) }
+    {
+        match &item.body {
+            Body::Good(content) => self.make(alloc, item, content, applied, steps),
+            _ => Ok(()),
+        }
+    }
+
+    // A resource makes a generation of this content, which is the resource's.
+    fn make<L: Ledger>(
+        &mut self,
+        alloc: Global,
+        item: &Item,
+        content: &Content,
+        applied: &mut Applied,
+        steps: &mut Steps<L>,
+    ) -> Result<(), AllocError>
+        requires kept { IsKept self.old }
+        requires good { item.now.body ≡ Good content.now }
+        requires typed { content_kind content.now ≡ self.old.state.kind }
+        requires room { self.old.state.table.made + 1 < 2 ^ 32 }
+        ensures kept { OnOk result (IsKept self.new) }
+        ensures kind { OnOk result (self.new.state.kind ≡ self.old.state.kind) }
+        ensures drawn { OnOk result (Draws self.old.state.table.made self.new.state.table.made applied.old.made applied.new.made) }
+        ensures few { OnOk result (self.new.state.table.made ≤ self.old.state.table.made + 1) }
+        ensures told { OnOk result (Tells self.old.state.table.rows self.new.state.table.rows applied.old.retired applied.new.retired) }
+        ensures stands { OnOk result ((world : World) → StandsFor self.old.state world → StandsFor self.new.state (record world { rows = rows_with_new self.old.state.kind world.made item.now.name content.now world.rows; made = world.made + 1 })) }
+    {
+        let name = item.resource_name(alloc)?;
+        let added = self.add(alloc, name, content.copy(alloc)?, steps)?;
+        applied.made.push(added.number)?;
+        put_one(&mut applied.retired, &added.dropped)
+    }
+}
+
+// How many resources have this name.
+pub(crate) fn times_named(name: &str, items: &[Item]) -> usize
+    ensures { result ≡ length (items_named name.now items.now) }
+{
+    items
+        .iter()
+        .filter(|item| item.name.as_str() == name)
+        .count()
+}

@@ -1,0 +1,117 @@
+ghost use Rattle.std.specs.Prelude.{◌≡◌, ◌<◌, ◌++◌, [], ◌∷◌, map, filter, length, IfOk, OnOk};
+ghost use Rattle.std.specs.Str.{bytes_eq};
+ghost use Rattle.std.specs.List.{IsDistinct};
+ghost use Rattle.ev_types.specs.Hosts.{HostRowParts};
+ghost use Rattle.ev_types.specs.Statuses.{is_active};
+ghost use Rattle.ev_types.specs.declared.contents.Kind.TheVariants.{Cds};
+ghost use Rattle.ev_types.specs.declared.limits.TheConstants.{ROW_LIMIT};
+ghost use Rattle.ev_types.specs.declared.rows.GenRow as declared;
+ghost use Rattle.ev_model.specs.World.{World};
+ghost use Rattle.ev_model.specs.Sorted.{sorted_by};
+ghost use Rattle.ev_model.specs.Versions.{is_before};
+ghost use Rattle.ev_model.specs.Picture.{served_clusters};
+ghost use Rattle.ev_warming.specs.Ready.{assignment_in};
+ghost use Rattle.ev_warming.specs.Indexes.{IsIndexed};
+ghost use Rattle.ev_warming.specs.Reads.{is_eligible_in, cluster_in, clusters_in};
+ghost use Rattle.ev_warming.specs.Worlds.{StandsFor};
+
+use crate::hosts::{assignment, is_checked};
+use crate::{State, Watches};
+use ev_endpoints::Endpoints;
+use ev_model::ServedCluster;
+use ev_types::{Assignment, GenRow, HostRow, Seq, TryCopy};
+use std::alloc::{AllocError, Global};
+
+impl State {
+    /// What a picture shows of clusters now: each active one with its hosts that may be chosen, in the order of their names. It
+    /// goes over the whole table.
+    pub fn clusters(&self, alloc: Global) -> Result<Seq<ServedCluster>, AllocError>
+        requires indexed { IsIndexed self.now }
+        ensures rows { IfOk result (λ served. served ≡ clusters_in self.now.watches self.now.results self.now.table.rows) }
+        ensures world { IfOk result (λ served. self.now.kind ≡ Cds → (world : World) → StandsFor self.now world → served ≡ served_clusters world.arrivals world.results world.rows) }
+    {
+        let mut served = clusters(alloc, &self.watches, &self.results, self.table.rows())?;
+        sort(&mut served);
+        Ok(Seq::from_vec(served))
+    }
+}
+
+// The active ones of these clusters, in the order of the rows.
+fn clusters(
+    alloc: Global,
+    watches: &Watches,
+    results: &Endpoints,
+    rows: &[GenRow],
+) -> Result<Vec<ServedCluster>, AllocError>
+    ensures { IfOk result (λ served. served.items ≡ map (cluster_in watches.now results.now) (filter (λ (row : declared.GenRow). is_active row.status) rows.now)) }
+{
+    let mut served = Vec::new(alloc);
+    for row in rows {
+        push_cluster(alloc, watches, results, row, &mut served)?;
+    }
+    Ok(served)
+}
+
+// Puts a cluster to the others, where it is active.
+fn push_cluster(
+    alloc: Global,
+    watches: &Watches,
+    results: &Endpoints,
+    row: &GenRow,
+    served: &mut Vec<ServedCluster>,
+) -> Result<(), AllocError>
+    ensures { OnOk result (served.new.items ≡ served.old.items ++ map (cluster_in watches.now results.now) (filter (λ (r : declared.GenRow). is_active r.status) (row.now ∷ []))) }
+{
+    if row.status.is_active() {
+        served.push(ServedCluster {
+            number: row.number,
+            name: row.name.copy(alloc)?,
+            hosts: eligible(alloc, watches, results, row)?,
+        })?;
+    }
+    Ok(())
+}
+
+// The hosts of a cluster that may be chosen.
+fn eligible(
+    alloc: Global,
+    watches: &Watches,
+    results: &Endpoints,
+    row: &GenRow,
+) -> Result<Assignment, AllocError>
+    ensures { IfOk result (λ hosts. hosts ≡ filter (is_eligible_in results.now row.now) (assignment_in watches.now row.now.content)) }
+{
+    match assignment(watches, &row.content) {
+        Some(hosts) => Ok(Assignment::new(choose(alloc, results, row, hosts.rows())?)),
+        None => Ok(Assignment::new(Seq::new(alloc))),
+    }
+}
+
+// Those of these hosts that may be chosen.
+fn choose(
+    alloc: Global,
+    results: &Endpoints,
+    row: &GenRow,
+    hosts: &[HostRow],
+) -> Result<Seq<HostRow>, AllocError>
+    requires { length hosts.now < ROW_LIMIT }
+    ensures chosen { IfOk result (λ chosen. chosen ≡ filter (is_eligible_in results.now row.now) hosts.now) }
+    ensures few { IfOk result (λ chosen. length chosen < ROW_LIMIT) }
+{
+    let checked = is_checked(&row.content);
+    let mut chosen = Vec::new(alloc);
+    for host in hosts {
+        if results.eligible(row.number, checked, host) {
+            chosen.push(host.copy(alloc)?)?;
+        }
+    }
+    Ok(Seq::from_vec(chosen))
+}
+
+// Sorts clusters by name, where their names differ.
+fn sort(served: &mut Vec<ServedCluster>)
+    requires { IsDistinct bytes_eq (map (λ c. c.name) served.old.items) }
+    ensures { served.new.items ≡ sorted_by (λ c d. is_before c.name d.name) served.old.items }
+{
+    served.sort_unstable_by(|one, other| one.name.as_str().cmp(other.name.as_str()));
+}
