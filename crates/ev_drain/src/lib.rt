@@ -8,3 +8,6 @@ mod notes;
 
 pub use deferred::Deferred;
 pub use drain::Drain;
+
+#[cfg(test)]
+mod tests;

@@ -1,5 +1,5 @@
 -- The order by worker and number.
-use Rattle.std.proofs.Common.{◌≡◌, ℕ, Bool, true, false, not, ◌&&◌, ◌==◌, cond, List, [], ◌∷◌, ◌++◌, filter, Option, refl, sym, ap, ◌∙◌, arith}
+use Rattle.std.proofs.Common.{◌≡◌, ℕ, Bool, true, false, not, ◌&&◌, ◌||◌, ◌==◌, cond, List, [], ◌∷◌, ◌++◌, filter, Option, refl, sym, ap, ◌∙◌, arith}
 use Rattle.std.specs.List.{list_any, AllByRecursion}
 use Rattle.std.specs.Ordering.{ordering_then, ordering_reverse, nat_cmp, is_le, is_eq}
 use Rattle.std.specs.declared.cmp.Ordering.{Ordering}
@@ -94,6 +94,19 @@ closed_leaves w c xs = by (is_open xs w c) refl
     by : (t : Bool) → is_open xs w c ≡ t → (closed c w xs).opened ≡ filter (λ m. not (is_member w c m)) xs
     by true h = rw h
     by false h = rw h (none_closed w c xs h)
+
+-- and nothing is open there any more
+none_left : (w c : ℕ) (xs : List OpenMember) → is_open (filter (λ m. not (is_member w c m)) xs) w c ≡ false
+none_left w c [] = refl
+none_left w c (x ∷ xs) = by (is_member w c x) refl (none_left w c xs)
+  where
+    by : (t : Bool) → is_member w c x ≡ t → is_open (filter (λ m. not (is_member w c m)) xs) w c ≡ false
+        → is_open (cond (not t) (x ∷ filter (λ m. not (is_member w c m)) xs) (filter (λ m. not (is_member w c m)) xs)) w c ≡ false
+    by true h rest = rest
+    by false h rest = ap (λ t. t || is_open (filter (λ m. not (is_member w c m)) xs) w c) h ∙ rest
+
+pub closed_gone : (w c : ℕ) (xs : List OpenMember) → is_open (closed c w xs).opened w c ≡ false
+closed_gone w c xs = ap (λ ms. is_open ms w c) (closed_leaves w c xs) ∙ none_left w c xs
 
 -- what a call of the ledger does, the machine does
 pub close_stands : (w c : ℕ) (ledger opened : List OpenMember) → StandsFor ledger opened → StandsFor (closed c w ledger).opened (closed c w opened).opened

@@ -85,6 +85,7 @@ impl Ledger {
     pub fn close(&mut self, worker: u32, conn: u64) -> bool
         ensures answer { result ≡ is_open self.old worker conn }
         ensures closed { self.new ≡ (closed conn worker self.old).opened }
+        ensures gone { is_open self.new worker conn ≡ false }
         ensures answer_by_world { (opened : List OpenMember) → StandsFor self.old opened → result ≡ is_open opened worker conn }
         ensures world { (opened : List OpenMember) → StandsFor self.old opened → StandsFor self.new (closed conn worker opened).opened }
     {

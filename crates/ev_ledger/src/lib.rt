@@ -6,3 +6,6 @@ mod ledger;
 mod members;
 
 pub use ledger::Ledger;
+
+#[cfg(test)]
+mod tests;

@@ -5,7 +5,7 @@ use Rattle.std.specs.BTreeMap.{is_at}
 use Rattle.ev_model.specs.Connections.{is_open, closed}
 use Rattle.ev_ledger.specs.Entries.{key_order, members_of, weight, counted}
 use Rattle.ev_ledger.proofs.EntryLemmas.{found_open, closed_members, sum_taken}
-use Rattle.ev_ledger.proofs.PlaceLemmas.{close_stands, answer_stands}
+use Rattle.ev_ledger.proofs.PlaceLemmas.{close_stands, closed_gone, answer_stands}
 use Rattle.ev_ledger.proofs.ledger.Ledger.close.Goals as goal
 
 answer_none : goal.returns-in_default-clause-answer
@@ -70,3 +70,9 @@ returns-clause-answer_by_world c opened stands = answer_some c ∙ answer_stands
 
 pub returns-clause-world : goal.returns-clause-world
 returns-clause-world c opened stands = closed_some c ∙ close_stands c.args.worker c.args.conn c.args.self.now opened stands
+
+pub returns-in_default-clause-gone : goal.returns-in_default-clause-gone
+returns-in_default-clause-gone c = ap (λ ms. is_open ms c.args.worker c.args.conn) (closed_none c) ∙ closed_gone c.args.worker c.args.conn c.args.self.now
+
+pub returns-clause-gone : goal.returns-clause-gone
+returns-clause-gone c = ap (λ ms. is_open ms c.args.worker c.args.conn) (closed_some c) ∙ closed_gone c.args.worker c.args.conn c.args.self.now
