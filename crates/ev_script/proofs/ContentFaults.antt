@@ -1,93 +1,139 @@
 -- The fault that the content of a line tells is the first of the input.
-use Rattle.std.proofs.Common.{◌≡◌, ℕ, ◌+◌, ◌<◌, ◌≤◌, Bool, true, false, cond, ◌&&◌, nat_le, List, [], get_or, IsTrue, Option, None, Some, option_map, refl, sym, ap, subst, ◌∙◌, arith}
+use Rattle.std.proofs.Common.{◌≡◌, ℕ, ◌+◌, ◌<◌, ◌≤◌, Bool, true, false, ◌&&◌, List, [], get_or, IsTrue, Option, None, Some, refl, sym, ap, subst, ◌∙◌, ◌⊎◌, inl, inr, arith}
 use Rattle.std.proofs.lemmas.Bool.Decides.{nat_tests}
+use Rattle.std.proofs.lemmas.Bool.{cases_lt}
 use Rattle.serde_json.specs.Data.{Data}
 use Rattle.ev_io.specs.Lines.{lines_of}
-use Rattle.ev_types.specs.declared.events.Line.{Line}
-use Rattle.ev_script.specs.declared.content.Content.{Content}
 use Rattle.ev_script.specs.declared.content.Content.TheVariants as is
 use Rattle.ev_script.specs.declared.content.First.TheVariants as first
 use Rattle.ev_script.specs.declared.header.Header.{Header}
 use Rattle.ev_script.specs.declared.fault_kinds.FaultKind.{FaultKind}
-use Rattle.ev_script.specs.declared.fault_kinds.FaultKind.TheVariants.{NotJson, NotHeader, NotLine, NoSuchWorker}
+use Rattle.ev_script.specs.declared.fault_kinds.FaultKind.TheVariants.{TooLong, TooMany, TooLarge, NotJson, NotHeader, NotLine, NoSuchWorker, NoByte, NotJournal}
+use Rattle.ev_script.specs.Members.{tree_of}
 use Rattle.ev_script.specs.Header.{header_of}
-use Rattle.ev_script.specs.Lines.{line_of}
-use Rattle.ev_script.specs.Faults.{Input, index_at, tree_at, EndsLine, BeginsJournal, has_format, worker_of, plain_lines, IsFirstFault}
-use Rattle.ev_script.specs.Content.{first_of, first_tree, first_content, is_above, content_of, content_tree, line_content}
+use Rattle.ev_script.specs.Faults.{Input, index_at, tree_at, BeginsJournal, fault_number, has_format, Stands, IsFirstFault, IsFaultOf}
+use Rattle.ev_script.specs.Content.{first_of, first_tree, first_content, is_above, IsContent, IsNoLine, NamesAbove, IsJournalHead}
+use Rattle.ev_script.specs.ReadInput.{IsUpToJournal}
 use Rattle.ev_script.proofs.SoundLemmas.{no_journal}
-use Rattle.ev_script.proofs.FirstLemmas.{IsReadBefore, json_first, header_first, line_first, worker_first}
+use Rattle.ev_script.proofs.FirstLemmas.{IsReadBefore, nothing_before, no_journal_before, of_content, json_first, header_first, line_first, worker_first}
+
+-- the line behind the first n ones ends at a place and is this text, and those before it were read
+pub record IsGiven (forms : ℕ → Data → Option (Option ℕ)) (input : Input) (header : Header) (n : ℕ) (text : List ℕ) : Type 0 where
+  pub place : ℕ
+  pub before : IsReadBefore forms input header place
+  pub index : index_at input place ≡ n
+  pub here : get_or (lines_of input.bytes) n [] ≡ text
+
+-- its tree is that of the text
+pub given_tree : (forms : ℕ → Data → Option (Option ℕ)) (input : Input) (header : Header) (n : ℕ) (text : List ℕ) → (g : IsGiven forms input header n text) → tree_at input g.place ≡ tree_of text
+given_tree forms input header n text g = ap (λ (i : ℕ). tree_of (get_or (lines_of input.bytes) i [])) g.index ∙ ap tree_of g.here
 
 -- the first line
-pub first_fault : (input : Input) (header : Header) (place : ℕ) (kind : FaultKind) → IsReadBefore input header place → index_at input place ≡ 0 → first_content (get_or (lines_of input.bytes) (index_at input place) []) ≡ first.Fault kind → IsFirstFault plain_lines input place kind
-first_fault input header place kind read at_first told = by_tree (tree_at input place) refl told
+pub first_told : (forms : ℕ → Data → Option (Option ℕ)) (input : Input) (header : Header) (text : List ℕ) (kind : FaultKind) → IsGiven forms input header 0 text → first_content text ≡ first.Fault kind → IsFaultOf forms input 1 (fault_number kind)
+first_told forms input header text kind g told = by_tree (tree_of text) refl told
   where
-    by_header : (tree : Data) → tree_at input place ≡ Some tree → (found : Option Header) → header_of tree ≡ found → first_of found ≡ first.Fault kind → IsFirstFault plain_lines input place kind
-    by_header tree e None f g =
-        let same : NotHeader ≡ kind = cc in
-        subst (IsFirstFault plain_lines input place) same (header_first input header place tree read at_first e f)
-    by_header tree e (Some h) f g = cc
+    told_at : (k : FaultKind) → 1 ≡ index_at input g.place + 1
+    told_at k = let e : index_at input g.place ≡ 0 = g.index in omega arith
 
-    by_tree : (found : Option Data) → tree_at input place ≡ found → first_tree found ≡ first.Fault kind → IsFirstFault plain_lines input place kind
+    by_header : (tree : Data) → tree_of text ≡ Some tree → (found : Option Header) → header_of tree ≡ found → first_of found ≡ first.Fault kind → IsFaultOf forms input 1 (fault_number kind)
+    by_header tree e None f h =
+        let same : NotHeader ≡ kind = cc in
+        subst (λ (k : FaultKind). IsFaultOf forms input 1 (fault_number k)) same record {
+          place = g.place;
+          kind = NotHeader;
+          first = header_first forms input header g.place tree g.before g.index (given_tree forms input header 0 text g ∙ e) f;
+          told = told_at NotHeader;
+          numbered = refl;
+        }
+    by_header tree e (Some h) f k = cc
+
+    by_tree : (found : Option Data) → tree_of text ≡ found → first_tree found ≡ first.Fault kind → IsFaultOf forms input 1 (fault_number kind)
     by_tree None e f =
         let same : NotJson ≡ kind = cc in
-        subst (IsFirstFault plain_lines input place) same (json_first input header place read e)
+        subst (λ (k : FaultKind). IsFaultOf forms input 1 (fault_number k)) same record {
+          place = g.place;
+          kind = NotJson;
+          first = json_first forms input header g.place g.before (given_tree forms input header 0 text g ∙ e);
+          told = told_at NotJson;
+          numbered = refl;
+        }
     by_tree (Some tree) e f = by_header tree e (header_of tree) refl f
 
 named_above : (workers : ℕ) (named : Option ℕ) → is_above workers named ≡ true → (worker : ℕ) × (named ≡ Some worker) × (workers ≤ worker)
 named_above workers None e = cc
 named_above workers (Some worker) e = (worker, refl, grind (arith, nat_tests))
 
+-- no line by the forms
+no_line : (forms : ℕ → Data → Option (Option ℕ)) (input : Input) (header : Header) (n : ℕ) (text : List ℕ) → (g : IsGiven forms input header n text) → 0 < n → IsNoLine forms input.audit (n + 1) (tree_of text) → IsFirstFault forms input g.place NotLine
+no_line forms input header n text g some c =
+    let tree : tree_at input g.place ≡ Some c.tree = given_tree forms input header n text g ∙ c.is in
+    line_first forms input header g.place c.tree g.before (no_journal input g.place c.tree tree c.plain) (subst (λ (i : ℕ). 0 < i) (sym g.index) some) tree
+    (ap (λ (i : ℕ). forms (i + 1) c.tree) g.index ∙ c.none)
+
+-- a worker that isn't below the count
+unknown_worker : (forms : ℕ → Data → Option (Option ℕ)) (input : Input) (header : Header) (n : ℕ) (text : List ℕ) → (g : IsGiven forms input header n text) → 0 < n → NamesAbove forms input.audit header.workers (n + 1) (tree_of text) → IsFirstFault forms input g.place NoSuchWorker
+unknown_worker forms input header n text g some c =
+    let tree : tree_at input g.place ≡ Some c.tree = given_tree forms input header n text g ∙ c.is in
+    let above = named_above header.workers c.named c.above in
+    worker_first forms input header g.place c.tree above.0 g.before (no_journal input g.place c.tree tree c.plain) (subst (λ (i : ℕ). 0 < i) (sym g.index) some) tree
+    (ap (λ (i : ℕ). forms (i + 1) c.tree) g.index ∙ c.reads ∙ ap Some above.1) above.2
+
 -- another line
-pub line_fault : (input : Input) (header : Header) (place : ℕ) (kind : FaultKind) → IsReadBefore input header place → 0 < index_at input place → line_content input.audit header.workers (index_at input place + 1) (get_or (lines_of input.bytes) (index_at input place) []) ≡ is.Fault kind → IsFirstFault plain_lines input place kind
-line_fault input header place kind read later told = by_tree (tree_at input place) refl told
-  where
-    by_worker : (tree : Data) → tree_at input place ≡ Some tree → (input.audit && has_format tree) ≡ false → (line : Line) → line_of (index_at input place + 1) tree ≡ Some line → (test : Bool) → is_above header.workers (worker_of line.actor) ≡ test → cond test (is.Fault NoSuchWorker) (is.Line line) ≡ is.Fault kind → IsFirstFault plain_lines input place kind
-    by_worker tree e f line g true t h =
-        let same : NoSuchWorker ≡ kind = cc in
-        let above = named_above header.workers (worker_of line.actor) t in
-        let names : plain_lines (index_at input place + 1) tree ≡ Some (Some above.0) = ap (option_map (λ (l : Line). worker_of l.actor)) g ∙ ap Some above.1 in
-        subst (IsFirstFault plain_lines input place) same (worker_first input header place tree above.0 read (no_journal input place tree e f) later e names above.2)
-    by_worker tree e f line g false t h = cc
+pub content_told : {A : Type 0} (forms : ℕ → Data → Option (Option ℕ)) (keeps : ℕ → Data → A → Type 0) (input : Input) (header : Header) (n : ℕ) (text : List ℕ) (kind : FaultKind) → IsGiven forms input header n text → 0 < n → IsContent forms keeps input.audit header.workers (n + 1) (tree_of text) (is.Fault kind) → IsFaultOf forms input (n + 1) (fault_number kind)
+content_told forms keeps input header n text NotJson g some c =
+    let e : index_at input g.place ≡ n = g.index in
+    record { place = g.place; kind = NotJson; first = json_first forms input header g.place g.before (given_tree forms input header n text g ∙ c); told = omega arith; numbered = refl }
+content_told forms keeps input header n text NotLine g some c =
+    let e : index_at input g.place ≡ n = g.index in
+    record { place = g.place; kind = NotLine; first = no_line forms input header n text g some c; told = omega arith; numbered = refl }
+content_told forms keeps input header n text NoSuchWorker g some c =
+    let e : index_at input g.place ≡ n = g.index in
+    record { place = g.place; kind = NoSuchWorker; first = unknown_worker forms input header n text g some c; told = omega arith; numbered = refl }
+content_told forms keeps input header n text TooLong g some c = absurd c
+content_told forms keeps input header n text TooMany g some c = absurd c
+content_told forms keeps input header n text TooLarge g some c = absurd c
+content_told forms keeps input header n text NotHeader g some c = absurd c
+content_told forms keeps input header n text NoByte g some c = absurd c
+content_told forms keeps input header n text NotJournal g some c = absurd c
 
-    by_line : (tree : Data) → tree_at input place ≡ Some tree → (input.audit && has_format tree) ≡ false → (found : Option Line) → line_of (index_at input place + 1) tree ≡ found → content_of header.workers found ≡ is.Fault kind → IsFirstFault plain_lines input place kind
-    by_line tree e f None g h =
-        let same : NotLine ≡ kind = cc in
-        subst (IsFirstFault plain_lines input place) same (line_first input header place tree read (no_journal input place tree e f) later e (ap (option_map (λ (l : Line). worker_of l.actor)) g))
-    by_line tree e f (Some line) g h = by_worker tree e f line g (is_above header.workers (worker_of line.actor)) refl h
-
-    by_format : (tree : Data) → tree_at input place ≡ Some tree → (test : Bool) → (input.audit && has_format tree) ≡ test → cond test is.Journal (content_of header.workers (line_of (index_at input place + 1) tree)) ≡ is.Fault kind → IsFirstFault plain_lines input place kind
-    by_format tree e true f g = cc
-    by_format tree e false f g = by_line tree e f (line_of (index_at input place + 1) tree) refl g
-
-    by_tree : (found : Option Data) → tree_at input place ≡ found → content_tree input.audit header.workers (index_at input place + 1) found ≡ is.Fault kind → IsFirstFault plain_lines input place kind
-    by_tree None e f =
-        let same : NotJson ≡ kind = cc in
-        subst (IsFirstFault plain_lines input place) same (json_first input header place read e)
-    by_tree (Some tree) e f = by_format tree e (input.audit && has_format tree) refl f
+-- ---- a line that begins the journal
 
 by_both : (a b : Bool) → (a && b) ≡ true → IsTrue a × IsTrue b
 by_both true true e = (refl, refl)
 by_both true false e = cc
 by_both false b e = cc
 
--- a line that begins the journal
-pub journal_begins : (input : Input) (place workers at : ℕ) → EndsLine input place → 0 < index_at input place → line_content input.audit workers at (get_or (lines_of input.bytes) (index_at input place) []) ≡ is.Journal → BeginsJournal input place
-journal_begins input place workers at ends later told = by_tree (tree_at input place) refl told
+begins_there : (forms : ℕ → Data → Option (Option ℕ)) (input : Input) (header : Header) (n : ℕ) (text : List ℕ) → (g : IsGiven forms input header n text) → 0 < n → IsJournalHead input.audit (tree_of text) → BeginsJournal input g.place
+begins_there forms input header n text g some c =
+    let both = by_both input.audit (has_format c.tree) c.begins in
+    record { audit = both.0; ends = g.before.ends; later = subst (λ (i : ℕ). 0 < i) (sym g.index) some; format = (c.tree, given_tree forms input header n text g ∙ c.is, both.1) }
+
+-- no fault stands at the place where the journal begins
+nothing_there : (forms : ℕ → Data → Option (Option ℕ)) (input : Input) (header : Header) (place : ℕ) (kind : FaultKind) → IsReadBefore forms input header place → BeginsJournal input place → Stands forms input place kind → ⊥
+nothing_there forms input header place TooLong read begins s = let h : 4 ≤ 2 = of_content forms input header place TooLong read s in omega arith
+nothing_there forms input header place TooMany read begins s = let h : 4 ≤ 1 = of_content forms input header place TooMany read s in omega arith
+nothing_there forms input header place TooLarge read begins s = let h : 4 ≤ 0 = of_content forms input header place TooLarge read s in omega arith
+nothing_there forms input header place NoByte read begins s = let h : 4 ≤ 3 = of_content forms input header place NoByte read s in omega arith
+nothing_there forms input header place NotJson read begins s = s.0.before place (omega arith) begins
+nothing_there forms input header place NotHeader read begins s = s.0.before place (omega arith) begins
+nothing_there forms input header place NotLine read begins s = s.0.before place (omega arith) begins
+nothing_there forms input header place NoSuchWorker read begins s = s.0.before place (omega arith) begins
+nothing_there forms input header place NotJournal read begins s = s.3 place begins
+
+pub journal_reached : (forms : ℕ → Data → Option (Option ℕ)) (input : Input) (header : Header) (n : ℕ) (text : List ℕ) → IsGiven forms input header n text → 0 < n → IsJournalHead input.audit (tree_of text) → IsUpToJournal forms input n text
+journal_reached forms input header n text g some c =
+    let begins : BeginsJournal input g.place = begins_there forms input header n text g some c in
+    record {
+      place = g.place;
+      begins = begins;
+      first = λ other h. no_journal_before forms input header g.place other g.before h;
+      sound = λ other kind h s. by_place other kind h s (cases_lt other g.place);
+      behind = g.index;
+      here = g.here;
+    }
   where
-    not_line : (test : Bool) (line : Line) → cond test (is.Fault NoSuchWorker) (is.Line line) ≡ is.Journal → ⊥
-    not_line true line e = cc
-    not_line false line e = cc
-
-    no_line : (found : Option Line) → content_of workers found ≡ is.Journal → ⊥
-    no_line None e = cc
-    no_line (Some line) e = not_line (is_above workers (worker_of line.actor)) line e
-
-    by_format : (tree : Data) → tree_at input place ≡ Some tree → (test : Bool) → (input.audit && has_format tree) ≡ test → cond test is.Journal (content_of workers (line_of at tree)) ≡ is.Journal → BeginsJournal input place
-    by_format tree e true f g =
-        let both = by_both input.audit (has_format tree) f in
-        record { audit = both.0; ends = ends; later = later; format = (tree, e, both.1) }
-    by_format tree e false f g = absurd (no_line (line_of at tree) g)
-
-    by_tree : (found : Option Data) → tree_at input place ≡ found → content_tree input.audit workers at found ≡ is.Journal → BeginsJournal input place
-    by_tree None e f = cc
-    by_tree (Some tree) e f = by_format tree e (input.audit && has_format tree) refl f
+    by_place : (other : ℕ) (kind : FaultKind) → other ≤ g.place → Stands forms input other kind → (other < g.place) ⊎ (g.place ≤ other) → ⊥
+    by_place other kind h s (inl early) = nothing_before forms input header g.place other kind g.before s early
+    by_place other kind h s (inr late) =
+        let same : other ≡ g.place = omega arith in
+        nothing_there forms input header g.place kind g.before (begins_there forms input header n text g some c) (subst (λ (p : ℕ). Stands forms input p kind) same s)

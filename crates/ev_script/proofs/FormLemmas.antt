@@ -1,5 +1,5 @@
 -- What is under the test that an object has only the members of its form.
-use Rattle.std.proofs.Common.{◌≡◌, ℕ, List, ◌∷◌, Bool, true, false, cond, codes, Option, None, sym, ap, ◌∙◌}
+use Rattle.std.proofs.Common.{◌≡◌, ℕ, List, ◌∷◌, Bool, true, cond, codes, Option, None, sym, ap, ◌∙◌}
 use Rattle.serde_json.specs.Data.{Data}
 use Rattle.ev_script.specs.Members.{has_only}
 use Rattle.ev_script.specs.LineForms.{with_only}

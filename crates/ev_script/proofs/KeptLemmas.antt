@@ -1,5 +1,5 @@
 -- What every line keeps: its number, and an actor that may make its event.
-use Rattle.std.proofs.Common.{◌≡◌, ℕ, ◌<◌, Bool, true, false, cond, nat_le, List, [], ◌∷◌, codes, IfSome, Option, None, Some, option_map, option_and_then, refl, subst, arith}
+use Rattle.std.proofs.Common.{◌≡◌, ℕ, ◌<◌, Bool, true, false, cond, List, [], ◌∷◌, codes, IfSome, Option, None, Some, option_map, option_and_then, refl, subst, arith}
 use Rattle.std.proofs.lemmas.Bool.Decides.{nat_tests}
 use Rattle.std.specs.Str.{bytes_eq}
 use Rattle.serde_json.specs.Data.{Data}
@@ -13,18 +13,16 @@ use Rattle.ev_types.specs.declared.events.Event.{Event}
 use Rattle.ev_types.specs.declared.events.Event.TheVariants.{Connect, Disconnect, Response, Health, FetchTimeout, DrainTimeout, TtlExpired, Publish, Reap, Accept, Close, Settle}
 use Rattle.ev_types.specs.declared.events.Line.{Line}
 use Rattle.ev_wire.specs.Responses.{response_of}
-use Rattle.ev_script.specs.declared.content.Content.TheVariants as is
 use Rattle.ev_script.specs.Faults.{worker_of}
-use Rattle.ev_script.specs.Content.{is_above, line_content}
-use Rattle.ev_script.specs.Members.{tree_of, has_only, name_of, member_of}
-use Rattle.ev_script.specs.LineForms.{line_at, with_only, host_in, kind_in}
+use Rattle.ev_script.specs.Content.{is_above}
+use Rattle.ev_script.specs.Members.{has_only, name_of, member_of}
+use Rattle.ev_script.specs.LineForms.{line_at, host_in, kind_in}
 use Rattle.ev_script.specs.StreamLines.{connect_line, disconnect_line, response_line}
 use Rattle.ev_script.specs.HealthLines.{health_line}
 use Rattle.ev_script.specs.TimerLines.{timeout_of, timeout_line, drain_line, expired_line}
 use Rattle.ev_script.specs.MainLines.{publish_line, reap_line}
 use Rattle.ev_script.specs.WorkerLines.{worker_in, conn_in, ask_in, worker_line, accept_line, close_line, settle_line}
 use Rattle.ev_script.specs.Lines.{line_of, line_by, main_side_line}
-use Rattle.ev_script.proofs.ContentLemmas.{IsRead, line_is}
 
 -- the actor may make the event, where the worker that it is is one of so many
 abbrev pub MayMakeIn : Actor → Event → Type 0
@@ -134,9 +132,8 @@ below_count workers (Some other) e worker f =
     let same : other ≡ worker = cc in
     subst (λ (w : ℕ). w < workers) same (grind (arith, nat_tests))
 
--- what the content of a line keeps
-pub content_kept : (audit : Bool) (workers at : ℕ) (text : List ℕ) (line : Line) → line_content audit workers at text ≡ is.Line line → (line.at ≡ at) × MayMake workers line.actor line.event
-content_kept audit workers at text line e =
-    let r : IsRead audit workers at (tree_of text) line = line_is audit workers at (tree_of text) line e in
-    let kept : IsLineAt at line = subst (λ o. IfSome o (IsLineAt at)) r.reads (line_kept at r.tree) in
-    (kept.place, kept.allowed workers (below_count workers (worker_of line.actor) r.below))
+-- what a line keeps whose worker, where it names one, is below the count
+pub kept_line : (workers at : ℕ) (tree : Data) (line : Line) → line_of at tree ≡ Some line → is_above workers (worker_of line.actor) ≡ false → (line.at ≡ at) × MayMake workers line.actor line.event
+kept_line workers at tree line e below =
+    let kept : IsLineAt at line = subst (λ o. IfSome o (IsLineAt at)) e (line_kept at tree) in
+    (kept.place, kept.allowed workers (below_count workers (worker_of line.actor) below))

@@ -7,3 +7,8 @@ pub mod FirstLemmas
 pub mod ContentFaults
 pub mod LimitLemmas
 pub mod KeptLemmas
+pub mod StepLemmas
+pub mod EndLemmas
+pub mod ScriptLemmas
+pub mod ReadingLemmas
+pub mod PrefixLemmas

@@ -1,8 +1,9 @@
 -- The first fault of the limits, behind lines that were read, is the first of the input; and where the last line given ends.
-use Rattle.std.proofs.Common.{◌≡◌, ℕ, zero, suc, ◌+◌, ◌-◌, ◌<◌, ◌≤◌, Bool, true, false, cond, List, [], ◌∷◌, ◌++◌, length, take, get_or, eqb, eq-eqb, IsTrue, refl, sym, ap, subst, ◌∙◌, ◌⊎◌, inl, inr, arith, append-nil, length-append}
+use Rattle.std.proofs.Common.{◌≡◌, ℕ, zero, suc, ◌+◌, ◌-◌, ◌<◌, ◌≤◌, Bool, true, false, cond, List, [], ◌∷◌, ◌++◌, length, take, get_or, eqb, eq-eqb, IsTrue, Option, refl, sym, ap, subst, ◌∙◌, ◌⊎◌, inl, inr, arith, append-nil, length-append}
 use Rattle.std.proofs.Math.ListN.{get_or-append}
 use Rattle.std.proofs.lemmas.List.{take_all, take-append-le}
 use Rattle.std.proofs.lemmas.Bool.{cases_lt, eqb-true}
+use Rattle.serde_json.specs.Data.{Data}
 use Rattle.ev_io.specs.declared.faults.LineFault.{LineFault}
 use Rattle.ev_io.specs.declared.faults.LineFault.TheVariants as limit
 use Rattle.ev_io.specs.Lines.{lines_of, onto_first, feeds_in, IsClosed}
@@ -12,7 +13,7 @@ use Rattle.ev_io.proofs.LineLemmas.{feeds_in-closed}
 use Rattle.ev_script.specs.declared.header.Header.{Header}
 use Rattle.ev_script.specs.declared.fault_kinds.FaultKind.{FaultKind}
 use Rattle.ev_script.specs.declared.fault_kinds.FaultKind.TheVariants.{TooLong, TooMany, TooLarge, NotJson, NotHeader, NotLine, NoSuchWorker, NoByte, NotJournal}
-use Rattle.ev_script.specs.Faults.{Input, index_at, EndsLine, plain_lines, fault_order, Stands, IsFirstFault}
+use Rattle.ev_script.specs.Faults.{Input, index_at, EndsLine, fault_order, Stands, IsFirstFault}
 use Rattle.ev_script.specs.ReadLines.{AreRead}
 use Rattle.ev_script.proofs.SoundLemmas.{IsSoundAt, sound_at}
 use Rattle.ev_script.proofs.FirstLemmas.{index_below}
@@ -26,68 +27,68 @@ Tells limit.Failed kind = ⊥
 Tells limit.OutOfMemory kind = ⊥
 
 -- the lines before the one that the place belongs to were read
-sound_line : (input : Input) (header : Header) (place other : ℕ) → AreRead input.audit (lines_of input.bytes) header (index_at input place) → place < length input.bytes → EndsLine input other → other < place → IsSoundAt input other
-sound_line input header place other read within ends h = sound_at input other (index_at input place) header read (index_below input other place ends h (omega arith))
+sound_line : (forms : ℕ → Data → Option (Option ℕ)) (input : Input) (header : Header) (place other : ℕ) → AreRead forms input.audit (lines_of input.bytes) header (index_at input place) → place < length input.bytes → EndsLine input other → other < place → IsSoundAt forms input other
+sound_line forms input header place other read within ends h = sound_at forms input other (index_at input place) header read (index_below input other place ends h (omega arith))
 
 -- no fault stands before the first of the limits
-pub nothing_before_limit : (input : Input) (header : Header) (place other : ℕ) (kind : FaultKind) → ((p : ℕ) → p < place → HasNoLineFault input.bytes p) → place < length input.bytes → AreRead input.audit (lines_of input.bytes) header (index_at input place) → Stands plain_lines input other kind → other < place → ⊥
-nothing_before_limit input header place other TooLong sound within read s h = (sound other h).2 s.1
-nothing_before_limit input header place other TooMany sound within read s h = (sound other h).1 s.1
-nothing_before_limit input header place other TooLarge sound within read s h = (sound other h).0 s.1
-nothing_before_limit input header place other NotJson sound within read s h = (sound_line input header place other read within s.0.ends h).json s
-nothing_before_limit input header place other NotHeader sound within read s h = (sound_line input header place other read within s.0.ends h).header s
-nothing_before_limit input header place other NotLine sound within read s h = (sound_line input header place other read within s.0.ends h).line s
-nothing_before_limit input header place other NoSuchWorker sound within read s h = (sound_line input header place other read within s.0.ends h).worker s
-nothing_before_limit input header place other NoByte sound within read s h = let none : length input.bytes ≡ 0 = ap length s.1 in omega arith
-nothing_before_limit input header place other NotJournal sound within read s h = let here : other ≡ length input.bytes = s.2 in omega arith
+pub nothing_before_limit : (forms : ℕ → Data → Option (Option ℕ)) (input : Input) (header : Header) (place other : ℕ) (kind : FaultKind) → ((p : ℕ) → p < place → HasNoLineFault input.bytes p) → place < length input.bytes → AreRead forms input.audit (lines_of input.bytes) header (index_at input place) → Stands forms input other kind → other < place → ⊥
+nothing_before_limit forms input header place other TooLong sound within read s h = (sound other h).2 s.1
+nothing_before_limit forms input header place other TooMany sound within read s h = (sound other h).1 s.1
+nothing_before_limit forms input header place other TooLarge sound within read s h = (sound other h).0 s.1
+nothing_before_limit forms input header place other NotJson sound within read s h = (sound_line forms input header place other read within s.0.ends h).json s
+nothing_before_limit forms input header place other NotHeader sound within read s h = (sound_line forms input header place other read within s.0.ends h).header s
+nothing_before_limit forms input header place other NotLine sound within read s h = (sound_line forms input header place other read within s.0.ends h).line s
+nothing_before_limit forms input header place other NoSuchWorker sound within read s h = (sound_line forms input header place other read within s.0.ends h).worker s
+nothing_before_limit forms input header place other NoByte sound within read s h = let none : length input.bytes ≡ 0 = ap length s.1 in omega arith
+nothing_before_limit forms input header place other NotJournal sound within read s h = let here : other ≡ length input.bytes = s.2 in omega arith
 
 -- at its place the kinds that are looked at before don't stand
-least_limit : (input : Input) (place : ℕ) (fault : LineFault) (kind k : FaultKind) → StandsAt input.bytes place fault → Tells fault kind → Stands plain_lines input place k → fault_order kind ≤ fault_order k
-least_limit input place limit.TooLarge kind k stands tells s = let same : fault_order kind ≡ 0 = ap fault_order tells in omega arith
-least_limit input place limit.TooMany kind TooLarge stands tells s = absurd (stands.0 s.1)
-least_limit input place limit.TooMany kind TooMany stands tells s = let same : fault_order kind ≡ 1 = ap fault_order tells in omega arith
-least_limit input place limit.TooMany kind TooLong stands tells s = let same : fault_order kind ≡ 1 = ap fault_order tells in omega arith
-least_limit input place limit.TooMany kind NoByte stands tells s = let same : fault_order kind ≡ 1 = ap fault_order tells in omega arith
-least_limit input place limit.TooMany kind NotJson stands tells s = let same : fault_order kind ≡ 1 = ap fault_order tells in omega arith
-least_limit input place limit.TooMany kind NotHeader stands tells s = let same : fault_order kind ≡ 1 = ap fault_order tells in omega arith
-least_limit input place limit.TooMany kind NotLine stands tells s = let same : fault_order kind ≡ 1 = ap fault_order tells in omega arith
-least_limit input place limit.TooMany kind NoSuchWorker stands tells s = let same : fault_order kind ≡ 1 = ap fault_order tells in omega arith
-least_limit input place limit.TooMany kind NotJournal stands tells s = let same : fault_order kind ≡ 1 = ap fault_order tells in omega arith
-least_limit input place limit.TooLong kind TooLarge stands tells s = absurd (stands.0 s.1)
-least_limit input place limit.TooLong kind TooMany stands tells s = absurd (stands.1 s.1)
-least_limit input place limit.TooLong kind TooLong stands tells s = let same : fault_order kind ≡ 2 = ap fault_order tells in omega arith
-least_limit input place limit.TooLong kind NoByte stands tells s = let same : fault_order kind ≡ 2 = ap fault_order tells in omega arith
-least_limit input place limit.TooLong kind NotJson stands tells s = let same : fault_order kind ≡ 2 = ap fault_order tells in omega arith
-least_limit input place limit.TooLong kind NotHeader stands tells s = let same : fault_order kind ≡ 2 = ap fault_order tells in omega arith
-least_limit input place limit.TooLong kind NotLine stands tells s = let same : fault_order kind ≡ 2 = ap fault_order tells in omega arith
-least_limit input place limit.TooLong kind NoSuchWorker stands tells s = let same : fault_order kind ≡ 2 = ap fault_order tells in omega arith
-least_limit input place limit.TooLong kind NotJournal stands tells s = let same : fault_order kind ≡ 2 = ap fault_order tells in omega arith
-least_limit input place limit.Failed kind k stands tells s = absurd stands
-least_limit input place limit.OutOfMemory kind k stands tells s = absurd stands
+least_limit : (forms : ℕ → Data → Option (Option ℕ)) (input : Input) (place : ℕ) (fault : LineFault) (kind k : FaultKind) → StandsAt input.bytes place fault → Tells fault kind → Stands forms input place k → fault_order kind ≤ fault_order k
+least_limit forms input place limit.TooLarge kind k stands tells s = let same : fault_order kind ≡ 0 = ap fault_order tells in omega arith
+least_limit forms input place limit.TooMany kind TooLarge stands tells s = absurd (stands.0 s.1)
+least_limit forms input place limit.TooMany kind TooMany stands tells s = let same : fault_order kind ≡ 1 = ap fault_order tells in omega arith
+least_limit forms input place limit.TooMany kind TooLong stands tells s = let same : fault_order kind ≡ 1 = ap fault_order tells in omega arith
+least_limit forms input place limit.TooMany kind NoByte stands tells s = let same : fault_order kind ≡ 1 = ap fault_order tells in omega arith
+least_limit forms input place limit.TooMany kind NotJson stands tells s = let same : fault_order kind ≡ 1 = ap fault_order tells in omega arith
+least_limit forms input place limit.TooMany kind NotHeader stands tells s = let same : fault_order kind ≡ 1 = ap fault_order tells in omega arith
+least_limit forms input place limit.TooMany kind NotLine stands tells s = let same : fault_order kind ≡ 1 = ap fault_order tells in omega arith
+least_limit forms input place limit.TooMany kind NoSuchWorker stands tells s = let same : fault_order kind ≡ 1 = ap fault_order tells in omega arith
+least_limit forms input place limit.TooMany kind NotJournal stands tells s = let same : fault_order kind ≡ 1 = ap fault_order tells in omega arith
+least_limit forms input place limit.TooLong kind TooLarge stands tells s = absurd (stands.0 s.1)
+least_limit forms input place limit.TooLong kind TooMany stands tells s = absurd (stands.1 s.1)
+least_limit forms input place limit.TooLong kind TooLong stands tells s = let same : fault_order kind ≡ 2 = ap fault_order tells in omega arith
+least_limit forms input place limit.TooLong kind NoByte stands tells s = let same : fault_order kind ≡ 2 = ap fault_order tells in omega arith
+least_limit forms input place limit.TooLong kind NotJson stands tells s = let same : fault_order kind ≡ 2 = ap fault_order tells in omega arith
+least_limit forms input place limit.TooLong kind NotHeader stands tells s = let same : fault_order kind ≡ 2 = ap fault_order tells in omega arith
+least_limit forms input place limit.TooLong kind NotLine stands tells s = let same : fault_order kind ≡ 2 = ap fault_order tells in omega arith
+least_limit forms input place limit.TooLong kind NoSuchWorker stands tells s = let same : fault_order kind ≡ 2 = ap fault_order tells in omega arith
+least_limit forms input place limit.TooLong kind NotJournal stands tells s = let same : fault_order kind ≡ 2 = ap fault_order tells in omega arith
+least_limit forms input place limit.Failed kind k stands tells s = absurd stands
+least_limit forms input place limit.OutOfMemory kind k stands tells s = absurd stands
 
 -- a fault of the limits stands as its kind
-limit_stands : (input : Input) (place : ℕ) (fault : LineFault) (kind : FaultKind) → place < length input.bytes → StandsAt input.bytes place fault → Tells fault kind → Stands plain_lines input place kind
-limit_stands input place limit.TooLong kind within stands tells = subst (Stands plain_lines input place) (sym tells) (within, stands.2)
-limit_stands input place limit.TooMany kind within stands tells = subst (Stands plain_lines input place) (sym tells) (within, stands.1)
-limit_stands input place limit.TooLarge kind within stands tells = subst (Stands plain_lines input place) (sym tells) (within, stands)
-limit_stands input place limit.Failed kind within stands tells = absurd tells
-limit_stands input place limit.OutOfMemory kind within stands tells = absurd tells
+limit_stands : (forms : ℕ → Data → Option (Option ℕ)) (input : Input) (place : ℕ) (fault : LineFault) (kind : FaultKind) → place < length input.bytes → StandsAt input.bytes place fault → Tells fault kind → Stands forms input place kind
+limit_stands forms input place limit.TooLong kind within stands tells = subst (Stands forms input place) (sym tells) (within, stands.2)
+limit_stands forms input place limit.TooMany kind within stands tells = subst (Stands forms input place) (sym tells) (within, stands.1)
+limit_stands forms input place limit.TooLarge kind within stands tells = subst (Stands forms input place) (sym tells) (within, stands)
+limit_stands forms input place limit.Failed kind within stands tells = absurd tells
+limit_stands forms input place limit.OutOfMemory kind within stands tells = absurd tells
 
 -- the first fault of the limits is the first of the input, where the lines before were read
-pub limit_first : (input : Input) (header : Header) (place : ℕ) (fault : LineFault) (kind : FaultKind) → IsFirstLimit input.bytes place fault → Tells fault kind → AreRead input.audit (lines_of input.bytes) header (index_at input place) → IsFirstFault plain_lines input place kind
-limit_first input header place fault kind h tells read = record { stands = limit_stands input place fault kind h.within h.stands tells; first = λ other k s. by_place other k s (cases_lt other place) (cases_lt place other) }
+pub limit_first : (forms : ℕ → Data → Option (Option ℕ)) (input : Input) (header : Header) (place : ℕ) (fault : LineFault) (kind : FaultKind) → IsFirstLimit input.bytes place fault → Tells fault kind → AreRead forms input.audit (lines_of input.bytes) header (index_at input place) → IsFirstFault forms input place kind
+limit_first forms input header place fault kind h tells read = record { stands = limit_stands forms input place fault kind h.within h.stands tells; first = λ other k s. by_place other k s (cases_lt other place) (cases_lt place other) }
   where
-    by_place : (other : ℕ) (k : FaultKind) → Stands plain_lines input other k → (other < place) ⊎ (place ≤ other) → (place < other) ⊎ (other ≤ place) → (place < other) ⊎ ((place ≡ other) × (fault_order kind ≤ fault_order k))
-    by_place other k s (inl early) later = absurd (nothing_before_limit input header place other k h.first h.within read s early)
+    by_place : (other : ℕ) (k : FaultKind) → Stands forms input other k → (other < place) ⊎ (place ≤ other) → (place < other) ⊎ (other ≤ place) → (place < other) ⊎ ((place ≡ other) × (fault_order kind ≤ fault_order k))
+    by_place other k s (inl early) later = absurd (nothing_before_limit forms input header place other k h.first h.within read s early)
     by_place other k s (inr late) (inl later) = inl later
     by_place other k s (inr late) (inr here) =
         let same : other ≡ place = omega arith in
-        inr (omega arith, least_limit input place fault kind k h.stands tells (subst (λ (p : ℕ). Stands plain_lines input p k) same s))
+        inr (omega arith, least_limit forms input place fault kind k h.stands tells (subst (λ (p : ℕ). Stands forms input p k) same s))
 
 -- ---- where the last line given ends
 
 -- a line feed is counted
-feeds_with : (bs : List ℕ) (p : ℕ) → p < length bs → get_or bs p 0 ≡ 10 → feeds_in (take (suc p) bs) ≡ suc (feeds_in (take p bs))
+pub feeds_with : (bs : List ℕ) (p : ℕ) → p < length bs → get_or bs p 0 ≡ 10 → feeds_in (take (suc p) bs) ≡ suc (feeds_in (take p bs))
 feeds_with [] p h e = absurd (omega arith)
 feeds_with (b ∷ bs) zero h e = ap (λ (t : Bool). cond t (suc (feeds_in (take 0 bs))) (feeds_in (take 0 bs))) (eq-eqb b 10 e)
 feeds_with (b ∷ bs) (suc p) h e = by_test (eqb b 10) (feeds_with bs p (omega arith) e)

@@ -1,30 +1,29 @@
 -- A line that was read without a fault has none by the definition either.
-use Rattle.std.proofs.Common.{◌≡◌, ℕ, zero, suc, ◌+◌, ◌<◌, ◌≤◌, Bool, true, false, ◌&&◌, nat_le, IsTrue, List, [], get_or, Option, None, Some, option_map, option_and_then, refl, sym, ap, subst, ◌∙◌, arith}
+use Rattle.std.proofs.Common.{◌≡◌, ℕ, zero, suc, ◌+◌, ◌<◌, ◌≤◌, Bool, true, false, ◌&&◌, nat_le, IsTrue, List, [], get_or, Option, None, Some, option_and_then, refl, sym, ap, subst, ◌∙◌, arith}
 use Rattle.std.proofs.lemmas.Bool.Decides.{nat_tests}
 use Rattle.serde_json.specs.Data.{Data}
 use Rattle.ev_io.specs.Lines.{lines_of}
-use Rattle.ev_types.specs.declared.events.Line.{Line}
 use Rattle.ev_script.specs.declared.header.Header.{Header}
 use Rattle.ev_script.specs.declared.fault_kinds.FaultKind.TheVariants.{NotJson, NotHeader, NotLine, NoSuchWorker}
 use Rattle.ev_script.specs.Members.{tree_of}
 use Rattle.ev_script.specs.Header.{header_of}
-use Rattle.ev_script.specs.Faults.{Input, index_at, tree_at, header_in, has_format, BeginsJournal, EndsScriptLine, worker_of, plain_lines, IsUnknownWorker, Stands}
-use Rattle.ev_script.specs.Content.{is_above}
+use Rattle.ev_script.specs.Faults.{Input, index_at, tree_at, header_in, has_format, BeginsJournal, IsUnknownWorker, Stands}
+use Rattle.ev_script.specs.Content.{is_above, IsLineOf}
 use Rattle.ev_script.specs.ReadLines.{AreRead}
-use Rattle.ev_script.proofs.ContentLemmas.{first_is, IsRead, line_is}
+use Rattle.ev_script.proofs.ContentLemmas.{first_is}
 
 -- neither a fault of its content stands where a line ends, nor does a journal begin there
-pub record IsSoundAt (input : Input) (place : ℕ) : Type 0 where
-  pub json : ¬ (Stands plain_lines input place NotJson)
-  pub header : ¬ (Stands plain_lines input place NotHeader)
-  pub line : ¬ (Stands plain_lines input place NotLine)
-  pub worker : ¬ (Stands plain_lines input place NoSuchWorker)
+pub record IsSoundAt (forms : ℕ → Data → Option (Option ℕ)) (input : Input) (place : ℕ) : Type 0 where
+  pub json : ¬ (Stands forms input place NotJson)
+  pub header : ¬ (Stands forms input place NotHeader)
+  pub line : ¬ (Stands forms input place NotLine)
+  pub worker : ¬ (Stands forms input place NoSuchWorker)
   pub journal : ¬ (BeginsJournal input place)
 
 none_some : {A : Type 0} (x : A) (o : Option A) → o ≡ None → o ≡ Some x → ⊥
 none_some x o e f = cc
 
-some_same : {A : Type 0} (x y : A) (o : Option A) → o ≡ Some x → o ≡ Some y → x ≡ y
+pub some_same : {A : Type 0} (x y : A) (o : Option A) → o ≡ Some x → o ≡ Some y → x ≡ y
 some_same x y o e f = cc
 
 not_above : (workers worker : ℕ) (named : Option ℕ) → named ≡ Some worker → is_above workers named ≡ false → workers ≤ worker → ⊥
@@ -44,13 +43,13 @@ no_journal input place tree e f = λ b.
     both_true input.audit (has_format tree) b.audit (subst (λ (d : Data). IsTrue (has_format d)) same b.format.2) f
 
 -- the header that the first line is
-pub head_is : (audit : Bool) (texts : List (List ℕ)) (header : Header) (n : ℕ) → AreRead audit texts header n → 0 < n → header_in texts ≡ Some header
-head_is audit texts header n read h = first_is (tree_of (get_or texts 0 [])) header (read.head h)
+pub head_is : (forms : ℕ → Data → Option (Option ℕ)) (audit : Bool) (texts : List (List ℕ)) (header : Header) (n : ℕ) → AreRead forms audit texts header n → 0 < n → header_in texts ≡ Some header
+head_is forms audit texts header n read h = first_is (tree_of (get_or texts 0 [])) header (read.head h)
 
 -- the first line
-sound_first : (input : Input) (place n : ℕ) (header : Header) → AreRead input.audit (lines_of input.bytes) header n → 0 < n → index_at input place ≡ 0 → IsSoundAt input place
-sound_first input place n header read h e =
-    let same : option_and_then header_of (tree_at input place) ≡ Some header = ap (λ (i : ℕ). option_and_then header_of (tree_of (get_or (lines_of input.bytes) i []))) e ∙ head_is input.audit (lines_of input.bytes) header n read h in
+sound_first : (forms : ℕ → Data → Option (Option ℕ)) (input : Input) (place n : ℕ) (header : Header) → AreRead forms input.audit (lines_of input.bytes) header n → 0 < n → index_at input place ≡ 0 → IsSoundAt forms input place
+sound_first forms input place n header read h e =
+    let same : option_and_then header_of (tree_at input place) ≡ Some header = ap (λ (i : ℕ). option_and_then header_of (tree_of (get_or (lines_of input.bytes) i []))) e ∙ head_is forms input.audit (lines_of input.bytes) header n read h in
     record {
       json = λ s. none_some header (option_and_then header_of (tree_at input place)) (ap (option_and_then header_of) s.1) same;
       header = λ s. none_some header (option_and_then header_of (tree_at input place)) s.2 same;
@@ -60,32 +59,30 @@ sound_first input place n header read h e =
     }
 
 -- another line
-sound_other : (input : Input) (place n i : ℕ) (header : Header) → AreRead input.audit (lines_of input.bytes) header n → 0 < i → i < n → index_at input place ≡ i → IsSoundAt input place
-sound_other input place n i header read some within e =
-    let given = read.others i some within in
-    let line : Line = given.0 in
-    let r : IsRead input.audit header.workers (i + 1) (tree_of (get_or (lines_of input.bytes) i [])) line = line_is input.audit header.workers (i + 1) (tree_of (get_or (lines_of input.bytes) i [])) line given.1 in
+sound_other : (forms : ℕ → Data → Option (Option ℕ)) (input : Input) (place n i : ℕ) (header : Header) → AreRead forms input.audit (lines_of input.bytes) header n → 0 < i → i < n → index_at input place ≡ i → IsSoundAt forms input place
+sound_other forms input place n i header read some within e =
+    let r : IsLineOf forms input.audit header.workers (i + 1) (tree_of (get_or (lines_of input.bytes) i [])) = read.others i some within in
     let tree : tree_at input place ≡ Some r.tree = ap (λ (i : ℕ). tree_of (get_or (lines_of input.bytes) i [])) e ∙ r.is in
-    let named : option_and_then (plain_lines (index_at input place + 1)) (tree_at input place) ≡ Some (worker_of line.actor) =
-    ap (λ (i : ℕ). option_and_then (plain_lines (i + 1)) (tree_at input place)) e
-    ∙ ap (option_and_then (plain_lines (i + 1))) tree
-    ∙ ap (option_map (λ (line : Line). worker_of line.actor)) r.reads in
-    let worker : IsUnknownWorker input (option_and_then (plain_lines (index_at input place + 1)) (tree_at input place)) → ⊥ = λ u.
-    let actor : worker_of line.actor ≡ Some u.worker = some_same (worker_of line.actor) (Some u.worker) (option_and_then (plain_lines (index_at input place + 1)) (tree_at input place)) named u.names in
-    let heads : u.header ≡ header = some_same u.header header (header_in (lines_of input.bytes)) u.heads (head_is input.audit (lines_of input.bytes) header n read (omega arith)) in
-    not_above header.workers u.worker (worker_of line.actor) actor r.below (subst (λ (h : Header). h.workers ≤ u.worker) heads u.above) in
+    let named : option_and_then (forms (index_at input place + 1)) (tree_at input place) ≡ Some r.named =
+    ap (λ (i : ℕ). option_and_then (forms (i + 1)) (tree_at input place)) e
+    ∙ ap (option_and_then (forms (i + 1))) tree
+    ∙ r.reads in
+    let worker : IsUnknownWorker input (option_and_then (forms (index_at input place + 1)) (tree_at input place)) → ⊥ = λ u.
+    let actor : r.named ≡ Some u.worker = some_same r.named (Some u.worker) (option_and_then (forms (index_at input place + 1)) (tree_at input place)) named u.names in
+    let heads : u.header ≡ header = some_same u.header header (header_in (lines_of input.bytes)) u.heads (head_is forms input.audit (lines_of input.bytes) header n read (omega arith)) in
+    not_above header.workers u.worker r.named actor r.below (subst (λ (h : Header). h.workers ≤ u.worker) heads u.above) in
     record {
       json = λ s. none_some r.tree (tree_at input place) s.1 tree;
       header = λ s. let k : index_at input place ≡ 0 = s.1 in omega arith;
-      line = λ s. none_some (worker_of line.actor) (option_and_then (plain_lines (index_at input place + 1)) (tree_at input place)) s.2 named;
+      line = λ s. none_some r.named (option_and_then (forms (index_at input place + 1)) (tree_at input place)) s.2 named;
       worker = λ s. worker s.2;
       journal = no_journal input place r.tree tree r.plain;
     }
 
 -- any line that was read
-pub sound_at : (input : Input) (place n : ℕ) (header : Header) → AreRead input.audit (lines_of input.bytes) header n → index_at input place < n → IsSoundAt input place
-sound_at input place n header read within = by_index (index_at input place) refl
+pub sound_at : (forms : ℕ → Data → Option (Option ℕ)) (input : Input) (place n : ℕ) (header : Header) → AreRead forms input.audit (lines_of input.bytes) header n → index_at input place < n → IsSoundAt forms input place
+sound_at forms input place n header read within = by_index (index_at input place) refl
   where
-    by_index : (i : ℕ) → index_at input place ≡ i → IsSoundAt input place
-    by_index zero e = sound_first input place n header read (omega arith) e
-    by_index (suc i) e = sound_other input place n (suc i) header read (omega arith) (omega arith) e
+    by_index : (i : ℕ) → index_at input place ≡ i → IsSoundAt forms input place
+    by_index zero e = sound_first forms input place n header read (omega arith) e
+    by_index (suc i) e = sound_other forms input place n (suc i) header read (omega arith) (omega arith) e

@@ -1,8 +1,6 @@
 -- What the content of one line is, by its text.
-use Rattle.std.specs.Prelude.{ℕ, ◌&&◌, List, Bool, false, nat_le, if◌then◌else◌, Option, None, Some}
+use Rattle.std.specs.Prelude.{◌≡◌, ℕ, ◌&&◌, List, Bool, true, false, nat_le, Option, None, Some}
 use Rattle.serde_json.specs.Data.{Data}
-use Rattle.ev_types.specs.declared.events.Actor.{Actor}
-use Rattle.ev_types.specs.declared.events.Line.{Line}
 use Rattle.ev_script.specs.declared.content.Content.{Content}
 use Rattle.ev_script.specs.declared.content.Content.TheVariants as is
 use Rattle.ev_script.specs.declared.content.First.{First}
@@ -11,8 +9,7 @@ use Rattle.ev_script.specs.declared.header.Header.{Header}
 use Rattle.ev_script.specs.declared.fault_kinds.FaultKind.TheVariants.{NotJson, NotHeader, NotLine, NoSuchWorker}
 use Rattle.ev_script.specs.Members.{tree_of}
 use Rattle.ev_script.specs.Header.{header_of}
-use Rattle.ev_script.specs.Lines.{line_of}
-use Rattle.ev_script.specs.Faults.{has_format, worker_of}
+use Rattle.ev_script.specs.Faults.{has_format}
 
 -- what a tree of the first line is
 abbrev pub first_of : Option Header → First
@@ -32,16 +29,50 @@ abbrev pub is_above : ℕ → Option ℕ → Bool
 is_above workers None = false
 is_above workers (Some worker) = nat_le workers worker
 
--- what a line is, where its form is that of one
-abbrev pub content_of : ℕ → Option Line → Content
-content_of workers None = is.Fault NotLine
-content_of workers (Some line) = if is_above workers (worker_of line.actor) then is.Fault NoSuchWorker else is.Line line
+-- a line by these forms, at its place, in a script of so many workers: its tree begins no journal and is a line, whose
+-- worker, where it names one, is below the count
+pub record IsLineOf (forms : ℕ → Data → Option (Option ℕ)) (audit : Bool) (workers at : ℕ) (found : Option Data) : Type 0 where
+  pub tree : Data
+  pub is : found ≡ Some tree
+  pub plain : (audit && has_format tree) ≡ false
+  pub named : Option ℕ
+  pub reads : forms at tree ≡ Some named
+  pub below : is_above workers named ≡ false
 
-abbrev pub content_tree : Bool → ℕ → ℕ → Option Data → Content
-content_tree audit workers at None = is.Fault NotJson
-content_tree audit workers at (Some tree) = if audit && has_format tree then is.Journal else content_of workers (line_of at tree)
+-- no line by these forms: its tree begins no journal and isn't one
+pub record IsNoLine (forms : ℕ → Data → Option (Option ℕ)) (audit : Bool) (at : ℕ) (found : Option Data) : Type 0 where
+  pub tree : Data
+  pub is : found ≡ Some tree
+  pub plain : (audit && has_format tree) ≡ false
+  pub none : forms at tree ≡ None
 
--- what another line is, at its place: a line of a script with so many workers, a fault, or, in an audit's input, the
--- begin of the journal
-abbrev pub line_content : Bool → ℕ → ℕ → List ℕ → Content
-line_content audit workers at text = content_tree audit workers at (tree_of text)
+-- a line whose worker isn't below the count
+pub record NamesAbove (forms : ℕ → Data → Option (Option ℕ)) (audit : Bool) (workers at : ℕ) (found : Option Data) : Type 0 where
+  pub tree : Data
+  pub is : found ≡ Some tree
+  pub plain : (audit && has_format tree) ≡ false
+  pub named : Option ℕ
+  pub reads : forms at tree ≡ Some named
+  pub above : is_above workers named ≡ true
+
+-- the first line of a journal
+pub record IsJournalHead (audit : Bool) (found : Option Data) : Type 0 where
+  pub tree : Data
+  pub is : found ≡ Some tree
+  pub begins : (audit && has_format tree) ≡ true
+
+-- this is kept of the line
+pub record IsKeptOf {A : Type 0} (keeps : ℕ → Data → A → Type 0) (at : ℕ) (found : Option Data) (kept : A) : Type 0 where
+  pub tree : Data
+  pub is : found ≡ Some tree
+  pub holds : keeps at tree kept
+
+-- what a line behind the first is, by its tree: a line of the script, of which this is kept, a fault, or, in an audit's
+-- input, the begin of the journal
+abbrev pub IsContent : {A : Type 0} → (ℕ → Data → Option (Option ℕ)) → (ℕ → Data → A → Type 0) → Bool → ℕ → ℕ → Option Data → Content A → Type 0
+IsContent forms keeps audit workers at found (is.Line kept) = IsLineOf forms audit workers at found × IsKeptOf keeps at found kept
+IsContent forms keeps audit workers at found (is.Fault NotJson) = found ≡ None
+IsContent forms keeps audit workers at found (is.Fault NotLine) = IsNoLine forms audit at found
+IsContent forms keeps audit workers at found (is.Fault NoSuchWorker) = NamesAbove forms audit workers at found
+IsContent forms keeps audit workers at found (is.Fault _) = ⊥
+IsContent forms keeps audit workers at found is.Journal = IsJournalHead audit found

@@ -1,5 +1,5 @@
 -- The header: the first line of a script.
-use Rattle.std.specs.Prelude.{ℕ, ◌≤◌, List, [], ◌∷◌, Bool, false, if◌then◌else◌, codes, Option, None, Some, option_map, option_and_then}
+use Rattle.std.specs.Prelude.{◌≤◌, [], ◌∷◌, false, if◌then◌else◌, codes, Option, None, option_map, option_and_then}
 use Rattle.serde_json.specs.Data.{Data}
 use Rattle.serde_json.specs.Find.{as_bool}
 use Rattle.ev_types.specs.declared.limits.TheConstants.{MAX_WORKERS}

@@ -11,3 +11,5 @@ pub mod Faults
 pub mod Script
 pub mod Content
 pub mod ReadLines
+pub mod ReadInput
+pub mod ReadScript

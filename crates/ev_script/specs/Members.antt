@@ -5,7 +5,7 @@ use Rattle.std.specs.List.{list_any}
 use Rattle.std.specs.Str.{bytes_eq, is_utf8}
 use Rattle.serde_json.specs.Data.{Data, null, boolean, number, string, array, object, Members, no_members, member}
 use Rattle.serde_json.specs.Read.{read}
-use Rattle.serde_json.specs.Find.{get, as_number, as_u64, as_str, as_bool}
+use Rattle.serde_json.specs.Find.{get, as_number, as_u64, as_str}
 use Rattle.ev_types.specs.declared.limits.TheConstants.{MAX_NAME_LENGTH}
 
 -- the value that bytes are, where they are JSON in UTF-8

@@ -1,5 +1,5 @@
 -- The script of an input without fault.
-use Rattle.std.specs.Prelude.{ℕ, ◌+◌, ◌&&◌, List, [], ◌∷◌, length, Bool, true, false, if◌then◌else◌, Option, None, Some, option_map, option_and_then}
+use Rattle.std.specs.Prelude.{ℕ, ◌+◌, List, [], ◌∷◌, length, Bool, true, false, if◌then◌else◌, Option, None, Some, option_map, option_and_then}
 use Rattle.serde_json.specs.Data.{Data}
 use Rattle.ev_io.specs.Lines.{lines_of}
 use Rattle.ev_types.specs.Scripts.{ScriptParts}

@@ -1,41 +1,38 @@
-ghost use Rattle.std.specs.Prelude.{◌≡◌, ◌↔◌, IfOk, IsTrue};
+ghost use Rattle.std.specs.Prelude.{◌≡◌, ◌&&◌, IfOk};
 ghost use Rattle.serde_json.specs.View.{view};
-ghost use Rattle.ev_script.specs.Faults.{has_format, worker_of};
-ghost use Rattle.ev_script.specs.Content.{first_of, first_content, is_above, content_of, line_content};
+ghost use Rattle.ev_script.specs.Members.{tree_of};
+ghost use Rattle.ev_script.specs.Faults.{has_format};
+ghost use Rattle.ev_script.specs.Content.{first_of, first_content, is_above, IsContent};
 
 use crate::fault_kinds::FaultKind;
+use crate::forms::Forms;
 use crate::header::{Header, read_header};
-use crate::lines::read_line;
 use crate::members::read_tree;
-use ev_types::{Actor, Line};
 use serde_json::Value;
 use std::alloc::{AllocError, Global};
 
-/// What the first line of an input is.
+// What the first line of an input is.
 #[derive(Drop)]
-pub enum First {
+pub(crate) enum First {
     /// The header.
     Header(Header),
     /// No header, with this fault.
     Fault(FaultKind),
 }
 
-/// What a line after the first is.
+// What a line after the first is.
 #[derive(Drop)]
-pub enum Content {
-    /// A line of the script.
-    Line(Line),
+pub(crate) enum Content<T> {
+    /// A line of the script, and what is kept of it.
+    Line(T),
     /// No line, with this fault.
     Fault(FaultKind),
     /// The first line of the journal behind the script.
     Journal,
 }
 
-/// What the first line is, by its text without its line feed: the header, or a fault of kind 4 or 5.
-///
-/// # Errors
-/// `AllocError` where there is no memory for it.
-pub fn read_first(alloc: Global, text: &[u8]) -> Result<First, AllocError>
+// What the first line is, by its text without its line feed: the header, or a fault of kind 4 or 5.
+pub(crate) fn read_first(alloc: Global, text: &[u8]) -> Result<First, AllocError>
     ensures { IfOk result (λ first. first ≡ first_content text.now) }
 {
     match read_tree(alloc, text)? {
@@ -54,28 +51,39 @@ fn first_of(header: Option<Header>) -> First
     }
 }
 
-/// What line `at` is, by its text without its line feed, in a script of so many workers: a line, or a
-/// fault of kind 4, 6 or 7. In an audit's input an object with a member `format` begins the journal,
-/// whatever else it has.
-///
-/// # Errors
-/// `AllocError` where there is no memory for it.
-pub fn read_content(
+// What line `at` is, by its text without its line feed, in a script of so many workers: a line, or a
+// fault of kind 4, 6 or 7. In an audit's input an object with a member `format` begins the journal,
+// whatever else it has. The line's tree is gone before the answer, where it isn't what is kept.
+pub(crate) fn read_content<F: Forms>(
     alloc: Global,
+    forms: &F,
     audit: bool,
     workers: u32,
     at: u32,
     text: &[u8],
-) -> Result<Content, AllocError>
-    ensures { IfOk result (λ content. content ≡ line_content audit workers at text.now) }
+) -> Result<Content<F::Kept>, AllocError>
+    ensures { IfOk result (IsContent F.forms F.keeps audit workers at (tree_of text.now)) }
 {
     let Some(tree) = read_tree(alloc, text)? else {
         return Ok(Content::Fault(FaultKind::NotJson));
     };
-    if audit && has_format(&tree) {
+    if begins_journal(audit, &tree) {
         return Ok(Content::Journal);
     }
-    Ok(content_of(workers, read_line(alloc, at, &tree)?))
+    let Some(formed) = forms.read(alloc, at, tree)? else {
+        return Ok(Content::Fault(FaultKind::NotLine));
+    };
+    if is_above(workers, formed.worker) {
+        return Ok(Content::Fault(FaultKind::NoSuchWorker));
+    }
+    Ok(Content::Line(formed.kept))
+}
+
+// Whether a tree begins the journal of an audit's input.
+fn begins_journal(audit: bool, tree: &Value) -> bool
+    ensures { result ≡ (audit && has_format (view tree.now)) }
+{
+    audit && has_format(tree)
 }
 
 // Whether a tree is an object with a member `format`.
@@ -85,25 +93,12 @@ fn has_format(tree: &Value) -> bool
     tree.get("format").is_some()
 }
 
-// What a line is, where its form is that of one.
-fn content_of(workers: u32, line: Option<Line>) -> Content
-    ensures { result ≡ content_of workers line }
+// Whether a line's worker, where it names one, isn't below the count.
+fn is_above(workers: u32, worker: Option<u32>) -> bool
+    ensures { result ≡ is_above workers worker }
 {
-    let Some(line) = line else {
-        return Content::Fault(FaultKind::NotLine);
-    };
-    if is_above(workers, line.actor) {
-        return Content::Fault(FaultKind::NoSuchWorker);
-    }
-    Content::Line(line)
-}
-
-// Whether an actor is a worker that isn't below the count.
-fn is_above(workers: u32, actor: Actor) -> bool
-    ensures { result ≡ is_above workers (worker_of actor) }
-{
-    match actor {
-        Actor::Worker(worker) => workers <= worker,
-        Actor::Stream | Actor::Health | Actor::Timer | Actor::Main => false,
+    match worker {
+        Some(worker) => workers <= worker,
+        None => false,
     }
 }

@@ -3,6 +3,7 @@
 
 mod content;
 mod fault_kinds;
+mod forms;
 mod header;
 mod health_lines;
 mod limits;
@@ -10,15 +11,18 @@ mod line_forms;
 mod lines;
 mod main_lines;
 mod members;
+mod read_input;
+mod script;
 mod stream_lines;
 #[cfg(test)]
 mod tests;
 mod timer_lines;
 mod worker_lines;
 
-pub use content::{Content, First, read_content, read_first};
 pub use fault_kinds::FaultKind;
+pub use forms::{FormedLine, Forms, ScriptLines};
 pub use header::{Header, read_header};
 pub use limits::{MAX_NUMBER, MAX_PATH_LENGTH, MAX_WORKER};
 pub use lines::read_line;
 pub use members::read_tree;
+pub use script::{ScriptEnd, read_script, read_script_with};

@@ -1,4 +1,6 @@
-use super::{Content, First, read_content, read_first};
+use crate::content::{Content, read_content};
+use crate::{ScriptEnd, ScriptLines, read_script};
+use ev_io::{Lines, MemSource, ScriptFault};
 use ev_types::{Actor, Event};
 use std::alloc::{AllocError, Global};
 use std::test::Fail;
@@ -6,11 +8,13 @@ use std::test::Fail;
 // The number of a line's fault in a script of two workers: 0 for a line, and 10 for the begin of a
 // journal.
 fn kind_of(alloc: Global, audit: bool, text: &str) -> Result<u8, AllocError> {
-    Ok(match read_content(alloc, audit, 2, 2, text.as_bytes())? {
-        Content::Line(_) => 0,
-        Content::Fault(kind) => kind.number(),
-        Content::Journal => 10,
-    })
+    Ok(
+        match read_content(alloc, &ScriptLines, audit, 2, 2, text.as_bytes())? {
+            Content::Line(_) => 0,
+            Content::Fault(kind) => kind.number(),
+            Content::Journal => 10,
+        },
+    )
 }
 
 // Each operation with all its members and with those alone that it needs, and what is no line.
@@ -72,40 +76,72 @@ fn tells_lines_from_faults(rt: HostRuntime) -> Result<(), Fail> {
     Ok(())
 }
 
-// In an audit's input a member `format` begins the journal, even one that is null.
-#[test]
-fn finds_the_journal(rt: HostRuntime) -> Result<(), Fail> {
-    let wants = [
-        (r#"{"format":2,"workers":2}"#, 10),
-        (r#"{"format":null,"op":"connect"}"#, 10),
-        (r#"["format"]"#, 6),
-        (r#"{"op":"connect"}"#, 0),
-    ];
-    for (text, want) in wants {
-        assert_eq!(rt; kind_of(rt.alloc(), true, text)?, want, "{text}");
-    }
-    Ok(())
+// How the reading of an input ends: the line and the kind of its fault, or the number of the script's last line and how
+// many bytes the journal's first line has.
+fn end_of(
+    alloc: Global,
+    text: &str,
+    audit: bool,
+    fails: Vec<u64>,
+) -> Result<(u32, u8, u32, usize), AllocError> {
+    let mut bytes = Vec::new(alloc);
+    bytes.extend_from_slice(text.as_bytes())?;
+    let mut source = MemSource::new(bytes, 8, fails);
+    let mut lines = Lines::new(alloc)?;
+    Ok(match read_script(alloc, &mut lines, &mut source, audit) {
+        Ok(ScriptEnd::Whole(script)) => (0, 0, script.count, 0),
+        Ok(ScriptEnd::Journal(script, first)) => (0, 0, script.count, first.len()),
+        Err(ScriptFault::Bad { line, kind }) => (line, kind, 0, 0),
+        Err(ScriptFault::Read) => (0, 100, 0, 0),
+        Err(ScriptFault::OutOfMemory) => (0, 101, 0, 0),
+    })
 }
 
-// Headers with their defaults, as workers, whether they add lines and the node's length, and what is
-// none.
+// Whole inputs, in pieces of eight bytes: each kind of fault but those of the limits, and what is a script.
 #[test]
-fn reads_headers(rt: HostRuntime) -> Result<(), Fail> {
+fn reads_inputs(rt: HostRuntime) -> Result<(), Fail> {
     let wants = [
-        (r#"{"workers":1}"#, 1, false, 8, 0),
-        (r#"{"workers":16,"auto":true,"node":"n"}"#, 16, true, 1, 0),
-        (r#"{"workers":17}"#, 0, false, 0, 5),
-        (r#"{"workers":1,"auto":0}"#, 0, false, 0, 5),
-        (r#"{"workers":1,"node":null}"#, 0, false, 0, 5),
-        (r#"{"workers":1"#, 0, false, 0, 4),
+        ("", false, (1, 8, 0, 0)),
+        ("", true, (1, 8, 0, 0)),
+        (r#"{"workers":1"#, false, (1, 4, 0, 0)),
+        (r#"{"workers":17}"#, false, (1, 5, 0, 0)),
+        (r#"{"workers":1,"node":null}"#, false, (1, 5, 0, 0)),
+        (
+            r#"{"workers":16,"auto":true,"node":"n"}"#,
+            false,
+            (0, 0, 1, 0),
+        ),
+        ("{\"workers\":1}\n\n", false, (2, 4, 0, 0)),
+        ("{\"workers\":1}\n{\"op\":\"connect\"}", false, (0, 0, 2, 0)),
+        ("{\"workers\":1}\n{\"op\":\"open\"}\nx", false, (2, 6, 0, 0)),
+        (
+            "{\"workers\":1}\n{\"op\":\"settle\",\"worker\":1}\n",
+            false,
+            (2, 7, 0, 0),
+        ),
+        ("{\"workers\":1}\n{\"format\":2}\n", false, (2, 6, 0, 0)),
+        (
+            "{\"workers\":1}\n{\"op\":\"connect\"}\n",
+            true,
+            (3, 9, 0, 0),
+        ),
+        ("{\"workers\":1}\n{\"format\":null}\nx", true, (0, 0, 1, 15)),
     ];
-    for (text, workers, auto, node, kind) in wants {
-        let found = match read_first(rt.alloc(), text.as_bytes())? {
-            First::Header(header) => (header.workers, header.auto, header.node.as_str().len(), 0),
-            First::Fault(kind) => (0, false, 0, kind.number()),
-        };
-        assert_eq!(rt; found, (workers, auto, node, kind), "{text}");
+    for (text, audit, want) in wants {
+        assert_eq!(rt;
+            end_of(rt.alloc(), text, audit, Vec::new(rt.alloc()))?,
+            want,
+            "{text}"
+        );
     }
+    let mut fails = Vec::new(rt.alloc());
+    fails.push(3)?;
+    let text = "{\"workers\":1}\n{\"op\":";
+    assert_eq!(rt;
+        end_of(rt.alloc(), text, false, fails)?,
+        (0, 100, 0, 0),
+        "a read that fails"
+    );
     Ok(())
 }
 
@@ -114,7 +150,7 @@ fn reads_headers(rt: HostRuntime) -> Result<(), Fail> {
 fn keeps_numbers_exactly(rt: HostRuntime) -> Result<(), Fail> {
     let text =
         r#"{"op":"accept","worker":1,"conn":18446744073709551615,"address":"10.1.0.1","port":8080}"#;
-    match read_content(rt.alloc(), false, 2, 7, text.as_bytes())? {
+    match read_content(rt.alloc(), &ScriptLines, false, 2, 7, text.as_bytes())? {
         Content::Line(line) => {
             assert_eq!(rt; line.at, 7);
             assert!(rt; line.actor == Actor::Worker(1));

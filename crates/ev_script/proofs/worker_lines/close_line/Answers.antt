@@ -3,7 +3,7 @@ use Rattle.std.proofs.Common.{[], ◌∷◌, codes, ap, ◌∙◌, option_map, O
 use Rattle.serde_json.specs.View.{view}
 use Rattle.ev_types.specs.declared.events.Event.{Event}
 use Rattle.ev_types.specs.declared.events.Event.TheVariants.{Close}
-use Rattle.ev_script.specs.WorkerLines.{worker_line, conn_in}
+use Rattle.ev_script.specs.WorkerLines.{worker_line}
 use Rattle.ev_script.proofs.FormLemmas.{passed}
 use Rattle.ev_script.proofs.worker_lines.close_line.Goals as goal
 

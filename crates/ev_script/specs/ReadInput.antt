@@ -1,0 +1,82 @@
+-- What the readers of whole inputs answer, by the bytes that they took.
+use Rattle.std.specs.Prelude.{◌≡◌, ℕ, ◌+◌, ◌<◌, ◌≤◌, Bool, false, IsTrue, ⊤, List, [], length, slice_index_or, Option, None, Some, Vec, Result, Ok, Err}
+use Rattle.std.specs.declared.alloc.Global.{Global}
+use Rattle.serde_json.specs.Data.{Data}
+use Rattle.ev_io.specs.declared.faults.LineFault.{LineFault}
+use Rattle.ev_io.specs.declared.faults.LineFault.TheVariants as limit
+use Rattle.ev_io.specs.declared.faults.ScriptFault.{ScriptFault}
+use Rattle.ev_io.specs.declared.faults.ScriptFault.TheVariants.{Bad, Read, OutOfMemory}
+use Rattle.ev_io.specs.Lines.{lines_of}
+use Rattle.ev_io.specs.LinesState.{LinesState}
+use Rattle.ev_script.specs.declared.fault_kinds.FaultKind.{FaultKind}
+use Rattle.ev_script.specs.declared.content.First.TheVariants as first
+use Rattle.ev_script.specs.declared.header.Header.{Header}
+use Rattle.ev_script.specs.declared.read_input.ReadInput.{ReadInput}
+use Rattle.ev_script.specs.Faults.{Input, index_at, BeginsJournal, Stands, IsFaultOf, HasNoFault}
+use Rattle.ev_script.specs.Content.{first_content}
+use Rattle.ev_script.specs.ReadLines.{AreRead, AreKept}
+
+-- no byte was taken yet
+abbrev pub IsFresh : LinesState → Type 0
+IsFresh state = state ≡ record { taken = 0; given = 0; pending = []; ended = false; told = None }
+
+-- the input, as far as it was taken
+abbrev pub input_of : Bool → LinesState → List ℕ → Input
+input_of audit state bytes = record { bytes = bytes; ended = state.ended; audit = audit }
+
+-- how a fault of lines is told, where so many lines were given
+abbrev pub script_fault : ℕ → LineFault → ScriptFault
+script_fault given limit.TooLong = Bad (given + 1) 1
+script_fault given limit.TooMany = Bad (given + 1) 2
+script_fault given limit.TooLarge = Bad (given + 1) 3
+script_fault given limit.Failed = Read
+script_fault given limit.OutOfMemory = OutOfMemory
+
+-- a fault is the first of the bytes taken; a failed read is told where they have none, and go on
+abbrev pub IsTold : (ℕ → Data → Option (Option ℕ)) → Input → ScriptFault → Type 0
+IsTold forms input (Bad line kind) = IsFaultOf forms input line kind
+IsTold forms input Read = HasNoFault forms input × (¬ (IsTrue input.ended))
+IsTold forms input OutOfMemory = ⊤
+
+-- the input is no audit's, was read to its end, has no fault and so many lines
+pub record IsWhole (forms : ℕ → Data → Option (Option ℕ)) (input : Input) (count : ℕ) : Type 0 where
+  pub script : input.audit ≡ false
+  pub ended : IsTrue input.ended
+  pub sound : HasNoFault forms input
+  pub lines : length (lines_of input.bytes) ≡ count
+
+-- behind so many lines the journal begins, by a line of this text, and no fault stands up to that line's end
+pub record IsUpToJournal (forms : ℕ → Data → Option (Option ℕ)) (input : Input) (count : ℕ) (text : List ℕ) : Type 0 where
+  pub place : ℕ
+  pub begins : BeginsJournal input place
+  pub first : (other : ℕ) → other < place → ¬ (BeginsJournal input other)
+  pub sound : (other : ℕ) (kind : FaultKind) → other ≤ place → ¬ (Stands forms input other kind)
+  pub behind : index_at input place ≡ count
+  pub here : slice_index_or (lines_of input.bytes) count [] ≡ text
+
+-- where the script ends: at the end of the input, or before its journal
+abbrev pub EndsBefore : (ℕ → Data → Option (Option ℕ)) → Input → ℕ → Option (Vec ℕ Global) → Type 0
+EndsBefore forms input count None = IsWhole forms input count
+EndsBefore forms input count (Some text) = IsUpToJournal forms input count text.items
+
+-- how many lines are given besides those behind the header: it, and the journal's first
+abbrev pub through_journal : Option (Vec ℕ Global) → ℕ
+through_journal None = 1
+through_journal (Some text) = 2
+
+-- the header, what is kept of the lines behind it, and where they end
+pub record IsReadOf {A : Type 0} (forms : ℕ → Data → Option (Option ℕ)) (keeps : ℕ → Data → A → Type 0) (input : Input) (read : ReadInput A) : Type 0 where
+  pub lines : AreRead forms input.audit (lines_of input.bytes) read.header (length read.kept.items + 1)
+  pub kept : AreKept keeps (lines_of input.bytes) read.kept.items
+  pub ends : EndsBefore forms input (length read.kept.items + 1) read.journal
+
+-- what an answer means
+abbrev pub IsAnswer : {A : Type 0} → (ℕ → Data → Option (Option ℕ)) → (ℕ → Data → A → Type 0) → Input → Result (ReadInput A) ScriptFault → Type 0
+IsAnswer forms keeps input (Ok read) = IsReadOf forms keeps input read
+IsAnswer forms keeps input (Err fault) = IsTold forms input fault
+
+-- what an answer about the first line means: the header was given, or the first fault of the bytes taken stands in the
+-- first line, whatever forms the others have
+abbrev pub IsHeadAnswer : LinesState → List ℕ → Result Header ScriptFault → Type 0
+IsHeadAnswer state bytes (Ok header) = (state.told ≡ None) × (state.given ≡ 1) × (first_content (slice_index_or (lines_of bytes) 0 []) ≡ first.Header header)
+IsHeadAnswer state bytes (Err fault) = (forms : ℕ → Data → Option (Option ℕ)) (audit : Bool) → IsTold forms (input_of audit state bytes) fault

@@ -1,0 +1,84 @@
+ghost use Rattle.std.specs.Prelude.{◌≡◌, ℕ, Option, option_map, IfOk, IfSome};
+ghost use Rattle.serde_json.specs.Data.{Data};
+ghost use Rattle.serde_json.specs.View.{view};
+ghost use Rattle.ev_script.specs.Faults.{worker_of};
+
+use crate::lines::read_line;
+use ev_types::{Actor, Line};
+use serde_json::Value;
+use std::alloc::{AllocError, Global};
+
+/// A line of a script: what is kept of it, and the worker that it names, where it names one.
+#[derive(Drop)]
+pub struct FormedLine<T> {
+    pub kept: T,
+    pub worker: Option<u32>,
+}
+
+/// Which lines a script may have behind its header, and what is kept of each.
+pub trait Forms {
+    /// What is kept of a line.
+    type Kept: Drop;
+
+    // What a tree is among the lines, by its line's number: none where it isn't one, else the worker
+    // that it names, where it names one.
+    ghost forms: { ℕ → Data → Option (Option ℕ) };
+
+    // This may be kept of the line, by its number and its tree.
+    ghost keeps: { ℕ → Data → Self.Kept → Type 0 };
+
+    /// The line that a tree is, by its number, or none where it isn't one. Whether its worker is one
+    /// of the script's is not looked at.
+    ///
+    /// # Errors
+    /// `AllocError` where there is no memory for it.
+    fn read(
+        &self,
+        alloc: Global,
+        at: u32,
+        tree: Value,
+    ) -> Result<Option<FormedLine<Self::Kept>>, AllocError>
+        ensures line { IfOk result (λ line. option_map (λ line. line.worker) line ≡ forms at (view tree)) }
+        ensures kept { IfOk result (λ line. IfSome line (λ line. keeps at (view tree) line.kept)) };
+}
+
+/// The lines of a script, each kept as what it says.
+#[derive(Clone, Copy, Debug)]
+pub struct ScriptLines;
+
+impl Forms for ScriptLines {
+    ghost use Rattle.std.specs.Prelude.{Some};
+    ghost use Rattle.ev_script.specs.Faults.{plain_lines};
+    ghost use Rattle.ev_script.specs.Lines.{line_of};
+
+    type Kept = Line;
+
+    ghost forms = { plain_lines };
+
+    ghost keeps = { λ at tree line. line_of at tree ≡ Some line };
+
+    fn read(
+        &self,
+        alloc: Global,
+        at: u32,
+        tree: Value,
+    ) -> Result<Option<FormedLine<Line>>, AllocError> {
+        match read_line(alloc, at, &tree)? {
+            Some(line) => Ok(Some(FormedLine {
+                worker: worker_of(line.actor),
+                kept: line,
+            })),
+            None => Ok(None),
+        }
+    }
+}
+
+// The worker that an actor is, where it is one.
+pub(crate) fn worker_of(actor: Actor) -> Option<u32>
+    ensures { result ≡ worker_of actor }
+{
+    match actor {
+        Actor::Worker(worker) => Some(worker),
+        Actor::Stream | Actor::Health | Actor::Timer | Actor::Main => None,
+    }
+}
