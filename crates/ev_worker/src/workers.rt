@@ -1,0 +1,178 @@
+ghost use Rattle.std.specs.Prelude.{◌≡◌, ◌≤◌, ◌<◌, ◌+◌, ◌↔◌, ℕ, List, [], ◌∷◌, ◌++◌, length, IsTrue, IfOk, OnOk};
+ghost use Rattle.std.specs.Arc.{arc_value};
+ghost use Rattle.ev_types.specs.declared.events.Event.TheVariants.{Accept, Close};
+ghost use Rattle.ev_model.specs.World.{OpenMember, World};
+ghost use Rattle.ev_model.specs.Connections.{accepted, closed, is_open, settle};
+ghost use Rattle.ev_model.specs.Operations.{batch_limit};
+ghost use Rattle.ev_worker.specs.Batches.{accepted_as, accepted_answer, accept_line, close_line, closed_as, closed_answer};
+ghost use Rattle.ev_worker.specs.Workers.{IsMadeFrom, IsToldBy, SameOpen, StandsFor, without_numbers};
+
+use crate::batches::{BATCH_LIMIT, Batch};
+use crate::lines::{Accepted, BatchLine, Closed, Outcome, Settled};
+use crate::members::{Members, close, close_all, on_of, open_on};
+use ev_snapshot::Snapshot;
+use ev_types::{Ask, Event};
+use indexmap::IndexMap;
+use std::alloc::{AllocError, Global};
+use std::marker::Model;
+use std::sync::Arc;
+
+/// A worker: the snapshot that it serves from, the connections that it has open, and what it did since it settled. It answers
+/// by these alone, and asks no one.
+#[derive(Drop)]
+pub struct Worker {
+    snapshot: Arc<Snapshot>,
+    members: Members,
+    batch: Batch,
+}
+
+impl Model for Worker {
+    ghost use Rattle.std.specs.Arc.{arc_value};
+    ghost use Rattle.indexmap.specs.IndexMap.{keys, spare};
+    ghost use Rattle.ev_worker.specs.Members.{IsStored, members_of};
+    ghost use Rattle.ev_worker.specs.Workers.{WorkerParts};
+
+    ghost Value = { WorkerParts };
+
+    ghost view = { λ w. record { number = w.batch.worker; picture = arc_value w.snapshot; opened = members_of w.batch.worker w.members.entries; lines = w.batch.lines; spare = spare w.members } };
+
+    ghost invariant = { λ w. IsStored (spare w.members) w.batch.lines (keys w.members) };
+}
+
+impl Worker {
+    /// A worker that has nothing open and serves from this snapshot. It takes the memory for its first 256 lines.
+    pub fn new(alloc: Global, number: u32, snapshot: Arc<Snapshot>) -> Result<Worker, AllocError>
+        ensures number { IfOk result (λ worker. worker.number ≡ number) }
+        ensures picture { IfOk result (λ worker. worker.picture ≡ arc_value snapshot) }
+        ensures opened { IfOk result (λ worker. worker.opened ≡ []) }
+        ensures lines { IfOk result (λ worker. worker.lines ≡ []) }
+        ensures begins { IfOk result (λ worker. IsMadeFrom [] worker) }
+    {
+        let members = IndexMap::with_capacity(alloc, BATCH_LIMIT)?;
+        let batch = Batch::new(alloc, number)?;
+        Ok(Worker {
+            snapshot,
+            members,
+            batch,
+        })
+    }
+
+    /// How many more lines its batch has room for.
+    pub fn room(&self) -> u32
+        ensures { result + length self.now.lines ≡ batch_limit }
+    {
+        (BATCH_LIMIT - self.batch.lines().len()) as u32
+    }
+
+    /// The version of the picture that it serves from. It takes no memory.
+    pub fn version(&self) -> u64
+        ensures { result ≡ self.now.picture.version }
+    {
+        self.snapshot.version()
+    }
+
+    /// Whether it did nothing since it settled, and has nothing open. It takes no memory.
+    pub fn idle(&self) -> bool
+        ensures { IsTrue result ↔ ((self.now.lines ≡ []) × (self.now.opened ≡ [])) }
+    {
+        self.batch.lines().is_empty() && self.members.is_empty()
+    }
+
+    /// What it did since it settled.
+    pub fn batch(&self) -> &Batch
+        ensures worker { result.now.worker ≡ self.now.number }
+        ensures lines { result.now.lines ≡ self.now.lines }
+    {
+        &self.batch
+    }
+
+    /// Accepts a connection at a line of the script, where the batch has room: it goes where the worker's picture says, and is
+    /// open from then on where there is a listener; where the worker has one of this number open, nothing is done. The line
+    /// joins the batch. It takes no memory.
+    pub fn accept(&mut self, at: u32, ask: Ask) -> Accepted
+        requires room { length self.old.lines < batch_limit }
+        ensures answer { result ≡ accepted_as self.old.picture ask (is_open self.old.opened self.old.number ask.conn) }
+        ensures machine { accepted_answer self.old.picture result ≡ (accepted self.old.picture ask self.old.number self.old.opened).answer }
+        ensures opened { self.new.opened ≡ (accepted self.old.picture ask self.old.number self.old.opened).opened }
+        ensures line { self.new.lines ≡ self.old.lines ++ accept_line at ask result ∷ [] }
+        ensures number { self.new.number ≡ self.old.number }
+        ensures picture { self.new.picture ≡ self.old.picture }
+        ensures made { (begun : List OpenMember) → IsMadeFrom begun self.old → IsMadeFrom begun self.new }
+    {
+        let answer = self.answer_to(&ask);
+        open_on(&mut self.members, ask.conn, on_of(&answer));
+        self.batch.push(BatchLine {
+            at,
+            event: Event::Accept(ask),
+            outcome: Outcome::Accepted(answer),
+        });
+        answer
+    }
+
+    // How a connection is answered.
+    fn answer_to(&self, ask: &Ask) -> Accepted
+        ensures { result ≡ accepted_as self.now.picture ask.now (is_open self.now.opened self.now.number ask.now.conn) }
+    {
+        if self.members.contains_key(&ask.conn) {
+            Accepted::InUse
+        } else {
+            Accepted::Chosen(self.snapshot.choose(ask))
+        }
+    }
+
+    /// Closes a connection at a line of the script, where the batch has room; where the worker has none of this number open,
+    /// nothing is done. The line joins the batch. It takes no memory.
+    pub fn close(&mut self, at: u32, conn: u64) -> Closed
+        requires room { length self.old.lines < batch_limit }
+        ensures answer { result ≡ closed_as (is_open self.old.opened self.old.number conn) }
+        ensures machine { closed_answer result ≡ (closed conn self.old.number self.old.opened).answer }
+        ensures opened { SameOpen self.old.number self.new.opened (closed conn self.old.number self.old.opened).opened }
+        ensures line { self.new.lines ≡ self.old.lines ++ close_line at conn result ∷ [] }
+        ensures number { self.new.number ≡ self.old.number }
+        ensures picture { self.new.picture ≡ self.old.picture }
+        ensures made { (begun : List OpenMember) → IsMadeFrom begun self.old → IsMadeFrom begun self.new }
+    {
+        let answer = answer_by(close(&mut self.members, conn));
+        self.batch.push(BatchLine {
+            at,
+            event: Event::Close(conn),
+            outcome: Outcome::Closed(answer),
+        });
+        answer
+    }
+
+    /// Takes the memory for the 256 lines after the next settle. Out of memory, all stays as it was.
+    pub fn prepare(&mut self) -> Result<(), AllocError>
+        ensures room { OnOk result (batch_limit ≤ self.new.spare) }
+        ensures kept { self.new ≡ record self.old { spare = self.new.spare } }
+    {
+        self.members.reserve(BATCH_LIMIT)
+    }
+
+    /// Settles: the connections that were closed are gone, the snapshot is the new one, and the batch is empty, with room for
+    /// 256 lines. `prepare` took the memory before, and no line came since.
+    pub fn adopt(&mut self, settled: Settled)
+        requires prepared { batch_limit ≤ self.old.spare }
+        ensures number { self.new.number ≡ self.old.number }
+        ensures picture { self.new.picture ≡ arc_value settled.snapshot }
+        ensures lines { self.new.lines ≡ [] }
+        ensures opened { SameOpen self.old.number self.new.opened (without_numbers settled.closed self.old.opened) }
+        ensures begins { IsMadeFrom self.new.opened self.new }
+        ensures world { (world : World) → StandsFor self.old world → self.old.number < length world.held → IsToldBy self.old.number settled.closed (arc_value settled.snapshot) world → StandsFor self.new (settle self.old.number world).0 }
+    {
+        close_all(&mut self.members, settled.closed.as_slice());
+        self.batch.clear();
+        self.snapshot = settled.snapshot;
+    }
+}
+
+// How a close is answered.
+fn answer_by(was_open: bool) -> Closed
+    ensures { result ≡ closed_as was_open }
+{
+    if was_open {
+        Closed::Done
+    } else {
+        Closed::NotOpen
+    }
+}

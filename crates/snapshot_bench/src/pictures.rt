@@ -1,0 +1,89 @@
+use anyhow::{Result, anyhow};
+use ev_model::{Picture, Routing, ServedCluster, ServedListener, Shown};
+use ev_types::{Ask, Assignment, Gen, Host, HostRow, Name, Seq, Target, Text};
+use std::alloc::Global;
+
+/// A picture of so many clusters, each with so many hosts, and as many listeners, each with a cluster of its own. Its version is
+/// also the weight of the hosts of the first cluster, so that two versions differ in that cluster alone.
+pub(crate) fn picture(alloc: Global, size: u16, hosts: u16, version: u32) -> Result<Picture> {
+    let mut clusters = Seq::new(alloc);
+    let mut listeners = Seq::new(alloc);
+    for place in 0..size {
+        let weight = if place == 0 { version } else { 1 };
+        clusters.push(cluster(alloc, place, hosts, weight)?)?;
+        listeners.push(listener(alloc, size, place)?)?;
+    }
+    let shown = Shown {
+        clusters,
+        listeners,
+    };
+    Ok(Picture {
+        version: u64::from(version),
+        shown,
+    })
+}
+
+/// A connection to the last listener, whose pick takes the last host of a cluster whose hosts weigh 1.
+pub(crate) fn ask(alloc: Global, size: u16, hosts: u16) -> Result<Ask> {
+    Ok(Ask {
+        conn: 1,
+        address: address(alloc, size.saturating_sub(1))?,
+        host: Text::new(alloc, "")?,
+        path: Text::new(alloc, "")?,
+        pick: u64::from(hosts.saturating_sub(1)),
+    })
+}
+
+fn cluster(alloc: Global, place: u16, hosts: u16, weight: u32) -> Result<ServedCluster> {
+    let mut rows = Seq::new(alloc);
+    for _ in 0..hosts {
+        rows.push(row(alloc, weight.max(1))?)?;
+    }
+    if rows.len() > 30_000 {
+        return Err(anyhow!("too many hosts"));
+    }
+    Ok(ServedCluster {
+        number: Gen::new(u32::from(place) + 1),
+        name: name(alloc, place)?,
+        hosts: Assignment::new(rows),
+    })
+}
+
+fn row(alloc: Global, weight: u32) -> Result<HostRow> {
+    Ok(HostRow {
+        host: address(alloc, 0)?,
+        weight: weight.max(1),
+        priority: 0,
+        usable: true,
+    })
+}
+
+fn listener(alloc: Global, size: u16, place: u16) -> Result<ServedListener> {
+    let target = format!(in alloc; "{place}")?;
+    Ok(ServedListener {
+        number: Gen::new(u32::from(size) + u32::from(place) + 1),
+        name: name(alloc, place)?,
+        address: address(alloc, place)?,
+        routing: Routing::Tcp(Target::One(Text::new(alloc, target.as_str())?)),
+    })
+}
+
+fn name(alloc: Global, place: u16) -> Result<Name> {
+    let text = format!(in alloc; "{place}")?;
+    named(alloc, text.as_str())
+}
+
+// Each place has a port of its own.
+fn address(alloc: Global, place: u16) -> Result<Host> {
+    Ok(Host {
+        address: named(alloc, "10.0.0.1")?,
+        port: place,
+    })
+}
+
+fn named(alloc: Global, text: &str) -> Result<Name> {
+    match Name::new(alloc, text) {
+        Ok(name) => Ok(name),
+        Err(_) => Err(anyhow!("no name")),
+    }
+}
