@@ -1,10 +1,11 @@
 """What today's program does not take yet, though it is a good script. The one place to change when a landing brings more.
 
-The program answers each of these, and each fault, with `line 1: fault 6`, until scripts are exact.
+The program tells a line that is not built yet as one of kind 6 at that line, where no fault stands before, and `auto`, in a
+script without another fault, as kind 6 at line 1. Each fault of the format it tells by its line and kind.
 """
 
 # The operations that the program takes. Take a word's place here once it is built.
-BUILT_OPERATIONS = {'connect', 'response'}
+BUILT_OPERATIONS = {'connect', 'response', 'settle'}
 
 # The types of resource whose responses the program takes.
 BUILT_TYPES = {'cds'}
@@ -15,19 +16,9 @@ WAITING_CLUSTERS = False
 # Whether the header's member `auto` is taken.
 AUTO = False
 
-# Whether the program names each fault by its own line and kind, and looks at the limits of lines.
-EXACT_FAULTS = False
-
-
-def today(kind):
-    """What today's program does with an input of such a fault, while its faults are not exact."""
-    if kind in (1, 2):
-        return 'Today\'s program does not look at this limit yet.'
-    return 'Today\'s program says `line 1: fault 6` of every input that it does not take.'
-
 
 def header(reading):
-    if not AUTO and reading.has_auto:
+    if not AUTO and reading.auto:
         yield 'the header\'s member auto'
 
 

@@ -11,7 +11,7 @@ use Rattle.ev_types.specs.declared.events.Line.{Line}
 use Rattle.ev_model.specs.Runs.{is_batched}
 use Rattle.ev_model.specs.Operations.{Operation, line_operation, step_behind, is_automatic, is_since_settle, is_full_at, batch_limit, followers, line_operations, last_settle, actor_same, is_earlier, is_settle_between, is_in_batch, with_batch, replay_operations}
 use Rattle.ev_registry.specs.Built.{IsBuilt}
-use Rattle.ev_app.specs.Script.{IsTaken}
+use Rattle.ev_app.specs.BuiltLines.{IsTaken}
 
 -- an event that the registry takes is no accept or close
 not_batched : (event : Event) → IsBuilt event → is_batched event ≡ false

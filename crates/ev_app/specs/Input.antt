@@ -1,15 +1,48 @@
--- What is taken of the input.
-use Rattle.std.specs.Prelude.{ℕ, ◌+◌, ◌≤◌, List, length, Option}
+-- What is taken of the input, and what it is.
+use Rattle.std.specs.Prelude.{◌≡◌, ℕ, ◌+◌, ◌≤◌, ◌⊎◌, false, IsTrue, ⊤, List, length, Option, Some, Result, Ok, Err}
 use Rattle.std.specs.Io.KnownBytes.{IsAtEnd}
 use Rattle.ev_io.specs.declared.limits.TheConstants.{MAX_INPUT_BYTES}
+use Rattle.ev_io.specs.declared.faults.ScriptFault.{ScriptFault}
+use Rattle.ev_io.specs.declared.faults.ScriptFault.TheVariants.{Bad, Read, OutOfMemory}
 use Rattle.ev_io.specs.Outside.{Takes}
+use Rattle.ev_types.specs.Scripts.{ScriptParts}
+use Rattle.ev_script.specs.Faults.{Input, IsFaultOf, HasNoFault}
+use Rattle.ev_script.specs.Script.{script_of}
+use Rattle.ev_app.specs.BuiltLines.{built_lines}
 
--- some bytes were taken, at most so many
-abbrev pub TakesUpTo : Option (List ℕ) → Option (List ℕ) → ℕ → Type 0
-TakesUpTo before after most = (bytes : List ℕ) × (length bytes ≤ most) × Takes before after bytes
+-- these bytes were taken, at most one more than an input may have: a script's, to the end of the source where it gave that
+pub record TakesInput (before after : Option (List ℕ)) (input : Input) : Type 0 where
+  pub script : input.audit ≡ false
+  pub taken : Takes before after input.bytes
+  pub at_most : length input.bytes ≤ MAX_INPUT_BYTES + 1
+  pub ended : IsTrue input.ended → IsAtEnd after
 
--- all of the input was taken, or one byte more than a script has
-pub record TakesInput (before after : Option (List ℕ)) (bytes : List ℕ) : Type 0 where
-  pub taken : Takes before after bytes
-  pub at_most : length bytes ≤ MAX_INPUT_BYTES + 1
-  pub ended : length bytes ≤ MAX_INPUT_BYTES → IsAtEnd after
+-- the bytes to the end of the input are this script, which has no fault
+pub record IsInput (input : Input) (script : ScriptParts) : Type 0 where
+  pub ended : IsTrue input.ended
+  pub sound : HasNoFault built_lines input
+  pub reads : script_of false input.bytes ≡ Some script
+
+-- a script with `auto` isn't built yet, and is told as kind 6 at line 1
+pub record IsAutomatic (input : Input) (line kind : ℕ) : Type 0 where
+  pub script : ScriptParts
+  pub is : IsInput input script
+  pub auto : IsTrue script.auto
+  pub at_first : line ≡ 1
+  pub told : kind ≡ 6
+
+-- the input's first fault, or what is told of a script with `auto`
+abbrev pub IsRefused : Input → ℕ → ℕ → Type 0
+IsRefused input line kind = IsFaultOf built_lines input line kind ⊎ IsAutomatic input line kind
+
+-- a read failed before the end of the input and before a fault of the bytes taken
+pub record IsCutOff (input : Input) : Type 0 where
+  pub goes_on : ¬ (IsTrue input.ended)
+  pub sound : HasNoFault built_lines input
+
+-- what an answer about the input means
+abbrev pub IsInputAnswer : Input → Result ScriptParts ScriptFault → Type 0
+IsInputAnswer input (Ok script) = IsInput input script
+IsInputAnswer input (Err (Bad line kind)) = IsRefused input line kind
+IsInputAnswer input (Err Read) = IsCutOff input
+IsInputAnswer input (Err OutOfMemory) = ⊤

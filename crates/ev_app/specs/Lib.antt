@@ -1,6 +1,5 @@
+pub mod BuiltLines
 pub mod Input
-pub mod Members
-pub mod Script
 pub mod Replay
 pub mod Status
 pub mod Exit

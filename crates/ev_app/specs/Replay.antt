@@ -1,12 +1,11 @@
 -- What a registry shows once a script was replayed. Journals are of format 2.
-use Rattle.std.specs.Prelude.{ℕ, ◌≡◌, List, Some}
+use Rattle.std.specs.Prelude.{ℕ, ◌≡◌, List}
 use Rattle.ev_types.specs.declared.journals.Format.TheVariants.{Two}
 use Rattle.ev_types.specs.Scripts.{ScriptParts}
 use Rattle.ev_types.specs.declared.events.Entry.{Entry}
 use Rattle.ev_model.specs.Operations.{IsReplay}
 use Rattle.ev_registry.specs.Registries.{RegistryParts}
 use Rattle.ev_journal.specs.Rendering.{rendering_of}
-use Rattle.ev_app.specs.Script.{script_of}
 
 -- the registry has the script's workers and node, and its journal is the script's replay
 pub record HasReplayed (script : ScriptParts) (registry : RegistryParts) : Type 0 where
@@ -15,10 +14,8 @@ pub record HasReplayed (script : ScriptParts) (registry : RegistryParts) : Type 
   pub node : registry.node ≡ script.node
   pub journal : IsReplay Two script registry.journal
 
--- the bytes are a script, and the text is that of the journal of its replay
-pub record IsReplayText (bytes text : List ℕ) : Type 0 where
-  pub script : ScriptParts
-  pub is_script : script_of bytes ≡ Some script
+-- the text is that of the journal of the script's replay
+pub record IsReplayText (script : ScriptParts) (text : List ℕ) : Type 0 where
   pub journal : List Entry
   pub replay : IsReplay Two script journal
   pub rendered : text ≡ rendering_of Two script.workers journal

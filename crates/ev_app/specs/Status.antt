@@ -1,12 +1,14 @@
 -- How a call of the program ends.
-use Rattle.std.specs.Prelude.{ℕ, ◌≡◌, ◌≢◌, ◌≤◌, ◌+◌, IsSome, List, [], ◌∷◌, Option, Some, None, codes}
-use Rattle.std.specs.Io.KnownBytes.{append_known, IsAtEnd}
-use Rattle.ev_io.specs.Outside.{Rose, AppendsPrefix, Takes}
+use Rattle.std.specs.Prelude.{ℕ, ◌≡◌, ◌≤◌, List, [], ◌∷◌, true, false, Option, Some, codes}
+use Rattle.std.specs.Io.KnownBytes.{append_known}
+use Rattle.ev_io.specs.Outside.{Rose, AppendsPrefix}
 use Rattle.ev_app.specs.declared.program.Status.{Status}
 use Rattle.ev_app.specs.declared.program.Status.TheVariants.{Done, Usage, BadScript, ReadFault, WriteFault, OutOfMemory}
-use Rattle.ev_io.specs.declared.limits.TheConstants.{MAX_INPUT_BYTES}
-use Rattle.ev_app.specs.Input.{TakesUpTo, TakesInput}
-use Rattle.ev_app.specs.Script.{script_of}
+use Rattle.ev_types.specs.Scripts.{ScriptParts}
+use Rattle.ev_script.specs.Faults.{Input, HasNoFault}
+use Rattle.ev_script.specs.Script.{script_of}
+use Rattle.ev_app.specs.BuiltLines.{built_lines}
+use Rattle.ev_app.specs.Input.{TakesInput, IsInput, IsRefused, IsCutOff}
 use Rattle.ev_app.specs.Replay.{IsReplayText}
 
 -- the one argument that is a form
@@ -56,13 +58,15 @@ pub record TouchesNothing (outside : Outside) : Type 0 where
   pub reads : ReadsWell outside
   pub written : WritesNothing outside
 
--- the source is at its end without a failed read, the bytes taken are a script, and the text is that of its replay
+-- the source is at its end without a failed read, the bytes taken are a script without fault, and the text is that of its
+-- replay
 pub record ReadsScript (outside : Outside) (text : List ℕ) : Type 0 where
-  pub taken : List ℕ
-  pub takes : Takes outside.left_before outside.left_after taken
-  pub ended : IsAtEnd outside.left_after
+  pub input : Input
+  pub takes : TakesInput outside.left_before outside.left_after input
+  pub script : ScriptParts
+  pub is : IsInput input script
   pub reads : ReadsWell outside
-  pub answers : IsReplayText taken text
+  pub answers : IsReplayText script text
 
 -- the input is a script, and the text of its replay is appended without a failed write
 pub record Replays (outside : Outside) : Type 0 where
@@ -71,18 +75,20 @@ pub record Replays (outside : Outside) : Type 0 where
   pub appended : outside.written_after ≡ append_known outside.written_before text
   pub writes : WritesWell outside
 
--- the input, read without a fault to its end or one byte beyond the longest script, is no script, and nothing is written
-pub record Refuses (outside : Outside) : Type 0 where
-  pub taken : List ℕ
-  pub input : TakesInput outside.left_before outside.left_after taken
+-- the bytes taken have this first fault, no read failed, and nothing is written
+pub record Refuses (outside : Outside) (line kind : ℕ) : Type 0 where
+  pub input : Input
+  pub takes : TakesInput outside.left_before outside.left_after input
+  pub fault : IsRefused input line kind
   pub reads : ReadsWell outside
-  pub no_script : script_of taken ≡ None
   pub written : WritesNothing outside
 
--- a read failed before the end of the input and before the byte beyond the longest script, and nothing is written
+-- a read failed before the end of the input and before a fault of the bytes taken, and nothing is written
 pub record FailsToRead (outside : Outside) : Type 0 where
+  pub input : Input
+  pub takes : TakesInput outside.left_before outside.left_after input
+  pub cut_off : IsCutOff input
   pub rose : Rose outside.reads_before outside.reads_after
-  pub takes : TakesUpTo outside.left_before outside.left_after MAX_INPUT_BYTES
   pub written : WritesNothing outside
 
 -- the input is a script, a write failed, and a prefix of the text of its replay is appended
@@ -94,15 +100,17 @@ pub record FailsToWrite (outside : Outside) : Type 0 where
 
 -- there was no memory: the source was read without a fault, no further than in the other cases, and nothing is written
 pub record LacksMemory (outside : Outside) : Type 0 where
-  pub takes : TakesUpTo outside.left_before outside.left_after (MAX_INPUT_BYTES + 1)
+  pub input : Input
+  pub takes : TakesInput outside.left_before outside.left_after input
   pub reads : ReadsWell outside
   pub written : WritesNothing outside
 
--- the source tells a script, and neither count of faults rose
+-- the source tells a script without fault, with no `auto`, and neither count of faults rose
 pub record IsHonest (outside : Outside) : Type 0 where
   pub bytes : List ℕ
   pub told : outside.left_before ≡ Some bytes
-  pub script : IsSome (script_of bytes)
+  pub sound : HasNoFault built_lines record { bytes = bytes; ended = true; audit = false }
+  pub by_hand : (script : ScriptParts) → script_of false bytes ≡ Some script → script.auto ≡ false
   pub no_read_fault : ¬ Rose outside.reads_before outside.reads_after
   pub no_write_fault : ¬ Rose outside.writes_before outside.writes_after
 
@@ -117,8 +125,8 @@ abbrev pub Ends : Status → Outside → Type 0
 Ends Done outside = Replays outside
 -- the arguments are no form: nothing was read or written
 Ends Usage outside = TouchesNothing outside
--- the input isn't a script, which is told as a fault of kind 6 at line 1: nothing was written
-Ends (BadScript line kind) outside = (line ≡ 1) × (kind ≡ 6) × Refuses outside
+-- the input isn't a script, and this is its first fault: nothing was written
+Ends (BadScript line kind) outside = Refuses outside line kind
 -- a read failed: nothing was written
 Ends ReadFault outside = FailsToRead outside
 -- a write failed: a prefix of the text was written

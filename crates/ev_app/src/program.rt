@@ -1,14 +1,13 @@
-ghost use Rattle.std.specs.Prelude.{◌≡◌, ◌≢◌, ◌↔◌, ◌⊎◌, IsTrue, IfOk, MatchOption, None};
-ghost use Rattle.ev_app.specs.Script.{script_of};
+ghost use Rattle.std.specs.Prelude.{◌≡◌, ◌≢◌, ◌↔◌, ◌⊎◌, IsTrue, IfOk};
+ghost use Rattle.ev_app.specs.BuiltLines.{IsTaken};
 ghost use Rattle.ev_app.specs.Replay.{IsReplayText};
 ghost use Rattle.ev_app.specs.Status.{outside_of, replay_arguments, IsHonest, CountsOn, Ends};
 
-use crate::input::{InputFault, read_input};
+use crate::input::read_input;
 use crate::replay::replay;
-use crate::script::read_script;
-use ev_io::{Sink, Source, write_all};
+use ev_io::{ScriptFault, Sink, Source, write_all};
 use ev_journal::render_journal;
-use ev_types::{Format, Text};
+use ev_types::{Format, Script, Text};
 use std::alloc::{AllocError, Global};
 
 /// How a call of the program ends.
@@ -18,7 +17,7 @@ pub enum Status {
     Done,
     /// The arguments aren't a form that is built.
     Usage,
-    /// The input isn't a script.
+    /// The input isn't a script: the line, counted from 1, and the kind of its first fault.
     BadScript { line: u32, kind: u8 },
     /// A read failed.
     ReadFault,
@@ -49,7 +48,9 @@ impl Status {
 /// Runs the program on the arguments of its command line. The one argument `replay` reads a script, replays it on one
 /// thread and writes its journal, in format 2; other arguments are `Usage`.
 ///
-/// An input that isn't a script is `BadScript` with line 1 and kind 6. Out of memory, nothing is written. An answer
+/// `BadScript` tells the first fault of the bytes taken, those at the end of the input only where the source gave its
+/// end. An event that isn't built yet makes its line one of kind 6, and a script with `auto` is told as kind 6 at line 1.
+/// A read that failed is told only where the bytes taken have no fault. Out of memory, nothing is written. An answer
 /// without a fault of the source leaves the source's count of faults as it was, and so it is of the sink.
 pub fn run_program<S: Source, K: Sink>(
     alloc: Global,
@@ -69,15 +70,14 @@ pub fn run_program<S: Source, K: Sink>(
     if !is_replay(arguments) {
         return Status::Usage;
     }
-    let bytes = match read_input(alloc, source) {
-        Ok(bytes) => bytes,
-        Err(InputFault::ReadFailed) => return Status::ReadFault,
-        Err(InputFault::OutOfMemory) => return Status::OutOfMemory,
+    let script = match read_input(alloc, source) {
+        Ok(script) => script,
+        Err(ScriptFault::Bad { line, kind }) => return Status::BadScript { line, kind },
+        Err(ScriptFault::Read) => return Status::ReadFault,
+        Err(ScriptFault::OutOfMemory) => return Status::OutOfMemory,
     };
-    let text = match replay_text(alloc, bytes.as_slice()) {
-        Ok(Some(text)) => text,
-        Ok(None) => return Status::BadScript { line: 1, kind: 6 },
-        Err(AllocError) => return Status::OutOfMemory,
+    let Ok(text) = replay_text(alloc, &script) else {
+        return Status::OutOfMemory;
     };
     match write_all(sink, text.as_slice()) {
         Ok(()) => Status::Done,
@@ -95,14 +95,11 @@ fn is_replay(arguments: &[Text]) -> bool
     }
 }
 
-// The text of the journal of the script that the bytes are, or none where they aren't one.
-fn replay_text(alloc: Global, bytes: &[u8]) -> Result<Option<Vec<u8>>, AllocError>
-    ensures { IfOk result (λ text. MatchOption text (script_of bytes.now ≡ None) (λ text. IsReplayText bytes.now text.items)) }
+// The text of the journal of a script's replay.
+fn replay_text(alloc: Global, script: &Script) -> Result<Vec<u8>, AllocError>
+    requires { IsTaken script.now }
+    ensures { IfOk result (λ text. IsReplayText script.now text.items) }
 {
-    let Some(script) = read_script(alloc, bytes)? else {
-        return Ok(None);
-    };
-    let registry = replay(alloc, &script)?;
-    let text = render_journal(alloc, Format::Two, script.workers, registry.journal())?;
-    Ok(Some(text))
+    let registry = replay(alloc, script)?;
+    render_journal(alloc, Format::Two, script.workers, registry.journal())
 }

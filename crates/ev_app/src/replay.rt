@@ -1,6 +1,6 @@
 ghost use Rattle.std.specs.Prelude.{◌≡◌, IfOk};
 ghost use Rattle.ev_app.specs.Replay.{HasReplayed};
-ghost use Rattle.ev_app.specs.Script.{IsTaken};
+ghost use Rattle.ev_app.specs.BuiltLines.{IsTaken};
 
 use ev_registry::Registry;
 use ev_types::{Actor, Event, Format, Script};

@@ -64,7 +64,7 @@ fn tells_why_it_ends(rt: HostRuntime) -> Result<(), Fail> {
     assert_eq!(rt; written.len(), 1488);
     let none = Vec::new(alloc);
     let (status, written) = ran(alloc, &["replay"], "x", none, Vec::new(alloc))?;
-    assert_eq!(rt; status, Status::BadScript { line: 1, kind: 6 });
+    assert_eq!(rt; status, Status::BadScript { line: 1, kind: 4 });
     assert_eq!(rt; written.len(), 0);
     Ok(())
 }

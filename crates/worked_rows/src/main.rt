@@ -1,11 +1,16 @@
 //! The worked rows: scripts with what the program has to write of them, as files. Each name in `rows` is a row: its exit
-//! status, its arguments, its input in `NAME.in` and the output that is wanted in `NAME.out`. The program runs each over
+//! status, with the line and the kind of the fault where the input is no script, and its arguments. Its input is in
+//! `NAME.in`, or made of the pieces in `NAME.parts`, and the output that is wanted in `NAME.out`. The program runs each over
 //! memory, compares, and prints a line a row and the sum.
 #![tactic(auto)]
 
-use ev_app::run_program;
+mod inputs;
+mod row;
+
+use crate::inputs::input_of;
+use crate::row::{Row, read_row};
+use ev_app::{Status, run_program};
 use ev_io::{MemSink, MemSource};
-use ev_types::Text;
 use std::alloc::Global;
 use std::rt::Files;
 use std::{fs, io};
@@ -14,23 +19,23 @@ use std::{fs, io};
 const ROOM: usize = 1_000_000;
 
 /// How many bytes a read gives, and a write takes, at most.
-const PIECE: usize = 1_000;
+const PIECE: usize = 65_536;
 
-/// A row: what the program is run with, and what it has to give.
-#[derive(Drop)]
-struct Row {
-    name: String,
-    status: u8,
-    arguments: Vec<Text>,
-}
+/// The same for inputs of at most `SHORT` bytes, one after another.
+const PIECES: [usize; 5] = [1, 2, 3, 7, 1_000];
+
+/// The most bytes of an input that is read in small pieces.
+const SHORT: usize = 20_000;
+
+/// The most bytes of an input of which each read fails in turn.
+const SHORTEST: usize = 300;
 
 fn main(rt: HostRuntime) -> io::Result<()> {
-    let alloc = rt.alloc();
     let list = fs::read_to_string(&rt, "rows")?;
     let mut passed = 0u32;
     let mut failed = 0u32;
     for line in list.lines() {
-        let row = read_row(alloc, line)?;
+        let row = read_row(rt.alloc(), line)?;
         let name = row.name.as_str();
         if passes(&rt, &row)? {
             println!(rt; "{name}: passed")?;
@@ -43,30 +48,56 @@ fn main(rt: HostRuntime) -> io::Result<()> {
     println!(rt; "{passed} rows passed, {failed} failed")
 }
 
-// The row that a line of the list is: its name, its status, and its arguments, with blanks between.
-fn read_row(alloc: Global, line: &str) -> io::Result<Row> {
-    let mut parts = line.split(' ');
-    let name = String::from_str(alloc, parts.next().unwrap_or(""))?;
-    let status = parts.next().unwrap_or("").parse().unwrap_or(255);
-    let mut arguments = Vec::new(alloc);
-    for part in parts {
-        arguments.push(Text::new(alloc, part)?)?;
-    }
-    Ok(Row {
-        name,
-        status,
-        arguments,
-    })
-}
-
-// Whether the program ends a row with its status and writes its output.
+// Whether the program ends a row with its status and writes its output, in whatever pieces its input is read, and whether
+// a read that fails is told, whichever it is.
 fn passes<R: Files + AllocGlobal>(rt: &R, row: &Row) -> io::Result<bool> {
     let alloc = rt.alloc();
     let name = row.name.as_str();
-    let input = fs::read(rt, format!(in alloc; "{name}.in")?)?;
+    let input = input_of(rt, name)?;
     let wanted = fs::read(rt, format!(in alloc; "{name}.out")?)?;
-    let mut source = MemSource::new(input, PIECE, Vec::new(alloc));
-    let mut sink = MemSink::new(alloc, ROOM, PIECE, Vec::new(alloc))?;
+    if !answers(alloc, row, input.as_slice(), wanted.as_slice(), PIECE)? {
+        return Ok(false);
+    }
+    if input.len() <= SHORT {
+        for piece in PIECES {
+            if !answers(alloc, row, input.as_slice(), wanted.as_slice(), piece)? {
+                return Ok(false);
+            }
+        }
+    }
+    if input.len() <= SHORTEST && row.is_replay() {
+        for number in 1..=input.len() as u64 + 1 {
+            if !tells_failure(alloc, row, input.as_slice(), number)? {
+                return Ok(false);
+            }
+        }
+    }
+    Ok(true)
+}
+
+// Whether the program, which reads so many bytes at once, ends a row with its status and writes its output.
+fn answers(
+    alloc: Global,
+    row: &Row,
+    input: &[u8],
+    wanted: &[u8],
+    piece: usize,
+) -> io::Result<bool> {
+    let piece = piece.max(1);
+    let mut source = MemSource::new(input.to_vec(alloc)?, piece, Vec::new(alloc));
+    let mut sink = MemSink::new(alloc, ROOM, piece, Vec::new(alloc))?;
     let status = run_program(alloc, row.arguments.as_slice(), &mut source, &mut sink);
-    Ok(status.exit_status() == row.status && sink.as_bytes() == wanted.as_slice())
+    Ok(row.is_end(status) && sink.as_bytes() == wanted)
+}
+
+// Whether the program, which reads one byte at once, tells that the read of this number fails, or, where the row is no
+// script, its fault, and writes nothing.
+fn tells_failure(alloc: Global, row: &Row, input: &[u8], number: u64) -> io::Result<bool> {
+    let mut fails = Vec::new(alloc);
+    fails.push(number)?;
+    let mut source = MemSource::new(input.to_vec(alloc)?, 1, fails);
+    let mut sink = MemSink::new(alloc, 1, 1, Vec::new(alloc))?;
+    let status = run_program(alloc, row.arguments.as_slice(), &mut source, &mut sink);
+    let told = status == Status::ReadFault || (status != Status::Done && row.is_end(status));
+    Ok(told && sink.as_bytes().is_empty())
 }

@@ -1,1 +1,0 @@
--- What the top call means, put together.
