@@ -18,7 +18,7 @@ AUTO = False
 
 
 def header(reading):
-    if not AUTO and reading.has_auto:
+    if not AUTO and reading.auto:
         yield 'the header\'s member auto'
 
 

@@ -33,7 +33,7 @@ class Reading:
     """What was read: the header, the lines, for an audit the journal, and the faults in their order."""
 
     def __init__(self):
-        self.workers, self.node, self.auto, self.has_auto = None, 'warmgate', False, False
+        self.workers, self.node, self.auto = None, 'warmgate', False
         self.lines, self.rows, self.format, self.faults, self.count = [], [], None, [], 0
 
     def line_at(self, at):
@@ -128,7 +128,7 @@ def read_header(reading, tree):
     if complaints:
         return Fault(1, 5, complaints, header_hints(tree))
     reading.workers, reading.node = tree['workers'], tree.get('node', 'warmgate')
-    reading.auto, reading.has_auto = tree.get('auto', False), 'auto' in tree
+    reading.auto = tree.get('auto', False)
     return None
 
 

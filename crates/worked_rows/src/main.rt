@@ -76,9 +76,14 @@ fn passes<R: Files + AllocGlobal>(rt: &R, row: &Row) -> io::Result<bool> {
 }
 
 // Whether the program, which reads so many bytes at once, ends a row with its status and writes its output.
-fn answers(alloc: Global, row: &Row, input: &[u8], wanted: &[u8], piece: usize) -> io::Result<bool>
-    requires { 0 < piece }
-{
+fn answers(
+    alloc: Global,
+    row: &Row,
+    input: &[u8],
+    wanted: &[u8],
+    piece: usize,
+) -> io::Result<bool> {
+    let piece = piece.max(1);
     let mut source = MemSource::new(input.to_vec(alloc)?, piece, Vec::new(alloc));
     let mut sink = MemSink::new(alloc, ROOM, piece, Vec::new(alloc))?;
     let status = run_program(alloc, row.arguments.as_slice(), &mut source, &mut sink);
