@@ -24,3 +24,6 @@ pub mod ReadLemmas
 pub mod ShownLemmas
 pub mod AbsenceLemmas
 pub mod NewestLemmas
+pub mod FrameLemmas
+pub mod JudgedLemmas
+pub mod QuietLemmas

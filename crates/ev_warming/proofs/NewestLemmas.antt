@@ -1,6 +1,5 @@
 -- The newest live generation of a name is the later one of the one that serves it and the one that warms under it.
 use Rattle.std.proofs.Common.{◌≡◌, ◌∙◌, ◌⊎◌, ◌<◌, ◌≤◌, ℕ, Bool, true, false, cond, not, ◌&&◌, ◌||◌, nat_eq, nat_lt, List, [], ◌∷◌, Option, None, Some, is_some, option_to_list, option_map, map, filter, refl, sym, ap, subst, inl, inr, true≢false, arith}
-use Rattle.std.specs.Option.{option_and_then}
 use Rattle.std.specs.List.{list_any, IsDistinct, AllByRecursion}
 use Rattle.std.specs.Str.{bytes_eq}
 use Rattle.std.proofs.lemmas.Bool.{and_parts, ltb-true, ltb-false}
@@ -13,7 +12,7 @@ use Rattle.ev_types.specs.declared.rows.GenRow.{GenRow}
 use Rattle.ev_types.specs.declared.rows.Live.{Live}
 use Rattle.ev_model.specs.World.{World}
 use Rattle.ev_model.specs.Live.{live_of, lives_of, is_named, later_of, latest, newest_of}
-use Rattle.ev_model.specs.Phase.{has_active, has_live, has_come}
+use Rattle.ev_model.specs.Phase.{has_come}
 use Rattle.ev_model.specs.Rows.{is_row_of}
 use Rattle.ev_generations.specs.Tables.{row_in, numbers_of}
 use Rattle.ev_warming.specs.declared.names.Standing.{Standing}

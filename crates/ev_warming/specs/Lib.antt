@@ -13,3 +13,4 @@ pub mod Arrivals
 pub mod Health
 pub mod Reads
 pub mod Newest
+pub mod Frames

@@ -6,6 +6,7 @@ mod arrivals;
 mod copies;
 mod due;
 mod forgetting;
+pub mod frames;
 mod health;
 mod hosts;
 mod keys;

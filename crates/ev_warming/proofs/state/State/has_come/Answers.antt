@@ -1,4 +1,4 @@
-use Rattle.std.proofs.Common.{◌∙◌, ◌||◌, not}
+use Rattle.std.proofs.Common.{◌∙◌}
 use Rattle.ev_warming.proofs.NewestLemmas.{come-found, come-world}
 use Rattle.ev_warming.proofs.state.State.has_come.Goals as goal
 
