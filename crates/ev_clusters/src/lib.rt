@@ -4,7 +4,7 @@
 
 ghost use Rattle.std.specs.Prelude.{◌≡◌, ◌+◌, ◌*◌, ◌^◌, ◌≤◌, ◌<◌, [], ◌∷◌, ◌++◌, ℕ, List, Some, true, EachIndex, slice_index, length, option_to_list, IfOk, OnOk};
 ghost use Rattle.std.specs.List.{list_any};
-ghost use Rattle.ev_types.specs.declared.contents.Kind.TheVariants.{Cds, Eds};
+ghost use Rattle.ev_types.specs.declared.contents.Kind.TheVariants.{Cds, Eds, Lds};
 ghost use Rattle.ev_model.specs.World.{World, opening};
 ghost use Rattle.ev_model.specs.Rows.{arrived, with_removals, add_items};
 ghost use Rattle.ev_model.specs.Signals.{rows_ended};
@@ -13,8 +13,10 @@ ghost use Rattle.ev_generations.specs.Tables.{row_in, without_row};
 ghost use Rattle.ev_warming.specs.Due.{is_among};
 ghost use Rattle.ev_warming.specs.Ready.{is_due_at};
 ghost use Rattle.ev_warming.specs.Indexes.{depends_on, serves, warms, numbers_where};
+ghost use Rattle.ev_warming.specs.Reads.{names_watched};
 ghost use Rattle.ev_warming.specs.Worlds.{StandsFor};
 ghost use Rattle.ev_warming.specs.Changes.{began_to_drain, has_retired, is_over};
+ghost use Rattle.ev_warming.specs.Frames.{PassesResponses};
 
 mod arrivals;
 mod health;
@@ -108,6 +110,8 @@ impl Clusters {
         ensures kept { OnOk result (AreKept self.new) }
         ensures served { IfOk result (λ promoted. (n : ℕ) → is_among promoted.served n ≡ is_due_at self.old.state.watches self.old.state.results n self.old.state.table.rows) }
         ensures drained { IfOk result (λ promoted. (n : ℕ) → is_among promoted.drained n ≡ began_to_drain n self.old.state.table.rows self.new.state.table.rows) }
+        // Where none began to drain, the same names of endpoints are watched as before.
+        ensures watched { IfOk result (λ promoted. promoted.drained ≡ [] → names_watched self.new.state.table.rows ≡ names_watched self.old.state.table.rows) }
         ensures bounded { IfOk result (λ promoted. steps.new ≤ steps.old + 4 * length promoted.served + 4) }
         // Whatever world they stood for, they stand for that world with all that are due promoted.
         ensures stands { OnOk result ((world : World) → StandsFor self.old.state world → StandsFor self.new.state (promoted world)) }
@@ -180,6 +184,8 @@ impl Clusters {
         ensures rows { self.new.state.table.rows ≡ self.old.state.table.rows }
         // Whatever world they stood for, they stand for that world with so many numbers drawn.
         ensures stands { (world : World) → StandsFor self.old.state world → StandsFor self.new.state (record world { made = made }) }
+        // And for that world once a response of listeners is in, where the listeners' numbers lead up to this one.
+        ensures passes { PassesResponses Lds self.old.state self.new.state made }
     {
         self.manager.advance(made);
     }

@@ -23,3 +23,7 @@ pub mod SortLemmas
 pub mod ReadLemmas
 pub mod ShownLemmas
 pub mod AbsenceLemmas
+pub mod NewestLemmas
+pub mod FrameLemmas
+pub mod JudgedLemmas
+pub mod QuietLemmas

@@ -26,7 +26,7 @@ use Rattle.ev_warming.proofs.ForgettingLemmas.{not_true}
 use Rattle.ev_warming.proofs.ForgottenLemmas.{both-same}
 
 -- a filter keeps rows apart, and what holds of each
-all-filter : {X : Type 0} (P : X → Type 0) (keep : X → Bool) (xs : List X) → AllByRecursion P xs → AllByRecursion P (filter keep xs)
+pub all-filter : {X : Type 0} (P : X → Type 0) (keep : X → Bool) (xs : List X) → AllByRecursion P xs → AllByRecursion P (filter keep xs)
 all-filter P keep [] all = tt
 all-filter P keep (x ∷ xs) all = by (keep x) (all-filter P keep xs all.1)
   where
@@ -42,7 +42,7 @@ far-filter n keep (row ∷ rows) far = by (keep row) (far-filter n keep rows far
     by true rest = (far.0, rest)
     by false rest = rest
 
-apart-filter : (keep : GenRow → Bool) (rows : List GenRow) → IsDistinct nat_eq (numbers_of rows) → IsDistinct nat_eq (numbers_of (filter keep rows))
+pub apart-filter : (keep : GenRow → Bool) (rows : List GenRow) → IsDistinct nat_eq (numbers_of rows) → IsDistinct nat_eq (numbers_of (filter keep rows))
 unfolding IsDistinct
 apart-filter keep [] apart = tt
 apart-filter keep (row ∷ rows) apart = by (keep row) (apart-filter keep rows apart.1)
@@ -52,7 +52,7 @@ apart-filter keep (row ∷ rows) apart = by (keep row) (apart-filter keep rows a
     by false rest = rest
 
 -- the rows that stay are found as before
-row_in-without : (number n : ℕ) (rows : List GenRow) → row_in n (without_row number rows) ≡ cond (nat_eq number n) None (row_in n rows)
+pub row_in-without : (number n : ℕ) (rows : List GenRow) → row_in n (without_row number rows) ≡ cond (nat_eq number n) None (row_in n rows)
 row_in-without number n [] = both-same None (nat_eq number n)
 row_in-without number n (row ∷ rows) = by (nat_eq number row.number) refl (nat_eq n row.number) refl (row_in-without number n rows)
   where

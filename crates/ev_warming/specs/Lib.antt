@@ -12,3 +12,5 @@ pub mod Managers
 pub mod Arrivals
 pub mod Health
 pub mod Reads
+pub mod Newest
+pub mod Frames

@@ -10,6 +10,7 @@ ghost use Rattle.ev_warming.specs.Due.{is_among};
 ghost use Rattle.ev_warming.specs.Ready.{is_due_at};
 ghost use Rattle.ev_warming.specs.Watched.{watch_in};
 ghost use Rattle.ev_warming.specs.Indexes.{depends_on, serves, warms, numbers_where};
+ghost use Rattle.ev_warming.specs.Reads.{names_watched};
 ghost use Rattle.ev_warming.specs.Worlds.{StandsFor, needs_of};
 ghost use Rattle.ev_warming.specs.Changes.{began_to_drain};
 
@@ -151,6 +152,8 @@ impl Manager {
         ensures served { IfOk result (λ promoted. (n : ℕ) → is_among promoted.served n ≡ is_due_at self.old.state.watches self.old.state.results n self.old.state.table.rows) }
         ensures drained { IfOk result (λ promoted. (n : ℕ) → is_among promoted.drained n ≡ began_to_drain n self.old.state.table.rows self.new.state.table.rows) }
         ensures made { OnOk result (self.new.state.table.made ≡ self.old.state.table.made) }
+        // Where none began to drain, the same names are watched as before.
+        ensures watched { IfOk result (λ promoted. promoted.drained ≡ [] → names_watched self.new.state.table.rows ≡ names_watched self.old.state.table.rows) }
         ensures steps { IfOk result (λ promoted. steps.new ≤ steps.old + 3 * length promoted.served) }
         // Whatever world the manager stood for, it stands for that world with all that are due promoted.
         ensures stands { OnOk result ((world : World) → StandsFor self.old.state world → StandsFor self.new.state (promoted world)) }

@@ -6,6 +6,7 @@ use Rattle.ev_warming.specs.Promotion.{succeeded_by}
 use Rattle.ev_warming.proofs.NeedLemmas.{needs-statused}
 use Rattle.ev_warming.specs.Ready.{is_ready_in}
 use Rattle.ev_warming.specs.Forgetting.{IsTidyBut}
+use Rattle.ev_warming.proofs.QuietLemmas.{quiet-names}
 use Rattle.ev_warming.proofs.TidyLemmas.{tidy-promoted}
 use Rattle.ev_warming.proofs.manager.Manager.promote.Goals as goal
 
@@ -23,3 +24,9 @@ returns-clause-kept g c =
           (tidy-promoted m.state t (is_ready_in m.state.watches m.state.results) c.in_ok-promoted.promoted.drained m.stale c.requires.kept.indexed
           e.rows e.drained e.marks (λ i. (e.others i).results) c.requires.kept.tidy);
     }
+
+pub returns-clause-watched : goal.returns-clause-watched
+returns-clause-watched g c = λ none.
+    let m = c.args.self.now in
+    let e = c.in_ok-promoted.ensures in
+    quiet-names (is_ready_in m.state.watches m.state.results) m.state.table.rows c.promote.new.self.table.rows c.requires.kept.indexed.table.apart e.rows c.in_ok-promoted.promoted.drained none e.drained

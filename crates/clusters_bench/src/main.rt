@@ -1,0 +1,98 @@
+//! Warms clusters one by one, for bench/clusters to measure. Its arguments are numbers: how many clusters a response brings, each of
+//! which waits for the endpoints of a name of its own, and of how many of them the endpoints come, each time followed by a promotion
+//! and a forgetting. It prints how many clusters came to serve.
+#![tactic(auto)]
+
+ghost use Rattle.std.specs.Prelude.{◌≡◌, length, OnOk};
+ghost use Rattle.ev_clusters.specs.Clusters.{AreKept};
+
+mod responses;
+
+use anyhow::{Result, anyhow};
+use ev_clusters::Clusters;
+use ev_generations::Steps;
+use responses::{endpoints, news, response, service};
+use std::alloc::Global;
+use std::marker::Brand;
+use std::rt::Env;
+use std::sync::ledger::{Blank, Ledger};
+
+fn main(rt: HostRuntime) -> Result<()> {
+    let mut words = std::env::args(&rt)?.skip(1);
+    let size = number(words.next());
+    let arrivals = number(words.next());
+    let served = measured(rt.alloc(), size, arrivals)?;
+    println!(rt; "{served} of {size} serve")?;
+    Ok(())
+}
+
+// The number that a word gives; what is no number, or isn't there, is 0.
+fn number(word: Option<String>) -> u16 {
+    match word {
+        Some(word) => word.as_str().parse::<u16>().unwrap_or(0),
+        None => 0,
+    }
+}
+
+// How many of so many clusters come to serve as the endpoints of so many come.
+fn measured(alloc: Global, size: u16, arrivals: u16) -> Result<u32> {
+    warm_all::<Brand>(alloc, Blank::new(1), size, arrivals)
+}
+
+// The same, with a counter of look-ups.
+fn warm_all<L: Ledger>(alloc: Global, blank: Blank, size: u16, arrivals: u16) -> Result<u32>
+    requires name { blank.name ≡ L.name }
+    requires parts { blank.parts ≡ L.parts }
+    requires one { L.parts ≡ 1 }
+{
+    let mut steps = Steps::<L>::new(blank);
+    let mut clusters = Clusters::new(alloc);
+    take_all(alloc, &mut clusters, size, &mut steps)?;
+    let mut served = 0u32;
+    for place in 0..arrivals {
+        if warm(alloc, &mut clusters, place, &mut steps)? {
+            served = served.saturating_add(1);
+        }
+    }
+    Ok(served)
+}
+
+// A response brings so many clusters.
+fn take_all<L: Ledger>(
+    alloc: Global,
+    clusters: &mut Clusters,
+    size: u16,
+    steps: &mut Steps<L>,
+) -> Result<()>
+    requires { AreKept clusters.old }
+    ensures { OnOk result (AreKept clusters.new) }
+{
+    if clusters.made() > 0 {
+        return Err(anyhow!("numbers were drawn before"));
+    }
+    let response = response(alloc, size)?;
+    let verdicts = news(alloc, size)?;
+    clusters.apply(alloc, &response, verdicts.as_slice(), steps)?;
+    Ok(())
+}
+
+// The endpoints of one cluster come. Answers whether it came to serve.
+fn warm<L: Ledger>(
+    alloc: Global,
+    clusters: &mut Clusters,
+    place: u16,
+    steps: &mut Steps<L>,
+) -> Result<bool>
+    requires { AreKept clusters.old }
+    ensures { OnOk result (AreKept clusters.new) }
+{
+    let name = service(alloc, place)?;
+    if !clusters.is_watched(name.as_str()) {
+        return Ok(false);
+    }
+    let arrival = endpoints(alloc)?;
+    clusters.arrival(alloc, &name, &arrival, steps)?;
+    let promoted = clusters.promote(alloc, steps)?;
+    clusters.forget(alloc, steps)?;
+    Ok(!promoted.served.is_empty())
+}

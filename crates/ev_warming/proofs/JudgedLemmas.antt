@@ -1,0 +1,119 @@
+-- The machine's verdicts on a response of endpoints or routes.
+use Rattle.std.proofs.Common.{◌≡◌, ◌∙◌, ℕ, Bool, true, false, cond, not, ◌&&◌, ◌||◌, List, [], ◌∷◌, Option, None, Some, map, refl, sym, ap, subst, true≢false}
+use Rattle.std.specs.List.{list_any, AllByRecursion}
+use Rattle.ev_types.specs.Items.{ItemParts, ResponseParts, content_kind}
+use Rattle.ev_types.specs.Kinds.{kind_same, kind_decides}
+use Rattle.ev_types.specs.Statuses.{is_live}
+use Rattle.ev_types.specs.declared.contents.Kind.{Kind}
+use Rattle.ev_types.specs.declared.contents.Kind.TheVariants.{Cds, Eds, Lds, Rds}
+use Rattle.ev_types.specs.declared.contents.Content.{Content}
+use Rattle.ev_types.specs.declared.contents.Content.TheVariants.{Cluster as a_cluster, Assignment as an_assignment, Listener as a_listener, Routes as routes}
+use Rattle.ev_types.specs.declared.contents.Body.{Body}
+use Rattle.ev_types.specs.declared.contents.Body.TheVariants.{Good, Bad, Beat}
+use Rattle.ev_types.specs.declared.events.Verdict.{Verdict}
+use Rattle.ev_types.specs.declared.events.Verdict.TheVariants.{New, Same, Kept, Unasked, Renewed, Refused}
+use Rattle.ev_types.specs.declared.rows.KeptVersion.{KeptVersion}
+use Rattle.ev_types.specs.declared.rows.Live.{Live}
+use Rattle.ev_types.specs.declared.rows.GenRow.{GenRow}
+use Rattle.ev_model.specs.World.{World}
+use Rattle.ev_model.specs.Live.{live_of, lives_of}
+use Rattle.ev_model.specs.Verdicts.{is_removed, lives_left, rule_of, good_verdict, body_verdict, verdict_by, verdict_of, lives_after, verdicts_from, verdicts_by, verdicts_of}
+use Rattle.ev_model.specs.Versions.{is_kept}
+use Rattle.ev_model.specs.Watching.{is_by_name, is_watched, is_dependency, dependency_of}
+use Rattle.ev_warming.specs.declared.state.State.{State}
+use Rattle.ev_warming.specs.Arrivals.{IsOnValue, AreOnValues}
+use Rattle.ev_warming.specs.Indexes.{depends_on}
+use Rattle.ev_warming.specs.Reads.{live_rows}
+use Rattle.ev_warming.specs.Worlds.{needs_of, StandsFor}
+use Rattle.ev_warming.proofs.ForgottenLemmas.{watched-same}
+
+-- what is needed is asked for by name
+needed-named : (kind : Kind) → is_by_name kind ≡ false → is_by_name (needs_of kind) ≡ true
+needed-named Cds h = refl
+needed-named Lds h = refl
+needed-named Eds h = refl
+needed-named Rds h = refl
+
+-- a verdict on endpoints or routes
+kept-on : (b : Bool) → IsOnValue (cond b Kept Unasked) b
+kept-on true = refl
+kept-on false = tt
+
+beat-on : (b w : Bool) → IsOnValue (cond b Renewed Unasked) w
+beat-on true w = tt
+beat-on false w = tt
+
+body-on : (kind : Kind) (lives : List Live) (versions : List KeptVersion) (item : ItemParts) (body : Body) → is_by_name kind ≡ true
+    → IsOnValue (body_verdict kind lives versions item body) (is_watched lives kind item.name)
+body-on kind lives versions item (Bad rule) named = tt
+body-on kind lives versions item Beat named = beat-on (is_kept versions kind item.name item.version) (is_watched lives kind item.name)
+body-on kind lives versions item (Good content) named = by kind named
+  where
+    by : (k : Kind) → is_by_name k ≡ true → IsOnValue (good_verdict k lives item.name content) (is_watched lives k item.name)
+    by Cds h = absurd (true≢false (sym h))
+    by Lds h = absurd (true≢false (sym h))
+    by Eds h = kept-on (is_watched lives Eds item.name)
+    by Rds h = kept-on (is_watched lives Rds item.name)
+
+verdict-on : (kind : Kind) (response : ResponseParts) (lives : List Live) (versions : List KeptVersion) (item : ItemParts) → is_by_name kind ≡ true
+    → IsOnValue (verdict_of kind response lives versions item) (is_watched lives kind item.name)
+verdict-on kind response lives versions item named = by (rule_of kind response lives versions item)
+  where
+    by : (o : Option ℕ) → IsOnValue (verdict_by o kind lives versions item) (is_watched lives kind item.name)
+    by None = body-on kind lives versions item item.body named
+    by (Some rule) = tt
+
+-- it makes no live row
+lives-stay : (kind : Kind) (verdict : Verdict) (name : List ℕ) (body : Body) (lives : List Live) (watched : Bool) → IsOnValue verdict watched → lives_after kind verdict name body lives ≡ lives
+lives-stay kind New name body lives watched on = absurd on
+lives-stay kind Same name body lives watched on = refl
+lives-stay kind Kept name body lives watched on = refl
+lives-stay kind Unasked name body lives watched on = refl
+lives-stay kind Renewed name body lives watched on = refl
+lives-stay kind (Refused rule) name body lives watched on = refl
+
+all-on : (kind : Kind) (response : ResponseParts) (versions : List KeptVersion) (lives : List Live) (rows : List GenRow) → is_by_name kind ≡ true
+    → ((name : List ℕ) → is_watched lives kind name ≡ list_any (depends_on name) rows) → (items : List ItemParts) → AreOnValues rows (verdicts_from kind response versions lives items) items
+all-on kind response versions lives rows named watched [] = tt
+all-on kind response versions lives rows named watched (item ∷ items) =
+    let on = verdict-on kind response lives versions item named in
+    let verdict = verdict_of kind response lives versions item in (
+      subst (IsOnValue verdict) (watched item.name) on,
+      subst (λ (ls : List Live). AreOnValues rows (verdicts_from kind response versions ls items) items)
+          (sym (lives-stay kind verdict item.name item.body lives (is_watched lives kind item.name) on)) (all-on kind response versions lives rows named watched items),
+    )
+
+-- the names that live rows depend on are the same once rows of endpoints or routes are left out: there are none that depend on any
+none-needed : (kind : Kind) (name : List ℕ) (content : Content) → is_by_name (content_kind content) ≡ true → is_dependency kind name (dependency_of content) ≡ false
+none-needed kind name (a_cluster cluster) h = absurd (true≢false (sym h))
+none-needed kind name (an_assignment rows) h = refl
+none-needed kind name (a_listener listener) h = absurd (true≢false (sym h))
+none-needed kind name (routes table) h = refl
+
+watched-left : (kind : Kind) (response : ResponseParts) (name : List ℕ) (rows : List GenRow) → is_by_name kind ≡ true → AllByRecursion (λ (r : GenRow). content_kind r.content ≡ r.kind) rows
+    → is_watched (lives_left kind response (map live_of (live_rows rows))) kind name ≡ is_watched (map live_of (live_rows rows)) kind name
+watched-left kind response name [] named all = refl
+watched-left kind response name (row ∷ rows) named all = over (is_live row.status) (watched-left kind response name rows named all.1)
+  where
+    by : (a b : Bool) → kind_same row.kind kind ≡ a → is_watched (lives_left kind response (map live_of (live_rows rows))) kind name ≡ is_watched (map live_of (live_rows rows)) kind name
+        → is_watched (cond (not (a && b)) (live_of row ∷ lives_left kind response (map live_of (live_rows rows))) (lives_left kind response (map live_of (live_rows rows)))) kind name
+        ≡ (is_dependency kind name (dependency_of row.content) || is_watched (map live_of (live_rows rows)) kind name)
+    by false b e rest = ap (λ w. is_dependency kind name (dependency_of row.content) || w) rest
+    by true false e rest = ap (λ w. is_dependency kind name (dependency_of row.content) || w) rest
+    by true true e rest =
+        rest ∙ (λ i. sym (none-needed kind name row.content ((λ j. is_by_name ((all.0 ∙ (kind_decides row.kind kind).0 e) j)) ∙ named)) i || is_watched (map live_of (live_rows rows)) kind name)
+
+    over : (l : Bool) → is_watched (lives_left kind response (map live_of (live_rows rows))) kind name ≡ is_watched (map live_of (live_rows rows)) kind name
+        → is_watched (lives_left kind response (map live_of (cond l (row ∷ live_rows rows) (live_rows rows)))) kind name ≡ is_watched (map live_of (cond l (row ∷ live_rows rows) (live_rows rows))) kind name
+    over true rest = by (kind_same row.kind kind) (is_removed response row.name) refl rest
+    over false rest = rest
+
+pub values-judged : (s : State) (response : ResponseParts) (world : World) → is_by_name s.kind ≡ false → response.kind ≡ Some (needs_of s.kind) → StandsFor s world
+    → AreOnValues s.table.rows (verdicts_of (lives_of world) world.versions response) response.items
+values-judged s response world rowed typed stands =
+    subst (λ (o : Option Kind). AreOnValues s.table.rows (verdicts_by o (lives_of world) world.versions response) response.items) (sym typed)
+    (all-on (needs_of s.kind) response world.versions (lives_left (needs_of s.kind) response (lives_of world)) s.table.rows named
+    (λ name. watched-left (needs_of s.kind) response name world.rows named stands.sound.typed ∙ watched-same s world stands rowed name) response.items)
+  where
+    named : is_by_name (needs_of s.kind) ≡ true
+    named = needed-named s.kind rowed
