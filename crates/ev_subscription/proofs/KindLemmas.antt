@@ -1,5 +1,5 @@
 -- The versions of one kind, among all.
-use Rattle.std.proofs.Common.{◌≡◌, ℕ, Bool, true, false, not, ◌&&◌, ◌||◌, ◌+◌, ◌<◌, ◌≤◌, cond, List, [], ◌∷◌, ◌++◌, filter, map, length, take, get_or, refl, sym, ap, subst, ◌∙◌, arith}
+use Rattle.std.proofs.Common.{◌≡◌, ℕ, Bool, true, false, not, ◌&&◌, ◌||◌, ◌+◌, ◌<◌, ◌≤◌, cond, List, [], ◌∷◌, ◌++◌, filter, length, take, get_or, refl, sym, ap, subst, ◌∙◌, arith}
 use Rattle.std.specs.List.{list_any, AllByRecursion as ByRecursion}
 use Rattle.std.specs.Str.{bytes_eq}
 use Rattle.std.specs.Ordering.{is_lt, nat_cmp, ordering_reverse}
@@ -7,7 +7,7 @@ use Rattle.std.specs.declared.cmp.Ordering.{Ordering}
 use Rattle.std.specs.declared.cmp.Ordering.TheVariants.{Less, Equal, Greater}
 use Rattle.std.specs.Cmp.{both_ways}
 use Rattle.std.specs.Cmp.Lexicographic.{nat_list_cmp_total, slice_cmp}
-use Rattle.std.proofs.lemmas.Bool.{false≢true, true≢false, false_from_ne_true}
+use Rattle.std.proofs.lemmas.Bool.{false≢true, true≢false}
 use Rattle.ev_types.specs.Items.{ResponseParts}
 use Rattle.ev_types.specs.Kinds.{kind_same, kind_decides}
 use Rattle.ev_types.specs.declared.contents.Kind.{Kind}
@@ -22,7 +22,7 @@ use Rattle.std.proofs.lemmas.List.Folds.{list_any-append}
 use Rattle.std.proofs.lemmas.Slice.Eq.{bytes_eq-Decides}
 use Rattle.ev_model.specs.Rows.{is_version_left, versions_left}
 use Rattle.ev_model.specs.Verdicts.{is_among, is_removed, items_named}
-use Rattle.ev_model.specs.Versions.{is_before, is_bounded, is_kept, is_version_of, bounded_as, renewed, versions_of, with_version, without_version}
+use Rattle.ev_model.specs.Versions.{is_before, is_bounded, is_kept, is_version_of, bounded_as, renewed, with_version, without_version}
 use Rattle.ev_model_laws.specs.VersionsKept.{AreByName}
 use Rattle.ev_model_laws.proofs.VersionLemmas.{is_less, placed, version_decides, not_before_itself, with_kept, left_kept, renewed_kept}
 use Rattle.ev_subscription.specs.Subscriptions.{SubscriptionParts, StandsFor, held_of, kept_of, with_held}

@@ -1,3 +1,4 @@
 pub mod TextLemmas
 pub mod HeldLemmas
 pub mod KindLemmas
+pub mod ResponseLemmas

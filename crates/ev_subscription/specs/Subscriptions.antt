@@ -40,3 +40,9 @@ pub record StandsFor (subscription : SubscriptionParts) (world : World) : Type 0
   pub stream : subscription.stream ≡ world.stream
   pub versions : (kind : Kind) → held_of subscription kind ≡ kept_of kind world.versions
   pub kept_once : AreKeptOnce world.versions
+
+-- the worlds have the same node, stream and versions
+pub record SameVersions (world other : World) : Type 0 where
+  pub node : world.node ≡ other.node
+  pub stream : world.stream ≡ other.stream
+  pub versions : world.versions ≡ other.versions

@@ -2,14 +2,16 @@
 //! requests of each event.
 #![tactic(auto)]
 
+mod changes;
 mod names;
 mod replies;
 mod requests;
+mod responses;
 mod subscription;
 #[cfg(test)]
 mod tests;
 mod versions;
 
+pub use changes::NameChange;
 pub use replies::reply_of;
-pub use requests::NameChange;
 pub use subscription::Subscription;
