@@ -2,3 +2,4 @@ pub mod TextLemmas
 pub mod HeldLemmas
 pub mod KindLemmas
 pub mod ResponseLemmas
+pub mod UnwatchedLemmas

@@ -3,6 +3,7 @@
 #![tactic(auto)]
 
 mod changes;
+mod laws;
 mod names;
 mod replies;
 mod requests;
@@ -13,5 +14,6 @@ mod tests;
 mod versions;
 
 pub use changes::NameChange;
+pub use laws::stands_for_same_versions;
 pub use replies::reply_of;
 pub use subscription::Subscription;
