@@ -1,9 +1,8 @@
 -- The versions of names that ceased to be watched.
-use Rattle.std.proofs.Common.{◌≡◌, ℕ, ◌+◌, ◌<◌, ◌≤◌, Bool, true, false, not, ◌&&◌, ◌||◌, cond, List, [], ◌∷◌, ◌++◌, filter, length, take, get_or, refl, sym, ap, subst, ◌∙◌, arith}
+use Rattle.std.proofs.Common.{◌≡◌, ℕ, ◌+◌, ◌<◌, Bool, true, false, not, ◌&&◌, ◌||◌, cond, List, [], ◌∷◌, ◌++◌, filter, length, take, get_or, refl, sym, ap, ◌∙◌}
 use Rattle.std.specs.List.{list_any}
 use Rattle.std.specs.Str.{bytes_eq}
-use Rattle.std.proofs.lemmas.Bool.{false≢true, true≢false}
-use Rattle.std.proofs.lemmas.List.{take_all}
+use Rattle.std.proofs.lemmas.Bool.{false≢true}
 use Rattle.ev_types.specs.Kinds.{kind_same}
 use Rattle.ev_types.specs.declared.contents.Kind.{Kind}
 use Rattle.ev_types.specs.declared.contents.Kind.TheVariants.{Cds, Eds, Lds, Rds}
@@ -14,9 +13,9 @@ use Rattle.ev_model.specs.Live.{lives_of}
 use Rattle.ev_model.specs.Tidy.{is_version_due, without_unwatched}
 use Rattle.ev_model.specs.Verdicts.{is_among}
 use Rattle.ev_model.specs.Versions.{is_version_of, without_version}
-use Rattle.ev_model.specs.Watching.{is_by_name, is_watched}
+use Rattle.ev_model.specs.Watching.{is_watched}
 use Rattle.ev_model_laws.proofs.VersionLemmas.{version_decides}
-use Rattle.ev_subscription.specs.Subscriptions.{AreEnded, SameVersions, StandsFor, SubscriptionParts, without_versions}
+use Rattle.ev_subscription.specs.Subscriptions.{AreEnded, StandsFor, SubscriptionParts, without_versions}
 use Rattle.ev_subscription.proofs.KindLemmas.{all_kept, among_more, both_filters, names_more, same_filter}
 use Rattle.ev_subscription.proofs.ResponseLemmas.{stands_as}
 

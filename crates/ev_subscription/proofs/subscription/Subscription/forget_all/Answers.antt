@@ -1,4 +1,4 @@
-use Rattle.std.proofs.Common.{◌≡◌, ◌∙◌, ap, sym, subst, List, take}
+use Rattle.std.proofs.Common.{ap, sym, subst, List, take}
 use Rattle.std.proofs.lemmas.List.{take_all}
 use Rattle.ev_types.specs.declared.rows.KeptVersion.{KeptVersion}
 use Rattle.ev_subscription.specs.Subscriptions.{StandsFor, without_versions}

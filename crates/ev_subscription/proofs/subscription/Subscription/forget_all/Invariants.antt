@@ -1,4 +1,4 @@
-use Rattle.std.proofs.Common.{◌≡◌, take}
+use Rattle.std.proofs.Common.{take}
 use Rattle.ev_model.specs.World.{World}
 use Rattle.ev_subscription.specs.Subscriptions.{StandsFor, without_versions}
 use Rattle.ev_subscription.proofs.subscription.Subscription.forget_all.Given as goal
