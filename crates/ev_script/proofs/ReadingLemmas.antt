@@ -25,7 +25,7 @@ use Rattle.ev_script.specs.Content.{first_content, IsContent, IsLineOf, IsKeptOf
 use Rattle.ev_script.specs.ReadLines.{AreRead, AreKept}
 use Rattle.ev_script.specs.ReadInput.{IsFresh, input_of, script_fault, IsWhole, IsUpToJournal, IsAnswer, IsHeadAnswer}
 use Rattle.ev_script.proofs.ContentFaults.{IsGiven, first_told, content_told, journal_reached}
-use Rattle.ev_script.proofs.StepLemmas.{are_read_same, are_kept_same, are_read_more, are_kept_more, given_line, few_lines}
+use Rattle.ev_script.proofs.StepLemmas.{same_at, are_read_same, are_kept_same, are_read_more, are_kept_more, given_line, few_lines}
 use Rattle.ev_script.proofs.EndLemmas.{fault_told, nothing_told, whole_read, journal_missing}
 
 -- a call for a line took more bytes, and this is its answer
@@ -33,12 +33,13 @@ abbrev pub Reads : Option (List ℕ) → Option (List ℕ) → LinesState → Li
 Reads now after old new out text answer = (more : List ℕ) × Takes now after more × ((bytes : List ℕ) → HasTaken old bytes → ReadsLine old new bytes more out text answer)
 
 -- the header and some lines were read
-pub record IsReading {A : Type 0} (forms : ℕ → Data → Option (Option ℕ)) (keeps : ℕ → Data → A → Type 0) (audit : Bool) (before now : Option (List ℕ)) (state : LinesState) (header : Header) (kept : List A) : Type 0 where
+pub record IsReading {A : Type 0} (forms : ℕ → Data → Option (Option ℕ)) (keeps : ℕ → Data → A → Type 0) (audit : Bool) (before now : Option (List ℕ)) (state : LinesState) (header : Header) (heading : List ℕ) (kept : List A) : Type 0 where
   pub bytes : List ℕ
   pub takes : Takes before now bytes
   pub taken : HasTaken state bytes
   pub untold : state.told ≡ None
   pub given : state.given ≡ length kept + 1
+  pub head : get_or (lines_of bytes) 0 [] ≡ heading
   pub read : AreRead forms audit (lines_of bytes) header state.given
   pub holds : AreKept keeps (lines_of bytes) kept
 
@@ -56,16 +57,16 @@ takes_both before now after taken more e f = e ∙ ap (prepend_known taken) f �
 
 -- ---- the lines behind the header
 
-given_now : {A : Type 0} (forms : ℕ → Data → Option (Option ℕ)) (keeps : ℕ → Data → A → Type 0) (audit : Bool) (before now : Option (List ℕ)) (old new : LinesState) (header : Header) (kept : List A) (more out text : List ℕ) → (r : IsReading forms keeps audit before now old header kept) → ReadsLine old new r.bytes more out text (Ok Line) → IsGiven forms (input_of audit new (r.bytes ++ more)) header old.given text
-given_now forms keeps audit before now old new header kept more out text r reads = given_line forms audit header old new r.bytes more out text reads r.read
+given_now : {A : Type 0} (forms : ℕ → Data → Option (Option ℕ)) (keeps : ℕ → Data → A → Type 0) (audit : Bool) (before now : Option (List ℕ)) (old new : LinesState) (header : Header) (heading : List ℕ) (kept : List A) (more out text : List ℕ) → (r : IsReading forms keeps audit before now old header heading kept) → ReadsLine old new r.bytes more out text (Ok Line) → IsGiven forms (input_of audit new (r.bytes ++ more)) header old.given text
+given_now forms keeps audit before now old new header heading kept more out text r reads = given_line forms audit header old new r.bytes more out text reads r.read
 
 -- one line more
-pub reading_more : {A : Type 0} (forms : ℕ → Data → Option (Option ℕ)) (keeps : ℕ → Data → A → Type 0) (audit : Bool) (before now after : Option (List ℕ)) (old new : LinesState) (header : Header) (kept : List A) (line : A) (out text : List ℕ) → IsReading forms keeps audit before now old header kept → Reads now after old new out text (Ok Line) → IsContent forms keeps audit header.workers new.given (tree_of text) (is.Line line) → IsReading forms keeps audit before after new header (kept ++ line ∷ [])
-reading_more forms keeps audit before now after old new header kept line out text r call content =
+pub reading_more : {A : Type 0} (forms : ℕ → Data → Option (Option ℕ)) (keeps : ℕ → Data → A → Type 0) (audit : Bool) (before now after : Option (List ℕ)) (old new : LinesState) (header : Header) (heading : List ℕ) (kept : List A) (line : A) (out text : List ℕ) → IsReading forms keeps audit before now old header heading kept → Reads now after old new out text (Ok Line) → IsContent forms keeps audit header.workers new.given (tree_of text) (is.Line line) → IsReading forms keeps audit before after new header heading (kept ++ line ∷ [])
+reading_more forms keeps audit before now after old new header heading kept line out text r call content =
     let more : List ℕ = call.0 in
     let reads : ReadsLine old new r.bytes more out text (Ok Line) = call.2 r.bytes r.taken in
     let means : GivesLine old new (r.bytes ++ more) text = reads.means in
-    let g : IsGiven forms (input_of audit new (r.bytes ++ more)) header old.given text = given_now forms keeps audit before now old new header kept more out text r reads in
+    let g : IsGiven forms (input_of audit new (r.bytes ++ more)) header old.given text = given_now forms keeps audit before now old new header heading kept more out text r reads in
     let some : 0 < old.given = omega (arith, r.given) in
     let number : new.given ≡ old.given + 1 = means.number in
     let line_here : IsLineOf forms audit header.workers (old.given + 1) (tree_of (get_or (lines_of (r.bytes ++ more)) old.given [])) =
@@ -81,6 +82,7 @@ reading_more forms keeps audit before now after old new header kept line out tex
       taken = reads.taken;
       untold = means.untold;
       given = omega (arith, length-append kept (line ∷ []));
+      head = same_at old.given (lines_of r.bytes) (lines_of (r.bytes ++ more)) 0 reads.kept some ∙ r.head;
       read = subst (AreRead forms audit (lines_of (r.bytes ++ more)) header) (sym number)
           (are_read_more forms audit (lines_of (r.bytes ++ more)) header old.given (are_read_same forms audit (lines_of r.bytes) (lines_of (r.bytes ++ more)) header old.given reads.kept r.read) some line_here);
       holds = are_kept_more keeps (lines_of (r.bytes ++ more)) kept line (are_kept_same keeps (lines_of r.bytes) (lines_of (r.bytes ++ more)) old.given kept reads.kept (omega arith) r.holds) kept_here;
@@ -98,13 +100,13 @@ one_more now after old new bytes out text taken call =
     let means : GivesLine old new (bytes ++ call.0) text = reads.means in
     means.number
 
-pub exit_fault : {A : Type 0} (forms : ℕ → Data → Option (Option ℕ)) (keeps : ℕ → Data → A → Type 0) (audit : Bool) (before now after : Option (List ℕ)) (old new : LinesState) (header : Header) (kept : List A) (fault : LineFault) (out text : List ℕ) → IsReading forms keeps audit before now old header kept → Reads now after old new out text (Err fault) → Exits forms keeps audit before after new (Err (script_fault new.given fault))
-exit_fault forms keeps audit before now after old new header kept fault out text r call =
+pub exit_fault : {A : Type 0} (forms : ℕ → Data → Option (Option ℕ)) (keeps : ℕ → Data → A → Type 0) (audit : Bool) (before now after : Option (List ℕ)) (old new : LinesState) (header : Header) (heading : List ℕ) (kept : List A) (fault : LineFault) (out text : List ℕ) → IsReading forms keeps audit before now old header heading kept → Reads now after old new out text (Err fault) → Exits forms keeps audit before after new (Err (script_fault new.given fault))
+exit_fault forms keeps audit before now after old new header heading kept fault out text r call =
     let reads : ReadsLine old new r.bytes call.0 out text (Err fault) = call.2 r.bytes r.taken in
     (r.bytes ++ call.0, takes_both before now after r.bytes call.0 r.takes call.1, reads.taken, fault_told forms audit header old new r.bytes call.0 out text fault reads r.read)
 
-pub exit_content : {A : Type 0} (forms : ℕ → Data → Option (Option ℕ)) (keeps : ℕ → Data → A → Type 0) (audit : Bool) (before now after : Option (List ℕ)) (old new : LinesState) (header : Header) (kept : List A) (kind : FaultKind) (out text : List ℕ) → IsReading forms keeps audit before now old header kept → Reads now after old new out text (Ok Line) → IsContent forms keeps audit header.workers new.given (tree_of text) (is.Fault kind) → Exits forms keeps audit before after new (Err (Bad new.given (fault_number kind)))
-exit_content forms keeps audit before now after old new header kept kind out text r call content =
+pub exit_content : {A : Type 0} (forms : ℕ → Data → Option (Option ℕ)) (keeps : ℕ → Data → A → Type 0) (audit : Bool) (before now after : Option (List ℕ)) (old new : LinesState) (header : Header) (heading : List ℕ) (kept : List A) (kind : FaultKind) (out text : List ℕ) → IsReading forms keeps audit before now old header heading kept → Reads now after old new out text (Ok Line) → IsContent forms keeps audit header.workers new.given (tree_of text) (is.Fault kind) → Exits forms keeps audit before after new (Err (Bad new.given (fault_number kind)))
+exit_content forms keeps audit before now after old new header heading kept kind out text r call content =
     let reads : ReadsLine old new r.bytes call.0 out text (Ok Line) = call.2 r.bytes r.taken in
     let means : GivesLine old new (r.bytes ++ call.0) text = reads.means in
     let input = input_of audit new (r.bytes ++ call.0) in (
@@ -112,12 +114,12 @@ exit_content forms keeps audit before now after old new header kept kind out tex
       takes_both before now after r.bytes call.0 r.takes call.1,
       reads.taken,
       subst (λ (n : ℕ). IsFaultOf forms input n (fault_number kind)) (sym means.number)
-          (content_told forms keeps input header old.given text kind (given_now forms keeps audit before now old new header kept call.0 out text r reads) (omega (arith, r.given))
+          (content_told forms keeps input header old.given text kind (given_now forms keeps audit before now old new header heading kept call.0 out text r reads) (omega (arith, r.given))
           (subst (λ (n : ℕ). IsContent forms keeps audit header.workers n (tree_of text) (is.Fault kind)) means.number content)),
     )
 
-pub exit_journal : {A : Type 0} (forms : ℕ → Data → Option (Option ℕ)) (keeps : ℕ → Data → A → Type 0) (audit : Bool) (before now after : Option (List ℕ)) (old new : LinesState) (header : Header) (kept : Vec A Global) (out : List ℕ) (text : Vec ℕ Global) → IsReading forms keeps audit before now old header kept.items → Reads now after old new out text.items (Ok Line) → IsContent forms keeps audit header.workers new.given (tree_of text.items) is.Journal → Exits forms keeps audit before after new (Ok record { header = header; kept = kept; journal = Some text })
-exit_journal forms keeps audit before now after old new header kept out text r call content =
+pub exit_journal : {A : Type 0} (forms : ℕ → Data → Option (Option ℕ)) (keeps : ℕ → Data → A → Type 0) (audit : Bool) (before now after : Option (List ℕ)) (old new : LinesState) (header : Header) (heading : Vec ℕ Global) (kept : Vec A Global) (out : List ℕ) (text : Vec ℕ Global) → IsReading forms keeps audit before now old header heading.items kept.items → Reads now after old new out text.items (Ok Line) → IsContent forms keeps audit header.workers new.given (tree_of text.items) is.Journal → Exits forms keeps audit before after new (Ok record { header = header; heading = heading; kept = kept; journal = Some text })
+exit_journal forms keeps audit before now after old new header heading kept out text r call content =
     let reads : ReadsLine old new r.bytes call.0 out text.items (Ok Line) = call.2 r.bytes r.taken in
     let input = input_of audit new (r.bytes ++ call.0) in
     let here : AreRead forms audit (lines_of (r.bytes ++ call.0)) header old.given = are_read_same forms audit (lines_of r.bytes) (lines_of (r.bytes ++ call.0)) header old.given reads.kept r.read in (
@@ -125,36 +127,38 @@ exit_journal forms keeps audit before now after old new header kept out text r c
       takes_both before now after r.bytes call.0 r.takes call.1,
       reads.taken,
       record {
+        heading = same_at old.given (lines_of r.bytes) (lines_of (r.bytes ++ call.0)) 0 reads.kept (omega (arith, r.given)) ∙ r.head;
         lines = subst (AreRead forms audit (lines_of (r.bytes ++ call.0)) header) r.given here;
         kept = are_kept_same keeps (lines_of r.bytes) (lines_of (r.bytes ++ call.0)) old.given kept.items reads.kept (omega (arith, r.given)) r.holds;
         ends = subst (λ (n : ℕ). IsUpToJournal forms input n text.items) r.given
-            (journal_reached forms input header old.given text.items (given_now forms keeps audit before now old new header kept.items call.0 out text.items r reads) (omega (arith, r.given)) content);
+            (journal_reached forms input header old.given text.items (given_now forms keeps audit before now old new header heading.items kept.items call.0 out text.items r reads) (omega (arith, r.given)) content);
       },
     )
 
-pub exit_whole : {A : Type 0} (forms : ℕ → Data → Option (Option ℕ)) (keeps : ℕ → Data → A → Type 0) (audit : Bool) (before now after : Option (List ℕ)) (old new : LinesState) (header : Header) (kept : Vec A Global) (out text : List ℕ) → audit ≡ false → IsReading forms keeps audit before now old header kept.items → Reads now after old new out text (Ok End) → Exits forms keeps audit before after new (Ok record { header = header; kept = kept; journal = None })
-exit_whole forms keeps true before now after old new header kept out text plain r call = absurd cc
-exit_whole forms keeps false before now after old new header kept out text plain r call =
+pub exit_whole : {A : Type 0} (forms : ℕ → Data → Option (Option ℕ)) (keeps : ℕ → Data → A → Type 0) (audit : Bool) (before now after : Option (List ℕ)) (old new : LinesState) (header : Header) (heading : Vec ℕ Global) (kept : Vec A Global) (out text : List ℕ) → audit ≡ false → IsReading forms keeps audit before now old header heading.items kept.items → Reads now after old new out text (Ok End) → Exits forms keeps audit before after new (Ok record { header = header; heading = heading; kept = kept; journal = None })
+exit_whole forms keeps true before now after old new header heading kept out text plain r call = absurd cc
+exit_whole forms keeps false before now after old new header heading kept out text plain r call =
     let reads : ReadsLine old new r.bytes call.0 out text (Ok End) = call.2 r.bytes r.taken in
     let here : AreRead forms false (lines_of (r.bytes ++ call.0)) header old.given = are_read_same forms false (lines_of r.bytes) (lines_of (r.bytes ++ call.0)) header old.given reads.kept r.read in (
       r.bytes ++ call.0,
       takes_both before now after r.bytes call.0 r.takes call.1,
       reads.taken,
       record {
+        heading = same_at old.given (lines_of r.bytes) (lines_of (r.bytes ++ call.0)) 0 reads.kept (omega (arith, r.given)) ∙ r.head;
         lines = subst (AreRead forms false (lines_of (r.bytes ++ call.0)) header) r.given here;
         kept = are_kept_same keeps (lines_of r.bytes) (lines_of (r.bytes ++ call.0)) old.given kept.items reads.kept (omega (arith, r.given)) r.holds;
         ends = subst (IsWhole forms (input_of false new (r.bytes ++ call.0))) r.given (whole_read forms header old new r.bytes call.0 out text reads r.read (omega (arith, r.given)));
       },
     )
 
-pub exit_missing : {A : Type 0} (forms : ℕ → Data → Option (Option ℕ)) (keeps : ℕ → Data → A → Type 0) (audit : Bool) (before now after : Option (List ℕ)) (old new : LinesState) (header : Header) (kept : List A) (out text : List ℕ) → audit ≡ true → IsReading forms keeps audit before now old header kept → Reads now after old new out text (Ok End) → Exits forms keeps audit before after new (Err (Bad (new.given + 1) (fault_number NotJournal)))
-exit_missing forms keeps false before now after old new header kept out text asked r call = absurd cc
-exit_missing forms keeps true before now after old new header kept out text asked r call =
+pub exit_missing : {A : Type 0} (forms : ℕ → Data → Option (Option ℕ)) (keeps : ℕ → Data → A → Type 0) (audit : Bool) (before now after : Option (List ℕ)) (old new : LinesState) (header : Header) (heading : List ℕ) (kept : List A) (out text : List ℕ) → audit ≡ true → IsReading forms keeps audit before now old header heading kept → Reads now after old new out text (Ok End) → Exits forms keeps audit before after new (Err (Bad (new.given + 1) (fault_number NotJournal)))
+exit_missing forms keeps false before now after old new header heading kept out text asked r call = absurd cc
+exit_missing forms keeps true before now after old new header heading kept out text asked r call =
     let reads : ReadsLine old new r.bytes call.0 out text (Ok End) = call.2 r.bytes r.taken in
     (r.bytes ++ call.0, takes_both before now after r.bytes call.0 r.takes call.1, reads.taken, journal_missing forms header old new r.bytes call.0 out text reads r.read (omega (arith, r.given)))
 
-pub exit_memory : {A : Type 0} (forms : ℕ → Data → Option (Option ℕ)) (keeps : ℕ → Data → A → Type 0) (audit : Bool) (before now after : Option (List ℕ)) (old new : LinesState) (header : Header) (kept : List A) (answer : Result LineEnd LineFault) (out text : List ℕ) → IsReading forms keeps audit before now old header kept → Reads now after old new out text answer → Exits forms keeps audit before after new (Err OutOfMemory)
-exit_memory forms keeps audit before now after old new header kept answer out text r call =
+pub exit_memory : {A : Type 0} (forms : ℕ → Data → Option (Option ℕ)) (keeps : ℕ → Data → A → Type 0) (audit : Bool) (before now after : Option (List ℕ)) (old new : LinesState) (header : Header) (heading : List ℕ) (kept : List A) (answer : Result LineEnd LineFault) (out text : List ℕ) → IsReading forms keeps audit before now old header heading kept → Reads now after old new out text answer → Exits forms keeps audit before after new (Err OutOfMemory)
+exit_memory forms keeps audit before now after old new header heading kept answer out text r call =
     let reads : ReadsLine old new r.bytes call.0 out text answer = call.2 r.bytes r.taken in
     (r.bytes ++ call.0, takes_both before now after r.bytes call.0 r.takes call.1, reads.taken, tt)
 
@@ -177,8 +181,8 @@ no_header = record { workers = 1; auto = false; node = [] }
 none_read : (forms : ℕ → Data → Option (Option ℕ)) (audit : Bool) (texts : List (List ℕ)) (n : ℕ) → n ≡ 0 → AreRead forms audit texts no_header n
 none_read forms audit texts n none = record { head = λ h. absurd (omega arith); others = λ i some within. absurd (omega arith) }
 
-abbrev pub HeadExits : Option (List ℕ) → Option (List ℕ) → LinesState → Result Header ScriptFault → Type 0
-HeadExits before after new result = (bytes : List ℕ) × Takes before after bytes × HasTaken new bytes × IsHeadAnswer new bytes result
+abbrev pub HeadExits : Option (List ℕ) → Option (List ℕ) → LinesState → List ℕ → Result Header ScriptFault → Type 0
+HeadExits before after new text result = (bytes : List ℕ) × Takes before after bytes × HasTaken new bytes × IsHeadAnswer new bytes text result
 
 fresh_given : (state : LinesState) → IsFresh state → state.given ≡ 0
 fresh_given state e = ap (λ (s : LinesState). s.given) e
@@ -186,16 +190,16 @@ fresh_given state e = ap (λ (s : LinesState). s.given) e
 pub fresh_untold : (state : LinesState) → IsFresh state → state.told ≡ None
 fresh_untold state e = ap (λ (s : LinesState). s.told) e
 
-pub head_read : (before after : Option (List ℕ)) (old new : LinesState) (header : Header) (out text : List ℕ) → IsFresh old → Reads before after old new out text (Ok Line) → first.Header header ≡ first_content text → HeadExits before after new (Ok header)
+pub head_read : (before after : Option (List ℕ)) (old new : LinesState) (header : Header) (out text : List ℕ) → IsFresh old → Reads before after old new out text (Ok Line) → first.Header header ≡ first_content text → HeadExits before after new text (Ok header)
 head_read before after old new header out text fresh call told =
     let reads : ReadsLine old new [] call.0 out text (Ok Line) = call.2 [] (fresh_taken old fresh) in
     let means : GivesLine old new call.0 text = reads.means in
     let zero : old.given ≡ 0 = fresh_given old fresh in
     let g : IsGiven (λ at tree. None) (input_of false new call.0) no_header old.given text = given_line (λ at tree. None) false no_header old new [] call.0 out text reads (none_read (λ at tree. None) false [] old.given zero) in
     let here : get_or (lines_of call.0) 0 [] ≡ text = ap (λ (i : ℕ). get_or (lines_of call.0) i []) (sym zero) ∙ g.here in
-    (call.0, call.1, reads.taken, (means.untold, means.number ∙ ap (λ (n : ℕ). n + 1) zero, ap first_content here ∙ sym told))
+    (call.0, call.1, reads.taken, (means.untold, means.number ∙ ap (λ (n : ℕ). n + 1) zero, ap first_content here ∙ sym told, here))
 
-pub head_fault : (before after : Option (List ℕ)) (old new : LinesState) (kind : FaultKind) (out text : List ℕ) → IsFresh old → Reads before after old new out text (Ok Line) → first.Fault kind ≡ first_content text → HeadExits before after new (Err (Bad 1 (fault_number kind)))
+pub head_fault : (before after : Option (List ℕ)) (old new : LinesState) (kind : FaultKind) (out text : List ℕ) → IsFresh old → Reads before after old new out text (Ok Line) → first.Fault kind ≡ first_content text → HeadExits before after new text (Err (Bad 1 (fault_number kind)))
 head_fault before after old new kind out text fresh call told =
     let reads : ReadsLine old new [] call.0 out text (Ok Line) = call.2 [] (fresh_taken old fresh) in
     let zero : old.given ≡ 0 = fresh_given old fresh in (
@@ -207,37 +211,20 @@ head_fault before after old new kind out text fresh call told =
           (sym told),
     )
 
-pub head_missing : (before after : Option (List ℕ)) (old new : LinesState) (out text : List ℕ) → IsFresh old → Reads before after old new out text (Ok End) → HeadExits before after new (Err (Bad 1 (fault_number NoByte)))
+pub head_missing : (before after : Option (List ℕ)) (old new : LinesState) (out text : List ℕ) → IsFresh old → Reads before after old new out text (Ok End) → HeadExits before after new text (Err (Bad 1 (fault_number NoByte)))
 head_missing before after old new out text fresh call =
     let reads : ReadsLine old new [] call.0 out text (Ok End) = call.2 [] (fresh_taken old fresh) in
     (call.0, call.1, reads.taken, λ forms audit. nothing_told forms audit old new [] call.0 out text reads (fresh_given old fresh))
 
-pub head_limit : (before after : Option (List ℕ)) (old new : LinesState) (fault : LineFault) (out text : List ℕ) → IsFresh old → Reads before after old new out text (Err fault) → HeadExits before after new (Err (script_fault new.given fault))
+pub head_limit : (before after : Option (List ℕ)) (old new : LinesState) (fault : LineFault) (out text : List ℕ) → IsFresh old → Reads before after old new out text (Err fault) → HeadExits before after new text (Err (script_fault new.given fault))
 head_limit before after old new fault out text fresh call =
     let reads : ReadsLine old new [] call.0 out text (Err fault) = call.2 [] (fresh_taken old fresh) in
     (call.0, call.1, reads.taken, λ forms audit. fault_told forms audit no_header old new [] call.0 out text fault reads (none_read forms audit [] old.given (fresh_given old fresh)))
 
-pub head_memory : (before after : Option (List ℕ)) (old new : LinesState) (answer : Result LineEnd LineFault) (out text : List ℕ) → IsFresh old → Reads before after old new out text answer → HeadExits before after new (Err OutOfMemory)
+pub head_memory : (before after : Option (List ℕ)) (old new : LinesState) (answer : Result LineEnd LineFault) (out text : List ℕ) → IsFresh old → Reads before after old new out text answer → HeadExits before after new text (Err OutOfMemory)
 head_memory before after old new answer out text fresh call =
     let reads : ReadsLine old new [] call.0 out text answer = call.2 [] (fresh_taken old fresh) in
     (call.0, call.1, reads.taken, λ forms audit. tt)
-
--- the lines behind a header that was read
-pub reading_head : {A : Type 0} (forms : ℕ → Data → Option (Option ℕ)) (keeps : ℕ → Data → A → Type 0) (audit : Bool) (before now : Option (List ℕ)) (state : LinesState) (header : Header) → HeadExits before now state (Ok header) → IsReading {A = A} forms keeps audit before now state header []
-reading_head forms keeps audit before now state header exits =
-    let answer = exits.3 in
-    record {
-      bytes = exits.0;
-      takes = exits.1;
-      taken = exits.2;
-      untold = answer.0;
-      given = answer.1;
-      read = record {
-        head = λ h. answer.2;
-        others = λ i some within. let one : state.given ≡ 1 = answer.1 in absurd (omega arith);
-      };
-      holds = λ i other h. absurd (omega arith);
-    }
 
 -- what a line is, by equal places and texts
 pub content_at : {A : Type 0} (forms : ℕ → Data → Option (Option ℕ)) (keeps : ℕ → Data → A → Type 0) (audit : Bool) (workers at given : ℕ) (now text : List ℕ) (content other : Content A) → at ≡ given → now ≡ text → content ≡ other → IsContent forms keeps audit workers at (tree_of now) content → IsContent forms keeps audit workers given (tree_of text) other

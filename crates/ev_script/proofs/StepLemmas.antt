@@ -22,7 +22,7 @@ use Rattle.ev_script.proofs.ContentFaults.{IsGiven}
 
 -- ---- lines that stay
 
-same_at : (n : ℕ) (xs ys : List (List ℕ)) (i : ℕ) → take n ys ≡ take n xs → i < n → get_or ys i [] ≡ get_or xs i []
+pub same_at : (n : ℕ) (xs ys : List (List ℕ)) (i : ℕ) → take n ys ≡ take n xs → i < n → get_or ys i [] ≡ get_or xs i []
 same_at n xs ys i e h = sym (get_or-take n ys i [] h) ∙ ap (λ (zs : List (List ℕ)). get_or zs i []) e ∙ get_or-take n xs i [] h
 
 pub are_read_same : (forms : ℕ → Data → Option (Option ℕ)) (audit : Bool) (xs ys : List (List ℕ)) (header : Header) (n : ℕ) → take n ys ≡ take n xs → AreRead forms audit xs header n → AreRead forms audit ys header n

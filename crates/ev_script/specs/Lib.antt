@@ -13,3 +13,4 @@ pub mod Content
 pub mod ReadLines
 pub mod ReadInput
 pub mod ReadScript
+pub mod ReadTrees

@@ -64,8 +64,9 @@ abbrev pub through_journal : Option (Vec ℕ Global) → ℕ
 through_journal None = 1
 through_journal (Some text) = 2
 
--- the header, what is kept of the lines behind it, and where they end
+-- the header, with the text of its line, what is kept of the lines behind it, and where they end
 pub record IsReadOf {A : Type 0} (forms : ℕ → Data → Option (Option ℕ)) (keeps : ℕ → Data → A → Type 0) (input : Input) (read : ReadInput A) : Type 0 where
+  pub heading : slice_index_or (lines_of input.bytes) 0 [] ≡ read.heading.items
   pub lines : AreRead forms input.audit (lines_of input.bytes) read.header (length read.kept.items + 1)
   pub kept : AreKept keeps (lines_of input.bytes) read.kept.items
   pub ends : EndsBefore forms input (length read.kept.items + 1) read.journal
@@ -75,8 +76,9 @@ abbrev pub IsAnswer : {A : Type 0} → (ℕ → Data → Option (Option ℕ)) �
 IsAnswer forms keeps input (Ok read) = IsReadOf forms keeps input read
 IsAnswer forms keeps input (Err fault) = IsTold forms input fault
 
--- what an answer about the first line means: the header was given, or the first fault of the bytes taken stands in the
--- first line, whatever forms the others have
-abbrev pub IsHeadAnswer : LinesState → List ℕ → Result Header ScriptFault → Type 0
-IsHeadAnswer state bytes (Ok header) = (state.told ≡ None) × (state.given ≡ 1) × (first_content (slice_index_or (lines_of bytes) 0 []) ≡ first.Header header)
-IsHeadAnswer state bytes (Err fault) = (forms : ℕ → Data → Option (Option ℕ)) (audit : Bool) → IsTold forms (input_of audit state bytes) fault
+-- what an answer about the first line means: the header was given, and the line is this text, or the first fault of the
+-- bytes taken stands in the first line, whatever forms the others have
+abbrev pub IsHeadAnswer : LinesState → List ℕ → List ℕ → Result Header ScriptFault → Type 0
+IsHeadAnswer state bytes text (Ok header) =
+    (state.told ≡ None) × (state.given ≡ 1) × (first_content (slice_index_or (lines_of bytes) 0 []) ≡ first.Header header) × (slice_index_or (lines_of bytes) 0 [] ≡ text)
+IsHeadAnswer state bytes text (Err fault) = (forms : ℕ → Data → Option (Option ℕ)) (audit : Bool) → IsTold forms (input_of audit state bytes) fault

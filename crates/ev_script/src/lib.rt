@@ -17,6 +17,7 @@ mod stream_lines;
 #[cfg(test)]
 mod tests;
 mod timer_lines;
+mod trees;
 mod worker_lines;
 
 pub use fault_kinds::FaultKind;
@@ -26,3 +27,4 @@ pub use limits::{MAX_NUMBER, MAX_PATH_LENGTH, MAX_WORKER};
 pub use lines::read_line;
 pub use members::read_tree;
 pub use script::{ScriptEnd, read_script, read_script_with};
+pub use trees::{LineTrees, ScriptTrees, TreesEnd, read_trees, read_trees_with};

@@ -16,8 +16,10 @@ use std::alloc::Global;
 // What was read of an input.
 #[derive(Drop)]
 pub(crate) struct ReadInput<T> {
-    /// The first line.
+    /// What the first line says.
     pub header: Header,
+    /// The text of the first line.
+    pub heading: Vec<u8>,
     /// What is kept of each line behind it.
     pub kept: Vec<T>,
     /// The first line of the journal, where one follows.
@@ -46,8 +48,9 @@ pub(crate) fn read_input<S: Source, F: Forms>(
     ensures same_count { (S.faults source.new ≡ S.faults source.old) ⊎ (result ≡ Err ScriptFault.Read) }
     ensures count { S.faults source.old ≤ S.faults source.new }
 {
+    let mut heading = Vec::new(alloc);
+    let header = read_head(alloc, lines, source, &mut heading)?;
     let mut text = Vec::new(alloc);
-    let header = read_head(alloc, lines, source, &mut text)?;
     let mut kept = Vec::new(alloc);
     'lines: loop {
         match lines.read_line(source, &mut text) {
@@ -62,6 +65,7 @@ pub(crate) fn read_input<S: Source, F: Forms>(
                     Ok(Content::Journal) => {
                         return Ok(ReadInput {
                             header,
+                            heading,
                             kept,
                             journal: Some(text),
                         });
@@ -76,6 +80,7 @@ pub(crate) fn read_input<S: Source, F: Forms>(
             Ok(LineEnd::End) => {
                 return Ok(ReadInput {
                     header,
+                    heading,
                     kept,
                     journal: None,
                 });
@@ -94,7 +99,7 @@ fn read_head<S: Source>(
 ) -> Result<Header, ScriptFault>
     requires fresh { IsFresh lines.old }
     ensures reads { (bytes : List ℕ) × Takes (S.left source.old) (S.left source.new) bytes × HasTaken lines.new bytes
-        × IsHeadAnswer lines.new bytes result }
+        × IsHeadAnswer lines.new bytes text.new.items result }
     ensures header { IfOk result IsHeader }
     ensures at_end { IsTrue lines.new.ended → IsAtEnd (S.left source.new) }
     ensures at_most { IsWithin lines.new }

@@ -80,6 +80,7 @@ pub fn read_script_with<S: Source, F: Forms<Kept = Line>>(
         header,
         kept,
         journal,
+        ..
     } = read_input(alloc, forms, audit, lines, source)?;
     let Ok(script) = made_script(header, kept) else {
         return Err(ScriptFault::OutOfMemory);

@@ -1,13 +1,13 @@
 -- The entries of a map of names as versions.
-use Rattle.std.proofs.Common.{◌≡◌, ℕ, Bool, true, false, not, ◌&&◌, ◌||◌, cond, List, [], ◌∷◌, filter, map, Option, None, Some, Result, Ok, Err, refl, sym, ap, ◌∙◌}
+use Rattle.std.proofs.Common.{◌≡◌, ℕ, Bool, true, false, not, ◌&&◌, ◌||◌, cond, List, [], ◌∷◌, map, Option, None, Some, Result, Ok, Err, refl, sym, ap, ◌∙◌}
 use Rattle.std.specs.List.{list_any}
 use Rattle.std.specs.List.Sorted.{IsStrictlySortedBy}
 use Rattle.std.specs.Str.{bytes_eq}
 use Rattle.std.specs.Option.{unwrap_or}
-use Rattle.std.specs.Result.{IfOk}
+use Rattle.std.specs.Result.{IfOk, OnOk}
 use Rattle.std.specs.Map.{keys_of, lookup, remove_entry, set_value}
 use Rattle.std.specs.BTreeMap.{insert_entry, is_at}
-use Rattle.std.specs.Ordering.{is_eq, is_lt, match_ordering, eq_by_cmp}
+use Rattle.std.specs.Ordering.{is_eq, is_lt, match_ordering}
 use Rattle.std.specs.declared.cmp.Ordering.{Ordering}
 use Rattle.std.specs.declared.cmp.Ordering.TheVariants.{Less, Equal, Greater}
 use Rattle.std.specs.Cmp.{eq_by_cmp_equiv}
@@ -22,9 +22,9 @@ use Rattle.ev_types.specs.Kinds.{kind_same}
 use Rattle.ev_types.specs.declared.contents.Kind.{Kind}
 use Rattle.ev_types.specs.declared.contents.Kind.TheVariants.{Cds, Eds, Lds, Rds}
 use Rattle.ev_types.specs.declared.rows.KeptVersion.{KeptVersion}
-use Rattle.ev_model.specs.Versions.{is_before, is_bounded, is_kept, is_version_of, bounded_as, renewed, with_version, without_version}
+use Rattle.ev_model.specs.Versions.{is_bounded, is_kept, is_version_of, renewed, with_version, without_version}
 use Rattle.ev_subscription.specs.declared.versions.Held.{Held}
-use Rattle.ev_subscription.specs.Held.{Entries, bounded_at, bounded_in, name_order, named_version, version_at, versions_in}
+use Rattle.ev_subscription.specs.Held.{Entries, bounded_in, name_order, named_version, version_at, versions_in}
 
 pub kind_same_self : (kind : Kind) → kind_same kind kind ≡ true
 kind_same_self Cds = refl
@@ -195,3 +195,7 @@ bounded_found kind name es sorted = held_found kind name (λ (kept : KeptVersion
 pub if_ok_more : {V E : Type 0} (P Q : V → Type 0) (r : Result V E) → ((v : V) → P v → Q v) → IfOk r P → IfOk r Q
 if_ok_more P Q (Ok v) so p = so v p
 if_ok_more P Q (Err e) so p = p
+
+pub on_ok : {V E : Type 0} (P Q : Type 0) (r : Result V E) → (P → Q) → OnOk r P → OnOk r Q
+on_ok P Q (Ok v) so p = so p
+on_ok P Q (Err e) so p = p

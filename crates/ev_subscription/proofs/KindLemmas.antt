@@ -1,5 +1,5 @@
 -- The versions of one kind, among all.
-use Rattle.std.proofs.Common.{◌≡◌, ℕ, Bool, true, false, not, ◌&&◌, ◌||◌, ◌+◌, ◌<◌, ◌≤◌, cond, List, [], ◌∷◌, ◌++◌, filter, map, length, take, get_or, refl, sym, ap, subst, ◌∙◌, arith}
+use Rattle.std.proofs.Common.{◌≡◌, ℕ, Bool, true, false, not, ◌&&◌, ◌||◌, ◌+◌, ◌<◌, ◌≤◌, cond, List, [], ◌∷◌, ◌++◌, filter, length, take, get_or, refl, sym, ap, subst, ◌∙◌, arith}
 use Rattle.std.specs.List.{list_any, AllByRecursion as ByRecursion}
 use Rattle.std.specs.Str.{bytes_eq}
 use Rattle.std.specs.Ordering.{is_lt, nat_cmp, ordering_reverse}
@@ -7,7 +7,7 @@ use Rattle.std.specs.declared.cmp.Ordering.{Ordering}
 use Rattle.std.specs.declared.cmp.Ordering.TheVariants.{Less, Equal, Greater}
 use Rattle.std.specs.Cmp.{both_ways}
 use Rattle.std.specs.Cmp.Lexicographic.{nat_list_cmp_total, slice_cmp}
-use Rattle.std.proofs.lemmas.Bool.{false≢true, true≢false, false_from_ne_true}
+use Rattle.std.proofs.lemmas.Bool.{false≢true, true≢false}
 use Rattle.ev_types.specs.Items.{ResponseParts}
 use Rattle.ev_types.specs.Kinds.{kind_same, kind_decides}
 use Rattle.ev_types.specs.declared.contents.Kind.{Kind}
@@ -22,7 +22,7 @@ use Rattle.std.proofs.lemmas.List.Folds.{list_any-append}
 use Rattle.std.proofs.lemmas.Slice.Eq.{bytes_eq-Decides}
 use Rattle.ev_model.specs.Rows.{is_version_left, versions_left}
 use Rattle.ev_model.specs.Verdicts.{is_among, is_removed, items_named}
-use Rattle.ev_model.specs.Versions.{is_before, is_bounded, is_kept, is_version_of, bounded_as, renewed, versions_of, with_version, without_version}
+use Rattle.ev_model.specs.Versions.{is_before, is_bounded, is_kept, is_version_of, bounded_as, renewed, with_version, without_version}
 use Rattle.ev_model_laws.specs.VersionsKept.{AreByName}
 use Rattle.ev_model_laws.proofs.VersionLemmas.{is_less, placed, version_decides, not_before_itself, with_kept, left_kept, renewed_kept}
 use Rattle.ev_subscription.specs.Subscriptions.{SubscriptionParts, StandsFor, held_of, kept_of, with_held}
@@ -300,7 +300,7 @@ bounded_is subscription world kind name stands =
 abbrev pub is_left : Kind → ResponseParts → List (List ℕ) → KeptVersion → Bool
 is_left kind response names kept = not (kind_same kept.kind kind && (is_removed response kept.name && is_among kept.name names))
 
-both_filters : (p q : KeptVersion → Bool) (versions : List KeptVersion) → filter p (filter q versions) ≡ filter (λ kept. q kept && p kept) versions
+pub both_filters : (p q : KeptVersion → Bool) (versions : List KeptVersion) → filter p (filter q versions) ≡ filter (λ kept. q kept && p kept) versions
 both_filters p q [] = refl
 both_filters p q (v ∷ vs) = by (q v) refl (both_filters p q vs)
   where
@@ -308,11 +308,11 @@ both_filters p q (v ∷ vs) = by (q v) refl (both_filters p q vs)
     by true is rest = simp (is) (ap (λ ws. cond (p v) (v ∷ ws) ws) rest)
     by false is rest = simp (is) rest
 
-same_filter : (p q : KeptVersion → Bool) → ((kept : KeptVersion) → p kept ≡ q kept) → (versions : List KeptVersion) → filter p versions ≡ filter q versions
+pub same_filter : (p q : KeptVersion → Bool) → ((kept : KeptVersion) → p kept ≡ q kept) → (versions : List KeptVersion) → filter p versions ≡ filter q versions
 same_filter p q same [] = refl
 same_filter p q same (v ∷ vs) = λ i. cond (same v i) (v ∷ same_filter p q same vs i) (same_filter p q same vs i)
 
-all_kept : (p : KeptVersion → Bool) → ((kept : KeptVersion) → p kept ≡ true) → (versions : List KeptVersion) → filter p versions ≡ versions
+pub all_kept : (p : KeptVersion → Bool) → ((kept : KeptVersion) → p kept ≡ true) → (versions : List KeptVersion) → filter p versions ≡ versions
 all_kept p lets [] = refl
 all_kept p lets (v ∷ vs) = (λ i. cond (lets v i) (v ∷ all_kept p lets vs i) (all_kept p lets vs i))
 
@@ -325,7 +325,7 @@ none_left false r = refl
 pub left_first : (kind : Kind) (response : ResponseParts) (versions : List KeptVersion) → filter (is_left kind response []) versions ≡ versions
 left_first kind response versions = all_kept (is_left kind response []) (λ kept. none_left (kind_same kept.kind kind) (is_removed response kept.name)) versions
 
-among_more : (names : List (List ℕ)) (name q : List ℕ) → is_among q (names ++ name ∷ []) ≡ (is_among q names || bytes_eq q name)
+pub among_more : (names : List (List ℕ)) (name q : List ℕ) → is_among q (names ++ name ∷ []) ≡ (is_among q names || bytes_eq q name)
 among_more names name q =
     list_any-append (λ n. bytes_eq n q) names (name ∷ []) ∙ ap (λ b. is_among q names || b) (or_none (bytes_eq name q) ∙ nat_list_eq_equiv.symm name q)
   where

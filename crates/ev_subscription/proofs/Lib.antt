@@ -1,3 +1,5 @@
 pub mod TextLemmas
 pub mod HeldLemmas
 pub mod KindLemmas
+pub mod ResponseLemmas
+pub mod UnwatchedLemmas

@@ -1,5 +1,5 @@
 -- The versions of one kind as a subscription holds them: by name.
-use Rattle.std.specs.Prelude.{ℕ, Bool, true, if◌then◌else◌, List, map}
+use Rattle.std.specs.Prelude.{ℕ, true, if◌then◌else◌, List, map}
 use Rattle.std.specs.BTreeMap.{is_at}
 use Rattle.std.specs.Ordering.{nat_cmp}
 use Rattle.std.specs.Cmp.Lexicographic.{slice_cmp}

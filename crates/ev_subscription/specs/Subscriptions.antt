@@ -1,10 +1,15 @@
 -- What a subscription knows, and which worlds it stands for. Source: the xDS transport protocol, incremental variant.
-use Rattle.std.specs.Prelude.{◌≡◌, ℕ, Bool, List, filter}
+use Rattle.std.specs.Prelude.{◌≡◌, ℕ, Bool, true, false, not, ◌&&◌, List, filter}
+use Rattle.std.specs.List.{list_any}
 use Rattle.ev_types.specs.Kinds.{kind_same}
 use Rattle.ev_types.specs.declared.contents.Kind.{Kind}
 use Rattle.ev_types.specs.declared.contents.Kind.TheVariants.{Cds, Eds, Lds, Rds}
 use Rattle.ev_types.specs.declared.rows.KeptVersion.{KeptVersion}
 use Rattle.ev_model.specs.World.{World}
+use Rattle.ev_model.specs.Live.{lives_of}
+use Rattle.ev_model.specs.Verdicts.{is_among}
+use Rattle.ev_model.specs.Versions.{is_version_of}
+use Rattle.ev_model.specs.Watching.{is_watched}
 use Rattle.ev_model_laws.specs.VersionsKept.{AreKeptOnce}
 
 -- the node, whether a stream is open, and the versions that are held of each kind
@@ -40,3 +45,18 @@ pub record StandsFor (subscription : SubscriptionParts) (world : World) : Type 0
   pub stream : subscription.stream ≡ world.stream
   pub versions : (kind : Kind) → held_of subscription kind ≡ kept_of kind world.versions
   pub kept_once : AreKeptOnce world.versions
+
+-- the worlds have the same node, stream and versions
+pub record SameVersions (world other : World) : Type 0 where
+  pub node : world.node ≡ other.node
+  pub stream : world.stream ≡ other.stream
+  pub versions : world.versions ≡ other.versions
+
+-- versions but those of these names of a kind
+abbrev pub without_versions : Kind → List (List ℕ) → List KeptVersion → List KeptVersion
+without_versions kind names versions = filter (λ (kept : KeptVersion). not (kind_same kept.kind kind && is_among kept.name names)) versions
+
+-- of this kind none of these names is watched in the world, and each other one that has a version is
+pub record AreEnded (kind : Kind) (names : List (List ℕ)) (world : World) : Type 0 where
+  pub ended : (name : List ℕ) → is_among name names ≡ true → is_watched (lives_of world) kind name ≡ false
+  pub others : (name : List ℕ) → list_any (is_version_of kind name) world.versions ≡ true → is_among name names ≡ false → is_watched (lives_of world) kind name ≡ true

@@ -2,14 +2,18 @@
 //! requests of each event.
 #![tactic(auto)]
 
+mod changes;
+mod laws;
 mod names;
 mod replies;
 mod requests;
+mod responses;
 mod subscription;
 #[cfg(test)]
 mod tests;
 mod versions;
 
+pub use changes::NameChange;
+pub use laws::stands_for_same_versions;
 pub use replies::reply_of;
-pub use requests::NameChange;
 pub use subscription::Subscription;

@@ -3,16 +3,10 @@ ghost use Rattle.ev_model.specs.World.{World};
 ghost use Rattle.ev_model.specs.Requests.{Watched, connect_requests_by, clusters_request, listeners_request, listeners_asked, names_request, other_than, requests_by, whole_request};
 ghost use Rattle.ev_subscription.specs.Subscriptions.{StandsFor};
 
+use crate::changes::NameChange;
 use crate::subscription::Subscription;
 use ev_types::{Kind, Name, Request, Seq, Text, TryCopy};
 use std::alloc::{AllocError, Global};
-
-/// The names of a kind that began to be watched, and those that ceased to be, each in the order of their bytes.
-#[derive(Drop)]
-pub struct NameChange {
-    pub begun: Seq<Name>,
-    pub ended: Seq<Name>,
-}
 
 impl Subscription {
     /// What is asked for when a stream opens: all clusters, with the node; the watched endpoints; all listeners, where they are

@@ -1,11 +1,13 @@
 ghost use Rattle.std.specs.Prelude.{◌≡◌, [], false, map, if◌then◌else◌, IfOk, OnOk, OnErr};
 ghost use Rattle.ev_types.specs.declared.contents.Kind.{Kind};
+ghost use Rattle.ev_types.specs.declared.contents.Kind.TheVariants.{Eds, Rds};
 ghost use Rattle.ev_model.specs.Rows.{versions_left};
+ghost use Rattle.ev_model.specs.Tidy.{without_unwatched};
 ghost use Rattle.ev_model.specs.Verdicts.{is_removed};
 ghost use Rattle.ev_model.specs.Versions.{is_bounded, is_kept, renewed, versions_of, with_version, without_version};
 ghost use Rattle.ev_model.specs.World.{World};
 ghost use Rattle.ev_subscription.specs.Held.{versions_in};
-ghost use Rattle.ev_subscription.specs.Subscriptions.{StandsFor, held_of, with_held};
+ghost use Rattle.ev_subscription.specs.Subscriptions.{AreEnded, StandsFor, held_of, with_held, without_versions};
 
 use crate::names::VersionName;
 use crate::versions::{self, Held, Versions};
@@ -206,6 +208,27 @@ impl Subscription {
     {
         if mentions.is_removed(name) {
             self.forget(kind, name);
+        }
+    }
+
+    /// Forgets the versions of the endpoints and of the routes whose names ceased to be watched. It takes no memory, and looks at
+    /// these names alone.
+    pub fn forget_unwatched(&mut self, endpoints: &Seq<Name>, routes: &Seq<Name>)
+        // Whatever world it stood for, where no other name that is held of either kind is one that nobody watches, it stands for
+        // that world without what isn't watched.
+        ensures { (world : World) → StandsFor self.old world → AreEnded Eds endpoints.now world → AreEnded Rds routes.now world
+            → StandsFor self.new (without_unwatched world) }
+    {
+        self.forget_all(Kind::Eds, endpoints.as_slice());
+        self.forget_all(Kind::Rds, routes.as_slice());
+    }
+
+    // Forgets the versions of these names of a kind.
+    fn forget_all(&mut self, kind: Kind, names: &[Name])
+        ensures { (world : World) → StandsFor self.old world → StandsFor self.new (record world { versions = without_versions kind names.now world.versions }) }
+    {
+        for name in names {
+            self.forget(kind, name.as_str());
         }
     }
 

@@ -1,8 +1,13 @@
 //! One way through the calls, in steps that own nothing.
 ghost use Rattle.std.specs.Prelude.{◌≡◌, length, IfOk};
+ghost use Rattle.ev_types.specs.Items.{IsBodyOf};
+ghost use Rattle.ev_types.specs.declared.contents.Kind.TheVariants.{Eds};
 
 use crate::{NameChange, Subscription, reply_of};
-use ev_types::{Item, Kind, Name, Request, Response, Seq, Text, TryCopy};
+use ev_types::{
+    Assignment, Body, Content, Item, Kind, Name, Request, Response, Seq, Shared, Text, TryCopy,
+    Verdict,
+};
 use ev_verdicts::Mentions;
 use std::alloc::Global;
 use std::test::Fail;
@@ -25,16 +30,34 @@ fn names(alloc: Global, text: &str) -> Result<Seq<Name>, Fail> {
     Ok(names)
 }
 
-fn removing(alloc: Global, text: &str) -> Result<Response, Fail>
-    ensures { IfOk result (λ response. length response.items ≡ 0) }
+// Endpoints under a name, as a resource.
+fn endpoints(alloc: Global, name: &str) -> Result<Item, Fail>
+    ensures { IfOk result (λ item. IsBodyOf Eds item.body) }
 {
-    let mut removed = Seq::new(alloc);
-    removed.push(Text::new(alloc, text)?)?;
+    let name = Name::new(alloc, name)?;
+    let rows = Assignment::new(Seq::new(alloc));
+    Ok(Item {
+        name: Text::new(alloc, name.as_str())?,
+        version: Text::new(alloc, "2")?,
+        ttl: false,
+        body: Body::Good(Content::Assignment(Shared::new(alloc, rows)?)),
+    })
+}
+
+// A response with this resource that removes a name.
+fn response(alloc: Global, item: Item, removed: &str) -> Result<Response, Fail>
+    requires { IsBodyOf Eds item.body }
+    ensures { IfOk result (λ response. length response.items ≡ 1) }
+{
+    let mut items = Seq::new(alloc);
+    items.push(item)?;
+    let mut removals = Seq::new(alloc);
+    removals.push(Text::new(alloc, removed)?)?;
     Ok(Response {
         kind: Some(Kind::Eds),
         nonce: Text::new(alloc, "n")?,
-        items: Seq::<Item>::new(alloc),
-        removed,
+        items,
+        removed: removals,
     })
 }
 
@@ -54,28 +77,60 @@ fn connect(alloc: Global, subscription: &Subscription) -> Result<(usize, usize),
     Ok(told(&requests))
 }
 
-// The removal of the endpoints, and what is asked for after it.
-fn forget(
-    alloc: Global,
-    subscription: &mut Subscription,
-    response: &Response,
-) -> Result<(usize, usize), Fail>
-    requires { length response.now.items ≡ 0 }
+// A response brings endpoints.
+fn bring(alloc: Global, subscription: &mut Subscription, response: &Response) -> Result<(), Fail>
+    requires { length response.now.items ≡ 1 }
 {
     let mentions = Mentions::of(alloc, response)?;
-    subscription.forget_removed(Kind::Eds, &mentions);
-    subscription.forget(Kind::Cds, "c");
-    let change = NameChange {
-        begun: Seq::new(alloc),
-        ended: names(alloc, "e")?,
-    };
+    Ok(subscription.respond(alloc, Kind::Eds, &[Verdict::Kept], &mentions)?)
+}
+
+// Endpoints are watched in the place of others, which are forgotten.
+fn change(alloc: Global, subscription: &mut Subscription) -> Result<NameChange, Fail> {
+    let before = names(alloc, "e")?;
+    let after = names(alloc, "f")?;
+    let change = NameChange::between(alloc, &before, &after)?;
+    subscription.forget_unwatched(&change.ended, &before);
+    Ok(change)
+}
+
+// What is asked for after the response and the change.
+fn ask(
+    alloc: Global,
+    subscription: &Subscription,
+    response: &Response,
+    change: NameChange,
+) -> Result<(usize, usize), Fail>
+    requires { length response.now.items ≡ 1 }
+{
     let none = NameChange {
         begun: Seq::new(alloc),
         ended: Seq::new(alloc),
     };
-    let reply = reply_of(alloc, Kind::Eds, response, &[])?;
+    let reply = reply_of(alloc, Kind::Eds, response, &[Verdict::Kept])?;
     let requests = subscription.requests_after(alloc, Some(reply), change, none, false)?;
     Ok(told(&requests))
+}
+
+// A response that brings endpoints and removes others, and what is asked for after it.
+fn respond(
+    alloc: Global,
+    subscription: &mut Subscription,
+    response: &Response,
+) -> Result<(usize, usize), Fail>
+    requires { length response.now.items ≡ 1 }
+{
+    bring(alloc, subscription, response)?;
+    let change = change(alloc, subscription)?;
+    subscription.forget(Kind::Cds, "c");
+    ask(alloc, subscription, response, change)
+}
+
+// The same, with the response made.
+fn answer(alloc: Global, subscription: &mut Subscription) -> Result<(usize, usize), Fail> {
+    let item = endpoints(alloc, "f")?;
+    let response = response(alloc, item, "g")?;
+    respond(alloc, subscription, &response)
 }
 
 // Whether a copy has the endpoints' version, with its bound.
@@ -84,20 +139,42 @@ fn is_copied(alloc: Global, subscription: &Subscription) -> Result<bool, Fail> {
     Ok(copied.is_kept(Kind::Eds, "e", "1") && copied.is_bounded(Kind::Eds, "e"))
 }
 
+// Whether the version 1 of a cluster, or of endpoints that went, is still held.
+fn is_left(subscription: &Subscription) -> bool {
+    subscription.is_kept(Kind::Cds, "c", "1")
+        || subscription.is_kept(Kind::Eds, "e", "1")
+        || subscription.is_kept(Kind::Eds, "g", "1")
+}
+
+// What is held before the first request.
+fn prepare(alloc: Global, subscription: &mut Subscription) -> Result<(), Fail> {
+    subscription.set_stream(true);
+    hold(alloc, subscription, Kind::Cds, "c")?;
+    hold(alloc, subscription, Kind::Eds, "e")?;
+    hold(alloc, subscription, Kind::Eds, "g")?;
+    subscription.renew(Kind::Eds, "e");
+    Ok(())
+}
+
+// Whether a copy has all, what is asked for first and then, whether something is left that went, and whether what came is held.
+fn walk(
+    alloc: Global,
+    subscription: &mut Subscription,
+) -> Result<(bool, (usize, usize), (usize, usize), bool, bool), Fail> {
+    prepare(alloc, subscription)?;
+    let copied = is_copied(alloc, subscription)?;
+    let asked = connect(alloc, subscription)?;
+    let after = answer(alloc, subscription)?;
+    let came = subscription.is_kept(Kind::Eds, "f", "2");
+    Ok((copied, asked, after, is_left(subscription), came))
+}
+
 #[test]
 fn a_subscription_asks_for_what_it_holds(rt: HostRuntime) -> Result<(), Fail> {
     let alloc = rt.alloc();
-    let mut subscription = Subscription::new(alloc, Text::new(alloc, "node")?);
-    subscription.set_stream(true);
-    hold(alloc, &mut subscription, Kind::Cds, "c")?;
-    hold(alloc, &mut subscription, Kind::Eds, "e")?;
-    subscription.renew(Kind::Eds, "e");
-    let copied = is_copied(alloc, &subscription)?;
-    let asked = connect(alloc, &subscription)?;
-    let response = removing(alloc, "e")?;
-    let after = forget(alloc, &mut subscription, &response)?;
-    let left = subscription.is_kept(Kind::Eds, "e", "1")
-        || subscription.is_kept(Kind::Cds, "c", "1");
-    assert_eq!(rt; (copied, asked, after, left), (true, (3, 1), (2, 0), false));
+    let node = Text::new(alloc, "node")?;
+    let mut subscription = Subscription::new(alloc, node);
+    let seen = walk(alloc, &mut subscription)?;
+    assert_eq!(rt; seen, (true, (3, 1), (2, 0), false, true));
     Ok(())
 }

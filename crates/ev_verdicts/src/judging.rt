@@ -33,10 +33,25 @@ pub fn verdicts<K: Known>(
         → Tells (K.answers known.now) kind lives versions → verdicts ≡ verdicts_of lives versions response.now) }
     ensures one_each { IfOk result (λ verdicts. length verdicts ≡ length response.now.items) }
 {
-    let Some(kind) = response.kind else {
+    let mentions = Mentions::of(alloc, response)?;
+    verdicts_by_mentions(alloc, known, &mentions)
+}
+
+/// The verdicts on a response, for a caller who has what it mentions: as `verdicts`.
+pub fn verdicts_by_mentions<K: Known>(
+    alloc: Global,
+    known: &K,
+    mentions: &Mentions<'_>,
+) -> Result<Seq<Verdict>, AllocError>
+    requires { IsSome mentions.now.kind }
+    ensures verdicts { IfOk result (λ verdicts. (kind : Kind) (lives : List Live) (versions : List KeptVersion) → mentions.now.kind ≡ Some kind
+        → Tells (K.answers known.now) kind lives versions → verdicts ≡ verdicts_of lives versions mentions.now) }
+    ensures one_each { IfOk result (λ verdicts. length verdicts ≡ length mentions.now.items) }
+{
+    let Some(kind) = mentions.response().kind else {
         return Ok(Seq::new(alloc));
     };
-    judge_all(alloc, kind, known, response)
+    judge_all(alloc, kind, known, mentions)
 }
 
 // The verdicts on the resources of a response of this kind.
@@ -44,20 +59,34 @@ fn judge_all<K: Known>(
     alloc: Global,
     kind: Kind,
     known: &K,
-    response: &Response,
+    mentions: &Mentions<'_>,
 ) -> Result<Seq<Verdict>, AllocError>
-    ensures verdicts { IfOk result (λ verdicts. verdicts ≡ all_judged (K.answers known.now) kind response.now [] response.now.items) }
-    ensures one_each { IfOk result (λ verdicts. length verdicts ≡ length response.now.items) }
+    ensures verdicts { IfOk result (λ verdicts. verdicts ≡ all_judged (K.answers known.now) kind mentions.now [] mentions.now.items) }
+    ensures one_each { IfOk result (λ verdicts. length verdicts ≡ length mentions.now.items) }
 {
-    let mentions = Mentions::of(alloc, response)?;
+    let response = mentions.response();
+    judge_items(alloc, kind, known, mentions, response.items.as_slice())
+}
+
+// The verdicts on these resources of the response that mentions them.
+fn judge_items<K: Known>(
+    alloc: Global,
+    kind: Kind,
+    known: &K,
+    mentions: &Mentions<'_>,
+    items: &[Item],
+) -> Result<Seq<Verdict>, AllocError>
+    ensures verdicts { IfOk result (λ verdicts. verdicts ≡ all_judged (K.answers known.now) kind mentions.now [] items.now) }
+    ensures one_each { IfOk result (λ verdicts. length verdicts ≡ length items.now) }
+{
     let mut made = Made::new(alloc);
-    let mut verdicts = Seq::new(alloc);
-    for item in response.items.as_slice() {
-        let verdict = judge(alloc, kind, known, &mentions, &made, item)?;
+    let mut verdicts = Vec::new(alloc);
+    for item in items {
+        let verdict = judge(alloc, kind, known, mentions, &made, item)?;
         made = note(alloc, made, verdict, item)?;
         verdicts.push(verdict)?;
     }
-    Ok(verdicts)
+    Ok(Seq::from_vec(verdicts))
 }
 
 // The verdict on one resource.

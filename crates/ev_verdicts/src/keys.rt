@@ -6,7 +6,7 @@ use std::marker::Model;
 
 /// A text as a key.
 #[derive(Drop)]
-pub(crate) struct NameKey<'a> {
+pub struct NameKey<'a> {
     name: &'a str,
 }
 
@@ -20,14 +20,14 @@ impl<'a> Model for NameKey<'a> {
 
 impl<'a> NameKey<'a> {
     /// The key of this text.
-    pub(crate) fn new(name: &'a str) -> NameKey<'a>
+    pub fn new(name: &'a str) -> NameKey<'a>
         ensures { result ≡ name.now }
     {
         NameKey { name }
     }
 
     /// The text.
-    pub(crate) fn as_str(&self) -> &'a str
+    pub fn as_str(&self) -> &'a str
         ensures { result.now ≡ self.now }
     {
         self.name

@@ -11,7 +11,8 @@ mod made;
 mod mentions;
 mod rules;
 
-pub use judging::verdicts;
+pub use judging::{verdicts, verdicts_by_mentions};
+pub use keys::NameKey;
 pub use known::Known;
 pub use listed::Listed;
 pub use mentions::Mentions;

@@ -7,7 +7,7 @@ use Rattle.ev_script.proofs.read_input.read_input.Given as goal
 
 abbrev pub invariant-lines : goal.invariant-lines
 invariant-lines g l = record {
-  reading : IsReading g.F.Forms.forms g.F.Forms.keeps l.audit (g.S.Source.left l.fn.source) (g.S.Source.left l.source) l.lines l.header l.kept.items;
+  reading : IsReading g.F.Forms.forms g.F.Forms.keeps l.audit (g.S.Source.left l.fn.source) (g.S.Source.left l.source) l.lines l.header l.heading.items l.kept.items;
   header : IsHeader l.header;
   at_end : IsTrue l.lines.ended → IsAtEnd (g.S.Source.left l.source);
   at_most : IsWithin l.lines;

@@ -1,5 +1,4 @@
-use Rattle.std.proofs.Common.{◌≡◌, ◌∙◌, ap, sym, true, BTreeMap}
-use Rattle.ev_subscription.specs.Held.{Entries}
+use Rattle.std.proofs.Common.{◌∙◌, ap, sym, true, BTreeMap}
 use Rattle.ev_subscription.specs.declared.names.VersionName.{VersionName}
 use Rattle.ev_subscription.specs.declared.versions.Held.{Held}
 use Rattle.ev_subscription.proofs.HeldLemmas.{bound_missed, bound_written}

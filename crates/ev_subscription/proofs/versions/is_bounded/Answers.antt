@@ -1,4 +1,4 @@
-use Rattle.std.proofs.Common.{◌≡◌, ◌∙◌, ap}
+use Rattle.std.proofs.Common.{◌∙◌, ap}
 use Rattle.ev_subscription.specs.declared.versions.Held.{Held}
 use Rattle.ev_subscription.proofs.HeldLemmas.{told_of, bounded_found}
 use Rattle.ev_subscription.proofs.versions.is_bounded.Goals as goal

@@ -1,23 +1,14 @@
-use Rattle.std.proofs.Common.{◌≡◌, ◌∙◌, ap, sym, [], List, ℕ, Result, Ok, Err}
-use Rattle.std.specs.Result.{OnOk, OnErr}
+use Rattle.std.proofs.Common.{◌≡◌, ◌∙◌, ap, []}
+use Rattle.std.specs.Result.{OnOk}
 use Rattle.ev_types.specs.declared.rows.KeptVersion.{KeptVersion}
 use Rattle.ev_model.specs.World.{World}
 use Rattle.ev_model.specs.Versions.{with_version}
-use Rattle.ev_subscription.specs.declared.versions.Held.{Held}
 use Rattle.ev_subscription.specs.Held.{versions_in, name_order}
 use Rattle.std.specs.BTreeMap.{insert_entry}
 use Rattle.ev_subscription.specs.Subscriptions.{StandsFor, held_of, with_held}
-use Rattle.ev_subscription.proofs.HeldLemmas.{held_more}
-use Rattle.ev_subscription.proofs.KindLemmas.{stands_with, with_put, with_same}
+use Rattle.ev_subscription.proofs.HeldLemmas.{held_more, on_ok}
+use Rattle.ev_subscription.proofs.KindLemmas.{stands_with, with_put}
 use Rattle.ev_subscription.proofs.subscription.Subscription.accept.Goals as goal
-
-on_ok : {V E : Type 0} (P Q : Type 0) (r : Result V E) → (P → Q) → OnOk r P → OnOk r Q
-on_ok P Q (Ok v) so p = so p
-on_ok P Q (Err e) so p = p
-
-on_err : {V E : Type 0} (P Q : Type 0) (r : Result V E) → (P → Q) → OnErr r P → OnErr r Q
-on_err P Q (Ok v) so p = p
-on_err P Q (Err e) so p = so p
 
 -- the version that is accepted
 abbrev version : (c : goal.After-put) → KeptVersion

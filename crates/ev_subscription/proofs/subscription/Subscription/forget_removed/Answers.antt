@@ -1,4 +1,4 @@
-use Rattle.std.proofs.Common.{◌≡◌, ◌∙◌, ap, sym, subst, List, filter, take}
+use Rattle.std.proofs.Common.{◌∙◌, ap, sym, subst, List, filter, take}
 use Rattle.ev_types.specs.Items.{ResponseParts}
 use Rattle.ev_types.specs.declared.rows.KeptVersion.{KeptVersion}
 use Rattle.ev_subscription.specs.Subscriptions.{StandsFor}

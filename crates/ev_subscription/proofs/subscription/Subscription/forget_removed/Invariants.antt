@@ -1,4 +1,4 @@
-use Rattle.std.proofs.Common.{◌≡◌, filter, take}
+use Rattle.std.proofs.Common.{filter, take}
 use Rattle.ev_model.specs.World.{World}
 use Rattle.ev_subscription.specs.Subscriptions.{StandsFor}
 use Rattle.ev_subscription.proofs.KindLemmas.{is_left}

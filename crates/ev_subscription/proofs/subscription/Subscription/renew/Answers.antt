@@ -1,4 +1,4 @@
-use Rattle.std.proofs.Common.{◌≡◌, ◌∙◌, ap, []}
+use Rattle.std.proofs.Common.{◌∙◌, ap, []}
 use Rattle.ev_model.specs.Versions.{renewed}
 use Rattle.ev_subscription.specs.Held.{versions_in}
 use Rattle.ev_subscription.specs.Subscriptions.{with_held}

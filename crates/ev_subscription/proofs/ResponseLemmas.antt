@@ -1,0 +1,62 @@
+-- What a response does to the versions, among all that it does to a world.
+use Rattle.std.proofs.Common.{◌≡◌, ℕ, ◌+◌, ◌<◌, ◌≤◌, List, length, drop, get_or, refl, sym, ap, subst, ◌∙◌, ◌⊎◌, inl, inr}
+use Rattle.std.proofs.lemmas.List.{drop_more, drop_all}
+use Rattle.ev_types.specs.Items.{ItemParts}
+use Rattle.ev_types.specs.declared.contents.Body.{Body}
+use Rattle.ev_types.specs.declared.contents.Body.TheVariants.{Good, Bad, Beat}
+use Rattle.ev_types.specs.declared.contents.Kind.{Kind}
+use Rattle.ev_types.specs.declared.events.Verdict.{Verdict}
+use Rattle.ev_types.specs.declared.events.Verdict.TheVariants.{New, Same, Kept}
+use Rattle.ev_model.specs.World.{World}
+use Rattle.ev_model.specs.Rows.{add_item, add_items, add_row, keep_value, keep_version, with_content}
+use Rattle.ev_model_laws.specs.VersionsKept.{AreKeptOnce}
+use Rattle.ev_subscription.specs.Subscriptions.{SubscriptionParts, SameVersions, StandsFor, kept_of}
+
+-- a subscription stands for each world with the node, the stream and the versions of one that it stands for
+pub stands_as : (s : SubscriptionParts) (world other : World) → SameVersions world other → StandsFor s world → StandsFor s other
+stands_as s world other same stands = record {
+  node = stands.node ∙ same.node;
+  stream = stands.stream ∙ same.stream;
+  versions = λ kind. stands.versions kind ∙ ap (kept_of kind) same.versions;
+  kept_once = subst AreKeptOnce same.versions stands.kept_once;
+}
+
+-- a new generation keeps its version, and no other thing of it is a version
+pub new_stands : (s : SubscriptionParts) (kind : Kind) (item : ItemParts) (body : Body) (world : World)
+    → StandsFor s (with_content (λ content. keep_version kind item) body world) → StandsFor s (with_content (add_row kind item) body world)
+new_stands s kind item (Good content) world stands =
+    stands_as s (keep_version kind item world) (add_row kind item content world) (record { node = refl; stream = refl; versions = refl }) stands
+new_stands s kind item (Bad rule) world stands = stands
+new_stands s kind item Beat world stands = stands
+
+-- a value that came keeps its version
+pub kept_stands : (s : SubscriptionParts) (kind : Kind) (item : ItemParts) (body : Body) (world : World)
+    → StandsFor s (with_content (λ content. keep_version kind item) body world) → StandsFor s (with_content (keep_value kind item) body world)
+kept_stands s kind item (Good content) world stands =
+    stands_as s (keep_version kind item world) (keep_value kind item content world) (record { node = refl; stream = refl; versions = refl }) stands
+kept_stands s kind item (Bad rule) world stands = stands
+kept_stands s kind item Beat world stands = stands
+
+-- the version of a resource that is new, the same or kept is all that a subscription learns of it
+pub good_stands : (s : SubscriptionParts) (kind : Kind) (verdict : Verdict) (item : ItemParts) (world : World)
+    → (verdict ≡ New) ⊎ ((verdict ≡ Same) ⊎ (verdict ≡ Kept))
+    → StandsFor s (with_content (λ content. keep_version kind item) item.body world) → StandsFor s (add_item kind verdict item world)
+good_stands s kind verdict item world (inl is) stands =
+    subst (λ (v : Verdict). StandsFor s (add_item kind v item world)) (sym is) (new_stands s kind item item.body world stands)
+good_stands s kind verdict item world (inr (inl is)) stands =
+    subst (λ (v : Verdict). StandsFor s (add_item kind v item world)) (sym is) stands
+good_stands s kind verdict item world (inr (inr is)) stands =
+    subst (λ (v : Verdict). StandsFor s (add_item kind v item world)) (sym is) (kept_stands s kind item item.body world stands)
+
+-- one resource more has come in
+pub item_more : (kind : Kind) (verdicts : List Verdict) (items : List ItemParts) (place : ℕ) (verdict : Verdict) (item : ItemParts) (world : World)
+    → place < length verdicts → place < length items → item ≡ get_or items place item
+    → add_items kind (drop (place + 1) verdicts) (drop (place + 1) items) (add_item kind (get_or verdicts place verdict) item world) ≡ add_items kind (drop place verdicts) (drop place items) world
+item_more kind verdicts items place verdict item world within here i =
+    (λ j. add_items kind (drop (place + 1) verdicts) (drop (place + 1) items) (add_item kind (get_or verdicts place verdict) (i j) world))
+    ∙ sym (λ j. add_items kind (drop_more verdicts place verdict within j) (drop_more items place item here j) world)
+
+-- behind the last resource
+pub items_done : (kind : Kind) (verdicts : List Verdict) (items : List ItemParts) (place : ℕ) (world : World) → length verdicts ≤ place → length items ≤ place
+    → add_items kind (drop place verdicts) (drop place items) world ≡ world
+items_done kind verdicts items place world v i = λ j. add_items kind (drop_all place verdicts v j) (drop_all place items i j) world

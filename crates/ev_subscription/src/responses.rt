@@ -1,0 +1,80 @@
+ghost use Rattle.std.specs.Prelude.{◌≡◌, OnOk, length};
+ghost use Rattle.ev_model.specs.World.{World};
+ghost use Rattle.ev_model.specs.Rows.{add_item, add_items, keep_version, with_content, with_removals};
+ghost use Rattle.ev_subscription.specs.Subscriptions.{StandsFor};
+
+use crate::subscription::Subscription;
+use ev_types::{Body, Item, Kind, TryCopy, Verdict};
+use ev_verdicts::Mentions;
+use std::alloc::{AllocError, Global};
+
+impl Subscription {
+    /// A response of this kind, by what it mentions, with the verdicts on its resources: the versions of removed names are
+    /// forgotten; then, in order, the version of each resource that is new, the same or kept is held, and a heartbeat bounds a
+    /// life anew. Without memory some of it may be done.
+    pub fn respond(
+        &mut self,
+        alloc: Global,
+        kind: Kind,
+        verdicts: &[Verdict],
+        mentions: &Mentions<'_>,
+    ) -> Result<(), AllocError>
+        requires { length verdicts.now ≡ length mentions.now.items }
+        // Whatever world it stood for, it stands for that world once the response's removals and resources are in.
+        ensures { OnOk result ((world : World) → StandsFor self.old world
+            → StandsFor self.new (add_items kind verdicts.now mentions.now.items (with_removals kind mentions.now world))) }
+    {
+        self.forget_removed(kind, mentions);
+        let response = mentions.response();
+        self.keep_all(alloc, kind, verdicts, response.items.as_slice())
+    }
+
+    // The resources of a response, in order, each with its verdict.
+    fn keep_all(
+        &mut self,
+        alloc: Global,
+        kind: Kind,
+        verdicts: &[Verdict],
+        items: &[Item],
+    ) -> Result<(), AllocError>
+        requires { length verdicts.now ≡ length items.now }
+        ensures { OnOk result ((world : World) → StandsFor self.old world → StandsFor self.new (add_items kind verdicts.now items.now world)) }
+    {
+        for (place, item) in items.iter().enumerate() {
+            self.keep(alloc, kind, verdicts[place], item)?;
+        }
+        Ok(())
+    }
+
+    // One resource with its verdict.
+    fn keep(
+        &mut self,
+        alloc: Global,
+        kind: Kind,
+        verdict: Verdict,
+        item: &Item,
+    ) -> Result<(), AllocError>
+        ensures { OnOk result ((world : World) → StandsFor self.old world → StandsFor self.new (add_item kind verdict item.now world)) }
+    {
+        match verdict {
+            Verdict::New | Verdict::Same | Verdict::Kept => self.keep_good(alloc, kind, item),
+            Verdict::Renewed => {
+                self.renew(kind, item.name.as_str());
+                Ok(())
+            }
+            Verdict::Unasked | Verdict::Refused(_) => Ok(()),
+        }
+    }
+
+    // The version of a resource, where its body is good.
+    fn keep_good(&mut self, alloc: Global, kind: Kind, item: &Item) -> Result<(), AllocError>
+        ensures { OnOk result ((world : World) → StandsFor self.old world → StandsFor self.new (with_content (λ content. keep_version kind item.now) item.now.body world)) }
+    {
+        let Body::Good(_) = &item.body else {
+            return Ok(());
+        };
+        let name = item.resource_name(alloc)?;
+        let version = item.version.copy(alloc)?;
+        self.accept(kind, name, version, item.ttl)
+    }
+}
