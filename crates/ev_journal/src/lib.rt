@@ -7,4 +7,4 @@ mod tests;
 mod words;
 mod writing;
 
-pub use writing::{render_journal, write_end_line, write_first_line, write_line};
+pub use writing::{render_journal, write_end_line, write_first_line, write_line, write_row};
