@@ -1,6 +1,6 @@
 ghost use Rattle.std.specs.Prelude.{◌≡◌, false, IfOk};
 ghost use Rattle.serde_json.specs.View.{view};
-ghost use Rattle.serde_json.specs.Written.{has_float};
+ghost use Rattle.serde_json.specs.Written.{has_float, compact_text};
 ghost use Rattle.std.specs.Str.{IsUtf8};
 ghost use Rattle.ev_journal.specs.Rendering.{rendering_of, line_text, row_object, entry_tree, first_tree, end_tree};
 ghost use Rattle.ev_journal.specs.Rows.{row_text};
@@ -70,6 +70,20 @@ pub fn write_end_line(alloc: Global, entries: usize) -> Result<Vec<u8>, AllocErr
     ensures line { IfOk result (λ line. line.items ≡ line_text (end_tree entries)) }
 {
     line_of(alloc, &end_value(alloc, entries)?)
+}
+
+/// Writes the text of a journal's first line, without the line feed that closes it.
+pub fn write_first_text(alloc: Global, format: Format, workers: u32) -> Result<Vec<u8>, AllocError>
+    ensures text { IfOk result (λ text. text.items ≡ compact_text (first_tree format workers)) }
+{
+    first_value(alloc, format, workers)?.to_vec(alloc)
+}
+
+/// Writes the text of a journal's last line, without the line feed that closes it.
+pub fn write_end_text(alloc: Global, entries: usize) -> Result<Vec<u8>, AllocError>
+    ensures text { IfOk result (λ text. text.items ≡ compact_text (end_tree entries)) }
+{
+    end_value(alloc, entries)?.to_vec(alloc)
 }
 
 // The line of a tree.
