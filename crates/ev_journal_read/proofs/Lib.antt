@@ -10,3 +10,4 @@ pub mod RowRead
 pub mod KeptLemmas
 pub mod ChosenLemmas
 pub mod TextLemmas
+pub mod JournalLemmas

@@ -2,6 +2,7 @@
 #![tactic(auto)]
 
 mod answers;
+mod journal;
 mod laws;
 mod lists;
 mod outcome;
@@ -12,6 +13,7 @@ mod rows;
 mod tests;
 mod words;
 
+pub use journal::read_rows;
 pub use laws::{has_one_row, reads_as_written, writes_one_to_one};
 pub use outcome::RowError;
 pub use rows::read_row;
