@@ -1,4 +1,5 @@
-use crate::{RowError, read_row};
+use crate::{RowError, read_row, read_rows};
+use ev_io::{Lines, MemSource, ScriptFault};
 use ev_journal::write_row;
 use std::alloc::{AllocError, Global};
 use std::test::Fail;
@@ -206,5 +207,53 @@ fn tells_lines_from_others(rt: HostRuntime) -> Result<(), Fail> {
         assert_eq!(rt; is_row(rt.alloc(), text.as_bytes())?, *want);
     }
     assert!(rt; !is_row(rt.alloc(), &[34, 255, 34])?);
+    Ok(())
+}
+
+// How many rows a journal of two workers has behind its first line, and 0; or the line of its first fault, counted from
+// the one behind the first, and the kind, which is 10 for a failed read.
+fn rows_of(
+    alloc: Global,
+    first: &str,
+    text: &str,
+    failing: u64,
+) -> Result<(usize, u8), AllocError> {
+    let fails = vec![in alloc; failing]?;
+    let mut source = MemSource::new(text.as_bytes().to_vec(alloc)?, 7, fails);
+    let mut lines = Lines::new(alloc)?;
+    match read_rows(alloc, first.as_bytes(), 2, &mut lines, &mut source) {
+        Ok((_, rows)) => Ok((rows.len(), 0)),
+        Err(ScriptFault::Bad { line, kind }) => Ok((line as usize, kind)),
+        Err(ScriptFault::Read) => Ok((0, 10)),
+        Err(ScriptFault::OutOfMemory) => Err(AllocError),
+    }
+}
+
+// Journals of both formats, kind 9 in its five places, and a read that fails.
+#[test]
+fn tells_the_first_line_that_is_out_of_place(rt: HostRuntime) -> Result<(), Fail> {
+    let first = r#"{"format":2,"workers":2}"#;
+    let row = r#"{"actor":"main","answer":"unchanged","at":2,"op":"publish","step":0}"#;
+    let one = format!(in rt.alloc(); "{row}\n{{\"end\":1}}")?;
+    let blank = format!(in rt.alloc(); "{row} \n{{\"end\":1}}\n")?;
+    let more = format!(in rt.alloc(); "{row}\n{{\"end\":2}}\n")?;
+    let endless = format!(in rt.alloc(); "{row}\n{row}\n")?;
+    let wants = [
+        (first, "{\"end\":0}\n", 9, (0, 0)),
+        (r#"{"format":1,"workers":2}"#, "{\"end\":0}\n", 9, (0, 0)),
+        (first, one.as_str(), 99, (1, 0)),
+        (r#"{"format":2,"workers":3}"#, one.as_str(), 99, (0, 9)),
+        (r#"{"format":3,"workers":2}"#, one.as_str(), 99, (0, 9)),
+        (r#"{"format": 2,"workers":2}"#, one.as_str(), 99, (0, 9)),
+        (first, blank.as_str(), 99, (1, 9)),
+        (first, more.as_str(), 99, (2, 9)),
+        (first, "{\"end\":0}\n\n", 99, (2, 9)),
+        (first, endless.as_str(), 99, (3, 9)),
+        (first, "", 99, (1, 9)),
+        (first, one.as_str(), 2, (0, 10)),
+    ];
+    for (first, text, failing, want) in &wants {
+        assert_eq!(rt; rows_of(rt.alloc(), first, text, *failing)?, *want);
+    }
     Ok(())
 }
