@@ -39,3 +39,7 @@ row_tree-whole row = neither _ _ (answer_tree-whole row.answer) refl
 -- the same of what is equal to an entry's tree
 pub entry_whole : (entry : Entry) (d : Data) → d ≡ entry_tree entry → has_float d ≡ false
 entry_whole entry d e = ap has_float e ∙ row_tree-whole (entry_row entry)
+
+-- the same of what is equal to a row's tree
+pub row_whole : (row : Row) (d : Data) → d ≡ row_tree row → has_float d ≡ false
+row_whole row d e = ap has_float e ∙ row_tree-whole row

@@ -7,4 +7,7 @@ mod tests;
 mod words;
 mod writing;
 
-pub use writing::{render_journal, write_end_line, write_first_line, write_line};
+pub use writing::{
+    render_journal, write_end_line, write_end_text, write_first_line, write_first_text, write_line,
+    write_row,
+};

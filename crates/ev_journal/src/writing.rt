@@ -1,11 +1,13 @@
 ghost use Rattle.std.specs.Prelude.{◌≡◌, false, IfOk};
 ghost use Rattle.serde_json.specs.View.{view};
-ghost use Rattle.serde_json.specs.Written.{has_float};
+ghost use Rattle.serde_json.specs.Written.{has_float, compact_text};
+ghost use Rattle.std.specs.Str.{IsUtf8};
 ghost use Rattle.ev_journal.specs.Rendering.{rendering_of, line_text, row_object, entry_tree, first_tree, end_tree};
+ghost use Rattle.ev_journal.specs.Rows.{row_text};
 
 use crate::answers::answer_value;
 use crate::words::{actor_word, format_number, op_word};
-use ev_types::{Actor, Answer, Entry, Format, Op};
+use ev_types::{Actor, Entry, Format, Op, Row};
 use serde_json::{Value, json};
 use std::alloc::{AllocError, Global};
 
@@ -52,11 +54,36 @@ pub fn write_line(alloc: Global, entry: &Entry) -> Result<Vec<u8>, AllocError>
     line_of(alloc, &value)
 }
 
+/// Writes the text of a row: its line, without the line feed that closes it.
+#[tactic(auto, using(crate::proofs::FloatLemmas::row_whole), unfolding(crate::specs::Rows::row_text))]
+pub fn write_row(alloc: Global, row: &Row) -> Result<Vec<u8>, AllocError>
+    ensures text { IfOk result (λ text. text.items ≡ row_text row.now) }
+    ensures utf8 { IfOk result (λ text. IsUtf8 text.items) }
+{
+    let answer = answer_value(alloc, &row.answer)?;
+    let value = row_value(alloc, row.actor, row.at, row.step, row.op, answer)?;
+    value.to_vec(alloc)
+}
+
 /// Writes the last line of a journal of so many entries, with the line feed that closes it.
 pub fn write_end_line(alloc: Global, entries: usize) -> Result<Vec<u8>, AllocError>
     ensures line { IfOk result (λ line. line.items ≡ line_text (end_tree entries)) }
 {
     line_of(alloc, &end_value(alloc, entries)?)
+}
+
+/// Writes the text of a journal's first line, without the line feed that closes it.
+pub fn write_first_text(alloc: Global, format: Format, workers: u32) -> Result<Vec<u8>, AllocError>
+    ensures text { IfOk result (λ text. text.items ≡ compact_text (first_tree format workers)) }
+{
+    first_value(alloc, format, workers)?.to_vec(alloc)
+}
+
+/// Writes the text of a journal's last line, without the line feed that closes it.
+pub fn write_end_text(alloc: Global, entries: usize) -> Result<Vec<u8>, AllocError>
+    ensures text { IfOk result (λ text. text.items ≡ compact_text (end_tree entries)) }
+{
+    end_value(alloc, entries)?.to_vec(alloc)
 }
 
 // The line of a tree.

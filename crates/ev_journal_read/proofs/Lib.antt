@@ -1,0 +1,13 @@
+pub mod EachLemmas
+pub mod Canonical
+pub mod ReadBack
+pub mod RowTrees
+pub mod WordLemmas
+pub mod PartLemmas
+pub mod VersionLemmas
+pub mod RequestRead
+pub mod RowRead
+pub mod KeptLemmas
+pub mod ChosenLemmas
+pub mod TextLemmas
+pub mod JournalLemmas

@@ -1,0 +1,246 @@
+ghost use Rattle.std.specs.Prelude.{◌≡◌, [], option_map, IfOk};
+ghost use Rattle.serde_json.specs.View.{view};
+ghost use Rattle.ev_script.specs.Members.{member_of};
+ghost use Rattle.ev_journal_read.specs.Trees.{generation_of, number64, list_of, verdict_of, sent_answer, version_answer, local_answer, host_of, served_answer, taken_answer, result_answer, answer_with, answer_of};
+ghost use Rattle.ev_journal.specs.Rows.{is_answered_with};
+ghost use Rattle.ev_types.specs.declared.events.Answer.TheVariants as Answer;
+
+use crate::lists::{Element, read_list};
+use crate::parts::{generation_at, generation_of, name_at, number16_at, number64, word_at};
+use crate::words::{answer_named, unserved_named, verdict_named};
+use ev_types::{Answer, Gen, Host, Op, Verdict};
+use serde_json::Value;
+use std::alloc::{AllocError, Global};
+
+impl Element for Gen {
+    ghost reads = { generation_of };
+
+    fn read(_alloc: Global, tree: &Value) -> Result<Option<Gen>, AllocError> {
+        Ok(generation_of(tree))
+    }
+}
+
+impl Element for u64 {
+    ghost reads = { number64 };
+
+    fn read(_alloc: Global, tree: &Value) -> Result<Option<u64>, AllocError> {
+        Ok(number64(tree))
+    }
+}
+
+impl Element for Verdict {
+    ghost reads = { verdict_of };
+
+    fn read(_alloc: Global, tree: &Value) -> Result<Option<Verdict>, AllocError> {
+        match tree.as_str() {
+            Some(word) => Ok(verdict_named(word)),
+            None => Ok(None),
+        }
+    }
+}
+
+// The answer that a member would be.
+pub(crate) fn answer_at(
+    alloc: Global,
+    tree: &Value,
+    key: &str,
+) -> Result<Option<Answer>, AllocError>
+    ensures { IfOk result (λ answer. answer ≡ member_of answer_of key.now (view tree.now)) }
+{
+    match tree.get(key) {
+        Some(answer) => read_answer(alloc, answer),
+        None => Ok(None),
+    }
+}
+
+// The answer that a tree would be.
+#[tactic(auto, unfolding(crate::specs::Trees::answer_of))]
+fn read_answer(alloc: Global, tree: &Value) -> Result<Option<Answer>, AllocError>
+    ensures { IfOk result (λ answer. answer ≡ answer_of (view tree.now)) }
+{
+    match tree.as_str() {
+        Some(word) => Ok(answer_named(word)),
+        None => answer_with(
+            alloc,
+            tree.get("requests"),
+            tree.get("version"),
+            tree.get("reaped"),
+            tree,
+        ),
+    }
+}
+
+// The answer that a tree with these members would be.
+fn answer_with(
+    alloc: Global,
+    requests: Option<&Value>,
+    version: Option<&Value>,
+    reaped: Option<&Value>,
+    tree: &Value,
+) -> Result<Option<Answer>, AllocError>
+    ensures { IfOk result (λ answer. answer ≡ answer_with (option_map (λ v. view v.now) requests.entry) (option_map (λ v. view v.now) version.entry) (option_map (λ v. view v.now) reaped.entry) (view tree.now)) }
+{
+    if let Some(requests) = requests {
+        return sent_answer(alloc, requests, tree.get("verdicts"));
+    }
+    if let Some(version) = version {
+        return version_answer(alloc, version, tree.get("closed"));
+    }
+    match reaped {
+        Some(reaped) => reaped_answer(alloc, reaped),
+        None => result_answer(alloc, tree),
+    }
+}
+
+// Requests, and the verdicts where there are any.
+fn sent_answer(
+    alloc: Global,
+    requests: &Value,
+    verdicts: Option<&Value>,
+) -> Result<Option<Answer>, AllocError>
+    ensures { IfOk result (λ answer. answer ≡ sent_answer (view requests.now) (option_map (λ v. view v.now) verdicts.entry)) }
+{
+    let Some(requests) = read_list(alloc, requests)? else {
+        return Ok(None);
+    };
+    let Some(verdicts) = verdicts else {
+        return Ok(Some(Answer::Moved { requests }));
+    };
+    match read_list(alloc, verdicts)? {
+        Some(verdicts) => Ok(Some(Answer::Replied { requests, verdicts })),
+        None => Ok(None),
+    }
+}
+
+// A version, and the connections that were closed where there are any.
+fn version_answer(
+    alloc: Global,
+    version: &Value,
+    closed: Option<&Value>,
+) -> Result<Option<Answer>, AllocError>
+    ensures { IfOk result (λ answer. answer ≡ version_answer (view version.now) (option_map (λ v. view v.now) closed.entry)) }
+{
+    let Some(version) = number64(version) else {
+        return Ok(None);
+    };
+    let Some(closed) = closed else {
+        return Ok(Some(Answer::Version(version)));
+    };
+    match read_list(alloc, closed)? {
+        Some(closed) => Ok(Some(Answer::Settled { closed, version })),
+        None => Ok(None),
+    }
+}
+
+// Generations that were destroyed.
+fn reaped_answer(alloc: Global, reaped: &Value) -> Result<Option<Answer>, AllocError>
+    ensures { IfOk result (λ answer. answer ≡ option_map Answer.Reaped (list_of generation_of (view reaped.now))) }
+{
+    match read_list(alloc, reaped)? {
+        Some(numbers) => Ok(Some(Answer::Reaped(numbers))),
+        None => Ok(None),
+    }
+}
+
+// What becomes of a connection that a listener takes.
+fn result_answer(alloc: Global, tree: &Value) -> Result<Option<Answer>, AllocError>
+    ensures { IfOk result (λ answer. answer ≡ result_answer (view tree.now)) }
+{
+    let Some(word) = word_at(tree, "result") else {
+        return Ok(None);
+    };
+    match generation_at(tree, "listener") {
+        Some(listener) => taken_answer(alloc, word, listener, tree),
+        None => Ok(None),
+    }
+}
+
+// The same, by the word for it and the listener.
+fn taken_answer(
+    alloc: Global,
+    word: &str,
+    listener: Gen,
+    tree: &Value,
+) -> Result<Option<Answer>, AllocError>
+    ensures { IfOk result (λ answer. answer ≡ taken_answer word.now listener (view tree.now)) }
+{
+    match word {
+        "served" => served_answer(alloc, listener, tree),
+        "local" => Ok(local_answer(listener, tree)),
+        _ => Ok(unserved_named(word, listener)),
+    }
+}
+
+// A connection that is answered at once.
+fn local_answer(listener: Gen, tree: &Value) -> Option<Answer>
+    ensures { result ≡ local_answer listener (view tree.now) }
+{
+    match number16_at(tree, "status") {
+        Some(status) => Some(Answer::Local { listener, status }),
+        None => None,
+    }
+}
+
+// A connection that goes to a host.
+fn served_answer(alloc: Global, listener: Gen, tree: &Value) -> Result<Option<Answer>, AllocError>
+    ensures { IfOk result (λ answer. answer ≡ served_answer listener (view tree.now)) }
+{
+    let Some(cluster) = generation_at(tree, "cluster") else {
+        return Ok(None);
+    };
+    match read_host(alloc, tree)? {
+        Some(host) => Ok(Some(Answer::Served {
+            listener,
+            cluster,
+            host,
+        })),
+        None => Ok(None),
+    }
+}
+
+// The host that two members are.
+fn read_host(alloc: Global, tree: &Value) -> Result<Option<Host>, AllocError>
+    ensures { IfOk result (λ host. host ≡ host_of (view tree.now)) }
+{
+    let Some(address) = name_at(alloc, tree, "address")? else {
+        return Ok(None);
+    };
+    match number16_at(tree, "port") {
+        Some(port) => Ok(Some(Host { address, port })),
+        None => Ok(None),
+    }
+}
+
+// Whether the operation may be answered so.
+pub(crate) fn is_answered_with(op: Op, answer: &Answer) -> bool
+    ensures { result ≡ is_answered_with op answer.now }
+{
+    match answer {
+        Answer::Ignored => is_main_side(op),
+        Answer::Done => matches!(op, Op::Disconnect | Op::DrainTimeout | Op::Close),
+        Answer::Moved { .. } => is_moving(op),
+        Answer::Replied { .. } => matches!(op, Op::Response),
+        Answer::Version(_) | Answer::Unchanged => matches!(op, Op::Publish),
+        Answer::Reaped(_) => matches!(op, Op::Reap),
+        Answer::NotOpen => matches!(op, Op::Close),
+        Answer::Settled { .. } => matches!(op, Op::Settle),
+        _ => matches!(op, Op::Accept),
+    }
+}
+
+// Whether the operation may be ignored.
+fn is_main_side(op: Op) -> bool
+    ensures { result ≡ is_answered_with op Answer.Ignored }
+{
+    is_moving(op) || matches!(op, Op::Disconnect | Op::Response | Op::DrainTimeout)
+}
+
+// Whether the operation may be answered with requests alone.
+fn is_moving(op: Op) -> bool
+    ensures { result ≡ is_answered_with op (Answer.Moved []) }
+{
+    matches!(
+        op,
+        Op::Connect | Op::Health | Op::FetchTimeout | Op::TtlExpired
+    )
+}

@@ -1,0 +1,142 @@
+ghost use Rattle.std.specs.Prelude.{◌≡◌, ◌<◌};
+ghost use Rattle.std.specs.Char.{is_ascii_digit};
+ghost use Rattle.std.specs.List.{list_all};
+ghost use Rattle.ev_tree.specs.Scalars.{is_numeral, u32_text};
+ghost use Rattle.ev_journal_read.specs.Words.{number_behind, actor_named, op_named, rule_of, verdict_named, answer_named, unserved_named, kind_named};
+
+use ev_tree::MAX_U32_DIGITS;
+use ev_types::{Actor, Answer, Gen, Kind, Op, Verdict};
+
+// The number that 1 to 10 digits write, if it is below 2^32.
+#[tactic(auto, unfolding(ev_tree::specs::Scalars::u32_text))]
+fn number_of(digits: &str) -> Option<u32>
+    ensures { result ≡ u32_text digits.now }
+{
+    if is_numeral(digits) {
+        digits.parse::<u32>().ok()
+    } else {
+        None
+    }
+}
+
+// Whether a text is 1 to 10 digits.
+fn is_numeral(text: &str) -> bool
+    ensures { result ≡ is_numeral 10 text.now }
+{
+    !text.is_empty() && text.len() <= MAX_U32_DIGITS && are_digits(text.as_bytes())
+}
+
+// Whether each byte is a digit.
+fn are_digits(bytes: &[u8]) -> bool
+    ensures { result ≡ list_all is_ascii_digit bytes.now }
+{
+    bytes.iter().all(|byte| byte.is_ascii_digit())
+}
+
+// The number behind a letter.
+fn number_behind(letter: char, word: &str) -> Option<u32>
+    requires { letter < 128 }
+    ensures { result ≡ number_behind letter word.now }
+{
+    number_of(word.strip_prefix(letter)?)
+}
+
+// An actor by its word.
+pub(crate) fn actor_named(word: &str) -> Option<Actor>
+    ensures { result ≡ actor_named word.now }
+{
+    match word {
+        "stream" => Some(Actor::Stream),
+        "health" => Some(Actor::Health),
+        "timer" => Some(Actor::Timer),
+        "main" => Some(Actor::Main),
+        _ => Some(Actor::Worker(number_behind('w', word)?)),
+    }
+}
+
+// An operation by its word.
+pub(crate) fn op_named(word: &str) -> Option<Op>
+    ensures { result ≡ op_named word.now }
+{
+    match word {
+        "connect" => Some(Op::Connect),
+        "disconnect" => Some(Op::Disconnect),
+        "response" => Some(Op::Response),
+        "health" => Some(Op::Health),
+        "fetchTimeout" => Some(Op::FetchTimeout),
+        "drainTimeout" => Some(Op::DrainTimeout),
+        "ttlExpired" => Some(Op::TtlExpired),
+        "publish" => Some(Op::Publish),
+        "reap" => Some(Op::Reap),
+        "accept" => Some(Op::Accept),
+        "close" => Some(Op::Close),
+        "settle" => Some(Op::Settle),
+        _ => None,
+    }
+}
+
+// The verdict that refuses by a rule, whose number has 8 bits.
+fn rule_of(number: u32) -> Option<Verdict>
+    ensures { result ≡ rule_of number }
+{
+    if number < 256 {
+        Some(Verdict::Refused(number as u8))
+    } else {
+        None
+    }
+}
+
+// A verdict by its word.
+pub(crate) fn verdict_named(word: &str) -> Option<Verdict>
+    ensures { result ≡ verdict_named word.now }
+{
+    match word {
+        "new" => Some(Verdict::New),
+        "same" => Some(Verdict::Same),
+        "kept" => Some(Verdict::Kept),
+        "unasked" => Some(Verdict::Unasked),
+        "renewed" => Some(Verdict::Renewed),
+        _ => rule_of(number_behind('V', word)?),
+    }
+}
+
+// An answer that is a word.
+pub(crate) fn answer_named(word: &str) -> Option<Answer>
+    ensures { result ≡ answer_named word.now }
+{
+    match word {
+        "ignored" => Some(Answer::Ignored),
+        "done" => Some(Answer::Done),
+        "unchanged" => Some(Answer::Unchanged),
+        "inUse" => Some(Answer::InUse),
+        "noListener" => Some(Answer::NoListener),
+        "notOpen" => Some(Answer::NotOpen),
+        _ => None,
+    }
+}
+
+// What becomes of a connection that no host serves, by its word.
+pub(crate) fn unserved_named(word: &str, listener: Gen) -> Option<Answer>
+    ensures { result ≡ unserved_named word.now listener }
+{
+    match word {
+        "noRoute" => Some(Answer::NoRoute { listener }),
+        "redirect" => Some(Answer::Redirect { listener }),
+        "noCluster" => Some(Answer::NoCluster { listener }),
+        "noEndpoint" => Some(Answer::NoEndpoint { listener }),
+        _ => None,
+    }
+}
+
+// A kind of resource by its type URL.
+pub(crate) fn kind_named(url: &str) -> Option<Kind>
+    ensures { result ≡ kind_named url.now }
+{
+    match url {
+        "type.googleapis.com/envoy.config.cluster.v3.Cluster" => Some(Kind::Cds),
+        "type.googleapis.com/envoy.config.endpoint.v3.ClusterLoadAssignment" => Some(Kind::Eds),
+        "type.googleapis.com/envoy.config.listener.v3.Listener" => Some(Kind::Lds),
+        "type.googleapis.com/envoy.config.route.v3.RouteConfiguration" => Some(Kind::Rds),
+        _ => None,
+    }
+}
