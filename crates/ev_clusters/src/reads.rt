@@ -1,14 +1,16 @@
-ghost use Rattle.std.specs.Prelude.{◌≡◌, map, filter, IfOk};
+ghost use Rattle.std.specs.Prelude.{◌≡◌, ◌||◌, not, map, filter, IfOk};
 ghost use Rattle.std.specs.List.{list_any};
 ghost use Rattle.ev_types.specs.Kinds.{kind_same};
 ghost use Rattle.ev_types.specs.declared.contents.Kind.TheVariants.{Cds, Eds};
 ghost use Rattle.ev_types.specs.declared.rows.Live.{Live};
 ghost use Rattle.ev_model.specs.World.{World};
-ghost use Rattle.ev_model.specs.Live.{live_of, lives_of};
+ghost use Rattle.ev_model.specs.Live.{live_of, lives_of, newest_of};
+ghost use Rattle.ev_model.specs.Phase.{has_come};
 ghost use Rattle.ev_model.specs.Picture.{served_clusters};
 ghost use Rattle.ev_model.specs.Signals.{is_awaited};
 ghost use Rattle.ev_model.specs.Watching.{is_watched, watched_of};
-ghost use Rattle.ev_warming.specs.Indexes.{depends_on};
+ghost use Rattle.ev_warming.specs.Indexes.{depends_on, serves, warms};
+ghost use Rattle.ev_warming.specs.Newest.{newest_in};
 ghost use Rattle.ev_warming.specs.Reads.{live_rows, names_watched, is_timeout_due, clusters_in};
 ghost use Rattle.ev_warming.specs.Worlds.{StandsFor};
 
@@ -21,8 +23,26 @@ use std::alloc::{AllocError, Global};
 impl Clusters {
     ghost use Rattle.ev_clusters.specs.Clusters.{AreKept};
 
+    /// The newest live cluster of a name. It costs a look-up of the name, and one of the cluster where one is live.
+    pub fn newest(&self, name: &str) -> Option<LiveRow<'_>>
+        requires kept { AreKept self.now }
+        ensures rows { result ≡ newest_in self.now.state.table.rows name.now }
+        ensures world { (world : World) → StandsFor self.now.state world → result ≡ newest_of (lives_of world) Cds name.now }
+    {
+        self.manager.state.newest(name)
+    }
+
+    /// Whether nothing is waited for under a name: a cluster serves it, or none of it is live. It costs a look-up of the name.
+    pub fn has_come(&self, name: &str) -> bool
+        requires kept { AreKept self.now }
+        ensures rows { result ≡ (list_any (serves name.now) self.now.state.table.rows || not (list_any (warms name.now) self.now.state.table.rows)) }
+        ensures world { (world : World) → StandsFor self.now.state world → result ≡ has_come world.rows Cds name.now }
+    {
+        self.manager.state.has_come(name)
+    }
+
     /// Whether a live cluster depends on a name of endpoints.
-    pub fn is_watched(&self, name: &Name) -> bool
+    pub fn is_watched(&self, name: &str) -> bool
         requires kept { AreKept self.now }
         ensures rows { result ≡ list_any (depends_on name.now) self.now.state.table.rows }
         ensures world { (world : World) → StandsFor self.now.state world → result ≡ is_watched (lives_of world) Eds name.now }

@@ -105,6 +105,13 @@ impl Generations {
         self.rows.get(&number.number())
     }
 
+    /// The row of a number, by one look-up, for a question that counts none.
+    pub fn get(&self, number: Gen) -> Option<&GenRow>
+        ensures { option_copied result ≡ row_in number self.now.rows }
+    {
+        self.rows.get(&number.number())
+    }
+
     /// The row of this number serves.
     pub fn warm(&mut self, number: Gen)
         requires { IsSome (row_in number self.old.rows) }

@@ -165,7 +165,7 @@ module _ (due : HealthResult → Bool) (d : Bool) (n : ℕ) (h : Host) (same : (
           rest ∙ (λ i. cond (off i) (filter (is_result_of n h) results) []) ∙ (λ i. cond (sym off i) (r ∷ filter (is_result_of n h) results) [])
       by false e false f rest = rest
 
-any-filtered : {A : Type 0} (p : A → Bool) (xs : List A) → list_any p (filter p xs) ≡ list_any p xs
+pub any-filtered : {A : Type 0} (p : A → Bool) (xs : List A) → list_any p (filter p xs) ≡ list_any p xs
 any-filtered p [] = refl
 any-filtered p (x ∷ xs) = by (p x) refl (any-filtered p xs)
   where
@@ -188,7 +188,7 @@ absent-far : (n : ℕ) (rows : List GenRow) → AllByRecursion (λ y. nat_eq n y
 absent-far n [] far = refl
 absent-far n (row ∷ rows) far = (λ i. cond (far.0 i) (Some row) (row_in n rows)) ∙ absent-far n rows far.1
 
-found-of_kind : (kind : Kind) (n : ℕ) (row : GenRow) (rows : List GenRow) → IsDistinct nat_eq (numbers_of rows) → row_in n (rows_of_kind kind rows) ≡ Some row → row_in n rows ≡ Some row
+pub found-of_kind : (kind : Kind) (n : ℕ) (row : GenRow) (rows : List GenRow) → IsDistinct nat_eq (numbers_of rows) → row_in n (rows_of_kind kind rows) ≡ Some row → row_in n rows ≡ Some row
 found-of_kind kind n row [] apart at = at
 found-of_kind kind n row (r ∷ rows) apart at = by (kind_same r.kind kind) at (found-of_kind kind n row rows (IsDistinct-tail nat_eq r.number (numbers_of rows) apart))
   where
@@ -252,7 +252,7 @@ all-at P n row (r ∷ rows) at all = by (nat_eq n r.number) at (λ h. all-at P n
     by false h rest = rest h
 
 -- a row that is there
-there-is : (o : Option GenRow) → IsSome o → (row : GenRow) × (o ≡ Some row)
+pub there-is : (o : Option GenRow) → IsSome o → (row : GenRow) × (o ≡ Some row)
 there-is None h = absurd (true≢false (sym h))
 there-is (Some row) h = (row, refl)
 

@@ -23,3 +23,4 @@ pub mod SortLemmas
 pub mod ReadLemmas
 pub mod ShownLemmas
 pub mod AbsenceLemmas
+pub mod NewestLemmas

@@ -45,7 +45,7 @@ rows_of_kind-with_statuses kind f (row ∷ rows) = by (kind_same row.kind kind) 
     by false h = h
 
 -- rows of other kinds pass no test that only rows of the kind pass
-any-rows_of_kind : (kind : Kind) (f : GenRow → Bool) → ((row : GenRow) → f row ≡ true → kind_same row.kind kind ≡ true) → (rows : List GenRow) → list_any f (rows_of_kind kind rows) ≡ list_any f rows
+pub any-rows_of_kind : (kind : Kind) (f : GenRow → Bool) → ((row : GenRow) → f row ≡ true → kind_same row.kind kind ≡ true) → (rows : List GenRow) → list_any f (rows_of_kind kind rows) ≡ list_any f rows
 any-rows_of_kind kind f only [] = refl
 any-rows_of_kind kind f only (row ∷ rows) = by (kind_same row.kind kind) refl (f row) refl (any-rows_of_kind kind f only rows)
   where

@@ -12,3 +12,4 @@ pub mod Managers
 pub mod Arrivals
 pub mod Health
 pub mod Reads
+pub mod Newest

@@ -119,7 +119,7 @@ impl Manager {
         ensures table { OnOk result (self.new.state.table ≡ self.old.state.table) }
         ensures stands { OnOk result ((world : World) → StandsFor self.old.state world → StandsFor self.new.state (told_where (list_any (depends_on name.now) self.old.state.table.rows) (needs_of self.old.state.kind) arrival.now name.now world)) }
     {
-        if self.state.is_watched(name) {
+        if self.state.is_watched(name.as_str()) {
             return self.arrive(alloc, name, arrival, steps);
         }
         Ok(())

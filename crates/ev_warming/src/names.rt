@@ -5,6 +5,7 @@ ghost use Rattle.ev_warming.specs.Kept.{Sets};
 ghost use Rattle.ev_warming.specs.Standings.{nobody, standing_in};
 
 use crate::copies::copy_map;
+use crate::keys::TextKey;
 use ev_types::{Gen, Name, TryCopy};
 use indexmap::IndexMap;
 use std::alloc::{AllocError, Global};
@@ -45,7 +46,14 @@ impl Names {
     pub fn standing(&self, name: &Name) -> Standing
         ensures { result ≡ standing_in self.now name.now }
     {
-        match self.names.get(name) {
+        self.standing_of(name.as_str())
+    }
+
+    /// The same for a text, of which none stands where it is no name.
+    pub fn standing_of(&self, text: &str) -> Standing
+        ensures { result ≡ standing_in self.now text.now }
+    {
+        match self.names.get(&TextKey::new(text)) {
             Some(standing) => *standing,
             None => Standing {
                 active: None,

@@ -18,12 +18,12 @@ use std::alloc::{AllocError, Global};
 
 impl State {
     /// Whether a live generation depends on the name.
-    pub fn is_watched(&self, name: &Name) -> bool
+    pub fn is_watched(&self, name: &str) -> bool
         requires indexed { IsIndexed self.now }
         ensures rows { result ≡ list_any (depends_on name.now) self.now.table.rows }
         ensures world { (world : World) → is_by_name self.now.kind ≡ false → StandsFor self.now world → result ≡ is_watched (lives_of world) (needs_of self.now.kind) name.now }
     {
-        match self.watches.get(name) {
+        match self.watches.get_text(name) {
             Some(watch) => is_filled(&watch.rows),
             None => false,
         }

@@ -6,6 +6,7 @@ ghost use Rattle.ev_warming.specs.Kept.{Sets};
 ghost use Rattle.ev_warming.specs.Watched.{unwatched, watch_in, watched_too, watched_less, with_arrival, without_number};
 
 use crate::copies::copy_map;
+use crate::keys::TextKey;
 use ev_types::{Arrival, Content, Gen, Name, Seq, TryCopy};
 use indexmap::IndexMap;
 use std::alloc::{AllocError, Global};
@@ -51,6 +52,13 @@ impl Watches {
         ensures { option_copied result ≡ lookup (bytes_eq name.now) self.now }
     {
         self.watches.get(name)
+    }
+
+    /// The same for a text, of which nothing is known where it is no name.
+    pub fn get_text(&self, text: &str) -> Option<&Watch>
+        ensures { option_copied result ≡ lookup (bytes_eq text.now) self.now }
+    {
+        self.watches.get(&TextKey::new(text))
     }
 
     /// One more generation depends on the name. Without memory nothing is promised.
