@@ -1,14 +1,16 @@
-ghost use Rattle.std.specs.Prelude.{◌≡◌, map, filter, IfOk};
+ghost use Rattle.std.specs.Prelude.{◌≡◌, ◌||◌, not, map, filter, IfOk};
 ghost use Rattle.std.specs.List.{list_any};
 ghost use Rattle.ev_types.specs.Kinds.{kind_same};
 ghost use Rattle.ev_types.specs.declared.contents.Kind.TheVariants.{Lds, Rds};
 ghost use Rattle.ev_types.specs.declared.rows.Live.{Live};
 ghost use Rattle.ev_model.specs.World.{World};
-ghost use Rattle.ev_model.specs.Live.{live_of, lives_of};
+ghost use Rattle.ev_model.specs.Live.{live_of, lives_of, newest_of};
+ghost use Rattle.ev_model.specs.Phase.{has_come};
 ghost use Rattle.ev_model.specs.Picture.{served_listeners};
 ghost use Rattle.ev_model.specs.Signals.{is_awaited};
 ghost use Rattle.ev_model.specs.Watching.{is_watched, watched_of};
-ghost use Rattle.ev_warming.specs.Indexes.{depends_on};
+ghost use Rattle.ev_warming.specs.Indexes.{depends_on, serves, warms};
+ghost use Rattle.ev_warming.specs.Newest.{newest_in};
 ghost use Rattle.ev_warming.specs.Reads.{live_rows, names_watched, is_timeout_due, listeners_in};
 
 use crate::Listeners;
@@ -21,7 +23,7 @@ impl Listeners {
     ghost use Rattle.ev_listeners.specs.Listeners.{AreKept, StandsFor};
 
     /// Whether a live listener depends on a name of routes.
-    pub fn is_watched(&self, name: &Name) -> bool
+    pub fn is_watched(&self, name: &str) -> bool
         requires kept { AreKept self.now }
         ensures rows { result ≡ list_any (depends_on name.now) self.now.state.table.rows }
         ensures world { (world : World) → StandsFor self.now world → result ≡ is_watched (lives_of world) Rds name.now }
@@ -46,6 +48,24 @@ impl Listeners {
         ensures world { (world : World) → StandsFor self.now world → result ≡ is_awaited world.arrivals world.rows Rds name.now }
     {
         self.manager.state.timeout_due(name)
+    }
+
+    /// The newest live listener of a name. It costs a look-up of the name, and one of the listener where one is live.
+    pub fn newest(&self, name: &str) -> Option<LiveRow<'_>>
+        requires kept { AreKept self.now }
+        ensures rows { result ≡ newest_in self.now.state.table.rows name.now }
+        ensures world { (world : World) → StandsFor self.now world → result ≡ newest_of (lives_of world) Lds name.now }
+    {
+        self.manager.state.newest(name)
+    }
+
+    /// Whether nothing is waited for under the name: it serves, or nothing of it is live. It costs a look-up of the name.
+    pub fn has_come(&self, name: &str) -> bool
+        requires kept { AreKept self.now }
+        ensures rows { result ≡ (list_any (serves name.now) self.now.state.table.rows || not (list_any (warms name.now) self.now.state.table.rows)) }
+        ensures world { (world : World) → StandsFor self.now world → result ≡ has_come world.rows Lds name.now }
+    {
+        self.manager.state.has_come(name)
     }
 
     /// The live listeners, in order, as verdicts take them. It goes over all listeners.
