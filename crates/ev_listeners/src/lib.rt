@@ -15,9 +15,12 @@ ghost use Rattle.ev_warming.specs.Ready.{is_due_at};
 ghost use Rattle.ev_warming.specs.Indexes.{depends_on, serves, warms, numbers_where};
 ghost use Rattle.ev_warming.specs.Changes.{began_to_drain, has_retired, is_over};
 
+mod addresses;
 mod arrivals;
+mod holders;
 mod reads;
 
+use crate::addresses::Addresses;
 use ev_generations::Steps;
 use ev_types::{Arrival, Gen, GenRow, Kind, Name, Response, Verdict};
 use ev_warming::{Applied, Manager, Promoted, Standing};
@@ -30,6 +33,7 @@ use std::sync::ledger::Ledger;
 #[derive(Drop)]
 pub struct Listeners {
     manager: Manager,
+    addresses: Addresses,
 }
 
 impl Model for Listeners {
@@ -37,7 +41,7 @@ impl Model for Listeners {
 
     ghost Value = { ListenersKept };
 
-    ghost view = { λ l. l.manager };
+    ghost view = { λ l. record { state = l.manager.state; stale = l.manager.stale; addresses = l.addresses } };
 }
 
 impl Listeners {
@@ -50,6 +54,7 @@ impl Listeners {
     {
         Listeners {
             manager: Manager::new(alloc, Kind::Lds),
+            addresses: Addresses::new(alloc),
         }
     }
 
@@ -74,7 +79,12 @@ impl Listeners {
         // Whatever world they stood for, they stand for that world once the response's removals and resources are in.
         ensures stands { OnOk result ((world : World) → StandsFor self.old world → StandsFor self.new (add_items Lds verdicts.now response.now.items (with_removals Lds response.now world))) }
     {
-        self.manager.apply(alloc, response, verdicts, steps)
+        let before = self.manager.state.table.rows().len();
+        let applied = self.manager.apply(alloc, response, verdicts, steps)?;
+        let table = &self.manager.state.table;
+        self.addresses
+            .follow(alloc, table, before, applied.retired.as_slice())?;
+        Ok(applied)
     }
 
     /// Something came for a name of routes that a live listener depends on. Each that depends on it is looked at once.
@@ -110,7 +120,11 @@ impl Listeners {
         // Whatever world they stood for, they stand for that world with all that are due promoted.
         ensures stands { OnOk result ((world : World) → StandsFor self.old world → StandsFor self.new (promoted world)) }
     {
-        self.manager.promote(alloc, steps)
+        let promoted = self.manager.promote(alloc, steps)?;
+        let table = &self.manager.state.table;
+        self.addresses
+            .leave_rows(table, promoted.drained.as_slice());
+        Ok(promoted)
     }
 
     /// After an event: forgets what nobody needs any more, of names and of listeners that retired. Only what changed since the
@@ -145,7 +159,11 @@ impl Listeners {
         // Whatever world they stood for, they stand for that world where the name has come to its end.
         ensures stands { OnOk result ((world : World) → StandsFor self.old world → StandsFor self.new (record world { rows = rows_ended Lds name.now world.rows })) }
     {
-        self.manager.end(name, steps)
+        let ended = self.manager.end(name, steps)?;
+        let table = &self.manager.state.table;
+        self.addresses
+            .leave_ended(table, ended.warming, ended.active);
+        Ok(ended)
     }
 
     /// Takes out a listener that drains or was dropped, once all is forgotten that nobody needs.

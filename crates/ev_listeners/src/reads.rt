@@ -92,6 +92,7 @@ impl TryCopy for Listeners {
     fn copy(&self, alloc: Global) -> Result<Listeners, AllocError> {
         Ok(Listeners {
             manager: self.manager.copy(alloc)?,
+            addresses: self.addresses.copy(alloc)?,
         })
     }
 }
