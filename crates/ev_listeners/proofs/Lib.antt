@@ -1,0 +1,7 @@
+pub mod FollowLemmas
+pub mod NumberLemmas
+pub mod AddressLemmas
+pub mod ChangeLemmas
+pub mod TableLemmas
+pub mod LeftLemmas
+pub mod StandLemmas

@@ -1,0 +1,39 @@
+-- Tables by address.
+use Rattle.std.proofs.Common.{◌≡◌, ◌∙◌, ℕ, Bool, true, false, cond, List, [], ◌∷◌, ◌++◌, length, None, Some, unwrap_or, refl, sym, true≢false}
+use Rattle.std.specs.List.{IsDistinct, AllByRecursion}
+use Rattle.std.specs.Map.{lookup, keys_of}
+use Rattle.std.proofs.lemmas.Map.Keys.{IsDistinct-head, IsDistinct-tail}
+use Rattle.ev_types.specs.SameHosts.{host_same, host_decides}
+use Rattle.ev_types.specs.declared.hosts.Host.{Host}
+use Rattle.ev_listeners.specs.Addresses.{AddressesKept, numbers_at}
+
+pub none_of_none : (numbers : List ℕ) → length numbers ≡ 0 → numbers ≡ []
+none_of_none [] h = refl
+none_of_none (n ∷ ns) h = cc
+
+-- a table without the entry of an address that has none says the same
+pub trimmed : (old new : AddressesKept) (address : Host) → ((a : Host) → lookup (host_same a) new ≡ cond (host_same address a) None (lookup (host_same a) old))
+    → numbers_at old address ≡ [] → (a : Host) → numbers_at new a ≡ numbers_at old a
+trimmed old new address now empty a = by (host_same address a) refl (now a)
+  where
+    by : (b : Bool) → host_same address a ≡ b → lookup (host_same a) new ≡ cond b None (lookup (host_same a) old) → numbers_at new a ≡ numbers_at old a
+    by true here at = (λ i. unwrap_or (at i) []) ∙ sym ((λ i. numbers_at old (sym ((host_decides address a).0 here) i)) ∙ empty)
+    by false here at = λ i. unwrap_or (at i) []
+
+flipped : (a b : Host) → host_same a b ≡ false → host_same b a ≡ false
+flipped a b apart = by (host_same b a) refl
+  where
+    by : (t : Bool) → host_same b a ≡ t → t ≡ false
+    by true same = absurd (true≢false (sym (sym apart ∙ (host_decides a b).1 (sym ((host_decides b a).0 same)))))
+    by false same = refl
+
+later : (P : Host → Type 0) (es : AddressesKept) (k : Host) (v : List ℕ) (rest : AddressesKept) → AllByRecursion P (keys_of (es ++ (k, v) ∷ rest)) → P k
+later P [] k v rest all = all.0
+later P (e ∷ es) k v rest all = later P es k v rest all.1
+
+-- of different addresses none has an entry before its own
+pub absent-before : (es : AddressesKept) (k : Host) (v : List ℕ) (rest : AddressesKept) → IsDistinct host_same (keys_of (es ++ (k, v) ∷ rest)) → lookup (host_same k) es ≡ None
+absent-before [] k v rest apart = refl
+absent-before (e ∷ es) k v rest apart =
+    (λ i. cond (flipped e.0 k (later (λ y. host_same e.0 y ≡ false) es k v rest (IsDistinct-head host_same e.0 (keys_of (es ++ (k, v) ∷ rest)) apart)) i) (Some e.1) (lookup (host_same k) es))
+    ∙ absent-before es k v rest (IsDistinct-tail host_same e.0 (keys_of (es ++ (k, v) ∷ rest)) apart)

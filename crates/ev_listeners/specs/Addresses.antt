@@ -1,0 +1,48 @@
+-- Which generations listen at an address. Source: listeners of Envoy's documentation: two listeners of different names may not have
+-- one address.
+use Rattle.std.specs.Prelude.{◌≡◌, ℕ, Bool, false, not, ◌&&◌, List, [], Option, None, Some, unwrap_or, option_to_list, map}
+use Rattle.std.specs.List.{flat_map}
+use Rattle.std.specs.Map.{lookup}
+use Rattle.ev_types.specs.SameHosts.{host_same}
+use Rattle.ev_types.specs.Statuses.{is_live}
+use Rattle.ev_types.specs.declared.hosts.Host.{Host}
+use Rattle.ev_types.specs.declared.rows.GenRow.{GenRow}
+use Rattle.ev_types.specs.declared.rows.Live.{Live}
+use Rattle.ev_model.specs.Live.{live_of}
+use Rattle.ev_model.specs.Verdicts.{listening_address, shares_address}
+use Rattle.ev_generations.specs.Tables.{row_in}
+use Rattle.ev_warming.specs.Due.{is_among}
+use Rattle.ev_warming.specs.Indexes.{numbers_where}
+
+-- addresses, each with the numbers of the generations that listen there
+abbrev pub AddressesKept : Type 0
+AddressesKept = List (Host × List ℕ)
+
+-- the numbers at an address; no entry is none
+abbrev pub numbers_at : AddressesKept → Host → List ℕ
+numbers_at kept address = unwrap_or (lookup (host_same address) kept) []
+
+-- the generation listens at the address
+abbrev pub listens_at : Host → GenRow → Bool
+listens_at address row = shares_address (listening_address row.content) (Some address)
+
+-- the same of a generation that is found
+abbrev pub is_found_at : Host → Option GenRow → Bool
+is_found_at address None = false
+is_found_at address (Some row) = listens_at address row
+
+-- a live generation holds its address: one that warms or serves
+abbrev pub holds : Host → GenRow → Bool
+holds address row = is_live row.status && listens_at address row
+
+-- the numbers at each address are what a search of the rows finds
+abbrev pub AreByAddress : AddressesKept → List GenRow → Type 0
+AreByAddress kept rows = (address : Host) → numbers_at kept address ≡ numbers_where (holds address) rows
+
+-- the number isn't one of these, of a generation that listens at the address
+abbrev pub is_left_at : Host → List ℕ → List GenRow → ℕ → Bool
+is_left_at address retired rows number = not (is_among retired number && is_found_at address (row_in number rows))
+
+-- what is seen of the generations of these numbers
+abbrev pub lives_numbered : List GenRow → List ℕ → List Live
+lives_numbered rows numbers = map live_of (flat_map (λ number. option_to_list (row_in number rows)) numbers)

@@ -1,0 +1,85 @@
+ghost use Rattle.std.specs.Prelude.{◌≡◌, ◌++◌, map, filter, option_to_list, IfOk, OnOk};
+ghost use Rattle.ev_types.specs.declared.hosts.Host as declared;
+ghost use Rattle.ev_model.specs.World.{World};
+ghost use Rattle.ev_model.specs.Live.{live_of, lives_of};
+ghost use Rattle.ev_generations.specs.Tables.{row_in};
+ghost use Rattle.ev_verdicts.specs.Known.{is_at};
+ghost use Rattle.ev_listeners.specs.Addresses.{lives_numbered, numbers_at};
+
+use crate::Listeners;
+use crate::addresses::Addresses;
+use ev_generations::Generations;
+use ev_rules::LiveRow;
+use ev_types::{Gen, Host};
+use std::alloc::{AllocError, Global};
+
+impl Listeners {
+    ghost use Rattle.ev_listeners.specs.Listeners.{AreKept, StandsFor, holders_in};
+
+    /// The live listeners that listen at an address, in the order of their numbers. It costs a look-up of the address, and one of
+    /// each of them. It is out of memory where the list has no room.
+    pub fn holders(&self, alloc: Global, address: &Host) -> Result<Vec<LiveRow<'_>>, AllocError>
+        requires kept { AreKept self.now }
+        ensures index { IfOk result (λ rows. rows.items ≡ holders_in self.now address.now) }
+        ensures world { IfOk result (λ rows. (world : World) → StandsFor self.now world → rows.items ≡ filter (is_at address.now) (lives_of world)) }
+    {
+        let lives = lives_at(alloc, &self.addresses, &self.manager.state.table, address)?;
+        Ok(lives)
+    }
+
+    /// A law: by the index, those that listen at any address are the live listeners of the world there.
+    pub fn holders_law(&self)
+        requires kept { AreKept self.now }
+        ensures { (world : World) (address : declared.Host) → StandsFor self.now world → holders_in self.now address ≡ filter (is_at address) (lives_of world) }
+    {}
+}
+
+// What is seen of the generations that the index has at an address.
+fn lives_at<'a>(
+    alloc: Global,
+    addresses: &Addresses,
+    table: &'a Generations,
+    address: &Host,
+) -> Result<Vec<LiveRow<'a>>, AllocError>
+    ensures { IfOk result (λ lives. lives.items ≡ lives_numbered table.now.rows (numbers_at addresses.now address.now)) }
+{
+    let mut lives = Vec::new(alloc);
+    if let Some(numbers) = addresses.at(address) {
+        push_numbered(table, numbers.as_slice(), &mut lives)?;
+    }
+    Ok(lives)
+}
+
+// Puts what is seen of the generations of these numbers to the others.
+fn push_numbered<'a>(
+    table: &'a Generations,
+    numbers: &[Gen],
+    lives: &mut Vec<LiveRow<'a>>,
+) -> Result<(), AllocError>
+    ensures { OnOk result (lives.new.items ≡ lives.old.items ++ lives_numbered table.now.rows numbers.now) }
+{
+    for number in numbers {
+        push_number(table, *number, lives)?;
+    }
+    Ok(())
+}
+
+// Puts what is seen of the generation of this number to the others, where it is found.
+fn push_number<'a>(
+    table: &'a Generations,
+    number: Gen,
+    lives: &mut Vec<LiveRow<'a>>,
+) -> Result<(), AllocError>
+    ensures { OnOk result (lives.new.items ≡ lives.old.items ++ map live_of (option_to_list (row_in number table.now.rows))) }
+{
+    if let Some(row) = table.get(number) {
+        lives.push(LiveRow {
+            kind: row.kind,
+            number: row.number,
+            name: row.name.as_str(),
+            content: &row.content,
+            warming: row.status.is_warming(),
+        })?;
+    }
+    Ok(())
+}

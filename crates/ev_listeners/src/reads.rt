@@ -1,0 +1,98 @@
+ghost use Rattle.std.specs.Prelude.{◌≡◌, ◌||◌, not, map, filter, IfOk};
+ghost use Rattle.std.specs.List.{list_any};
+ghost use Rattle.ev_types.specs.Kinds.{kind_same};
+ghost use Rattle.ev_types.specs.declared.contents.Kind.TheVariants.{Lds, Rds};
+ghost use Rattle.ev_types.specs.declared.rows.Live.{Live};
+ghost use Rattle.ev_model.specs.World.{World};
+ghost use Rattle.ev_model.specs.Live.{live_of, lives_of, newest_of};
+ghost use Rattle.ev_model.specs.Phase.{has_come};
+ghost use Rattle.ev_model.specs.Picture.{served_listeners};
+ghost use Rattle.ev_model.specs.Signals.{is_awaited};
+ghost use Rattle.ev_model.specs.Watching.{is_watched, watched_of};
+ghost use Rattle.ev_warming.specs.Indexes.{depends_on, serves, warms};
+ghost use Rattle.ev_warming.specs.Newest.{newest_in};
+ghost use Rattle.ev_warming.specs.Reads.{live_rows, names_watched, is_timeout_due, listeners_in};
+
+use crate::Listeners;
+use ev_model::ServedListener;
+use ev_rules::LiveRow;
+use ev_types::{Name, Seq, TryCopy};
+use std::alloc::{AllocError, Global};
+
+impl Listeners {
+    ghost use Rattle.ev_listeners.specs.Listeners.{AreKept, StandsFor};
+
+    /// Whether a live listener depends on a name of routes.
+    pub fn is_watched(&self, name: &str) -> bool
+        requires kept { AreKept self.now }
+        ensures rows { result ≡ list_any (depends_on name.now) self.now.state.table.rows }
+        ensures world { (world : World) → StandsFor self.now world → result ≡ is_watched (lives_of world) Rds name.now }
+    {
+        self.manager.state.is_watched(name)
+    }
+
+    /// The names of routes that live listeners depend on, in the order of their bytes, each once. It goes over all listeners.
+    pub fn watched(&self, alloc: Global) -> Result<Seq<Name>, AllocError>
+        requires kept { AreKept self.now }
+        ensures rows { IfOk result (λ names. names ≡ names_watched self.now.state.table.rows) }
+        ensures world { IfOk result (λ names. (world : World) → StandsFor self.now world → names ≡ watched_of world Rds) }
+    {
+        self.manager.state.watched(alloc)
+    }
+
+    /// Whether the fetch timeout of a name of routes is due: a live listener waits for it within a limit, and it was neither
+    /// told of nor timed out.
+    pub fn timeout_due(&self, name: &Name) -> bool
+        requires kept { AreKept self.now }
+        ensures rows { result ≡ is_timeout_due self.now.state.watches self.now.state.table.rows name.now }
+        ensures world { (world : World) → StandsFor self.now world → result ≡ is_awaited world.arrivals world.rows Rds name.now }
+    {
+        self.manager.state.timeout_due(name)
+    }
+
+    /// The newest live listener of a name. It costs a look-up of the name, and one of the listener where one is live.
+    pub fn newest(&self, name: &str) -> Option<LiveRow<'_>>
+        requires kept { AreKept self.now }
+        ensures rows { result ≡ newest_in self.now.state.table.rows name.now }
+        ensures world { (world : World) → StandsFor self.now world → result ≡ newest_of (lives_of world) Lds name.now }
+    {
+        self.manager.state.newest(name)
+    }
+
+    /// Whether nothing is waited for under the name: it serves, or nothing of it is live. It costs a look-up of the name.
+    pub fn has_come(&self, name: &str) -> bool
+        requires kept { AreKept self.now }
+        ensures rows { result ≡ (list_any (serves name.now) self.now.state.table.rows || not (list_any (warms name.now) self.now.state.table.rows)) }
+        ensures world { (world : World) → StandsFor self.now world → result ≡ has_come world.rows Lds name.now }
+    {
+        self.manager.state.has_come(name)
+    }
+
+    /// The live listeners, in order, as verdicts take them. It goes over all listeners.
+    pub fn live<'a>(&'a self, alloc: Global) -> Result<Vec<LiveRow<'a>>, AllocError>
+        requires kept { AreKept self.now }
+        ensures rows { IfOk result (λ lives. lives.items ≡ map live_of (live_rows self.now.state.table.rows)) }
+        ensures world { IfOk result (λ lives. (world : World) → StandsFor self.now world → lives.items ≡ filter (λ (live : Live). kind_same live.kind Lds) (lives_of world)) }
+    {
+        self.manager.state.live(alloc)
+    }
+
+    /// What a picture shows of listeners once they serve: each active one with its routes, or its target, in the order of their
+    /// names; where no routes came there are none. It goes over all listeners.
+    pub fn shown(&self, alloc: Global) -> Result<Seq<ServedListener>, AllocError>
+        requires kept { AreKept self.now }
+        ensures rows { IfOk result (λ served. served ≡ listeners_in self.now.state.watches self.now.state.table.rows) }
+        ensures world { IfOk result (λ served. (world : World) → StandsFor self.now world → served ≡ served_listeners world.arrivals world.rows) }
+    {
+        self.manager.state.listeners(alloc)
+    }
+}
+
+impl TryCopy for Listeners {
+    fn copy(&self, alloc: Global) -> Result<Listeners, AllocError> {
+        Ok(Listeners {
+            manager: self.manager.copy(alloc)?,
+            addresses: self.addresses.copy(alloc)?,
+        })
+    }
+}

@@ -1,0 +1,2 @@
+pub mod ComeLemmas
+pub mod WaitLemmas

@@ -1,0 +1,156 @@
+ghost use Rattle.std.specs.Prelude.{◌≡◌, ◌<◌, ◌||◌, ◌++◌, [], ◌∷◌, None, false, true, not, is_some, length, if◌then◌else◌, IfOk, IfSome, OnOk};
+ghost use Rattle.std.specs.List.{list_all};
+ghost use Rattle.ev_model.specs.Rows.{made_names, noted_once};
+ghost use Rattle.ev_model.specs.Phase.{have_come};
+
+use crate::waited::Waited;
+use ev_types::{Item, Response, Seq, Text, TryCopy, Verdict};
+use std::alloc::{AllocError, Global};
+use std::marker::Model;
+
+/// The names that the first response of a kind made generations for, and whether they are late. It also has the place of a name that
+/// was seen waiting, which is asked first.
+#[derive(Drop)]
+pub(crate) struct First {
+    names: Option<Seq<Text>>,
+    late: bool,
+    place: usize,
+}
+
+impl Model for First {
+    ghost use Rattle.ev_targets.specs.Targets.{FirstParts};
+
+    ghost Value = { FirstParts };
+
+    ghost view = { λ f. record { names = f.names; late = f.late } };
+}
+
+impl First {
+    /// No response came yet.
+    pub(crate) fn new() -> First
+        ensures names { result.names ≡ None }
+        ensures late { result.late ≡ false }
+    {
+        First {
+            names: None,
+            late: false,
+            place: 0,
+        }
+    }
+
+    /// Notes the names that a response made generations for by these verdicts, where it is the first one.
+    pub(crate) fn note(
+        &mut self,
+        alloc: Global,
+        response: &Response,
+        verdicts: &[Verdict],
+    ) -> Result<(), AllocError>
+        requires one_each { length verdicts.now ≡ length response.now.items }
+        ensures names { OnOk result (self.new.names ≡ noted_once self.old.names (made_names verdicts.now response.now.items)) }
+        ensures late { OnOk result (self.new.late ≡ self.old.late) }
+    {
+        if self.names.is_some() {
+            return Ok(());
+        }
+        let names = made_names(alloc, verdicts, response.items.as_slice())?;
+        self.names = Some(names);
+        Ok(())
+    }
+
+    /// They are late from now on, where no response came and they weren't late before, which the answer says.
+    pub(crate) fn time_out(&mut self) -> bool
+        ensures heard { result ≡ not (is_some self.old.names || self.old.late) }
+        ensures late { self.new ≡ (if result then record self.old { late = true } else self.old) }
+    {
+        if self.names.is_some() || self.late {
+            return false;
+        }
+        self.late = true;
+        true
+    }
+
+    /// Whether they have come or are late. The name that was seen waiting is asked first, then those behind it, then those before it,
+    /// up to the first that waits.
+    pub(crate) fn have_come<W: Waited>(&mut self, known: &W) -> bool
+        requires kept { W.is_kept known.now }
+        ensures value { result ≡ have_come self.old.late (W.comes known.now) self.old.names }
+        ensures same { self.new ≡ self.old }
+    {
+        if self.late {
+            return true;
+        }
+        let Some(names) = &self.names else {
+            return false;
+        };
+        match waiting(known, names.as_slice(), self.place) {
+            Some(place) => {
+                self.place = place;
+                false
+            }
+            None => true,
+        }
+    }
+}
+
+// The place of a name that waits, looked for from a place on and round the list.
+fn waiting<W: Waited>(known: &W, names: &[Text], from: usize) -> Option<usize>
+    requires kept { W.is_kept known.now }
+    ensures { is_some result ≡ not (list_all (W.comes known.now) names.now) }
+{
+    let from = from.min(names.len());
+    match first_waiting(known, &names[from..]) {
+        Some(further) => Some(from + further),
+        None => first_waiting(known, &names[..from]),
+    }
+}
+
+// The place of the first of these names that waits.
+fn first_waiting<W: Waited>(known: &W, names: &[Text]) -> Option<usize>
+    requires kept { W.is_kept known.now }
+    ensures waits { is_some result ≡ not (list_all (W.comes known.now) names.now) }
+    ensures within { IfSome result (λ place. place < length names.now) }
+{
+    for (place, name) in names.iter().enumerate() {
+        if !known.has_come(name.as_str()) {
+            return Some(place);
+        }
+    }
+    None
+}
+
+// The names of the resources that made a generation, in order.
+fn made_names(alloc: Global, verdicts: &[Verdict], items: &[Item]) -> Result<Seq<Text>, AllocError>
+    requires { length verdicts.now ≡ length items.now }
+    ensures { IfOk result (λ names. names ≡ made_names verdicts.now items.now) }
+{
+    let mut names = Vec::new(alloc);
+    for (place, verdict) in verdicts.iter().enumerate() {
+        push_made(alloc, *verdict, &items[place], &mut names)?;
+    }
+    Ok(Seq::from_vec(names))
+}
+
+// Puts the name of a resource to the others, where it made a generation.
+fn push_made(
+    alloc: Global,
+    verdict: Verdict,
+    item: &Item,
+    names: &mut Vec<Text>,
+) -> Result<(), AllocError>
+    ensures { OnOk result (names.new.items ≡ names.old.items ++ made_names (verdict ∷ []) (item.now ∷ [])) }
+{
+    if let Verdict::New = verdict {
+        names.push(item.name.copy(alloc)?)?;
+    }
+    Ok(())
+}
+
+impl TryCopy for First {
+    fn copy(&self, alloc: Global) -> Result<First, AllocError> {
+        Ok(First {
+            names: self.names.copy(alloc)?,
+            late: self.late,
+            place: self.place,
+        })
+    }
+}

@@ -1,0 +1,183 @@
+//! How far the proxy has booted: which names the first response of clusters, and of listeners, made generations for, whether either
+//! is late, and the phase. No event looks at all first names: a name that was seen waiting is asked first.
+#![tactic(auto)]
+
+ghost use Rattle.std.specs.Prelude.{◌≡◌, ◌&&◌, ◌||◌, not, ℕ, List, true, length, is_some, if◌then◌else◌, OnOk};
+ghost use Rattle.ev_model.specs.World.{World, opening};
+ghost use Rattle.ev_model.specs.Rows.{made_names, with_first};
+ghost use Rattle.ev_model.specs.Phase.{have_come, is_clusters, listeners_phase, phase_from};
+ghost use Rattle.ev_model.specs.Tidy.{with_phase};
+ghost use Rattle.ev_clusters.specs.Clusters.{AreKept as AreClustersKept};
+ghost use Rattle.ev_listeners.specs.Listeners.{AreKept as AreListenersKept, StandsFor as ListenersStandFor};
+ghost use Rattle.ev_warming.specs.Worlds.{StandsFor as ClustersStandFor};
+ghost use Rattle.ev_targets.specs.Targets.{StandsFor, come_in};
+
+mod first;
+#[cfg(test)]
+mod tests;
+mod waited;
+
+use crate::first::First;
+use ev_clusters::Clusters;
+use ev_listeners::Listeners;
+use ev_types::{Kind, Phase, Response, TryCopy, Verdict};
+use std::alloc::{AllocError, Global};
+use std::marker::Model;
+
+/// How far the proxy has booted.
+#[derive(Drop)]
+pub struct Targets {
+    phase: Phase,
+    clusters: First,
+    listeners: First,
+}
+
+impl Model for Targets {
+    ghost use Rattle.ev_targets.specs.Targets.{TargetsParts};
+
+    ghost Value = { TargetsParts };
+
+    ghost view = { λ t. record {
+      phase = t.phase;
+      first_clusters = t.clusters.names;
+      first_listeners = t.listeners.names;
+      late_clusters = t.clusters.late;
+      late_listeners = t.listeners.late;
+    } };
+}
+
+impl Targets {
+    /// Nothing came yet, and the first clusters are awaited.
+    pub fn new() -> Targets
+        ensures { (workers : ℕ) (node : List ℕ) → StandsFor result (opening workers node) }
+    {
+        Targets {
+            phase: Phase::Clusters,
+            clusters: First::new(),
+            listeners: First::new(),
+        }
+    }
+
+    /// How far the proxy has booted.
+    pub fn phase(&self) -> Phase
+        ensures value { result ≡ self.now.phase }
+        ensures world { (world : World) → StandsFor self.now world → result ≡ world.phase }
+    {
+        self.phase
+    }
+
+    /// A response of this kind made generations by these verdicts: the first one of clusters, and of listeners, is noted by their
+    /// names. Without memory nothing is promised.
+    pub fn note_first(
+        &mut self,
+        alloc: Global,
+        kind: Kind,
+        response: &Response,
+        verdicts: &[Verdict],
+    ) -> Result<(), AllocError>
+        requires one_each { length verdicts.now ≡ length response.now.items }
+        // Whatever world it stood for, it stands for that world with the names noted.
+        ensures stands { OnOk result ((world : World) → StandsFor self.old world → StandsFor self.new (with_first kind (made_names verdicts.now response.now.items) world)) }
+    {
+        match kind {
+            Kind::Cds => self.clusters.note(alloc, response, verdicts),
+            Kind::Lds => self.listeners.note(alloc, response, verdicts),
+            Kind::Eds | Kind::Rds => Ok(()),
+        }
+    }
+
+    /// The fetch timeout of clusters: they are late from now on. It is ignored, which the answer says, where a response of them
+    /// came or they are late already.
+    pub fn clusters_timeout(&mut self) -> bool
+        ensures late { self.new ≡ (if result then record self.old { late_clusters = true } else self.old) }
+        ensures heard { (world : World) → StandsFor self.old world → result ≡ not (is_some world.first_clusters || world.late_clusters) }
+        // Whatever world it stood for, it stands for that world with the mark, where the timeout isn't ignored.
+        ensures stands { (world : World) → StandsFor self.old world → StandsFor self.new (if result then record world { late_clusters = true } else world) }
+    {
+        self.clusters.time_out()
+    }
+
+    /// The fetch timeout of listeners: the same, and it is ignored also while the first clusters are awaited.
+    pub fn listeners_timeout(&mut self) -> bool
+        ensures late { self.new ≡ (if result then record self.old { late_listeners = true } else self.old) }
+        ensures heard { (world : World) → StandsFor self.old world → result ≡ not (is_clusters world.phase || (is_some world.first_listeners || world.late_listeners)) }
+        // Whatever world it stood for, it stands for that world with the mark, where the timeout isn't ignored.
+        ensures stands { (world : World) → StandsFor self.old world → StandsFor self.new (if result then record world { late_listeners = true } else world) }
+    {
+        if let Phase::Clusters = self.phase {
+            return false;
+        }
+        self.listeners.time_out()
+    }
+
+    /// The phase moves on as far as what came allows: where the first clusters have come, listeners are awaited, and where the
+    /// first listeners have come, they serve. Answers whether listeners are awaited from now on, or serve, and weren't before.
+    /// While a name that was seen waiting still waits, it costs one look-up.
+    pub fn advance(&mut self, clusters: &Clusters, listeners: &Listeners) -> bool
+        requires clusters { AreClustersKept clusters.now }
+        requires listeners { AreListenersKept listeners.now }
+        ensures phase { self.new ≡ record self.old {
+          phase = phase_from
+              (have_come self.old.late_clusters (come_in clusters.now.state) self.old.first_clusters)
+              (have_come self.old.late_listeners (come_in listeners.now.state) self.old.first_listeners) self.old.phase;
+        } }
+        ensures left { result ≡ (is_clusters self.old.phase && not (is_clusters self.new.phase)) }
+        // Whatever world all three stood for, it stands for that world in the phase that follows.
+        ensures stands { (world : World) → StandsFor self.old world → ClustersStandFor clusters.now.state world → ListenersStandFor listeners.now world → StandsFor self.new (with_phase world) }
+    {
+        let before = self.phase;
+        self.phase = self.phase_after(clusters, listeners);
+        is_clusters(before) && !is_clusters(self.phase)
+    }
+
+    // The phase that follows.
+    fn phase_after(&mut self, clusters: &Clusters, listeners: &Listeners) -> Phase
+        requires clusters { AreClustersKept clusters.now }
+        requires listeners { AreListenersKept listeners.now }
+        ensures phase { result ≡ phase_from
+            (have_come self.old.late_clusters (come_in clusters.now.state) self.old.first_clusters)
+            (have_come self.old.late_listeners (come_in listeners.now.state) self.old.first_listeners) self.old.phase }
+        ensures same { self.new ≡ self.old }
+    {
+        match self.phase {
+            Phase::Clusters => {
+                if !self.clusters.have_come(clusters) {
+                    return Phase::Clusters;
+                }
+                self.listeners_phase(listeners)
+            }
+            Phase::Listeners => self.listeners_phase(listeners),
+            Phase::Serving => Phase::Serving,
+        }
+    }
+
+    // The phase that follows once listeners are awaited.
+    fn listeners_phase(&mut self, listeners: &Listeners) -> Phase
+        requires listeners { AreListenersKept listeners.now }
+        ensures phase { result ≡ listeners_phase (have_come self.old.late_listeners (come_in listeners.now.state) self.old.first_listeners) }
+        ensures same { self.new ≡ self.old }
+    {
+        if self.listeners.have_come(listeners) {
+            Phase::Serving
+        } else {
+            Phase::Listeners
+        }
+    }
+}
+
+// Whether the first clusters are awaited.
+fn is_clusters(phase: Phase) -> bool
+    ensures { result ≡ is_clusters phase }
+{
+    matches!(phase, Phase::Clusters)
+}
+
+impl TryCopy for Targets {
+    fn copy(&self, alloc: Global) -> Result<Targets, AllocError> {
+        Ok(Targets {
+            phase: self.phase,
+            clusters: self.clusters.copy(alloc)?,
+            listeners: self.listeners.copy(alloc)?,
+        })
+    }
+}
