@@ -1,0 +1,439 @@
+-- What an event of one kind leaves as it was for the manager of the other kind.
+use Rattle.std.proofs.Common.{◌≡◌, ℕ, ◌+◌, Bool, true, false, not, ◌&&◌, ◌||◌, cond, List, [], ◌∷◌, ◌++◌, map, filter, None, refl, sym, ap, ◌∙◌, subst}
+use Rattle.std.specs.Prelude.{IsSome, filter_map, nat_eq, Option, Some, unwrap_or}
+use Rattle.std.proofs.lemmas.List.Folds.{list_any-append}
+use Rattle.std.specs.List.{list_any, fold, zip, AllByRecursion as ByRecursion, last_or}
+use Rattle.std.specs.Str.{bytes_eq}
+use Rattle.std.proofs.lemmas.Bool.{cond_both, both_ways, false≢true}
+use Rattle.ev_types.specs.Items.{ItemParts, ResponseParts}
+use Rattle.ev_types.specs.Kinds.{kind_same, kind_decides}
+use Rattle.ev_types.specs.SameHosts.{host_same}
+use Rattle.ev_types.specs.Statuses.{is_warming, is_live}
+use Rattle.ev_types.specs.declared.contents.Kind.{Kind}
+use Rattle.ev_types.specs.declared.contents.Kind.TheVariants.{Cds, Eds, Lds, Rds}
+use Rattle.ev_types.specs.declared.contents.Body.{Body}
+use Rattle.ev_types.specs.declared.contents.Body.TheVariants.{Good, Bad, Beat}
+use Rattle.ev_types.specs.declared.contents.Content.{Content}
+use Rattle.ev_types.specs.declared.events.Verdict.{Verdict}
+use Rattle.ev_types.specs.declared.events.Verdict.TheVariants.{New, Same, Kept, Unasked, Renewed, Refused}
+use Rattle.ev_types.specs.declared.hosts.Host.{Host}
+use Rattle.ev_types.specs.declared.rows.Arrival.{Arrival}
+use Rattle.ev_types.specs.declared.rows.Arrival.TheVariants.{Value, Absent, Bad as bad}
+use Rattle.ev_types.specs.declared.rows.GenRow.{GenRow}
+use Rattle.ev_types.specs.declared.rows.RowStatus.TheVariants.{Dropped}
+use Rattle.ev_types.specs.declared.rows.RowStatus.{RowStatus}
+use Rattle.ev_model.specs.World.{World, Arrived, HealthResult}
+use Rattle.ev_model.specs.Live.{lives_of}
+use Rattle.ev_model.specs.Verdicts.{is_removed}
+use Rattle.ev_model.specs.Warming.{came_for, content_in, is_word, is_timeout, has_result, is_healthy, is_result_of, is_checked, assignment_by}
+use Rattle.ev_model.specs.Watching.{is_watched}
+use Rattle.ev_model.specs.Rows.{is_row_of, removed_status, with_statuses, status_left, arrived, absent_names, with_removals, with_absences, replaced_status, new_row, add_row, keep_version, keep_value, with_content, refuse, told_of_refusal, add_item, add_items}
+use Rattle.ev_model.specs.Signals.{ended_status, rows_ended, is_meant, rows_meant, result_for, with_results}
+use Rattle.ev_model.specs.Tidy.{has_host}
+use Rattle.ev_generations.specs.Tables.{row_in, numbers_of}
+use Rattle.ev_warming.specs.declared.state.State.{State}
+use Rattle.ev_warming.specs.Due.{is_among}
+use Rattle.ev_warming.specs.Health.{passes}
+use Rattle.ev_warming.proofs.HealthLemmas.{among-row}
+use Rattle.ev_warming.proofs.WhereLemmas.{flipped}
+use Rattle.ev_warming.specs.Worlds.{StandsFor as HasRows, IsSound, needs_of, rows_of_kind}
+use Rattle.ev_warming.specs.Frames.{SameSeen, seen-stands}
+use Rattle.ev_listeners.specs.Listeners.{ListenersKept, StandsFor as HasListeners}
+use Rattle.ev_managers.specs.declared.managers.Managers.{Managers}
+use Rattle.ev_managers.specs.Managers.{StandFor}
+
+-- what a manager of this kind sees is the same in both worlds, but for health results
+pub record Leaves (kind : Kind) (before after : World) : Type 0 where
+  pub rows : rows_of_kind kind after.rows ≡ rows_of_kind kind before.rows
+  pub came : (name : List ℕ) → came_for after.arrivals (needs_of kind) name ≡ came_for before.arrivals (needs_of kind) name
+
+-- health results of each row of a manager are the same in both worlds
+pub record LeavesResults (s : State) (before after : World) : Type 0 where
+  pub resulted : (number : ℕ) (host : Host) → IsSome (row_in number s.table.rows) → has_result after.results number host ≡ has_result before.results number host
+  pub healthy : (number : ℕ) (host : Host) → IsSome (row_in number s.table.rows) → is_healthy after.results number host ≡ is_healthy before.results number host
+
+pub same_results : (s : State) (before after : World) → after.results ≡ before.results → LeavesResults s before after
+same_results s before after same = record {
+  resulted = λ number host there. ap (λ rs. has_result rs number host) same;
+  healthy = λ number host there. ap (λ rs. is_healthy rs number host) same;
+}
+
+-- so a manager that stood for the one stands for the other
+pub stays : (s : State) (before after : World) → HasRows s before → IsSound after → after.made ≡ before.made → Leaves s.kind before after → LeavesResults s before after
+    → HasRows s after
+stays s before after has sound made leaves results = record {
+  sound = sound;
+  rows = has.rows ∙ sym leaves.rows;
+  made = has.made ∙ sym made;
+  told = λ name. has.told name ∙ sym (ap (list_any is_word) (leaves.came name));
+  timed = λ name. has.timed name ∙ sym (ap (list_any is_timeout) (leaves.came name));
+  value = λ name. has.value name ∙ sym (ap (λ (came : List Arrival). last_or None (filter_map content_in came)) (leaves.came name));
+  resulted = λ number host there. has.resulted number host there ∙ sym (results.resulted number host there);
+  healthy = λ number host there. has.healthy number host there ∙ sym (results.healthy number host there);
+}
+
+pub leaves_itself : (kind : Kind) (world : World) → Leaves kind world world
+leaves_itself kind world = record { rows = refl; came = λ name. refl }
+
+pub leaves_then : (kind : Kind) (a b c : World) → Leaves kind a b → Leaves kind b c → Leaves kind a c
+leaves_then kind a b c first second = record { rows = second.rows ∙ first.rows; came = λ name. second.came name ∙ first.came name }
+
+-- a row of this kind isn't of another
+other_kind : (row other kind : Kind) → kind_same other kind ≡ false → kind_same row kind ≡ true → kind_same row other ≡ false
+other_kind row other kind apart of = by (kind_same row other) refl
+  where
+    by : (b : Bool) → kind_same row other ≡ b → b ≡ false
+    by true same = absurd (both_ways (kind_same other kind) apart (ap (λ k. kind_same k kind) (sym ((kind_decides row other).0 same)) ∙ of))
+    by false same = refl
+
+-- rows of this kind keep their status
+statuses_leave : (kind : Kind) (status_of : GenRow → RowStatus) → ((row : GenRow) → kind_same row.kind kind ≡ true → status_of row ≡ row.status)
+    → (rows : List GenRow) → rows_of_kind kind (with_statuses status_of rows) ≡ rows_of_kind kind rows
+statuses_leave kind status_of keeps [] = refl
+statuses_leave kind status_of keeps (row ∷ rows) = by (kind_same row.kind kind) refl (statuses_leave kind status_of keeps rows)
+  where
+    by : (b : Bool) → kind_same row.kind kind ≡ b → rows_of_kind kind (with_statuses status_of rows) ≡ rows_of_kind kind rows
+        → cond b (record row { status = status_of row } ∷ rows_of_kind kind (with_statuses status_of rows)) (rows_of_kind kind (with_statuses status_of rows))
+        ≡ cond b (row ∷ rows_of_kind kind rows) (rows_of_kind kind rows)
+    by true of rest = λ i. record row { status = keeps row of i } ∷ rest i
+    by false other rest = rest
+
+filtered_append : {X : Type 0} (p : X → Bool) (xs ys : List X) → filter p (xs ++ ys) ≡ filter p xs ++ filter p ys
+filtered_append p [] ys = refl
+filtered_append p (x ∷ xs) ys = by (p x) (filtered_append p xs ys)
+  where
+    by : (b : Bool) → filter p (xs ++ ys) ≡ filter p xs ++ filter p ys
+        → cond b (x ∷ filter p (xs ++ ys)) (filter p (xs ++ ys)) ≡ cond b (x ∷ filter p xs) (filter p xs) ++ filter p ys
+    by true h = ap (λ zs. x ∷ zs) h
+    by false h = h
+
+append_none : {X : Type 0} (xs : List X) → xs ++ [] ≡ xs
+append_none [] = refl
+append_none (x ∷ xs) = ap (λ zs. x ∷ zs) (append_none xs)
+
+-- rows of another kind behind them
+more_leave : (kind : Kind) (rows : List GenRow) (row : GenRow) → kind_same row.kind kind ≡ false → rows_of_kind kind (rows ++ row ∷ []) ≡ rows_of_kind kind rows
+more_leave kind rows row other =
+    filtered_append (λ (r : GenRow). kind_same r.kind kind) rows (row ∷ [])
+    ∙ ap (λ b. rows_of_kind kind rows ++ cond b (row ∷ []) []) other ∙ append_none (rows_of_kind kind rows)
+
+-- what came of another kind is nothing for this one
+came_of_other : (kind other : Kind) (name : List ℕ) → kind_same other kind ≡ false → (more : List Arrived)
+    → ByRecursion (λ (a : Arrived). a.kind ≡ other) more → came_for more kind name ≡ []
+came_of_other kind other name apart [] all = refl
+came_of_other kind other name apart (a ∷ more) all =
+    (λ i. map (λ (x : Arrived). x.arrival) (cond ((ap (λ k. kind_same k kind) all.0 ∙ apart) i && bytes_eq a.name name)
+    (a ∷ filter (λ (x : Arrived). kind_same x.kind kind && bytes_eq x.name name) more) (filter (λ (x : Arrived). kind_same x.kind kind && bytes_eq x.name name) more)))
+    ∙ came_of_other kind other name apart more all.1
+
+mapped_append : {X Y : Type 0} (f : X → Y) (xs ys : List X) → map f (xs ++ ys) ≡ map f xs ++ map f ys
+mapped_append f [] ys = refl
+mapped_append f (x ∷ xs) ys = ap (λ zs. f x ∷ zs) (mapped_append f xs ys)
+
+pub came_more : (kind other : Kind) (name : List ℕ) → kind_same other kind ≡ false → (arrivals more : List Arrived)
+    → ByRecursion (λ (a : Arrived). a.kind ≡ other) more → came_for (arrivals ++ more) kind name ≡ came_for arrivals kind name
+came_more kind other name apart arrivals more all =
+    ap (map (λ (a : Arrived). a.arrival)) (filtered_append (λ (a : Arrived). kind_same a.kind kind && bytes_eq a.name name) arrivals more)
+    ∙ mapped_append (λ (a : Arrived). a.arrival) (filter (λ (a : Arrived). kind_same a.kind kind && bytes_eq a.name name) arrivals)
+    (filter (λ (a : Arrived). kind_same a.kind kind && bytes_eq a.name name) more)
+    ∙ ap (λ came. came_for arrivals kind name ++ came) (came_of_other kind other name apart more all)
+    ∙ append_none (came_for arrivals kind name)
+
+all_arrived : (kind : Kind) (arrival : Arrival) (names : List (List ℕ)) → ByRecursion (λ (a : Arrived). a.kind ≡ kind) (map (arrived kind arrival) names)
+all_arrived kind arrival [] = tt
+all_arrived kind arrival (name ∷ names) = (refl, all_arrived kind arrival names)
+
+-- the other kind is neither that of the rows nor that of what they wait for
+pub record IsApart (other kind : Kind) : Type 0 where
+  pub rows : kind_same other kind ≡ false
+  pub needs : kind_same other (needs_of kind) ≡ false
+
+module _ (other kind : Kind) (apart : IsApart other kind) where
+  -- something came for a name
+  pub arrival_leaves : (more : List Arrived) (world : World) → ByRecursion (λ (a : Arrived). a.kind ≡ other) more
+      → Leaves kind world (record world { arrivals = world.arrivals ++ more })
+  arrival_leaves more world all = record { rows = refl; came = λ name. came_more (needs_of kind) other name apart.needs world.arrivals more all }
+
+  ended_keeps : (name : List ℕ) (row : GenRow) → kind_same row.kind kind ≡ true → ended_status other name row ≡ row.status
+  ended_keeps name row of = ap (λ b. cond (b && bytes_eq row.name name) (removed_status row.status) row.status) (other_kind row.kind other kind apart.rows of)
+
+  -- a resource came to its end
+  pub end_leaves : (name : List ℕ) (world : World) → Leaves kind world (record world { rows = rows_ended other name world.rows })
+  end_leaves name world = record {
+    rows = statuses_leave kind (ended_status other name) (ended_keeps name) world.rows;
+    came = λ name. refl;
+  }
+
+  left_keeps : (response : ResponseParts) (row : GenRow) → kind_same row.kind kind ≡ true → status_left other response row ≡ row.status
+  left_keeps response row of = ap (λ b. cond (b && is_removed response row.name) (removed_status row.status) row.status) (other_kind row.kind other kind apart.rows of)
+
+  replaced_keeps : (name : List ℕ) (row : GenRow) → kind_same row.kind kind ≡ true → replaced_status other name row ≡ row.status
+  replaced_keeps name row of =
+      ap (λ b. cond ((b && bytes_eq row.name name) && is_warming row.status) Dropped row.status)
+      (other_kind row.kind other kind apart.rows of)
+
+  row_leaves : (item : ItemParts) (body : Body) (world : World) → Leaves kind world (with_content (add_row other item) body world)
+  row_leaves item (Good content) world = record {
+    rows = more_leave kind (with_statuses (replaced_status other item.name) world.rows) (new_row other world.made item.name content) apart.rows
+        ∙ statuses_leave kind (replaced_status other item.name) (replaced_keeps item.name) world.rows;
+    came = λ name. refl;
+  }
+  row_leaves item (Bad rule) world = leaves_itself kind world
+  row_leaves item Beat world = leaves_itself kind world
+
+  same_leaves : (item : ItemParts) (body : Body) (world : World) → Leaves kind world (with_content (λ content. keep_version other item) body world)
+  same_leaves item (Good content) world = record { rows = refl; came = λ name. refl }
+  same_leaves item (Bad rule) world = leaves_itself kind world
+  same_leaves item Beat world = leaves_itself kind world
+
+  value_leaves : (item : ItemParts) (body : Body) (world : World) → Leaves kind world (with_content (keep_value other item) body world)
+  value_leaves item (Good content) world = record {
+    rows = refl;
+    came = λ name. came_more (needs_of kind) other name apart.needs world.arrivals (arrived other (Value content) item.name ∷ []) (refl, tt);
+  }
+  value_leaves item (Bad rule) world = leaves_itself kind world
+  value_leaves item Beat world = leaves_itself kind world
+
+  told_leaves : (watched : Bool) (name : List ℕ) (world : World)
+      → Leaves kind world (cond watched (record world { arrivals = world.arrivals ++ arrived other bad name ∷ [] }) world)
+  told_leaves true name world = arrival_leaves (arrived other bad name ∷ []) world (refl, tt)
+  told_leaves false name world = leaves_itself kind world
+
+  refused_leaves : (name : List ℕ) (world : World) → Leaves kind world (refuse other name world)
+  refused_leaves name world = by other refl
+    where
+      by : (k : Kind) → k ≡ other → Leaves kind world (refuse k name world)
+      by Cds same = leaves_itself kind world
+      by Lds same = leaves_itself kind world
+      by Eds same =
+          subst (λ (o : Kind). Leaves kind world (cond (is_watched (lives_of world) Eds name) (record world { arrivals = world.arrivals ++ arrived o bad name ∷ [] }) world))
+          (sym same) (told_leaves (is_watched (lives_of world) Eds name) name world)
+      by Rds same =
+          subst (λ (o : Kind). Leaves kind world (cond (is_watched (lives_of world) Rds name) (record world { arrivals = world.arrivals ++ arrived o bad name ∷ [] }) world))
+          (sym same) (told_leaves (is_watched (lives_of world) Rds name) name world)
+
+  item_leaves : (verdict : Verdict) (item : ItemParts) (world : World) → Leaves kind world (add_item other verdict item world)
+  item_leaves New item world = row_leaves item item.body world
+  item_leaves Same item world = same_leaves item item.body world
+  item_leaves Kept item world = value_leaves item item.body world
+  item_leaves Unasked item world = leaves_itself kind world
+  item_leaves Renewed item world = record { rows = refl; came = λ name. refl }
+  item_leaves (Refused rule) item world = refused_leaves item.name world
+
+  items_leave : (judged : List (Verdict × ItemParts)) (world : World)
+      → Leaves kind world (fold (λ (w : World) (one : Verdict × ItemParts). add_item other one.0 one.1 w) world judged)
+  items_leave [] world = leaves_itself kind world
+  items_leave (one ∷ judged) world =
+      leaves_then kind world (add_item other one.0 one.1 world) _ (item_leaves one.0 one.1 world) (items_leave judged (add_item other one.0 one.1 world))
+
+  removals_leave : (response : ResponseParts) (world : World) → Leaves kind world (with_removals other response world)
+  removals_leave response world = by other refl
+    where
+      rows_left_same : rows_of_kind kind (with_statuses (status_left other response) world.rows) ≡ rows_of_kind kind world.rows
+      rows_left_same = statuses_leave kind (status_left other response) (left_keeps response) world.rows
+
+      came_same : (names : List (List ℕ)) (name : List ℕ) → came_for (world.arrivals ++ map (arrived other Absent) names) (needs_of kind) name ≡ came_for world.arrivals (needs_of kind) name
+      came_same names name = came_more (needs_of kind) other name apart.needs world.arrivals (map (arrived other Absent) names) (all_arrived other Absent names)
+
+      by : (k : Kind) → k ≡ other → Leaves kind world (with_removals k response world)
+      by Cds same = record {
+        rows = subst (λ (o : Kind). rows_of_kind kind (with_statuses (status_left o response) world.rows) ≡ rows_of_kind kind world.rows) (sym same) rows_left_same;
+        came = λ name. refl;
+      }
+      by Lds same = record {
+        rows = subst (λ (o : Kind). rows_of_kind kind (with_statuses (status_left o response) world.rows) ≡ rows_of_kind kind world.rows) (sym same) rows_left_same;
+        came = λ name. refl;
+      }
+      by Eds same = record {
+        rows = refl;
+        came = λ name. subst (λ (o : Kind). came_for (world.arrivals ++ map (arrived o Absent) (absent_names Eds response world)) (needs_of kind) name ≡ came_for world.arrivals (needs_of kind) name)
+            (sym same) (came_same (absent_names Eds response world) name);
+      }
+      by Rds same = record {
+        rows = refl;
+        came = λ name. subst (λ (o : Kind). came_for (world.arrivals ++ map (arrived o Absent) (absent_names Rds response world)) (needs_of kind) name ≡ came_for world.arrivals (needs_of kind) name)
+            (sym same) (came_same (absent_names Rds response world) name);
+      }
+
+  -- a response
+  pub response_leaves : (response : ResponseParts) (verdicts : List Verdict) (world : World)
+      → Leaves kind world (add_items other verdicts response.items (with_removals other response world))
+  response_leaves response verdicts world =
+      leaves_then kind world (with_removals other response world) _ (removals_leave response world)
+      (items_leave (zip verdicts response.items) (with_removals other response world))
+
+-- a row of a number that is found stands among those numbers
+found_among : (n : ℕ) (rows : List GenRow) → IsSome (row_in n rows) → is_among (numbers_of rows) n ≡ true
+found_among n [] there = absurd (false≢true there)
+found_among n (row ∷ rows) there = by (nat_eq n row.number) there (λ rest. found_among n rows rest)
+  where
+    by : (b : Bool) → IsSome (cond b (Some row) (row_in n rows)) → (IsSome (row_in n rows) → is_among (numbers_of rows) n ≡ true)
+        → (b || is_among (numbers_of rows) n) ≡ true
+    by true found rest = refl
+    by false found rest = rest found
+
+-- results for other numbers
+results_apart : (n : ℕ) (h host : Host) (healthy : Bool) (rows : List GenRow) → is_among (numbers_of rows) n ≡ false
+    → filter (is_result_of n h) (map (result_for host healthy) rows) ≡ []
+results_apart n h host healthy [] apart = refl
+results_apart n h host healthy (row ∷ rows) apart = by (nat_eq n row.number) refl apart (results_apart n h host healthy rows)
+  where
+    by : (b : Bool) → nat_eq n row.number ≡ b → (b || is_among (numbers_of rows) n) ≡ false
+        → (is_among (numbers_of rows) n ≡ false → filter (is_result_of n h) (map (result_for host healthy) rows) ≡ [])
+        → filter (is_result_of n h) (map (result_for host healthy) (row ∷ rows)) ≡ []
+    by true same gone rest = absurd (false≢true (sym gone))
+    by false other gone rest =
+        (λ i. cond ((flipped row.number n ∙ other) i && host_same host h)
+        (result_for host healthy row ∷ filter (is_result_of n h) (map (result_for host healthy) rows)) (filter (is_result_of n h) (map (result_for host healthy) rows)))
+        ∙ rest gone
+
+any_none : {X : Type 0} (p : X → Bool) (xs : List X) → filter p xs ≡ [] → list_any p xs ≡ false
+any_none p [] none = refl
+any_none p (x ∷ xs) none = by (p x) none (any_none p xs)
+  where
+    by : (b : Bool) → cond b (x ∷ filter p xs) (filter p xs) ≡ [] → (filter p xs ≡ [] → list_any p xs ≡ false) → (b || list_any p xs) ≡ false
+    by true none rest = absurd (cc)
+    by false none rest = rest none
+
+-- health results are of clusters
+pub health_leaves : (s : State) (world : World) (name : List ℕ) (host : Host) (healthy : Bool) → HasRows s world → kind_same Cds s.kind ≡ false
+    → LeavesResults s world (with_results host healthy (rows_meant world.arrivals name host world.rows) world)
+health_leaves s world name host healthy has apart = record {
+  resulted = λ number h there.
+      list_any-append (is_result_of number h) world.results (map (result_for host healthy) (rows_meant world.arrivals name host world.rows))
+      ∙ ap (λ b. has_result world.results number h || b)
+      (any_none (is_result_of number h) (map (result_for host healthy) (rows_meant world.arrivals name host world.rows))
+      (results_apart number h host healthy (rows_meant world.arrivals name host world.rows) (meant_apart number there)))
+      ∙ or_false (has_result world.results number h);
+  healthy = λ number h there.
+      ap (λ (rs : List HealthResult). unwrap_or (last_or None (map (λ (r : HealthResult). r.healthy) rs)) false)
+      (filtered_append (is_result_of number h) world.results (map (result_for host healthy) (rows_meant world.arrivals name host world.rows))
+      ∙ ap (λ (rs : List HealthResult). filter (is_result_of number h) world.results ++ rs)
+      (results_apart number h host healthy (rows_meant world.arrivals name host world.rows) (meant_apart number there))
+      ∙ append_none (filter (is_result_of number h) world.results));
+}
+  where
+    or_false : (b : Bool) → (b || false) ≡ b
+    or_false true = refl
+    or_false false = refl
+
+    -- the row of the number is of the manager's kind
+    its_kind : (number : ℕ) → IsSome (row_in number s.table.rows) → passes (λ (row : GenRow). kind_same row.kind s.kind) (row_in number world.rows) ≡ true
+    its_kind number there =
+        sym (among-row (λ (row : GenRow). kind_same row.kind s.kind) number world.rows has.sound.table.apart)
+        ∙ found_among number (rows_of_kind s.kind world.rows) (subst (λ (rs : List GenRow). IsSome (row_in number rs)) has.rows there)
+
+    other_test : (o : Option GenRow) → passes (λ (row : GenRow). kind_same row.kind s.kind) o ≡ true → passes (is_meant world.arrivals name host) o ≡ false
+    other_test None h = refl
+    other_test (Some row) h =
+        ap (λ b. ((((b && bytes_eq row.name name) && is_live row.status) && is_checked row.content) && has_host host (assignment_by world.arrivals row.content)))
+        (other_kind row.kind Cds s.kind apart h)
+
+    meant_apart : (number : ℕ) → IsSome (row_in number s.table.rows) → is_among (numbers_of (rows_meant world.arrivals name host world.rows)) number ≡ false
+    meant_apart number there =
+        among-row (is_meant world.arrivals name host) number world.rows has.sound.table.apart
+        ∙ other_test (row_in number world.rows) (its_kind number there)
+
+-- the same of the listener manager
+pub listeners_stay : (l : ListenersKept) (before after : World) → HasListeners l before → IsSound after → after.made ≡ before.made
+    → Leaves l.state.kind before after → LeavesResults l.state before after → HasListeners l after
+listeners_stay l before after has sound made leaves results = record { part = stays l.state before after has.part sound made leaves results; addresses = has.addresses }
+
+-- kinds apart
+pub listeners_apart : IsApart Lds Cds
+listeners_apart = record { rows = refl; needs = refl }
+
+pub clusters_apart : IsApart Cds Lds
+clusters_apart = record { rows = refl; needs = refl }
+
+pub routes_apart : IsApart Rds Cds
+routes_apart = record { rows = refl; needs = refl }
+
+pub endpoints_apart : IsApart Eds Lds
+endpoints_apart = record { rows = refl; needs = refl }
+
+-- a response brings no health result
+content_results : (change : Content → World → World) → ((content : Content) (world : World) → (change content world).results ≡ world.results)
+    → (body : Body) (world : World) → (with_content change body world).results ≡ world.results
+content_results change same (Good content) world = same content world
+content_results change same (Bad rule) world = refl
+content_results change same Beat world = refl
+
+told_results : (watched : Bool) (more world : World) → more.results ≡ world.results → (cond watched more world).results ≡ world.results
+told_results true more world same = same
+told_results false more world same = refl
+
+refused_results : (kind : Kind) (name : List ℕ) (world : World) → (refuse kind name world).results ≡ world.results
+refused_results Cds name world = refl
+refused_results Eds name world = told_results (is_watched (lives_of world) Eds name) _ world refl
+refused_results Lds name world = refl
+refused_results Rds name world = told_results (is_watched (lives_of world) Rds name) _ world refl
+
+item_results : (kind : Kind) (verdict : Verdict) (item : ItemParts) (world : World) → (add_item kind verdict item world).results ≡ world.results
+item_results kind New item world = content_results (add_row kind item) (λ content world. refl) item.body world
+item_results kind Same item world = content_results (λ content. keep_version kind item) (λ content world. refl) item.body world
+item_results kind Kept item world = content_results (keep_value kind item) (λ content world. refl) item.body world
+item_results kind Unasked item world = refl
+item_results kind Renewed item world = refl
+item_results kind (Refused rule) item world = refused_results kind item.name world
+
+items_results : (kind : Kind) (judged : List (Verdict × ItemParts)) (world : World)
+    → (fold (λ (w : World) (one : Verdict × ItemParts). add_item kind one.0 one.1 w) world judged).results ≡ world.results
+items_results kind [] world = refl
+items_results kind (one ∷ judged) world = items_results kind judged (add_item kind one.0 one.1 world) ∙ item_results kind one.0 one.1 world
+
+removals_results : (kind : Kind) (response : ResponseParts) (world : World) → (with_removals kind response world).results ≡ world.results
+removals_results Cds response world = refl
+removals_results Eds response world = refl
+removals_results Lds response world = refl
+removals_results Rds response world = refl
+
+pub response_results : (kind : Kind) (response : ResponseParts) (verdicts : List Verdict) (world : World)
+    → (add_items kind verdicts response.items (with_removals kind response world)).results ≡ world.results
+response_results kind response verdicts world =
+    items_results kind (zip verdicts response.items) (with_removals kind response world) ∙ removals_results kind response world
+
+-- the manager of the other kind stands for the world behind a response, once the numbers go on
+module _ (other : Kind) (response : ResponseParts) (verdicts : List Verdict) (before world : World)
+    (sound : IsSound (add_items other verdicts response.items (with_removals other response world)))
+    (made : (add_items other verdicts response.items (with_removals other response world)).made ≡ before.made)
+    (same : record world { made = before.made } ≡ before) where
+  leaves : (kind : Kind) → IsApart other kind → Leaves kind before (add_items other verdicts response.items (with_removals other response world))
+  leaves kind apart =
+      subst (λ (w : World). Leaves kind w (add_items other verdicts response.items (with_removals other response world))) same
+      (let l = response_leaves other kind apart response verdicts world in record { rows = l.rows; came = l.came })
+
+  pub clusters_follow : (s : State) → s.kind ≡ Cds → IsApart other Cds → HasRows s before
+      → HasRows s (add_items other verdicts response.items (with_removals other response world))
+  clusters_follow s of apart has =
+      stays s before (add_items other verdicts response.items (with_removals other response world)) has sound made
+      (leaves s.kind (subst (IsApart other) (sym of) apart))
+      (same_results s before (add_items other verdicts response.items (with_removals other response world))
+      (response_results other response verdicts world ∙ ap (λ (w : World). w.results) same))
+
+  pub listeners_follow : (l : ListenersKept) → l.state.kind ≡ Lds → IsApart other Lds → HasListeners l before
+      → HasListeners l (add_items other verdicts response.items (with_removals other response world))
+  listeners_follow l of apart has =
+      listeners_stay l before (add_items other verdicts response.items (with_removals other response world)) has sound made
+      (leaves l.state.kind (subst (IsApart other) (sym of) apart))
+      (same_results l.state before (add_items other verdicts response.items (with_removals other response world))
+      (response_results other response verdicts world ∙ ap (λ (w : World). w.results) same))
+
+-- the listener manager, where nothing of it changed
+pub listeners_keep : (l : ListenersKept) (before after : World) → l.state.kind ≡ Lds → HasListeners l before → IsSound after → after.made ≡ before.made
+    → Leaves Lds before after → after.results ≡ before.results → HasListeners l after
+listeners_keep l before after of has sound made leaves same =
+    listeners_stay l before after has sound made (subst (λ (k : Kind). Leaves k before after) (sym of) leaves) (same_results l.state before after same)
+
+-- the cluster manager, where nothing of it changed
+pub clusters_keep : (s : State) (before after : World) → s.kind ≡ Cds → HasRows s before → IsSound after → after.made ≡ before.made
+    → Leaves Cds before after → after.results ≡ before.results → HasRows s after
+clusters_keep s before after of has sound made leaves same =
+    stays s before after has sound made (subst (λ (k : Kind). Leaves k before after) (sym of) leaves) (same_results s before after same)
+
+-- both managers stand for a world that has the same generations, numbers, arrivals and results
+pub see_the_same : (m : Managers) (before after : World) → SameSeen before after → StandFor m before → StandFor m after
+see_the_same m before after same stand = record {
+  clusters = seen-stands m.clusters.state before after same stand.clusters;
+  listeners = record { part = seen-stands m.listeners.state before after same stand.listeners.part; addresses = stand.listeners.addresses };
+}

@@ -1,0 +1,39 @@
+-- Both managers, and the worlds that they stand for.
+use Rattle.std.specs.Prelude.{⊤, ℕ, Bool, false, List}
+use Rattle.std.specs.List.{list_any}
+use Rattle.ev_types.specs.Items.{ItemParts}
+use Rattle.ev_types.specs.declared.contents.Kind.{Kind}
+use Rattle.ev_types.specs.declared.contents.Kind.TheVariants.{Cds, Eds, Lds, Rds}
+use Rattle.ev_types.specs.declared.events.Verdict.{Verdict}
+use Rattle.ev_model.specs.World.{World}
+use Rattle.ev_warming.specs.Arrivals.{AreOnValues}
+use Rattle.ev_warming.specs.Indexes.{depends_on}
+use Rattle.ev_warming.specs.Worlds.{StandsFor as HasRows}
+use Rattle.ev_clusters.specs.Clusters.{AreKept as AreClusters}
+use Rattle.ev_listeners.specs.Listeners.{AreKept as AreListeners, StandsFor as HasListeners}
+use Rattle.ev_managers.specs.declared.managers.Managers.{Managers}
+
+-- both keep what each of their calls needs
+pub record AreKept (m : Managers) : Type 0 where
+  pub clusters : AreClusters m.clusters
+  pub listeners : AreListeners m.listeners
+
+-- each has what the world has of it
+pub record StandFor (m : Managers) (world : World) : Type 0 where
+  pub clusters : HasRows m.clusters.state world
+  pub listeners : HasListeners m.listeners world
+
+-- these verdicts may be given on a response of this kind: of endpoints and routes only resources of watched names are kept, and no
+-- generation is made of them
+abbrev pub MayBeGiven : Managers → Kind → List Verdict → List ItemParts → Type 0
+MayBeGiven m Cds verdicts items = ⊤
+MayBeGiven m Eds verdicts items = AreOnValues m.clusters.state.table.rows verdicts items
+MayBeGiven m Lds verdicts items = ⊤
+MayBeGiven m Rds verdicts items = AreOnValues m.listeners.state.table.rows verdicts items
+
+-- a live generation depends on this name of endpoints or of routes
+abbrev pub is_watched_in : Managers → Kind → List ℕ → Bool
+is_watched_in m Cds name = false
+is_watched_in m Eds name = list_any (depends_on name) m.clusters.state.table.rows
+is_watched_in m Lds name = false
+is_watched_in m Rds name = list_any (depends_on name) m.listeners.state.table.rows

@@ -1,0 +1,61 @@
+ghost use Rattle.std.specs.Prelude.{◌≡◌, ℕ, List, IfOk, OnOk};
+ghost use Rattle.ev_model.specs.World.{World, opening};
+ghost use Rattle.ev_model.specs.Tidy.{promoted, without_unwatched, without_old_results};
+
+use ev_clusters::Clusters;
+use ev_generations::Steps;
+use ev_listeners::Listeners;
+use std::alloc::{AllocError, Global};
+use std::sync::ledger::Ledger;
+
+/// The cluster manager and the listener manager. They draw their numbers from one counter. After want of memory nothing is promised
+/// of them.
+#[derive(Drop)]
+pub struct Managers {
+    pub clusters: Clusters,
+    pub listeners: Listeners,
+}
+
+impl Managers {
+    ghost use Rattle.ev_managers.specs.Managers.{AreKept, StandFor};
+
+    /// No generation, and nothing known. It takes no memory.
+    pub fn new(alloc: Global) -> Managers
+        ensures kept { AreKept result }
+        ensures stands { (workers : ℕ) (node : List ℕ) → StandFor result (opening workers node) }
+    {
+        Managers {
+            clusters: Clusters::new(alloc),
+            listeners: Listeners::new(alloc),
+        }
+    }
+
+    /// Each generation that is due serves, and the one that served its name before it drains.
+    pub fn promote<L: Ledger>(
+        &mut self,
+        alloc: Global,
+        steps: &mut Steps<L>,
+    ) -> Result<(), AllocError>
+        requires kept { AreKept self.old }
+        ensures kept { OnOk result (AreKept self.new) }
+        ensures stands { OnOk result ((world : World) → StandFor self.old world → StandFor self.new (promoted world)) }
+    {
+        self.clusters.promote(alloc, steps)?;
+        self.listeners.promote(alloc, steps)?;
+        Ok(())
+    }
+
+    /// Forgets what nobody needs any more.
+    pub fn forget<L: Ledger>(
+        &mut self,
+        alloc: Global,
+        steps: &mut Steps<L>,
+    ) -> Result<(), AllocError>
+        requires kept { AreKept self.old }
+        ensures kept { OnOk result (AreKept self.new) }
+        ensures stands { OnOk result ((world : World) → StandFor self.old world → StandFor self.new (without_old_results (without_unwatched world))) }
+    {
+        self.clusters.forget(alloc, steps)?;
+        self.listeners.forget(alloc, steps)
+    }
+}

@@ -1,0 +1,126 @@
+ghost use Rattle.std.specs.Prelude.{◌≡◌, ◌+◌, ◌^◌, ◌<◌, Some, length, OnOk};
+ghost use Rattle.ev_types.specs.declared.contents.Kind.TheVariants.{Cds, Eds, Lds, Rds};
+ghost use Rattle.ev_model.specs.World.{World};
+ghost use Rattle.ev_model.specs.Rows.{with_removals, add_items};
+ghost use Rattle.ev_warming.specs.Arrivals.{AreOnValues};
+
+use crate::Managers;
+use ev_generations::Steps;
+use ev_types::{Kind, Response, Verdict};
+use std::alloc::{AllocError, Global};
+use std::sync::ledger::Ledger;
+
+impl Managers {
+    ghost use Rattle.ev_managers.specs.Managers.{AreKept, MayBeGiven, StandFor};
+
+    /// A response of this kind, with the verdicts on its resources: removals first, then its resources in order.
+    pub fn respond<L: Ledger>(
+        &mut self,
+        alloc: Global,
+        kind: Kind,
+        response: &Response,
+        verdicts: &[Verdict],
+        steps: &mut Steps<L>,
+    ) -> Result<(), AllocError>
+        requires kept { AreKept self.old }
+        requires typed { response.now.kind ≡ Some kind }
+        requires one_each { length verdicts.now ≡ length response.now.items }
+        requires given { MayBeGiven self.old kind verdicts.now response.now.items }
+        requires room_for_clusters { self.old.clusters.state.table.made + length response.now.items < 2 ^ 32 }
+        requires room_for_listeners { self.old.listeners.state.table.made + length response.now.items < 2 ^ 32 }
+        ensures kept { OnOk result (AreKept self.new) }
+        // Whatever world they stood for, they stand for that world once the response's removals and resources are in.
+        ensures stands { OnOk result ((world : World) → StandFor self.old world → StandFor self.new (add_items kind verdicts.now response.now.items (with_removals kind response.now world))) }
+    {
+        match kind {
+            Kind::Cds => self.respond_clusters(alloc, response, verdicts, steps),
+            Kind::Lds => self.respond_listeners(alloc, response, verdicts, steps),
+            Kind::Eds => self.respond_endpoints(alloc, response, verdicts, steps),
+            Kind::Rds => self.respond_routes(alloc, response, verdicts, steps),
+        }
+    }
+
+    // A response of clusters: the listeners' numbers go on after theirs.
+    fn respond_clusters<L: Ledger>(
+        &mut self,
+        alloc: Global,
+        response: &Response,
+        verdicts: &[Verdict],
+        steps: &mut Steps<L>,
+    ) -> Result<(), AllocError>
+        requires kept { AreKept self.old }
+        requires typed { response.now.kind ≡ Some Cds }
+        requires one_each { length verdicts.now ≡ length response.now.items }
+        requires room { self.old.clusters.state.table.made + length response.now.items < 2 ^ 32 }
+        ensures kept { OnOk result (AreKept self.new) }
+        ensures stands { OnOk result ((world : World) → StandFor self.old world → StandFor self.new (add_items Cds verdicts.now response.now.items (with_removals Cds response.now world))) }
+    {
+        let _ = self.clusters.apply(alloc, response, verdicts, steps)?;
+        let made = self.clusters.made();
+        if self.listeners.made() <= made {
+            self.listeners.advance(made);
+        }
+        Ok(())
+    }
+
+    // A response of listeners: the clusters' numbers go on after theirs.
+    fn respond_listeners<L: Ledger>(
+        &mut self,
+        alloc: Global,
+        response: &Response,
+        verdicts: &[Verdict],
+        steps: &mut Steps<L>,
+    ) -> Result<(), AllocError>
+        requires kept { AreKept self.old }
+        requires typed { response.now.kind ≡ Some Lds }
+        requires one_each { length verdicts.now ≡ length response.now.items }
+        requires room { self.old.listeners.state.table.made + length response.now.items < 2 ^ 32 }
+        ensures kept { OnOk result (AreKept self.new) }
+        ensures stands { OnOk result ((world : World) → StandFor self.old world → StandFor self.new (add_items Lds verdicts.now response.now.items (with_removals Lds response.now world))) }
+    {
+        let _ = self.listeners.apply(alloc, response, verdicts, steps)?;
+        let made = self.listeners.made();
+        if self.clusters.made() <= made {
+            self.clusters.advance(made);
+        }
+        Ok(())
+    }
+
+    // A response of endpoints.
+    fn respond_endpoints<L: Ledger>(
+        &mut self,
+        alloc: Global,
+        response: &Response,
+        verdicts: &[Verdict],
+        steps: &mut Steps<L>,
+    ) -> Result<(), AllocError>
+        requires kept { AreKept self.old }
+        requires typed { response.now.kind ≡ Some Eds }
+        requires one_each { length verdicts.now ≡ length response.now.items }
+        requires given { AreOnValues self.old.clusters.state.table.rows verdicts.now response.now.items }
+        ensures kept { OnOk result (AreKept self.new) }
+        ensures stands { OnOk result ((world : World) → StandFor self.old world → StandFor self.new (add_items Eds verdicts.now response.now.items (with_removals Eds response.now world))) }
+    {
+        self.clusters.arrivals(alloc, response, verdicts, steps)?;
+        Ok(())
+    }
+
+    // A response of routes.
+    fn respond_routes<L: Ledger>(
+        &mut self,
+        alloc: Global,
+        response: &Response,
+        verdicts: &[Verdict],
+        steps: &mut Steps<L>,
+    ) -> Result<(), AllocError>
+        requires kept { AreKept self.old }
+        requires typed { response.now.kind ≡ Some Rds }
+        requires one_each { length verdicts.now ≡ length response.now.items }
+        requires given { AreOnValues self.old.listeners.state.table.rows verdicts.now response.now.items }
+        ensures kept { OnOk result (AreKept self.new) }
+        ensures stands { OnOk result ((world : World) → StandFor self.old world → StandFor self.new (add_items Rds verdicts.now response.now.items (with_removals Rds response.now world))) }
+    {
+        self.listeners.arrivals(alloc, response, verdicts, steps)?;
+        Ok(())
+    }
+}

@@ -1,0 +1,109 @@
+ghost use Rattle.std.specs.Prelude.{◌≡◌, ◌++◌, [], ◌∷◌, true, IfOk, OnOk};
+ghost use Rattle.std.specs.List.{list_any};
+ghost use Rattle.ev_types.specs.declared.contents.Kind.TheVariants.{Cds, Eds, Lds, Rds};
+ghost use Rattle.ev_model.specs.World.{World};
+ghost use Rattle.ev_model.specs.Rows.{arrived};
+ghost use Rattle.ev_model.specs.Signals.{is_meant, rows_ended, rows_meant, with_results};
+ghost use Rattle.ev_warming.specs.Indexes.{depends_on};
+
+use crate::Managers;
+use ev_generations::Steps;
+use ev_types::{Arrival, Host, Kind, Name};
+use std::alloc::{AllocError, Global};
+use std::sync::ledger::Ledger;
+
+impl Managers {
+    ghost use Rattle.ev_managers.specs.Managers.{AreKept, StandFor, is_watched_in};
+
+    /// Whether a live generation depends on this name of endpoints or of routes.
+    pub fn is_watched(&self, kind: Kind, name: &str) -> bool
+        requires kept { AreKept self.now }
+        ensures rows { result ≡ is_watched_in self.now kind name.now }
+    {
+        match kind {
+            Kind::Eds => self.clusters.is_watched(name),
+            Kind::Rds => self.listeners.is_watched(name),
+            Kind::Cds | Kind::Lds => false,
+        }
+    }
+
+    /// Something came for a name of endpoints that a live cluster depends on.
+    pub fn arrive_endpoints<L: Ledger>(
+        &mut self,
+        alloc: Global,
+        name: &Name,
+        arrival: &Arrival,
+        steps: &mut Steps<L>,
+    ) -> Result<(), AllocError>
+        requires kept { AreKept self.old }
+        requires watched { list_any (depends_on name.now) self.old.clusters.state.table.rows ≡ true }
+        ensures kept { OnOk result (AreKept self.new) }
+        ensures stands { OnOk result ((world : World) → StandFor self.old world → StandFor self.new (record world { arrivals = world.arrivals ++ arrived Eds arrival.now name.now ∷ [] })) }
+    {
+        self.clusters.arrival(alloc, name, arrival, steps)?;
+        Ok(())
+    }
+
+    /// Something came for a name of routes that a live listener depends on.
+    pub fn arrive_routes<L: Ledger>(
+        &mut self,
+        alloc: Global,
+        name: &Name,
+        arrival: &Arrival,
+        steps: &mut Steps<L>,
+    ) -> Result<(), AllocError>
+        requires kept { AreKept self.old }
+        requires watched { list_any (depends_on name.now) self.old.listeners.state.table.rows ≡ true }
+        ensures kept { OnOk result (AreKept self.new) }
+        ensures stands { OnOk result ((world : World) → StandFor self.old world → StandFor self.new (record world { arrivals = world.arrivals ++ arrived Rds arrival.now name.now ∷ [] })) }
+    {
+        self.listeners.arrival(alloc, name, arrival, steps)?;
+        Ok(())
+    }
+
+    /// What a cluster's name stands for has come to its end: one that warms is dropped, and one that serves drains.
+    pub fn end_cluster<L: Ledger>(
+        &mut self,
+        name: &Name,
+        steps: &mut Steps<L>,
+    ) -> Result<(), AllocError>
+        requires kept { AreKept self.old }
+        ensures kept { OnOk result (AreKept self.new) }
+        ensures stands { OnOk result ((world : World) → StandFor self.old world → StandFor self.new (record world { rows = rows_ended Cds name.now world.rows })) }
+    {
+        let _ = self.clusters.expire(name, steps)?;
+        Ok(())
+    }
+
+    /// What a listener's name stands for has come to its end: one that warms is dropped, and one that serves drains.
+    pub fn end_listener<L: Ledger>(
+        &mut self,
+        name: &Name,
+        steps: &mut Steps<L>,
+    ) -> Result<(), AllocError>
+        requires kept { AreKept self.old }
+        ensures kept { OnOk result (AreKept self.new) }
+        ensures stands { OnOk result ((world : World) → StandFor self.old world → StandFor self.new (record world { rows = rows_ended Lds name.now world.rows })) }
+    {
+        let _ = self.listeners.expire(name, steps)?;
+        Ok(())
+    }
+
+    /// A health result of a host of a cluster. Answers whether it is for a generation; where it is for none, all stays as it was.
+    pub fn health<L: Ledger>(
+        &mut self,
+        alloc: Global,
+        cluster: &Name,
+        host: &Host,
+        healthy: bool,
+        steps: &mut Steps<L>,
+    ) -> Result<bool, AllocError>
+        requires kept { AreKept self.old }
+        ensures kept { OnOk result (AreKept self.new) }
+        ensures stands { OnOk result ((world : World) → StandFor self.old world → StandFor self.new (with_results host.now healthy (rows_meant world.arrivals cluster.now host.now world.rows) world)) }
+        ensures ignored { IfOk result (λ meant. (world : World) → StandFor self.old world → meant ≡ list_any (is_meant world.arrivals cluster.now host.now) world.rows) }
+    {
+        let meant = self.clusters.health(alloc, cluster, host, healthy, steps)?;
+        Ok(meant)
+    }
+}
