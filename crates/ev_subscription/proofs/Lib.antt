@@ -4,3 +4,4 @@ pub mod KindLemmas
 pub mod ResponseLemmas
 pub mod UnwatchedLemmas
 pub mod WatchLemmas
+pub mod KeptWatchLemmas

@@ -1,11 +1,13 @@
-ghost use Rattle.std.specs.Prelude.{◌≡◌, ℕ, List, true};
+ghost use Rattle.std.specs.Prelude.{◌≡◌, ℕ, List, true, Some};
 ghost use Rattle.std.specs.List.{list_any};
+ghost use Rattle.ev_types.specs.Items.{ResponseParts};
 ghost use Rattle.ev_types.specs.declared.contents.Kind.{Kind};
 ghost use Rattle.ev_model.specs.Live.{lives_of};
 ghost use Rattle.ev_model.specs.Requests.{other_than};
-ghost use Rattle.ev_model.specs.Verdicts.{is_among};
+ghost use Rattle.ev_model.specs.Rows.{add_items, with_removals};
+ghost use Rattle.ev_model.specs.Verdicts.{is_among, verdicts_of};
 ghost use Rattle.ev_model.specs.Versions.{is_version_of};
-ghost use Rattle.ev_model.specs.Watching.{is_watched, watched_of};
+ghost use Rattle.ev_model.specs.Watching.{is_by_name, is_watched, watched_of};
 ghost use Rattle.ev_model.specs.World.{World};
 ghost use Rattle.ev_subscription.specs.Subscriptions.{AreEnded, SameVersions, StandsFor, SubscriptionParts};
 
@@ -26,4 +28,13 @@ pub fn names_end_with_their_watchers()
     ensures { (before after : World) (kind : Kind)
         → ((name : List ℕ) → list_any (is_version_of kind name) after.versions ≡ true → is_watched (lives_of before) kind name ≡ true)
         → AreEnded kind (other_than (watched_of after kind) (watched_of before kind)) after }
+{}
+
+/// A response whose type is one of the four keeps versions of endpoints and routes under watched names alone, where it was so before
+/// it: its verdicts keep what is watched. It does nothing.
+pub fn responses_keep_what_is_watched()
+    ensures { (k kind : Kind) (response : ResponseParts) (world : World) → is_by_name k ≡ true → response.kind ≡ Some kind
+        → ((name : List ℕ) → list_any (is_version_of k name) world.versions ≡ true → is_watched (lives_of world) k name ≡ true)
+        → (name : List ℕ) → list_any (is_version_of k name) (add_items kind (verdicts_of (lives_of world) world.versions response) response.items (with_removals kind response world)).versions ≡ true
+        → is_watched (lives_of world) k name ≡ true }
 {}
