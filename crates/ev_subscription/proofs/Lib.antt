@@ -3,3 +3,5 @@ pub mod HeldLemmas
 pub mod KindLemmas
 pub mod ResponseLemmas
 pub mod UnwatchedLemmas
+pub mod WatchLemmas
+pub mod KeptWatchLemmas

@@ -60,7 +60,7 @@ or_here : (a b : Bool) → a ≡ true → (a || b) ≡ true
 or_here true b is = refl
 or_here false b is = absurd (false≢true is)
 
-or_there : (a b : Bool) → b ≡ true → (a || b) ≡ true
+pub or_there : (a b : Bool) → b ≡ true → (a || b) ≡ true
 or_there true b is = refl
 or_there false b is = is
 

@@ -14,6 +14,9 @@ mod tests;
 mod versions;
 
 pub use changes::NameChange;
-pub use laws::stands_for_same_versions;
+pub use laws::{
+    names_end_with_their_watchers, responses_keep_what_is_watched, stands_for_same_versions,
+    watched_names_are_listed,
+};
 pub use replies::reply_of;
 pub use subscription::Subscription;
