@@ -1,10 +1,10 @@
 -- The row that is meant is a row with the same text, and is meant itself.
-use Rattle.std.proofs.Common.{◌≡◌, ℕ, ◌^◌, ◌<◌, List, [], ◌∷◌, map, Bool, true, Option, Some, None, codes, refl, sym, ap, ap₂, ◌∙◌, subst}
-use Rattle.std.specs.Prelude.{All, ⊤}
+use Rattle.std.proofs.Common.{◌≡◌, ℕ, List, [], ◌∷◌, map, Option, Some, None, codes, refl, sym, ap, ap₂, ◌∙◌, subst}
+use Rattle.std.specs.Prelude.{All}
 use Rattle.std.specs.List.{list_any}
 use Rattle.std.specs.Str.{IsUtf8}
 use Rattle.std.proofs.lemmas.List.Elements.{All-map}
-use Rattle.serde_json.specs.Data.{Data, number, unsigned, string, array, object, Members, no_members, member, put}
+use Rattle.serde_json.specs.Data.{string, array, object, Members, no_members, member, put}
 use Rattle.serde_json.specs.View.{items_of}
 use Rattle.serde_json.specs.Written.{compact_text}
 use Rattle.ev_types.specs.Events.{op_same}
@@ -14,7 +14,7 @@ use Rattle.ev_types.specs.declared.events.Answer.{Answer}
 use Rattle.ev_types.specs.declared.events.Answer.TheVariants.{Ignored, Done, Moved, Replied, Version, Unchanged, Reaped, InUse, NoListener, NoRoute, Redirect, NoCluster, NoEndpoint, Local, Served, NotOpen, Settled}
 use Rattle.ev_types.specs.declared.journals.Row.{Row}
 use Rattle.ev_wire.specs.Requests.{request_tree, type_url, with_nonce, with_names, with_node, with_versions, with_error}
-use Rattle.ev_journal.specs.Rendering.{answer_tree, row_tree, row_object, requests_tree, verdict_tree}
+use Rattle.ev_journal.specs.Rendering.{answer_tree, row_object, requests_tree, verdict_tree}
 use Rattle.ev_journal.specs.Rows.{is_answered_with, operations_with, IsRequest, IsAnswer, IsRow, row_text, chosen_nonce, chosen_versions, chosen_request, chosen_answer, chosen_row}
 use Rattle.ev_journal_read.proofs.EachLemmas.{All-first, All-rest}
 use Rattle.ev_journal_read.proofs.VersionLemmas.{AreNamed-chosen, with_versions-chosen, chosen_versions-twice}

@@ -1,5 +1,5 @@
 -- The lines of a journal, as a reader of lines gives them one after another.
-use Rattle.std.proofs.Common.{◌≡◌, ◌≢◌, ℕ, suc, ◌+◌, ◌-◌, ◌<◌, ◌≤◌, Bool, true, false, List, [], ◌∷◌, ◌++◌, length, map, take, drop, IsTrue, Option, None, Some, Vec, Result, Ok, Err, refl, sym, ap, subst, ◌∙◌, ◌⊎◌, inl, inr, arith, append_assoc, append-nil, length-append, length-drop, length-take-le}
+use Rattle.std.proofs.Common.{◌≡◌, ◌≢◌, ℕ, ◌+◌, ◌<◌, ◌≤◌, Bool, true, false, List, [], ◌∷◌, ◌++◌, length, map, take, drop, IsTrue, Option, None, Some, Vec, Result, Ok, Err, refl, sym, ap, subst, ◌∙◌, ◌⊎◌, inl, inr, arith, append_assoc, append-nil, length-drop, length-take-le}
 use Rattle.std.proofs.Math.Seq.{take-add}
 use Rattle.std.proofs.lemmas.List.{drop-append-le, drop_all, length-take}
 use Rattle.std.proofs.lemmas.List.{map-append}
@@ -11,7 +11,7 @@ use Rattle.ev_io.specs.declared.faults.LineFault.TheVariants as limit
 use Rattle.ev_io.specs.declared.faults.LineEnd.{LineEnd}
 use Rattle.ev_io.specs.declared.faults.LineEnd.TheVariants.{Line, End}
 use Rattle.ev_io.specs.declared.faults.ScriptFault.{ScriptFault}
-use Rattle.ev_io.specs.declared.faults.ScriptFault.TheVariants.{Bad, Read, OutOfMemory}
+use Rattle.ev_io.specs.declared.faults.ScriptFault.TheVariants.{Bad, OutOfMemory}
 use Rattle.ev_io.specs.Lines.{lines_of}
 use Rattle.ev_io.specs.Outside.{Takes}
 use Rattle.ev_io.specs.LinesState.{LinesState, HasTaken}
@@ -23,7 +23,7 @@ use Rattle.ev_script.specs.Faults.{fault_number}
 use Rattle.ev_script.specs.ReadInput.{script_fault}
 use Rattle.ev_script.proofs.StepLemmas.{few_lines}
 use Rattle.ev_journal.specs.Rows.{IsTextOf, row_text}
-use Rattle.ev_journal_read.specs.Journals.{first_text, texts_of, AreMeant, IsJournalTo, IsMisplaced, given_between, IsRead, IsWrongFirst, IsWrongLine, IsEndless, IsPastLimit, IsCutOff, IsRowsAnswer}
+use Rattle.ev_journal_read.specs.Journals.{first_text, texts_of, AreMeant, IsJournalTo, IsMisplaced, given_between, IsRead, IsRowsAnswer}
 
 -- ---- bytes
 

@@ -1,5 +1,5 @@
 -- What is read of a tree is within the bounds of a row's types.
-use Rattle.std.proofs.Common.{◌≡◌, ℕ, ◌^◌, ◌<◌, ◌≤◌, ◌&&◌, List, [], ◌∷◌, length, Bool, true, false, cond, nat_le, nat_lt, Option, Some, None, option_map, option_and_then, codes, refl, sym, ap, ◌∙◌, arith, bytes_eq}
+use Rattle.std.proofs.Common.{◌≡◌, ℕ, ◌^◌, ◌<◌, ◌≤◌, ◌&&◌, List, [], ◌∷◌, length, Bool, true, false, cond, nat_le, nat_lt, Option, Some, None, option_map, option_and_then, codes, refl, arith}
 use Rattle.std.specs.Prelude.{⊤, All, IfSome}
 use Rattle.std.specs.Str.Parse.{digits_value}
 use Rattle.std.proofs.lemmas.Bool.{and_parts, leb-true, ltb-true}
@@ -7,19 +7,13 @@ use Rattle.serde_json.specs.Data.{Data, string, Members, no_members, member}
 use Rattle.serde_json.specs.Find.{get, as_number, as_u64, as_str, as_object}
 use Rattle.ev_types.specs.Texts.{IsName}
 use Rattle.ev_types.specs.declared.limits.TheConstants.{MAX_NAME_LENGTH}
-use Rattle.ev_types.specs.declared.contents.Request.{Request}
-use Rattle.ev_types.specs.declared.events.Actor.{Actor}
 use Rattle.ev_types.specs.declared.events.Actor.TheVariants as actor
-use Rattle.ev_types.specs.declared.events.Answer.{Answer}
 use Rattle.ev_types.specs.declared.events.Answer.TheVariants.{Ignored, Done, Unchanged, InUse, NoListener, NotOpen, Moved, Replied, Version, Reaped, NoRoute, Redirect, NoCluster, NoEndpoint, Local, Served, Settled}
-use Rattle.ev_types.specs.declared.events.Verdict.{Verdict}
 use Rattle.ev_types.specs.declared.events.Verdict.TheVariants as verdict
-use Rattle.ev_types.specs.declared.hosts.Host.{Host}
 use Rattle.ev_types.specs.declared.journals.Row.{Row}
-use Rattle.ev_tree.specs.Scalars.{is_numeral, u32_text, list_in}
-use Rattle.ev_script.specs.Members.{whole_within, text_within, name_of, member_of, member_or, or_default}
+use Rattle.ev_tree.specs.Scalars.{u32_text, list_in}
+use Rattle.ev_script.specs.Members.{whole_within, name_of, member_of, member_or, or_default}
 use Rattle.ev_journal.specs.Rows.{IsGeneration, IsHost, IsActor, IsVerdict, IsRequest, IsAnswer}
-use Rattle.ev_journal_read.specs.declared.requests.RequestTexts.{RequestTexts}
 use Rattle.ev_journal_read.specs.declared.requests.RequestLists.{RequestLists}
 use Rattle.ev_journal_read.specs.declared.rows.RowHead.{RowHead}
 use Rattle.ev_journal_read.specs.Words.{number_behind, actor_named, rule_of, verdict_named, answer_named, unserved_named}

@@ -1,13 +1,13 @@
 -- Numbers, names and lists read back as what was written.
-use Rattle.std.proofs.Common.{◌≡◌, ℕ, ◌^◌, ◌<◌, ◌≤◌, ◌&&◌, List, [], ◌∷◌, length, map, Bool, true, false, cond, nat_le, Option, Some, None, option_map, option_and_then, refl, sym, ap, ◌∙◌, arith, le-leb}
+use Rattle.std.proofs.Common.{◌≡◌, ℕ, ◌^◌, ◌<◌, ◌≤◌, ◌&&◌, List, [], ◌∷◌, length, map, Bool, true, cond, nat_le, Option, Some, None, option_map, option_and_then, refl, ap, ◌∙◌, arith, le-leb}
 use Rattle.std.specs.Prelude.{All}
-use Rattle.serde_json.specs.Data.{Data, number, unsigned, string, array}
+use Rattle.serde_json.specs.Data.{Data, string, array}
 use Rattle.serde_json.specs.View.{items_of}
 use Rattle.ev_types.specs.Texts.{IsName}
 use Rattle.ev_types.specs.declared.limits.TheConstants.{MAX_NAME_LENGTH}
-use Rattle.ev_tree.specs.Scalars.{list_in, elements_of}
+use Rattle.ev_tree.specs.Scalars.{list_in}
 use Rattle.ev_tree.proofs.Elements.{elements_of-items_of}
-use Rattle.ev_script.specs.Members.{whole_within, text_within, name_of}
+use Rattle.ev_script.specs.Members.{whole_within, name_of}
 use Rattle.ev_journal.specs.Rendering.{number_tree}
 use Rattle.ev_journal.specs.Rows.{IsGeneration}
 use Rattle.ev_journal_read.specs.Trees.{number16, number32, number64, generation_of, all_read, list_of}

@@ -1,5 +1,5 @@
 -- The text of a canonical tree reads back as that tree.
-use Rattle.std.proofs.Common.{◌≡◌, ℕ, suc, ◌≤◌, ◌<◌, List, [], ◌∷◌, ◌++◌, Less, Greater, Some, option_map, option_and_then, refl, sym, ap, ap₂, ◌∙◌, append-nil, arith, max}
+use Rattle.std.proofs.Common.{◌≡◌, ℕ, suc, ◌≤◌, List, [], Greater, Some, option_map, option_and_then, refl, sym, ap, ap₂, ◌∙◌, append-nil, arith, max}
 use Rattle.std.specs.Prelude.{⊤}
 use Rattle.std.specs.Ordering.{nat_cmp, ordering_reverse}
 use Rattle.std.specs.Cmp.Lexicographic.{slice_cmp}
@@ -7,7 +7,7 @@ use Rattle.std.proofs.lemmas.Cmp.{nat_list_cmp_total}
 use Rattle.json.specs.Json as json
 use Rattle.json.specs.Tree as tree
 use Rattle.json.specs.Lex.{tokens}
-use Rattle.json.specs.Print.{print, IsNumber}
+use Rattle.json.specs.Print.{IsNumber}
 use Rattle.json.proofs.Printed.Tokens.{tokens-print}
 use Rattle.json.proofs.Printed.Trees.{value-json_tokens, ArePrintable-json_tokens}
 use Rattle.json.proofs.Printed.Decimals.{IsNumber-decimal}

@@ -1,15 +1,15 @@
 -- The tree of a request reads as the request that is meant by it.
-use Rattle.std.proofs.Common.{◌≡◌, ℕ, List, [], ◌∷◌, map, Bool, true, false, Option, Some, None, option_map, option_and_then, codes, refl, sym, ap, ◌∙◌, true≢false, bytes_eq}
+use Rattle.std.proofs.Common.{◌≡◌, ℕ, List, [], ◌∷◌, map, false, Option, Some, None, option_map, option_and_then, codes, refl, sym, ap, ◌∙◌, true≢false, bytes_eq}
 use Rattle.std.specs.Prelude.{All}
 use Rattle.std.proofs.lemmas.Slice.Eq.{bytes_eq-Decides}
 use Rattle.serde_json.specs.Data.{Data, number, unsigned, string, array, object, Members, no_members, member, put}
-use Rattle.serde_json.specs.Find.{get, get_member, as_str, as_object}
+use Rattle.serde_json.specs.Find.{get_member, as_str}
 use Rattle.serde_json.specs.View.{items_of}
 use Rattle.serde_json.proofs.Views.{get_member-put, get_member-put_other}
 use Rattle.ev_types.specs.Texts.{IsName}
 use Rattle.ev_types.specs.declared.contents.Kind.{Kind}
 use Rattle.ev_types.specs.declared.contents.Request.{Request}
-use Rattle.ev_script.specs.Members.{name_of, member_of, member_or, or_default}
+use Rattle.ev_script.specs.Members.{name_of, member_or, or_default}
 use Rattle.ev_wire.specs.Requests.{request_tree, type_url, with_nonce, with_names, with_node, version_members, with_versions, with_error}
 use Rattle.ev_journal.specs.Rows.{IsRequest, chosen_nonce, chosen_versions, chosen_request}
 use Rattle.ev_journal_read.specs.declared.requests.RequestTexts.{RequestTexts}

@@ -1,8 +1,7 @@
 -- The tree of a row reads as the row that is meant by it.
-use Rattle.std.proofs.Common.{◌≡◌, ℕ, ◌^◌, ◌<◌, List, [], ◌∷◌, map, Bool, true, false, Option, Some, None, option_map, option_and_then, codes, refl, sym, ap, ◌∙◌}
+use Rattle.std.proofs.Common.{◌≡◌, ℕ, ◌^◌, ◌<◌, List, map, Option, Some, option_map, option_and_then, codes, refl, ap, ◌∙◌}
 use Rattle.std.specs.Prelude.{All}
-use Rattle.serde_json.specs.Data.{Data, number, unsigned, string, array, object, Members, no_members, member}
-use Rattle.serde_json.specs.Find.{as_str}
+use Rattle.serde_json.specs.Data.{array}
 use Rattle.serde_json.specs.View.{items_of}
 use Rattle.ev_types.specs.declared.events.Actor.{Actor}
 use Rattle.ev_types.specs.declared.events.Op.{Op}
@@ -14,11 +13,9 @@ use Rattle.ev_types.specs.declared.hosts.Host.{Host}
 use Rattle.ev_types.specs.declared.journals.Row.{Row}
 use Rattle.ev_script.specs.Members.{member_of}
 use Rattle.ev_wire.specs.Requests.{request_tree}
-use Rattle.ev_journal.specs.Rendering.{number_tree, verdict_tree, answer_tree, row_tree, unserved_tree, served_tree, requests_tree, numbers_tree}
-use Rattle.ev_journal.specs.Rows.{IsGeneration, IsHost, IsVerdict, IsRequest, IsAnswer, IsRow, chosen_request, chosen_answer, chosen_row}
-use Rattle.ev_journal_read.specs.declared.rows.RowHead.{RowHead}
-use Rattle.ev_journal_read.specs.Words.{unserved_named}
-use Rattle.ev_journal_read.specs.Trees.{number16, number32, number64, generation_of, list_of, request_of, verdict_of, host_with, host_of, served_answer, taken_answer, answer_of, actor_of, op_of, head_with, head_of, row_with, row_of}
+use Rattle.ev_journal.specs.Rendering.{number_tree, verdict_tree, answer_tree, row_tree, requests_tree, numbers_tree}
+use Rattle.ev_journal.specs.Rows.{IsGeneration, IsVerdict, IsRequest, IsAnswer, IsRow, chosen_request, chosen_answer, chosen_row}
+use Rattle.ev_journal_read.specs.Trees.{number32, number64, generation_of, list_of, request_of, verdict_of, host_with, taken_answer, answer_of, actor_of, op_of, head_with, head_of, row_with, row_of}
 use Rattle.ev_journal_read.proofs.WordLemmas.{actor_named-text, op_named-text, verdict_named-text}
 use Rattle.ev_journal_read.proofs.PartLemmas.{number16-tree, number32-tree, number64-tree, generation_of-tree, name_of-string, list_of-map, list_of-same}
 use Rattle.ev_journal_read.proofs.RequestRead.{request_read}

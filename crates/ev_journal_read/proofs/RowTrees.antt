@@ -1,6 +1,6 @@
 -- The tree of a row is canonical and flat, so that its text reads back as it.
-use Rattle.std.proofs.Common.{◌≡◌, ℕ, suc, ◌^◌, ◌<◌, ◌≤◌, List, [], ◌∷◌, map, Option, Some, None, Ordering, Less, Equal, Greater, codes, refl, arith, max}
-use Rattle.std.specs.Prelude.{All, ⊤}
+use Rattle.std.proofs.Common.{◌≡◌, ℕ, ◌^◌, ◌<◌, ◌≤◌, List, [], ◌∷◌, map, Option, Some, None, Ordering, Less, Equal, Greater, codes, refl, arith}
+use Rattle.std.specs.Prelude.{All}
 use Rattle.std.specs.Ordering.{match_ordering}
 use Rattle.serde_json.specs.Data.{Data, number, unsigned, string, array, object, Members, no_members, member, put, depth, items_depth, members_depth}
 use Rattle.serde_json.specs.View.{items_of}

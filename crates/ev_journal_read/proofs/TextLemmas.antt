@@ -1,14 +1,13 @@
 -- What a text is as a row, by the row that its tree would be.
 use Rattle.std.proofs.Common.{◌≡◌, ◌≢◌, ℕ, List, Bool, true, false, cond, Option, Some, None, option_map, option_and_then, refl, sym, ap, ◌∙◌, subst, true≢false, bytes_eq, not}
 use Rattle.std.proofs.lemmas.Slice.Eq.{bytes_eq-Decides}
-use Rattle.std.specs.Str.{IsUtf8, is_utf8}
+use Rattle.std.specs.Str.{IsUtf8}
 use Rattle.std.proofs.lemmas.Str.{is_utf8-from_IsUtf8}
 use Rattle.serde_json.specs.Data.{Data}
 use Rattle.serde_json.specs.Read.{read}
 use Rattle.serde_json.specs.View.{view}
 use Rattle.serde_json.specs.declared.value.Value.{Value}
 use Rattle.ev_types.specs.declared.journals.Row.{Row}
-use Rattle.ev_types.specs.declared.events.Entry.{Entry}
 use Rattle.ev_script.specs.Members.{tree_of}
 use Rattle.ev_journal.specs.Rendering.{row_tree, entry_row}
 use Rattle.ev_journal.specs.Rows.{is_answered_with, IsRow, row_text, chosen_row, IsTextOf}

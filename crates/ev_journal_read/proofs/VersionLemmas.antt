@@ -1,5 +1,5 @@
 -- The versions of a request as its object has them.
-use Rattle.std.proofs.Common.{◌≡◌, ◌≢◌, ℕ, List, [], ◌∷◌, length, Bool, true, false, Option, Some, None, option_map, option_and_then, Ordering, Less, Equal, Greater, codes, refl, sym, ap, ◌∙◌, true≢false, arith}
+use Rattle.std.proofs.Common.{◌≡◌, ◌≢◌, ℕ, List, [], ◌∷◌, length, Bool, true, false, Some, option_map, option_and_then, Ordering, Less, Equal, Greater, codes, refl, sym, ap, ◌∙◌, true≢false, arith}
 use Rattle.std.specs.Prelude.{⊤, All}
 use Rattle.std.specs.Ordering.{match_ordering}
 use Rattle.serde_json.specs.Data.{Data, null, boolean, number, string, array, object, Members, no_members, member, put}
@@ -12,7 +12,7 @@ use Rattle.ev_journal_read.specs.Trees.{pair_of, pairs_of}
 use Rattle.ev_journal_read.proofs.EachLemmas.{All-first, All-rest, All-none, All-more}
 use Rattle.ev_journal_read.proofs.Canonical.{AreSorted}
 use Rattle.ev_journal_read.proofs.ReadBack.{joined, AreBelow, joined-nil, joined-one, put_last, AreBelow-next}
-use Rattle.ev_journal_read.proofs.RowTrees.{AreGood, AreGood-none, AreGood-version_members}
+use Rattle.ev_journal_read.proofs.RowTrees.{AreGood-none, AreGood-version_members}
 use Rattle.ev_journal_read.proofs.PartLemmas.{name_of-string}
 
 abbrev IsText : Data → Type 0

@@ -1,5 +1,5 @@
 -- Each word of a row reads back as what was written.
-use Rattle.std.proofs.Common.{◌≡◌, ℕ, ◌^◌, ◌<◌, ◌≤◌, ◌&&◌, List, [], ◌∷◌, ◌++◌, length, Bool, true, false, cond, nat_lt, nat_le, Option, Some, None, option_map, option_and_then, codes, decimal, refl, ap, ◌∙◌, arith, rules, lt-ltb, le-leb, ne_eqb}
+use Rattle.std.proofs.Common.{◌≡◌, ℕ, ◌^◌, ◌<◌, ◌&&◌, List, [], ◌∷◌, Bool, true, Some, None, option_map, option_and_then, decimal, refl, ap, ◌∙◌, arith, rules, lt-ltb, le-leb, ne_eqb}
 use Rattle.std.specs.Char.{is_ascii_digit}
 use Rattle.std.specs.List.{list_all}
 use Rattle.std.specs.Str.Parse.{digits_value}

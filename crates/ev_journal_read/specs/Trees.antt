@@ -3,7 +3,7 @@
 use Rattle.std.specs.Prelude.{ℕ, List, [], ◌∷◌, codes, Option, None, Some, option_map, option_and_then}
 use Rattle.std.specs.Str.{bytes_eq}
 use Rattle.std.specs.Prelude.{if◌then◌else◌}
-use Rattle.serde_json.specs.Data.{Data, null, boolean, number, string, array, object, Members, no_members, member}
+use Rattle.serde_json.specs.Data.{Data, string, Members, no_members, member}
 use Rattle.serde_json.specs.Find.{get, as_str, as_object}
 use Rattle.ev_types.specs.declared.contents.Kind.{Kind}
 use Rattle.ev_types.specs.declared.contents.Request.{Request}
@@ -23,12 +23,15 @@ use Rattle.ev_journal_read.specs.Words.{actor_named, op_named, verdict_named, an
 
 -- ---- numbers
 
+-- a number of 16 bits
 abbrev pub number16 : Data → Option ℕ
 number16 tree = whole_within 0 65535 tree
 
+-- a number of 32 bits
 abbrev pub number32 : Data → Option ℕ
 number32 tree = whole_within 0 4294967295 tree
 
+-- a number of 64 bits
 abbrev pub number64 : Data → Option ℕ
 number64 tree = whole_within 0 18446744073709551615 tree
 
@@ -74,12 +77,15 @@ given_id tree = member_of given_text (codes "id") tree
 abbrev pub given_message : Data → Option (Option (List ℕ))
 given_message tree = member_of given_text (codes "message") tree
 
+-- the names that a member lists; none are given where it is absent
 abbrev pub names_at : List ℕ → Data → Option (List (List ℕ))
 names_at key tree = member_or [] (list_of name_of) key tree
 
+-- the kind of a request, by its type URL
 abbrev pub kind_of : Data → Option Kind
 kind_of tree = option_and_then kind_named (member_of as_str (codes "typeUrl") tree)
 
+-- a request's node, nonce and error together
 abbrev pub texts_with : Option (List ℕ) → Option (List ℕ) → Option (List ℕ) → RequestTexts
 texts_with node nonce error = record { node = node; nonce = nonce; error = error }
 
@@ -91,6 +97,7 @@ texts_of tree =
     (member_or None given_text (codes "responseNonce") tree))
     (member_or None given_id (codes "node") tree)
 
+-- a request's lists together
 abbrev pub lists_with : List (List ℕ) → List (List ℕ) → List (List ℕ × List ℕ) → RequestLists
 lists_with subscribe unsubscribe versions = record { subscribe = subscribe; unsubscribe = unsubscribe; versions = versions }
 
@@ -102,6 +109,7 @@ lists_of tree =
     (names_at (codes "resourceNamesUnsubscribe") tree))
     (names_at (codes "resourceNamesSubscribe") tree)
 
+-- the request of these parts
 abbrev pub request_with : Kind → RequestTexts → RequestLists → Request
 request_with kind texts lists = record {
   kind = kind;
@@ -120,6 +128,7 @@ request_of tree =
 
 -- ---- an answer
 
+-- a verdict is a word
 abbrev pub verdict_of : Data → Option Verdict
 verdict_of tree = option_and_then verdict_named (as_str tree)
 
@@ -135,28 +144,33 @@ version_answer version None = option_map Version (number64 version)
 version_answer version (Some closed) =
     option_and_then (λ number. option_map (λ numbers. Settled numbers number) (list_of number64 closed)) (number64 version)
 
+-- a connection that is answered at once, with a status
 abbrev pub local_answer : ℕ → Data → Option Answer
 local_answer listener tree = option_map (λ status. Local listener status) (member_of number16 (codes "status") tree)
 
+-- the host of an address and a port
 abbrev pub host_with : List ℕ → ℕ → Host
 host_with address port = record { address = address; port = port }
 
+-- the host that two members are
 abbrev pub host_of : Data → Option Host
 host_of tree =
     option_and_then (λ address. option_map (λ port. host_with address port) (member_of number16 (codes "port") tree))
     (member_of name_of (codes "address") tree)
 
+-- a connection that goes to a host of a cluster
 abbrev pub served_answer : ℕ → Data → Option Answer
 served_answer listener tree =
     option_and_then (λ cluster. option_map (λ host. Served listener cluster host) (host_of tree)) (member_of generation_of (codes "cluster") tree)
 
--- what becomes of a connection that a listener takes
+-- the same, by that word and the listener
 abbrev pub taken_answer : List ℕ → ℕ → Data → Option Answer
 taken_answer word listener tree =
     if bytes_eq word (codes "served") then served_answer listener tree
     else if bytes_eq word (codes "local") then local_answer listener tree
     else unserved_named word listener
 
+-- what becomes of a connection that a listener takes, by the word for it
 abbrev pub result_answer : Data → Option Answer
 result_answer tree =
     option_and_then (λ word. option_and_then (λ listener. taken_answer word listener tree) (member_of generation_of (codes "listener") tree))
@@ -174,17 +188,21 @@ abbrev pub answer_by : Option (List ℕ) → Data → Option Answer
 answer_by (Some word) tree = answer_named word
 answer_by None tree = answer_with (get (codes "requests") tree) (get (codes "version") tree) (get (codes "reaped") tree) tree
 
+-- the answer that a tree would be
 unfoldable pub answer_of : Data → Option Answer
 answer_of tree = answer_by (as_str tree) tree
 
 -- ---- a row
 
+-- who
 abbrev pub actor_of : Data → Option Actor
 actor_of tree = option_and_then actor_named (member_of as_str (codes "actor") tree)
 
+-- what
 abbrev pub op_of : Data → Option Op
 op_of tree = option_and_then op_named (member_of as_str (codes "op") tree)
 
+-- a row's head of these parts
 abbrev pub head_with : Actor → ℕ → ℕ → Op → RowHead
 head_with actor at step op = record { actor = actor; at = at; step = step; op = op }
 
@@ -197,6 +215,7 @@ head_of tree =
     (member_of number32 (codes "at") tree))
     (actor_of tree)
 
+-- the row of a head and an answer
 abbrev pub row_with : RowHead → Answer → Row
 row_with head answer = record { actor = head.actor; at = head.at; step = head.step; op = head.op; answer = answer }
 

@@ -1,12 +1,8 @@
 -- What is known of a journal at each step of reading it, and at the end.
-use Rattle.std.proofs.Common.{◌≡◌, ◌+◌, ◌≤◌, ◌++◌, ℕ, List, Bool, true, false, IsTrue, Ok, Err, refl, sym, ap, subst, ◌∙◌, inl, inr, arith}
+use Rattle.std.proofs.Common.{◌≡◌, ◌+◌, ◌≤◌, ◌++◌, ℕ, List, true, IsTrue, Ok, Err, refl, sym, ap, subst, ◌∙◌, inl, inr, arith}
 use Rattle.ev_io.specs.declared.faults.LineEnd.{LineEnd}
 use Rattle.ev_io.specs.declared.faults.ScriptFault.{ScriptFault}
-use Rattle.ev_io.specs.declared.faults.ScriptFault.TheVariants.{Bad}
-use Rattle.ev_script.specs.declared.fault_kinds.FaultKind.TheVariants.{NotJournal}
-use Rattle.ev_script.specs.Faults.{fault_number}
 use Rattle.ev_script.specs.ReadInput.{script_fault}
-use Rattle.ev_journal_read.specs.declared.journal.Body.{Body}
 use Rattle.ev_journal_read.specs.Journals.{IsFirstAnswer, IsAdded, IsMisplaced}
 use Rattle.ev_journal_read.proofs.JournalLemmas.{Reads, Exits, reading_none, reading_more, few_after, one_more, exit_early, exit_first, exit_memory, exit_line, exit_fault, exit_endless, exit_whole, still_at_end}
 use Rattle.ev_journal_read.proofs.journal.read_rows.Goals as goal

@@ -1,4 +1,4 @@
-use Rattle.std.proofs.Common.{◌≡◌, ◌++◌, map, drop, take, Some, option_map}
+use Rattle.std.proofs.Common.{◌≡◌, ◌++◌, map, drop, option_map}
 use Rattle.serde_json.specs.View.{view}
 use Rattle.ev_journal_read.specs.Trees.{all_read}
 use Rattle.ev_journal_read.proofs.lists.read_all.Given as goal
