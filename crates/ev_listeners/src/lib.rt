@@ -19,6 +19,8 @@ mod addresses;
 mod arrivals;
 mod holders;
 mod reads;
+#[cfg(test)]
+mod tests;
 
 use crate::addresses::Addresses;
 use ev_generations::Steps;

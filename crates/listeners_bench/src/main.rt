@@ -1,0 +1,138 @@
+//! Takes listeners in, asks for those that hold an address, and warms them one by one, for bench/listeners to measure. Its arguments
+//! are numbers: how many listeners a response brings, each of which has an address of its own and waits for the routes of a name of its
+//! own; of how many of them the address is asked; and of how many the routes come, each time followed by a promotion and a
+//! forgetting. It prints how many hold an address that was asked, and how many came to serve.
+#![tactic(auto)]
+
+ghost use Rattle.std.specs.Prelude.{◌≡◌, length, OnOk};
+ghost use Rattle.ev_listeners.specs.Listeners.{AreKept};
+
+mod responses;
+
+use anyhow::{Result, anyhow};
+use ev_generations::Steps;
+use ev_listeners::Listeners;
+use responses::{address, news, response, routes, routes_name};
+use std::alloc::Global;
+use std::marker::Brand;
+use std::rt::Env;
+use std::sync::ledger::{Blank, Ledger};
+
+/// What a run does.
+#[derive(Clone, Copy)]
+struct Plan {
+    size: u16,
+    asks: u16,
+    arrivals: u16,
+}
+
+fn main(rt: HostRuntime) -> Result<()> {
+    let mut words = std::env::args(&rt)?.skip(1);
+    let plan = Plan {
+        size: number(words.next()),
+        asks: number(words.next()),
+        arrivals: number(words.next()),
+    };
+    let (held, served) = measured(rt.alloc(), plan)?;
+    println!(rt; "{held} hold an address, {served} serve")?;
+    Ok(())
+}
+
+// The number that a word gives; what is no number, or isn't there, is 0.
+fn number(word: Option<String>) -> u16 {
+    match word {
+        Some(word) => word.as_str().parse::<u16>().unwrap_or(0),
+        None => 0,
+    }
+}
+
+// How many listeners hold an address that is asked, and how many come to serve.
+fn measured(alloc: Global, plan: Plan) -> Result<(u32, u32)> {
+    run::<Brand>(alloc, Blank::new(1), plan)
+}
+
+// The same, with a counter of look-ups.
+fn run<L: Ledger>(alloc: Global, blank: Blank, plan: Plan) -> Result<(u32, u32)>
+    requires name { blank.name ≡ L.name }
+    requires parts { blank.parts ≡ L.parts }
+    requires one { L.parts ≡ 1 }
+{
+    let mut steps = Steps::<L>::new(blank);
+    let mut listeners = Listeners::new(alloc);
+    take_all(alloc, &mut listeners, plan.size, &mut steps)?;
+    let held = ask_all(alloc, &listeners, plan.asks)?;
+    let served = warm_all(alloc, &mut listeners, plan.arrivals, &mut steps)?;
+    Ok((held, served))
+}
+
+// A response brings so many listeners.
+fn take_all<L: Ledger>(
+    alloc: Global,
+    listeners: &mut Listeners,
+    size: u16,
+    steps: &mut Steps<L>,
+) -> Result<()>
+    requires { AreKept listeners.old }
+    ensures { OnOk result (AreKept listeners.new) }
+{
+    if listeners.made() > 0 {
+        return Err(anyhow!("numbers were drawn before"));
+    }
+    let response = response(alloc, size)?;
+    let verdicts = news(alloc, size)?;
+    listeners.apply(alloc, &response, verdicts.as_slice(), steps)?;
+    Ok(())
+}
+
+// The addresses of so many listeners are asked. Answers at how many a listener is found.
+fn ask_all(alloc: Global, listeners: &Listeners, asks: u16) -> Result<u32>
+    requires { AreKept listeners.now }
+{
+    let mut held = 0u32;
+    for place in 0..asks {
+        let address = address(alloc, place)?;
+        if !listeners.holders(alloc, &address)?.is_empty() {
+            held = held.saturating_add(1);
+        }
+    }
+    Ok(held)
+}
+
+// The routes of so many listeners come. Answers how many came to serve.
+fn warm_all<L: Ledger>(
+    alloc: Global,
+    listeners: &mut Listeners,
+    arrivals: u16,
+    steps: &mut Steps<L>,
+) -> Result<u32>
+    requires { AreKept listeners.old }
+{
+    let mut served = 0u32;
+    for place in 0..arrivals {
+        if warm(alloc, listeners, place, steps)? {
+            served = served.saturating_add(1);
+        }
+    }
+    Ok(served)
+}
+
+// The routes of one listener come. Answers whether it came to serve.
+fn warm<L: Ledger>(
+    alloc: Global,
+    listeners: &mut Listeners,
+    place: u16,
+    steps: &mut Steps<L>,
+) -> Result<bool>
+    requires { AreKept listeners.old }
+    ensures { OnOk result (AreKept listeners.new) }
+{
+    let name = routes_name(alloc, place)?;
+    if !listeners.is_watched(name.as_str()) {
+        return Ok(false);
+    }
+    let arrival = routes(alloc)?;
+    listeners.arrival(alloc, &name, &arrival, steps)?;
+    let promoted = listeners.promote(alloc, steps)?;
+    listeners.forget(alloc, steps)?;
+    Ok(!promoted.served.is_empty())
+}
