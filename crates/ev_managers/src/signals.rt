@@ -3,12 +3,13 @@ ghost use Rattle.std.specs.List.{list_any};
 ghost use Rattle.ev_types.specs.declared.contents.Kind.TheVariants.{Cds, Eds, Lds, Rds};
 ghost use Rattle.ev_model.specs.World.{World};
 ghost use Rattle.ev_model.specs.Rows.{arrived};
-ghost use Rattle.ev_model.specs.Signals.{is_meant, rows_ended, rows_meant, with_results};
+ghost use Rattle.ev_model.specs.Signals.{is_meant, rows_ended, rows_meant, with_end, with_results};
+ghost use Rattle.ev_model.specs.Watching.{is_by_name};
 ghost use Rattle.ev_warming.specs.Indexes.{depends_on};
 
 use crate::Managers;
 use ev_generations::Steps;
-use ev_types::{Arrival, Host, Kind, Name};
+use ev_types::{Arrival, Assignment, Content, Host, Kind, Name, RouteTable, Seq, Shared};
 use std::alloc::{AllocError, Global};
 use std::sync::ledger::Ledger;
 
@@ -86,6 +87,76 @@ impl Managers {
         ensures stands { OnOk result ((world : World) → StandFor self.old world → StandFor self.new (record world { rows = rows_ended Lds name.now world.rows })) }
     {
         let _ = self.listeners.expire(name, steps)?;
+        Ok(())
+    }
+
+    // The endpoints of a name, which is watched, have come to their end: they become none.
+    fn end_endpoints<L: Ledger>(
+        &mut self,
+        alloc: Global,
+        name: &Name,
+        steps: &mut Steps<L>,
+    ) -> Result<(), AllocError>
+        requires kept { AreKept self.old }
+        requires watched { list_any (depends_on name.now) self.old.clusters.state.table.rows ≡ true }
+        ensures kept { OnOk result (AreKept self.new) }
+        ensures stands { OnOk result ((world : World) → StandFor self.old world → StandFor self.new (with_end Eds name.now world)) }
+    {
+        let none = Assignment::new(Seq::new(alloc));
+        let value = Arrival::Value(Content::Assignment(Shared::new(alloc, none)?));
+        self.arrive_endpoints(alloc, name, &value, steps)?;
+        Ok(())
+    }
+
+    // The routes of a name, which is watched, have come to their end: they become none.
+    fn end_routes<L: Ledger>(
+        &mut self,
+        alloc: Global,
+        name: &Name,
+        steps: &mut Steps<L>,
+    ) -> Result<(), AllocError>
+        requires kept { AreKept self.old }
+        requires watched { list_any (depends_on name.now) self.old.listeners.state.table.rows ≡ true }
+        ensures kept { OnOk result (AreKept self.new) }
+        ensures stands { OnOk result ((world : World) → StandFor self.old world → StandFor self.new (with_end Rds name.now world)) }
+    {
+        let none = RouteTable {
+            hosts: Seq::new(alloc),
+        };
+        let value = Arrival::Value(Content::Routes(Shared::new(alloc, none)?));
+        self.arrive_routes(alloc, name, &value, steps)?;
+        Ok(())
+    }
+
+    /// What a name of this kind stands for has come to its end: a cluster or listener goes as if it were removed, and endpoints or
+    /// routes become none, where the name is watched.
+    pub fn end<L: Ledger>(
+        &mut self,
+        alloc: Global,
+        kind: Kind,
+        name: &Name,
+        steps: &mut Steps<L>,
+    ) -> Result<(), AllocError>
+        requires kept { AreKept self.old }
+        ensures kept { OnOk result (AreKept self.new) }
+        // Whatever world they stood for, they stand for that world where the name has come to its end: one of endpoints or of routes
+        // is to be watched.
+        ensures stands { OnOk result ((world : World) → StandFor self.old world → (is_by_name kind ≡ true → is_watched_in self.old kind name.now ≡ true) → StandFor self.new (with_end kind name.now world)) }
+    {
+        match kind {
+            Kind::Cds => self.end_cluster(name, steps)?,
+            Kind::Lds => self.end_listener(name, steps)?,
+            Kind::Eds => {
+                if self.clusters.is_watched(name.as_str()) {
+                    self.end_endpoints(alloc, name, steps)?;
+                }
+            }
+            Kind::Rds => {
+                if self.listeners.is_watched(name.as_str()) {
+                    self.end_routes(alloc, name, steps)?;
+                }
+            }
+        }
         Ok(())
     }
 

@@ -1,0 +1,123 @@
+-- What the managers answer where verdicts are asked for is what the world tells.
+use Rattle.std.proofs.Common.{◌≡◌, ℕ, Bool, true, false, not, ◌&&◌, ◌||◌, cond, List, [], ◌∷◌, map, filter, Option, Some, None, refl, sym, ap, ◌∙◌, subst}
+use Rattle.std.specs.List.{list_any, AllByRecursion as ByRecursion}
+use Rattle.std.specs.Str.{bytes_eq}
+use Rattle.std.proofs.lemmas.Bool.{false≢true, cond_both, both_ways}
+use Rattle.ev_types.specs.Items.{content_kind}
+use Rattle.ev_types.specs.Kinds.{kind_same, kind_decides}
+use Rattle.ev_types.specs.Statuses.{is_live}
+use Rattle.ev_types.specs.declared.contents.Kind.{Kind}
+use Rattle.ev_types.specs.declared.contents.Kind.TheVariants.{Cds, Eds, Lds, Rds}
+use Rattle.ev_types.specs.declared.contents.Content.{Content}
+use Rattle.ev_types.specs.declared.contents.Content.TheVariants.{Cluster as a_cluster, Assignment as an_assignment, Listener as a_listener, Routes as routes}
+use Rattle.ev_types.specs.declared.clusters.Discovery.{Discovery}
+use Rattle.ev_types.specs.declared.clusters.Discovery.TheVariants.{Static, Eds as by_eds}
+use Rattle.ev_types.specs.declared.listeners.Serve.{Serve}
+use Rattle.ev_types.specs.declared.listeners.Serve.TheVariants.{Rds as by_rds, Inline, Tcp}
+use Rattle.ev_types.specs.declared.hosts.Host.{Host}
+use Rattle.ev_types.specs.declared.rows.GenRow.{GenRow}
+use Rattle.ev_types.specs.declared.rows.Live.{Live}
+use Rattle.ev_model.specs.World.{World}
+use Rattle.ev_model.specs.Live.{live_of, lives_of, is_named, latest, newest_of}
+use Rattle.ev_model.specs.Verdicts.{listening_address, shares_address}
+use Rattle.ev_model.specs.Watching.{is_by_name, is_watched, is_dependency, dependency_of, discovery_dependency, serve_dependency}
+use Rattle.ev_warming.specs.declared.state.State.{State}
+use Rattle.ev_warming.specs.Reads.{live_rows}
+use Rattle.ev_warming.specs.Worlds.{StandsFor as HasRows, needs_of}
+use Rattle.ev_warming.proofs.NewestLemmas.{newest-world}
+use Rattle.ev_warming.proofs.ReadLemmas.{watched-world}
+use Rattle.ev_listeners.specs.Listeners.{ListenersKept, AreKept as AreListeners, StandsFor as HasListeners}
+use Rattle.ev_listeners.proofs.StandLemmas.{holders-world}
+use Rattle.ev_verdicts.specs.Known.{Tells, is_at}
+use Rattle.ev_subscription.specs.Subscriptions.{SubscriptionParts, StandsFor as HasVersions}
+use Rattle.ev_subscription.proofs.KindLemmas.{kept_is}
+use Rattle.ev_state.specs.Known.{newest_by, watched_by, answers_by}
+use Rattle.ev_state.proofs.WholeLemmas.{AreWhole}
+
+-- no element passes a test that none passes
+none_pass : {X : Type 0} (p : X → Bool) (xs : List X) → ByRecursion (λ x. p x ≡ false) xs → filter p xs ≡ []
+none_pass p [] all = refl
+none_pass p (x ∷ xs) all = ap (λ b. cond b (x ∷ filter p xs) (filter p xs)) all.0 ∙ none_pass p xs all.1
+
+-- what is so of rows is so of what is seen of the live ones
+seen_all : (P : GenRow → Type 0) (Q : Live → Type 0) → ((row : GenRow) → P row → Q (live_of row)) → (rows : List GenRow)
+    → ByRecursion P rows → ByRecursion Q (map live_of (live_rows rows))
+seen_all P Q so [] all = tt
+seen_all P Q so (row ∷ rows) all =
+    cond_both (is_live row.status) (row ∷ live_rows rows) (live_rows rows) (λ rs. ByRecursion Q (map live_of rs))
+    (λ lives. (so row all.0, seen_all P Q so rows all.1)) (λ gone. seen_all P Q so rows all.1)
+
+-- no live row is of a kind that is asked for by name
+kind_apart : (kind other : Kind) → is_by_name kind ≡ true → is_by_name other ≡ false → kind_same other kind ≡ false
+kind_apart kind other by_name whole = by (kind_same other kind) refl
+  where
+    by : (b : Bool) → kind_same other kind ≡ b → b ≡ false
+    by true same = absurd (both_ways (is_by_name other) whole (ap is_by_name ((kind_decides other kind).0 same) ∙ by_name))
+    by false same = refl
+
+apart_all : (kind : Kind) (world : World) → AreWhole world.rows → is_by_name kind ≡ true
+    → ByRecursion (λ (live : Live). kind_same live.kind kind ≡ false) (lives_of world)
+apart_all kind world whole by_name =
+    seen_all (λ (row : GenRow). is_by_name row.kind ≡ false) (λ (live : Live). kind_same live.kind kind ≡ false)
+    (λ row whole. kind_apart kind row.kind by_name whole) world.rows whole
+
+newest_none : (kind : Kind) (world : World) → AreWhole world.rows → is_by_name kind ≡ true → (name : List ℕ) → newest_of (lives_of world) kind name ≡ None
+newest_none kind world whole by_name name =
+    ap latest (none_pass (is_named kind name) (lives_of world) (named (lives_of world) (apart_all kind world whole by_name)))
+  where
+    named : (lives : List Live) → ByRecursion (λ (live : Live). kind_same live.kind kind ≡ false) lives → ByRecursion (λ (live : Live). is_named kind name live ≡ false) lives
+    named [] all = tt
+    named (live ∷ lives) all = (ap (λ b. b && bytes_eq live.name name) all.0, named lives all.1)
+
+-- nothing depends on a cluster or a listener
+no_dependency : (kind : Kind) (name : List ℕ) (content : Content) → is_by_name kind ≡ false → is_dependency kind name (dependency_of content) ≡ false
+no_dependency kind name (a_cluster cluster) whole = by kind whole cluster.discovery
+  where
+    by : (kind : Kind) → is_by_name kind ≡ false → (discovery : Discovery) → is_dependency kind name (discovery_dependency discovery) ≡ false
+    by kind whole (Static rows) = refl
+    by Cds whole (by_eds service limited) = refl
+    by Lds whole (by_eds service limited) = refl
+    by Eds whole (by_eds service limited) = absurd (false≢true (sym whole))
+    by Rds whole (by_eds service limited) = refl
+no_dependency kind name (an_assignment rows) whole = refl
+no_dependency kind name (a_listener listener) whole = by kind whole listener.serve
+  where
+    by : (kind : Kind) → is_by_name kind ≡ false → (serve : Serve) → is_dependency kind name (serve_dependency serve) ≡ false
+    by Cds whole (by_rds name limited) = refl
+    by Lds whole (by_rds name limited) = refl
+    by Eds whole (by_rds name limited) = refl
+    by Rds whole (by_rds name limited) = absurd (false≢true (sym whole))
+    by kind whole (Inline table) = refl
+    by kind whole (Tcp target) = refl
+no_dependency kind name (routes table) whole = refl
+
+unwatched : (kind : Kind) (name : List ℕ) (lives : List Live) → is_by_name kind ≡ false → false ≡ is_watched lives kind name
+unwatched kind name [] whole = refl
+unwatched kind name (live ∷ lives) whole =
+    unwatched kind name lives whole ∙ sym (ap (λ b. b || is_watched lives kind name) (no_dependency kind name live.content whole))
+
+-- the answers are those of the world that the managers stand for
+pub tells : (clusters : State) (listeners : ListenersKept) (subscription : SubscriptionParts) (kind : Kind) (world : World)
+    → clusters.kind ≡ Cds → AreListeners listeners → HasRows clusters world → HasListeners listeners world → HasVersions subscription world → AreWhole world.rows
+    → Tells (answers_by clusters listeners subscription) kind (lives_of world) world.versions
+tells clusters listeners subscription kind world of_clusters of_listeners has listens versions whole = record {
+  newest = newest;
+  holders = λ address. holders-world listeners world address of_listeners listens;
+  watched = watched;
+  kept = λ k name version. kept_is subscription world k name version versions;
+  apart = apart_all kind world whole;
+}
+  where
+    newest : (k : Kind) (name : List ℕ) → newest_by clusters listeners.state k name ≡ newest_of (lives_of world) k name
+    newest Cds name = newest-world clusters world name has ∙ ap (λ (c : Kind). newest_of (lives_of world) c name) of_clusters
+    newest Eds name = sym (newest_none Eds world whole refl name)
+    newest Lds name = newest-world listeners.state world name listens.part ∙ ap (λ (c : Kind). newest_of (lives_of world) c name) of_listeners.listeners
+    newest Rds name = sym (newest_none Rds world whole refl name)
+
+    watched : (k : Kind) (name : List ℕ) → watched_by clusters listeners.state k name ≡ is_watched (lives_of world) k name
+    watched Cds name = unwatched Cds name (lives_of world) refl
+    watched Eds name =
+        watched-world clusters world has (ap is_by_name of_clusters) name ∙ ap (λ (c : Kind). is_watched (lives_of world) (needs_of c) name) of_clusters
+    watched Lds name = unwatched Lds name (lives_of world) refl
+    watched Rds name =
+        watched-world listeners.state world listens.part (ap is_by_name of_listeners.listeners) name ∙ ap (λ (c : Kind). is_watched (lives_of world) (needs_of c) name) of_listeners.listeners

@@ -1,0 +1,9 @@
+pub mod HeardLemmas
+pub mod WholeLemmas
+pub mod KnownLemmas
+pub mod WatchedNames
+pub mod TidyLemmas
+pub mod StepLemmas
+pub mod RestLemmas
+pub mod TakeLemmas
+pub mod SignalLemmas

@@ -1,0 +1,229 @@
+-- What signals do to the parts together.
+use Rattle.std.proofs.Common.{◌≡◌, ℕ, Bool, true, false, not, ◌||◌, ◌&&◌, cond, List, [], ◌∷◌, ◌++◌, map, filter, refl, sym, ap, ◌∙◌, subst}
+use Rattle.std.specs.List.{All, list_any}
+use Rattle.std.proofs.lemmas.Bool.{false≢true}
+use Rattle.ev_types.specs.declared.hosts.Host.{Host}
+use Rattle.ev_types.specs.declared.events.Answer.{Answer}
+use Rattle.ev_types.specs.declared.events.Answer.TheVariants.{Ignored}
+use Rattle.ev_types.specs.declared.rows.GenRow.{GenRow}
+use Rattle.ev_types.specs.declared.rows.KeptVersion.{KeptVersion}
+use Rattle.ev_model.specs.Live.{lives_of}
+use Rattle.ev_state.proofs.HeardLemmas.{IsDue}
+use Rattle.ev_model.specs.World.{World}
+use Rattle.ev_model.specs.Signals.{health_of, moved, with_results, with_end, forget_version}
+use Rattle.ev_model.specs.Versions.{is_version_of, is_bounded}
+use Rattle.ev_model.specs.Watching.{is_by_name, is_watched}
+use Rattle.std.proofs.lemmas.List.Elements.{All-filter, recursion_from_All}
+use Rattle.ev_types.specs.declared.contents.Kind.{Kind}
+use Rattle.ev_types.specs.declared.contents.Kind.TheVariants.{Cds, Eds, Lds, Rds}
+use Rattle.ev_warming.specs.Worlds.{needs_of}
+use Rattle.ev_warming.proofs.ReadLemmas.{watched-world}
+use Rattle.ev_state.proofs.TidyLemmas.{found_watched}
+use Rattle.ev_model_laws.proofs.AnyLemmas.{any_so}
+use Rattle.ev_warming.specs.Indexes.{depends_on, waits_limited}
+use Rattle.ev_warming.specs.declared.state.State.{State as Part}
+use Rattle.ev_warming.specs.Reads.{is_timeout_due}
+use Rattle.ev_managers.specs.declared.managers.Managers.{Managers}
+use Rattle.ev_managers.specs.Managers.{AreKept, StandFor, is_watched_in}
+use Rattle.ev_model_laws.specs.VersionsKept.{AreKeptOnce}
+use Rattle.ev_subscription.specs.Subscriptions.{SubscriptionParts, StandsFor as HasVersions, kept_of}
+use Rattle.ev_targets.specs.Targets.{TargetsParts, StandsFor as HasTargets}
+use Rattle.ev_state.specs.declared.state.State.{State}
+use Rattle.ev_state.specs.States.{Follows, Steps}
+use Rattle.ev_state.proofs.RestLemmas.{SameRest, rest_boots}
+
+-- the managers alone have changed
+pub managers_follow : (s : State) (m : Managers) (world after : World) → Follows s world world → StandFor m after
+    → after.node ≡ world.node → after.stream ≡ world.stream → after.versions ≡ world.versions → SameRest world after
+    → Follows (record s { managers = m }) world after
+managers_follow s m world after follows stand node stream versions rest =
+    let had = follows.stands.subscription in
+    record {
+      stands = record {
+        managers = stand;
+        subscription = record {
+          node = had.node ∙ sym node;
+          stream = had.stream ∙ sym stream;
+          versions = λ k. had.versions k ∙ ap (kept_of k) (sym versions);
+          kept_once = subst AreKeptOnce (sym versions) had.kept_once;
+        };
+        targets = rest_boots s.targets world after rest follows.stands.targets;
+      };
+      endpoints = follows.endpoints;
+      routes = follows.routes;
+      heard = subst (λ (vs : List KeptVersion). All (IsDue (lives_of world)) vs) (sym versions) follows.heard;
+      phase = rest.phase;
+      held = follows.held ∙ sym rest.held;
+      pictures = rest.pictures ∙ follows.pictures;
+      opened = rest.opened ∙ follows.opened;
+      expired = rest.expired ∙ follows.expired;
+    }
+
+-- the targets alone have changed
+pub targets_follow : (s : State) (targets : TargetsParts) (world after : World) → Follows s world world → HasTargets targets after
+    → StandFor s.managers after → HasVersions s.subscription after → after.versions ≡ world.versions
+    → after.phase ≡ world.phase → after.held ≡ world.held → after.pictures ≡ world.pictures → after.opened ≡ world.opened → after.expired ≡ world.expired
+    → Follows (record s { targets = targets }) world after
+targets_follow s targets world after follows boots stand held versions phase kept pictures opened expired = record {
+  stands = record { managers = stand; subscription = held; targets = boots };
+  endpoints = follows.endpoints;
+  routes = follows.routes;
+  heard = subst (λ (vs : List KeptVersion). All (IsDue (lives_of world)) vs) (sym versions) follows.heard;
+  phase = phase;
+  held = follows.held ∙ sym kept;
+  pictures = pictures ∙ follows.pictures;
+  opened = opened ∙ follows.opened;
+  expired = expired ∙ follows.expired;
+}
+
+-- nothing is done
+pub ignores : (s : State) (world : World) → AreKept s.managers → Follows s world world → Steps s Ignored (world, Ignored)
+ignores s world kept follows = record { kept = kept; follows = follows; answer = refl }
+
+none_by : {X : Type 0} (p : X → Bool) (xs : List X) → list_any p xs ≡ false → filter p xs ≡ []
+none_by p [] none = refl
+none_by p (x ∷ xs) none = by (p x) none (none_by p xs)
+  where
+    by : (b : Bool) → (b || list_any p xs) ≡ false → (list_any p xs ≡ false → filter p xs ≡ []) → cond b (x ∷ filter p xs) (filter p xs) ≡ []
+    by true h rest = absurd (false≢true (sym h))
+    by false h rest = rest h
+
+some_by : {X : Type 0} (p : X → Bool) (xs : List X) → list_any p xs ≡ true → filter p xs ≡ [] → ⊥
+some_by p [] some none = false≢true some
+some_by p (x ∷ xs) some none = by (p x) some none (some_by p xs)
+  where
+    by : (b : Bool) → (b || list_any p xs) ≡ true → cond b (x ∷ filter p xs) (filter p xs) ≡ [] → (list_any p xs ≡ true → filter p xs ≡ [] → ⊥) → ⊥
+    by true h none rest = cc
+    by false h none rest = rest h none
+
+led_by : (s : State) (a : Answer) (host : Host) (healthy : Bool) (rows : List GenRow) (world : World) → (rows ≡ [] → ⊥)
+    → Steps s a (moved world (with_results host healthy rows world)) → Steps s a (health_of host healthy rows world)
+led_by s a host healthy [] world some steps = absurd (some refl)
+led_by s a host healthy (row ∷ rows) world some steps = steps
+
+kept_by : (s : State) (a : Answer) (host : Host) (healthy : Bool) (rows : List GenRow) (world : World) → rows ≡ []
+    → Steps s a (world, Ignored) → Steps s a (health_of host healthy rows world)
+kept_by s a host healthy [] world none steps = steps
+kept_by s a host healthy (row ∷ rows) world none steps = absurd (cc)
+
+-- a health result that is for a generation
+pub health_led : (s : State) (a : Answer) (host : Host) (healthy : Bool) (p : GenRow → Bool) (world : World) → list_any p world.rows ≡ true
+    → Steps s a (moved world (with_results host healthy (filter p world.rows) world)) → Steps s a (health_of host healthy (filter p world.rows) world)
+health_led s a host healthy p world some steps = led_by s a host healthy (filter p world.rows) world (some_by p world.rows some) steps
+
+append_nil : {X : Type 0} (xs : List X) → xs ++ [] ≡ xs
+append_nil [] = refl
+append_nil (x ∷ xs) = ap (λ ys. x ∷ ys) (append_nil xs)
+
+-- one that is for none
+pub health_ignored : (s : State) (m : Managers) (host : Host) (healthy : Bool) (p : GenRow → Bool) (world : World) → AreKept m
+    → Follows s world world → list_any p world.rows ≡ false → StandFor m (with_results host healthy (filter p world.rows) world)
+    → Steps (record s { managers = m }) Ignored (health_of host healthy (filter p world.rows) world)
+health_ignored s m host healthy p world kept follows none stand =
+    let gone : filter p world.rows ≡ [] = none_by p world.rows none in
+    let same : with_results host healthy (filter p world.rows) world ≡ world =
+    (λ i. with_results host healthy (gone i) world) ∙ (λ i. record world { results = append_nil world.results i }) in
+    kept_by (record s { managers = m }) Ignored host healthy (filter p world.rows) world gone
+    (ignores (record s { managers = m }) world kept
+    (managers_follow s m world world follows (subst (λ (w : World). StandFor m w) same stand) refl refl refl
+    (record { pictures = refl; held = refl; opened = refl; expired = refl; first_clusters = refl; first_listeners = refl; late_clusters = refl; late_listeners = refl; phase = refl })))
+
+both_first : (a b : Bool) → (a && b) ≡ true → a ≡ true
+both_first true b h = refl
+both_first false b h = h
+
+-- a name whose timeout is due is watched
+pub due_is_watched : (part : Part) (name : List ℕ) → is_timeout_due part.watches part.table.rows name ≡ true → list_any (depends_on name) part.table.rows ≡ true
+due_is_watched part name due =
+    any_so (waits_limited name) (depends_on name) part.table.rows (λ row h. both_first (depends_on name row) _ h)
+    (both_first (list_any (waits_limited name) part.table.rows) _ due)
+
+pub not_false : (b : Bool) → not b ≡ false → b ≡ true
+not_false true h = refl
+not_false false h = absurd (false≢true (sym h))
+
+pub not_true : (b : Bool) → not b ≡ true → b ≡ false
+not_true true h = sym h
+not_true false h = refl
+
+-- a resource has come to its end
+pub ended_follows : (s : State) (m : Managers) (subscription : SubscriptionParts) (kind : Kind) (name : List ℕ) (world : World) → Follows s world world
+    → StandFor m (with_end kind name (forget_version kind name world)) → HasVersions subscription (forget_version kind name world)
+    → Follows (record s { managers = m; subscription = subscription }) world (with_end kind name (forget_version kind name world))
+ended_follows s m subscription Cds name world follows stand held = record {
+  stands = record {
+    managers = stand;
+    subscription = record { node = held.node; stream = held.stream; versions = held.versions; kept_once = held.kept_once };
+    targets = rest_boots s.targets world (with_end Cds name (forget_version Cds name world)) (record { pictures = refl; held = refl; opened = refl; expired = refl; first_clusters = refl; first_listeners = refl; late_clusters = refl; late_listeners = refl; phase = refl }) follows.stands.targets;
+  };
+  endpoints = follows.endpoints;
+  routes = follows.routes;
+  heard = All-filter (λ (kept : KeptVersion). not (is_version_of Cds name kept)) (IsDue (lives_of world)) world.versions follows.heard;
+  phase = refl;
+  held = follows.held;
+  pictures = follows.pictures;
+  opened = follows.opened;
+  expired = follows.expired;
+}
+ended_follows s m subscription Eds name world follows stand held = record {
+  stands = record {
+    managers = stand;
+    subscription = record { node = held.node; stream = held.stream; versions = held.versions; kept_once = held.kept_once };
+    targets = rest_boots s.targets world (with_end Eds name (forget_version Eds name world)) (record { pictures = refl; held = refl; opened = refl; expired = refl; first_clusters = refl; first_listeners = refl; late_clusters = refl; late_listeners = refl; phase = refl }) follows.stands.targets;
+  };
+  endpoints = follows.endpoints;
+  routes = follows.routes;
+  heard = All-filter (λ (kept : KeptVersion). not (is_version_of Eds name kept)) (IsDue (lives_of world)) world.versions follows.heard;
+  phase = refl;
+  held = follows.held;
+  pictures = follows.pictures;
+  opened = follows.opened;
+  expired = follows.expired;
+}
+ended_follows s m subscription Lds name world follows stand held = record {
+  stands = record {
+    managers = stand;
+    subscription = record { node = held.node; stream = held.stream; versions = held.versions; kept_once = held.kept_once };
+    targets = rest_boots s.targets world (with_end Lds name (forget_version Lds name world)) (record { pictures = refl; held = refl; opened = refl; expired = refl; first_clusters = refl; first_listeners = refl; late_clusters = refl; late_listeners = refl; phase = refl }) follows.stands.targets;
+  };
+  endpoints = follows.endpoints;
+  routes = follows.routes;
+  heard = All-filter (λ (kept : KeptVersion). not (is_version_of Lds name kept)) (IsDue (lives_of world)) world.versions follows.heard;
+  phase = refl;
+  held = follows.held;
+  pictures = follows.pictures;
+  opened = follows.opened;
+  expired = follows.expired;
+}
+ended_follows s m subscription Rds name world follows stand held = record {
+  stands = record {
+    managers = stand;
+    subscription = record { node = held.node; stream = held.stream; versions = held.versions; kept_once = held.kept_once };
+    targets = rest_boots s.targets world (with_end Rds name (forget_version Rds name world)) (record { pictures = refl; held = refl; opened = refl; expired = refl; first_clusters = refl; first_listeners = refl; late_clusters = refl; late_listeners = refl; phase = refl }) follows.stands.targets;
+  };
+  endpoints = follows.endpoints;
+  routes = follows.routes;
+  heard = All-filter (λ (kept : KeptVersion). not (is_version_of Rds name kept)) (IsDue (lives_of world)) world.versions follows.heard;
+  phase = refl;
+  held = follows.held;
+  pictures = follows.pictures;
+  opened = follows.opened;
+  expired = follows.expired;
+}
+
+-- a name of endpoints or routes whose life is bounded is watched
+pub bounded_is_watched : (m : Managers) (kind : Kind) (name : List ℕ) (world : World) → AreKept m → StandFor m world → All (IsDue (lives_of world)) world.versions
+    → is_bounded world.versions kind name ≡ true → is_by_name kind ≡ true → is_watched_in m kind name ≡ true
+bounded_is_watched m kind name world kept stand due bounded by_name =
+    by kind by_name (found_watched (lives_of world) kind name world.versions by_name (recursion_from_All (IsDue (lives_of world)) world.versions due)
+    (any_so (λ (v : KeptVersion). is_version_of kind name v && v.bounded) (is_version_of kind name) world.versions (λ v h. both_first (is_version_of kind name v) v.bounded h) bounded))
+  where
+    by : (k : Kind) → is_by_name k ≡ true → is_watched (lives_of world) k name ≡ true → is_watched_in m k name ≡ true
+    by Cds by_name h = absurd (false≢true by_name)
+    by Lds by_name h = absurd (false≢true by_name)
+    by Eds by_name h =
+        watched-world m.clusters.state world stand.clusters (ap is_by_name kept.clusters.clusters) name
+        ∙ ap (λ (c : Kind). is_watched (lives_of world) (needs_of c) name) kept.clusters.clusters ∙ h
+    by Rds by_name h =
+        watched-world m.listeners.state world stand.listeners.part (ap is_by_name kept.listeners.listeners) name
+        ∙ ap (λ (c : Kind). is_watched (lives_of world) (needs_of c) name) kept.listeners.listeners ∙ h

@@ -1,0 +1,76 @@
+-- What a response does to the parts together.
+use Rattle.std.proofs.Common.{◌≡◌, ℕ, List, [], ◌∷◌, Some, refl, sym, ap, ◌∙◌, subst}
+use Rattle.std.specs.List.{All}
+use Rattle.ev_types.specs.Items.{ResponseParts}
+use Rattle.ev_types.specs.declared.contents.Kind.{Kind}
+use Rattle.ev_types.specs.declared.contents.Kind.TheVariants.{Cds, Eds, Lds, Rds}
+use Rattle.ev_types.specs.declared.events.Verdict.{Verdict}
+use Rattle.ev_types.specs.declared.rows.KeptVersion.{KeptVersion}
+use Rattle.ev_model.specs.World.{World}
+use Rattle.ev_model.specs.Live.{lives_of}
+use Rattle.ev_model.specs.Verdicts.{verdicts_of, verdicts_for, verdicts_by}
+use Rattle.ev_model.specs.Watching.{is_by_name}
+use Rattle.ev_model.specs.Rows.{with_removals, add_items, made_names, with_first}
+use Rattle.ev_warming.specs.Arrivals.{AreOnValues}
+use Rattle.ev_warming.specs.Worlds.{needs_of}
+use Rattle.ev_warming.proofs.JudgedLemmas.{values-judged}
+use Rattle.ev_managers.specs.declared.managers.Managers.{Managers}
+use Rattle.ev_managers.specs.Managers.{AreKept, StandFor, MayBeGiven}
+use Rattle.ev_managers.proofs.FrameLemmas.{see_the_same}
+use Rattle.ev_model_laws.specs.VersionsKept.{AreKeptOnce}
+use Rattle.ev_subscription.specs.Subscriptions.{SubscriptionParts, StandsFor as HasVersions, kept_of}
+use Rattle.ev_targets.specs.Targets.{TargetsParts, StandsFor as HasTargets}
+use Rattle.ev_state.specs.declared.state.State.{State}
+use Rattle.ev_state.specs.States.{Follows}
+use Rattle.ev_state.proofs.HeardLemmas.{IsDue, response_due}
+use Rattle.ev_state.proofs.RestLemmas.{SameRest, response_rest, rest_boots, FirstLeaves, first_leaves}
+
+-- the machine's verdicts may be given
+pub may_be_given : (m : Managers) (kind : Kind) (response : ResponseParts) (verdicts : List Verdict) (world : World)
+    → AreKept m → StandFor m world → response.kind ≡ Some kind → verdicts ≡ verdicts_of (lives_of world) world.versions response
+    → MayBeGiven m kind verdicts response.items
+may_be_given m Cds response verdicts world kept stand of are = tt
+may_be_given m Lds response verdicts world kept stand of are = tt
+may_be_given m Eds response verdicts world kept stand of are =
+    subst (λ (vs : List Verdict). AreOnValues m.clusters.state.table.rows vs response.items) (sym are)
+    (values-judged m.clusters.state response world (ap is_by_name kept.clusters.clusters) (of ∙ ap (λ (k : Kind). Some (needs_of k)) (sym kept.clusters.clusters)) stand.clusters)
+may_be_given m Rds response verdicts world kept stand of are =
+    subst (λ (vs : List Verdict). AreOnValues m.listeners.state.table.rows vs response.items) (sym are)
+    (values-judged m.listeners.state response world (ap is_by_name kept.listeners.listeners) (of ∙ ap (λ (k : Kind). Some (needs_of k)) (sym kept.listeners.listeners)) stand.listeners.part)
+
+-- the parts behind a response stand for the machine's world behind it
+pub taken : (s : State) (m : Managers) (subscription : SubscriptionParts) (targets : TargetsParts) (kind : Kind) (response : ResponseParts) (verdicts : List Verdict) (world : World)
+    → Follows s world world → response.kind ≡ Some kind → verdicts ≡ verdicts_of (lives_of world) world.versions response
+    → StandFor m (add_items kind verdicts response.items (with_removals kind response world))
+    → HasVersions subscription (add_items kind verdicts response.items (with_removals kind response world))
+    → ((w : World) → HasTargets s.targets w → HasTargets targets (with_first kind (made_names verdicts response.items) w))
+    → Follows (record s { managers = m; subscription = subscription; targets = targets }) world
+    (with_first kind (made_names verdicts response.items) (add_items kind verdicts response.items (with_removals kind response world)))
+taken s m subscription targets kind response verdicts world follows of are stand held boots =
+    let after : World = add_items kind verdicts response.items (with_removals kind response world) in
+    let rest : SameRest world after = response_rest kind response verdicts world in
+    let first : FirstLeaves after (with_first kind (made_names verdicts response.items) after) = first_leaves kind (made_names verdicts response.items) after in
+    let judged : verdicts ≡ verdicts_for kind (lives_of world) world.versions response =
+    are ∙ ap (λ k. verdicts_by k (lives_of world) world.versions response) of in
+    record {
+      stands = record {
+        managers = see_the_same m after (with_first kind (made_names verdicts response.items) after) first.seen stand;
+        subscription = record {
+          node = held.node ∙ sym first.node;
+          stream = held.stream ∙ sym first.stream;
+          versions = λ k. held.versions k ∙ ap (λ (vs : List KeptVersion). kept_of k vs) (sym first.versions);
+          kept_once = subst AreKeptOnce (sym first.versions) held.kept_once;
+        };
+        targets = boots after (rest_boots s.targets world after rest follows.stands.targets);
+      };
+      endpoints = follows.endpoints;
+      routes = follows.routes;
+      heard = subst (λ (vs : List KeptVersion). All (IsDue (lives_of world)) vs) (sym first.versions)
+          (subst (λ (vs : List Verdict). All (IsDue (lives_of world)) (add_items kind vs response.items (with_removals kind response world)).versions) (sym judged)
+          (response_due kind response (lives_of world) world.versions world follows.heard));
+      phase = first.phase ∙ rest.phase;
+      held = follows.held ∙ sym (first.held ∙ rest.held);
+      pictures = first.pictures ∙ rest.pictures ∙ follows.pictures;
+      opened = first.opened ∙ rest.opened ∙ follows.opened;
+      expired = first.expired ∙ rest.expired ∙ follows.expired;
+    }

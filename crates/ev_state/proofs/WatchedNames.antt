@@ -1,0 +1,97 @@
+-- The names that are watched, as a sorted list and by a test.
+use Rattle.std.proofs.Common.{◌≡◌, ℕ, Bool, true, false, not, ◌||◌, ◌&&◌, cond, List, [], ◌∷◌, ◌++◌, map, filter, Option, Some, None, refl, sym, ap, ◌∙◌, subst}
+use Rattle.std.specs.List.{list_any, flat_map, dedup, dedup_from}
+use Rattle.std.specs.Str.{bytes_eq}
+use Rattle.std.proofs.lemmas.Bool.{cond_both, false≢true, both_ways}
+use Rattle.std.proofs.lemmas.List.Folds.{list_any-append}
+use Rattle.ev_types.specs.Kinds.{kind_same}
+use Rattle.ev_types.specs.Same.{bytes_decide}
+use Rattle.ev_types.specs.declared.contents.Kind.{Kind}
+use Rattle.ev_types.specs.declared.rows.Live.{Live}
+use Rattle.ev_model.specs.Sorted.{put_by, sorted_by}
+use Rattle.ev_model.specs.Versions.{is_before}
+use Rattle.ev_model.specs.Verdicts.{is_among}
+use Rattle.ev_model.specs.Watching.{Dependency, dependency_of, is_dependency, is_watched, name_awaited, sorted_names, watched_by}
+use Rattle.ev_model.specs.Requests.{other_than}
+
+or_turn : (a b c : Bool) → (a || (b || c)) ≡ (b || (a || c))
+or_turn true true c = refl
+or_turn true false c = refl
+or_turn false b c = refl
+
+or_twice : (a b c : Bool) → a ≡ b → (a || c) ≡ (a || (b || c))
+or_twice true b c same = refl
+or_twice false b c same = ap (λ x. x || c) same
+
+any_put : {X : Type 0} (p : X → Bool) (m : X → X → Bool) (x : X) (ys : List X) → list_any p (put_by m x ys) ≡ (p x || list_any p ys)
+any_put p m x [] = refl
+any_put p m x (y ∷ ys) =
+    cond_both (m x y) (x ∷ y ∷ ys) (y ∷ put_by m x ys) (λ zs. list_any p zs ≡ (p x || (p y || list_any p ys)))
+    (λ before. refl) (λ behind. ap (λ b. p y || b) (any_put p m x ys) ∙ or_turn (p y) (p x) (list_any p ys))
+
+any_sorted : {X : Type 0} (p : X → Bool) (m : X → X → Bool) (xs : List X) → list_any p (sorted_by m xs) ≡ list_any p xs
+any_sorted p m [] = refl
+any_sorted p m (x ∷ xs) = any_put p m x (sorted_by m xs) ∙ ap (λ b. p x || b) (any_sorted p m xs)
+
+module _ {X : Type 0} (p : X → Bool) (same : X → X → Bool) (alike : (x y : X) → same x y ≡ true → p y ≡ p x) where
+  any_dedup_from : (k : X) (xs : List X) → list_any p (dedup_from same k xs) ≡ (p k || list_any p xs)
+  any_dedup_from k [] = refl
+  any_dedup_from k (x ∷ xs) =
+      cond_both (same x k) (dedup_from same k xs) (k ∷ dedup_from same x xs) (λ zs. list_any p zs ≡ (p k || (p x || list_any p xs)))
+      (λ is. any_dedup_from k xs ∙ or_twice (p k) (p x) (list_any p xs) (alike x k is))
+      (λ isnt. ap (λ b. p k || b) (any_dedup_from x xs))
+
+  any_dedup : (xs : List X) → list_any p (dedup same xs) ≡ list_any p xs
+  any_dedup [] = refl
+  any_dedup (x ∷ xs) = any_dedup_from x xs
+
+or_same : (a b c d : Bool) → a ≡ b → c ≡ d → (a || c) ≡ (b || d)
+or_same a b c d p q = λ i. p i || q i
+
+awaited_is : (kind : Kind) (name : List ℕ) (dependency : Option Dependency) → is_among name (name_awaited kind dependency) ≡ is_dependency kind name dependency
+awaited_is kind name None = refl
+awaited_is kind name (Some dependency) = by (kind_same dependency.kind kind)
+  where
+    or_false : (b : Bool) → (b || false) ≡ b
+    or_false true = refl
+    or_false false = refl
+
+    by : (b : Bool) → is_among name (cond b (dependency.name ∷ []) []) ≡ (b && bytes_eq dependency.name name)
+    by true = or_false (bytes_eq dependency.name name)
+    by false = refl
+
+any_awaited : (kind : Kind) (name : List ℕ) (lives : List Live)
+    → is_among name (flat_map (λ (live : Live). name_awaited kind (dependency_of live.content)) lives) ≡ is_watched lives kind name
+any_awaited kind name [] = refl
+any_awaited kind name (live ∷ lives) =
+    list_any-append (λ n. bytes_eq n name) (name_awaited kind (dependency_of live.content)) (flat_map (λ (live : Live). name_awaited kind (dependency_of live.content)) lives)
+    ∙ or_same _ _ _ _ (awaited_is kind name (dependency_of live.content)) (any_awaited kind name lives)
+
+-- a name stands among those that are watched where it is watched
+pub among_watched : (lives : List Live) (kind : Kind) (name : List ℕ) → is_among name (watched_by lives kind) ≡ is_watched lives kind name
+among_watched lives kind name =
+    any_dedup (λ n. bytes_eq n name) bytes_eq (λ x y is. ap (λ n. bytes_eq n name) (sym ((bytes_decide x y).0 is)))
+    (sorted_by is_before (flat_map (λ (live : Live). name_awaited kind (dependency_of live.content)) lives))
+    ∙ any_sorted (λ n. bytes_eq n name) is_before (flat_map (λ (live : Live). name_awaited kind (dependency_of live.content)) lives)
+    ∙ any_awaited kind name lives
+
+-- a name that stands among those that aren't among the others
+pub among_other : (others names : List (List ℕ)) (name : List ℕ) → is_among name (other_than others names) ≡ (is_among name names && not (is_among name others))
+among_other others [] name = refl
+among_other others (first ∷ names) name = by (bytes_eq first name) refl (is_among first others) refl (among_other others names name)
+  where
+    by : (b : Bool) → bytes_eq first name ≡ b → (o : Bool) → is_among first others ≡ o
+        → is_among name (other_than others names) ≡ (is_among name names && not (is_among name others))
+        → is_among name (cond (not o) (first ∷ other_than others names) (other_than others names)) ≡ ((b || is_among name names) && not (is_among name others))
+    by true is true other rest =
+        let there : is_among name others ≡ true = ap (λ n. is_among n others) (sym ((bytes_decide first name).0 is)) ∙ other in
+        rest ∙ (λ i. is_among name names && not (there i)) ∙ and_false (is_among name names) ∙ (λ i. not (sym there i))
+      where
+        and_false : (b : Bool) → (b && false) ≡ false
+        and_false true = refl
+        and_false false = refl
+    by true is false apart rest =
+        let away : is_among name others ≡ false = ap (λ n. is_among n others) (sym ((bytes_decide first name).0 is)) ∙ apart in
+        ap (λ b. b || is_among name (other_than others names)) is ∙ (λ i. not (sym away i))
+    by false isnt true other rest = rest
+    by false isnt false apart rest = ap (λ b. b || is_among name (other_than others names)) isnt ∙ rest

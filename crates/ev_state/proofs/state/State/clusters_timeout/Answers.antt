@@ -1,0 +1,26 @@
+use Rattle.std.proofs.Common.{Bool, true, cond, ◌||◌, refl, sym, subst, ◌∙◌}
+use Rattle.std.specs.Prelude.{is_some}
+use Rattle.ev_types.specs.declared.events.Answer.TheVariants.{Ignored}
+use Rattle.ev_model.specs.World.{World}
+use Rattle.ev_model.specs.Phase.{is_clusters}
+use Rattle.ev_model.specs.Signals.{moved}
+use Rattle.ev_managers.proofs.FrameLemmas.{see_the_same}
+use Rattle.ev_targets.specs.Targets.{StandsFor as HasTargets}
+use Rattle.ev_state.proofs.SignalLemmas.{targets_follow, not_true}
+use Rattle.ev_state.proofs.StepLemmas.{where_false}
+use Rattle.ev_state.proofs.state.State.clusters_timeout.Goals as goal
+
+pub returns : goal.returns
+returns g c = λ world follows.
+    let booted = follows.stands.targets in
+    let had = follows.stands.subscription in
+    let after : World = record world { late_clusters = true } in
+    let boots : HasTargets c.clusters_timeout.new.self after =
+    subst (λ (b : Bool). HasTargets c.clusters_timeout.new.self (cond b after world)) c.if-not-clusters_timeout.false (c.clusters_timeout.ensures.stands world booted) in
+    where_false c.moved.new.self c.in_ok-answer.answer (is_some world.first_clusters || world.late_clusters) (world, Ignored) (moved world after)
+    (not_true (is_some world.first_clusters || world.late_clusters) (sym (c.clusters_timeout.ensures.heard world booted) ∙ c.if-not-clusters_timeout.false))
+    (c.in_ok-answer.ensures world after
+    (targets_follow c.args.self.now c.clusters_timeout.new.self world after follows boots
+    (see_the_same c.args.self.now.managers world after (record { rows = refl; made = refl; arrivals = refl; results = refl }) follows.stands.managers)
+    (record { node = had.node; stream = had.stream; versions = had.versions; kept_once = had.kept_once })
+    refl refl refl refl refl refl))

@@ -1,0 +1,21 @@
+use Rattle.std.proofs.Common.{refl, sym, ◌∙◌}
+use Rattle.ev_model.specs.World.{World}
+use Rattle.ev_model.specs.Signals.{is_meant, with_results, rows_meant}
+use Rattle.ev_state.proofs.SignalLemmas.{managers_follow, health_led, health_ignored}
+use Rattle.ev_state.proofs.state.State.health.Goals as goal
+
+pub returns-then-not-branch : goal.returns-then-not-branch
+returns-then-not-branch g c = λ world follows.
+    health_ignored c.args.self.now c.health.new.self c.args.host.now c.args.healthy (is_meant world.arrivals c.args.cluster.now c.args.host.now) world
+    c.in_ok-health.ensures.kept follows
+    (sym (c.in_ok-health.ensures.ignored world follows.stands.managers) ∙ c.if-not-branch.true)
+    (c.in_ok-health.ensures.stands world follows.stands.managers)
+
+pub returns : goal.returns
+returns g c = λ world follows.
+    let after : World = with_results c.args.host.now c.args.healthy (rows_meant world.arrivals c.args.cluster.now c.args.host.now world.rows) world in
+    health_led c.moved.new.self c.in_ok-answer.answer c.args.host.now c.args.healthy (is_meant world.arrivals c.args.cluster.now c.args.host.now) world
+    (sym (c.in_ok-health.ensures.ignored world follows.stands.managers) ∙ c.if-not-branch.false)
+    (c.in_ok-answer.ensures world after
+    (managers_follow c.args.self.now c.health.new.self world after follows (c.in_ok-health.ensures.stands world follows.stands.managers) refl refl refl
+    (record { pictures = refl; held = refl; opened = refl; expired = refl; first_clusters = refl; first_listeners = refl; late_clusters = refl; late_listeners = refl; phase = refl })))

@@ -1,0 +1,18 @@
+use Rattle.std.proofs.Common.{None, ap, ◌∙◌}
+use Rattle.ev_types.specs.declared.events.Answer.TheVariants.{Moved}
+use Rattle.ev_model.specs.Requests.{all_watched, requests_by}
+use Rattle.ev_model.specs.Tidy.{tidy}
+use Rattle.ev_model.specs.World.{World}
+use Rattle.ev_state.proofs.state.State.moved.Goals as goal
+
+pub returns : goal.returns
+returns g c = λ before world follows.
+    let over = c.in_ok-moves.ensures.over before world follows in
+    let after : World = tidy world in
+    record {
+      kept = c.in_ok-moves.ensures.kept;
+      follows = over.follows;
+      answer = ap Moved (c.in_ok-requests.ensures after (all_watched before) (all_watched after) over.follows.stands.subscription
+          over.moves.endpoints_begun over.moves.endpoints_ended over.moves.routes_begun over.moves.routes_ended
+          ∙ (λ i. requests_by after.stream (all_watched before) (all_watched after) (over.moves.left i) after.versions None));
+    }

@@ -1,0 +1,4 @@
+pub mod Built
+pub mod Known
+pub mod States
+pub mod Moves

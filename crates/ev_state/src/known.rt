@@ -1,0 +1,68 @@
+ghost use Rattle.std.specs.Prelude.{◌≡◌};
+ghost use Rattle.ev_managers.specs.Managers.{AreKept};
+
+use ev_managers::Managers;
+use ev_rules::LiveRow;
+use ev_subscription::Subscription;
+use ev_types::{Host, Kind};
+use ev_verdicts::Known;
+use std::alloc::{AllocError, Global};
+use std::marker::Model;
+
+/// What is known before a response: each question of verdicts is one to a manager, or to the subscription. Contracts see the
+/// answers.
+#[derive(Drop)]
+pub(crate) struct Before<'a> {
+    managers: &'a Managers,
+    subscription: &'a Subscription,
+}
+
+impl<'a> Model for Before<'a> {
+    ghost use Rattle.ev_managers.specs.Managers.{AreKept};
+    ghost use Rattle.ev_state.specs.Known.{BeforeParts};
+
+    ghost Value = { BeforeParts };
+
+    ghost view = { λ b. record { clusters = b.managers.now.clusters.state; listeners = b.managers.now.listeners; subscription = b.subscription.now } };
+
+    ghost invariant = { λ b. AreKept b.managers.now };
+}
+
+impl<'a> Before<'a> {
+    /// What these know.
+    pub(crate) fn new(managers: &'a Managers, subscription: &'a Subscription) -> Before<'a>
+        requires kept { AreKept managers.now }
+        ensures { result ≡ record { clusters = managers.now.clusters.state; listeners = managers.now.listeners; subscription = subscription.now } }
+    {
+        Before {
+            managers,
+            subscription,
+        }
+    }
+}
+
+impl<'a> Known for Before<'a> {
+    ghost use Rattle.ev_state.specs.Known.{answers_before};
+
+    ghost answers = { answers_before };
+
+    fn newest(&self, kind: Kind, name: &str) -> Option<LiveRow<'_>> {
+        match kind {
+            Kind::Cds => self.managers.clusters.newest(name),
+            Kind::Lds => self.managers.listeners.newest(name),
+            Kind::Eds | Kind::Rds => None,
+        }
+    }
+
+    fn holders(&self, alloc: Global, address: &Host) -> Result<Vec<LiveRow<'_>>, AllocError> {
+        self.managers.listeners.holders(alloc, address)
+    }
+
+    fn is_watched(&self, kind: Kind, name: &str) -> bool {
+        self.managers.is_watched(kind, name)
+    }
+
+    fn is_kept(&self, kind: Kind, name: &str, version: &str) -> bool {
+        self.subscription.is_kept(kind, name, version)
+    }
+}

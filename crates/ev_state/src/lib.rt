@@ -1,0 +1,13 @@
+//! All that is known: the managers, the subscription, how far the proxy has booted. Each event is one step of the flat machine.
+#![tactic(auto)]
+
+mod known;
+mod moves;
+mod response;
+mod settle;
+mod signals;
+mod state;
+mod step;
+mod stream;
+
+pub use state::State;

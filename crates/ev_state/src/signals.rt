@@ -1,0 +1,139 @@
+ghost use Rattle.std.specs.Prelude.{◌≡◌, IfOk, OnOk};
+ghost use Rattle.ev_types.specs.declared.contents.Kind.TheVariants.{Eds, Rds};
+ghost use Rattle.ev_model.specs.World.{World};
+ghost use Rattle.ev_model.specs.Signals.{health, fetch_timeout, clusters_timeout, listeners_timeout, name_timeout, ttl_expired, moved};
+ghost use Rattle.ev_managers.specs.Managers.{AreKept};
+ghost use Rattle.ev_state.specs.States.{Follows, Steps as AreSteps};
+
+use crate::state::State;
+use ev_generations::Steps;
+use ev_types::{Answer, Arrival, Host, Kind, Name};
+use std::alloc::{AllocError, Global};
+use std::sync::ledger::Ledger;
+
+impl State {
+    // An event has led here: what follows it by itself follows, and its requests are sent.
+    fn moved<L: Ledger>(
+        &mut self,
+        alloc: Global,
+        steps: &mut Steps<L>,
+    ) -> Result<Answer, AllocError>
+        requires kept { AreKept self.old.managers }
+        ensures { IfOk result (λ answer. (before world : World) → Follows self.old before world → AreSteps self.new answer (moved before world)) }
+    {
+        let moves = self.tidy(alloc, steps)?;
+        let requests = self
+            .subscription
+            .requests_after(alloc, None, moves.endpoints, moves.routes, moves.left)?;
+        Ok(Answer::Moved { requests })
+    }
+
+    /// A health result of a cluster's host; where it is for no generation, nothing is done.
+    pub(crate) fn health<L: Ledger>(
+        &mut self,
+        alloc: Global,
+        cluster: &Name,
+        host: &Host,
+        healthy: bool,
+        steps: &mut Steps<L>,
+    ) -> Result<Answer, AllocError>
+        requires kept { AreKept self.old.managers }
+        ensures { IfOk result (λ answer. (world : World) → Follows self.old world world → AreSteps self.new answer (health cluster.now host.now healthy world)) }
+    {
+        if !self.managers.health(alloc, cluster, host, healthy, steps)? {
+            return Ok(Answer::Ignored);
+        }
+        let answer = self.moved(alloc, steps)?;
+        Ok(answer)
+    }
+
+    /// The fetch timeout of clusters; where a response of them came or they are late already, nothing is done.
+    pub(crate) fn clusters_timeout<L: Ledger>(
+        &mut self,
+        alloc: Global,
+        steps: &mut Steps<L>,
+    ) -> Result<Answer, AllocError>
+        requires kept { AreKept self.old.managers }
+        ensures { IfOk result (λ answer. (world : World) → Follows self.old world world → AreSteps self.new answer (clusters_timeout world)) }
+    {
+        if !self.targets.clusters_timeout() {
+            return Ok(Answer::Ignored);
+        }
+        let answer = self.moved(alloc, steps)?;
+        Ok(answer)
+    }
+
+    /// The fetch timeout of listeners; the same, and nothing is done also while the first clusters are awaited.
+    pub(crate) fn listeners_timeout<L: Ledger>(
+        &mut self,
+        alloc: Global,
+        steps: &mut Steps<L>,
+    ) -> Result<Answer, AllocError>
+        requires kept { AreKept self.old.managers }
+        ensures { IfOk result (λ answer. (world : World) → Follows self.old world world → AreSteps self.new answer (listeners_timeout world)) }
+    {
+        if !self.targets.listeners_timeout() {
+            return Ok(Answer::Ignored);
+        }
+        let answer = self.moved(alloc, steps)?;
+        Ok(answer)
+    }
+
+    /// The fetch timeout of a name of endpoints; where no generation waits for it within a limit, nothing is done.
+    pub(crate) fn endpoints_timeout<L: Ledger>(
+        &mut self,
+        alloc: Global,
+        name: &Name,
+        steps: &mut Steps<L>,
+    ) -> Result<Answer, AllocError>
+        requires kept { AreKept self.old.managers }
+        ensures { IfOk result (λ answer. (world : World) → Follows self.old world world → AreSteps self.new answer (name_timeout Eds name.now world)) }
+    {
+        if !self.managers.clusters.timeout_due(name) {
+            return Ok(Answer::Ignored);
+        }
+        self.managers
+            .arrive_endpoints(alloc, name, &Arrival::TimedOut, steps)?;
+        let answer = self.moved(alloc, steps)?;
+        Ok(answer)
+    }
+
+    /// The fetch timeout of a name of routes; where no generation waits for it within a limit, nothing is done.
+    pub(crate) fn routes_timeout<L: Ledger>(
+        &mut self,
+        alloc: Global,
+        name: &Name,
+        steps: &mut Steps<L>,
+    ) -> Result<Answer, AllocError>
+        requires kept { AreKept self.old.managers }
+        ensures { IfOk result (λ answer. (world : World) → Follows self.old world world → AreSteps self.new answer (name_timeout Rds name.now world)) }
+    {
+        if !self.managers.listeners.timeout_due(name) {
+            return Ok(Answer::Ignored);
+        }
+        self.managers
+            .arrive_routes(alloc, name, &Arrival::TimedOut, steps)?;
+        let answer = self.moved(alloc, steps)?;
+        Ok(answer)
+    }
+
+    /// The end of a time to live; where the resource's life isn't bounded, nothing is done.
+    pub(crate) fn ttl_expired<L: Ledger>(
+        &mut self,
+        alloc: Global,
+        kind: Kind,
+        name: &Name,
+        steps: &mut Steps<L>,
+    ) -> Result<Answer, AllocError>
+        requires kept { AreKept self.old.managers }
+        ensures { IfOk result (λ answer. (world : World) → Follows self.old world world → AreSteps self.new answer (ttl_expired kind name.now world)) }
+    {
+        if !self.subscription.is_bounded(kind, name.as_str()) {
+            return Ok(Answer::Ignored);
+        }
+        self.subscription.forget(kind, name.as_str());
+        self.managers.end(alloc, kind, name, steps)?;
+        let answer = self.moved(alloc, steps)?;
+        Ok(answer)
+    }
+}

@@ -1,0 +1,62 @@
+ghost use Rattle.std.specs.Prelude.{◌≡◌, IfOk};
+ghost use Rattle.ev_model.specs.Phase.{is_clusters};
+ghost use Rattle.ev_model.specs.World.{World};
+ghost use Rattle.ev_model.specs.Step.{connect, disconnect};
+ghost use Rattle.ev_managers.specs.Managers.{AreKept};
+ghost use Rattle.ev_state.specs.States.{Follows, Steps as AreSteps};
+
+use crate::state::State;
+use ev_generations::Steps;
+use ev_types::{Answer, Phase};
+use std::alloc::{AllocError, Global};
+use std::sync::ledger::Ledger;
+
+impl State {
+    /// A stream opens; where one is open already, nothing is done.
+    pub(crate) fn connect<L: Ledger>(
+        &mut self,
+        alloc: Global,
+        steps: &mut Steps<L>,
+    ) -> Result<Answer, AllocError>
+        requires kept { AreKept self.old.managers }
+        ensures { IfOk result (λ answer. (world : World) → Follows self.old world world → AreSteps self.new answer (connect world)) }
+    {
+        if self.subscription.is_open() {
+            return Ok(Answer::Ignored);
+        }
+        let asked = !self.awaits_clusters();
+        let requests = self
+            .subscription
+            .connect(alloc, &self.endpoints, &self.routes, asked)?;
+        self.subscription.set_stream(true);
+        let _ = self.tidy(alloc, steps)?;
+        Ok(Answer::Moved { requests })
+    }
+
+    // Whether the first clusters are awaited.
+    fn awaits_clusters(&self) -> bool
+        ensures { result ≡ is_clusters self.now.targets.phase }
+    {
+        match self.targets.phase() {
+            Phase::Clusters => true,
+            Phase::Listeners | Phase::Serving => false,
+        }
+    }
+
+    /// The stream is lost; where none is open, nothing is done.
+    pub(crate) fn disconnect<L: Ledger>(
+        &mut self,
+        alloc: Global,
+        steps: &mut Steps<L>,
+    ) -> Result<Answer, AllocError>
+        requires kept { AreKept self.old.managers }
+        ensures { IfOk result (λ answer. (world : World) → Follows self.old world world → AreSteps self.new answer (disconnect world)) }
+    {
+        if !self.subscription.is_open() {
+            return Ok(Answer::Ignored);
+        }
+        self.subscription.set_stream(false);
+        let _ = self.tidy(alloc, steps)?;
+        Ok(Answer::Done)
+    }
+}
