@@ -21,6 +21,8 @@ ghost use Rattle.ev_warming.specs.Frames.{PassesResponses};
 mod arrivals;
 mod health;
 mod reads;
+#[cfg(test)]
+mod tests;
 
 use ev_generations::Steps;
 use ev_types::{Arrival, Gen, GenRow, Kind, Name, Response, Verdict};

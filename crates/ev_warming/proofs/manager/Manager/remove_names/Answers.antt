@@ -46,3 +46,9 @@ returns-clause-stands g c =
     subst (λ (names : List (List ℕ)). StandsFor c.loop-name.self.state (record world { rows = with_statuses (status_left_by kind response names) world.rows }))
     (take_all c.loop-name.name-index c.as_slice-name-items.result.now c.loop-name-test.false ∙ c.as_slice-name-items.ensures.elements ∙ (λ i. (c.response.view_is i).removed))
     (c.loop-name.invariant.stands world stands)
+
+pub remove_name-requires-clause-listed : goal.remove_name-requires-clause-listed
+remove_name-requires-clause-listed g c = ?
+
+pub returns-then-is_empty-clause-stands : goal.returns-then-is_empty-clause-stands
+returns-then-is_empty-clause-stands g c = ?
