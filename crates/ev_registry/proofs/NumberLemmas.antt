@@ -1,6 +1,5 @@
 -- At most one number is drawn for each resource, nothing is published by an event that is built, and workers stay.
-use Rattle.std.proofs.Common.{◌≡◌, ℕ, ◌+◌, ◌≤◌, ◌<◌, Bool, true, false, cond, List, [], ◌∷◌, ◌++◌, length, Option, refl, sym, ap, subst, ◌∙◌, arith}
-use Rattle.std.specs.List.{fold, zip}
+use Rattle.std.proofs.Common.{◌≡◌, ℕ, ◌+◌, ◌≤◌, Bool, true, false, cond, List, [], ◌∷◌, ◌++◌, length, refl, sym, subst, ◌∙◌, arith}
 use Rattle.ev_types.specs.Items.{ItemParts, ResponseParts}
 use Rattle.ev_types.specs.Scripts.{items_in}
 use Rattle.ev_types.specs.declared.contents.Kind.{Kind}
@@ -9,12 +8,14 @@ use Rattle.ev_types.specs.declared.contents.Content.{Content}
 use Rattle.ev_types.specs.declared.contents.Body.{Body}
 use Rattle.ev_types.specs.declared.contents.Body.TheVariants.{Good, Bad, Beat}
 use Rattle.ev_types.specs.declared.events.Actor.{Actor}
+use Rattle.ev_types.specs.declared.events.Actor.TheVariants.{Stream, Health as health_checker, Timer, Main, Worker}
 use Rattle.ev_types.specs.declared.events.Entry.{Entry}
 use Rattle.ev_types.specs.declared.events.Event.{Event}
+use Rattle.ev_types.specs.declared.events.Event.TheVariants.{Connect, Disconnect, Response, Health, FetchTimeout, DrainTimeout, TtlExpired, Publish, Reap, Accept, Close, Settle}
 use Rattle.ev_types.specs.declared.events.Verdict.{Verdict}
 use Rattle.ev_types.specs.declared.events.Verdict.TheVariants.{New, Same, Kept, Unasked, Renewed, Refused}
 use Rattle.ev_types.specs.declared.journals.Format.{Format}
-use Rattle.ev_model.specs.World.{World, opening}
+use Rattle.ev_model.specs.World.{World}
 use Rattle.ev_model.specs.Live.{lives_of}
 use Rattle.ev_model.specs.Verdicts.{verdicts_for}
 use Rattle.ev_model.specs.Watching.{is_watched}
@@ -24,6 +25,9 @@ use Rattle.ev_model.specs.Runs.{world_after}
 use Rattle.ev_model.specs.Step.{step}
 use Rattle.ev_model.proofs.RunLemmas.{world_after-more, length-held}
 use Rattle.ev_model_laws.proofs.EventLemmas.{step-leads}
+use Rattle.ev_model_laws.proofs.SeenLemmas.{same_seen}
+use Rattle.ev_state.specs.Built.{is_built}
+use Rattle.ev_registry.specs.Registries.{HaveStepped}
 
 content_made : (change : Content → World → World) (body : Body) (world : World)
     → ((content : Content) → (change content world).made ≤ world.made + 1)
@@ -56,7 +60,7 @@ items_made kind (verdict ∷ verdicts) [] world = omega arith
 items_made kind (verdict ∷ verdicts) (item ∷ items) world =
     let one : (add_item kind verdict item world).made ≤ world.made + 1 = item_made kind verdict item world in
     let more : (add_items kind verdicts items (add_item kind verdict item world)).made ≤ (add_item kind verdict item world).made + length items =
-        items_made kind verdicts items (add_item kind verdict item world) in
+    items_made kind verdicts items (add_item kind verdict item world) in
     omega arith
 
 removals_made : (kind : Kind) (response : ResponseParts) (world : World) → (with_removals kind response world).made ≡ world.made
@@ -93,7 +97,7 @@ step_made format world actor event =
           let all : (add_items kind verdicts response.items left).made ≤ left.made + length response.items = items_made kind verdicts response.items left in
           let same : left.made ≡ world.made = removals_made kind response world in
           let first : (with_first kind (made_names verdicts response.items) (add_items kind verdicts response.items left)).made ≡ (add_items kind verdicts response.items left).made =
-              first_made kind (made_names verdicts response.items) (add_items kind verdicts response.items left) in
+          first_made kind (made_names verdicts response.items) (add_items kind verdicts response.items left) in
           subst (λ (e : Event). (with_first kind (made_names verdicts response.items) (add_items kind verdicts response.items left)).made ≤ world.made + items_in e) (sym is) (omega arith);
       resulted = λ cluster host healthy rows is. few world.made (items_in event);
       timed = λ timeout name is named. few world.made (items_in event);
@@ -121,3 +125,31 @@ pub held_after : (format : Format) (world : World) (entries : List Entry) → le
 held_after format world [] = refl
 held_after format world (entry ∷ entries) =
     held_after format (step format world entry.actor entry.event).0 entries ∙ length-held format world entry.actor entry.event
+
+-- an event that is built publishes nothing
+step_pictures : (format : Format) (world : World) (actor : Actor) (event : Event) → is_built event ≡ true
+    → (step format world actor event).0.pictures ≡ world.pictures
+step_pictures format world actor Connect built = (same_seen format world actor Connect refl).pictures
+step_pictures format world actor Disconnect built = (same_seen format world actor Disconnect refl).pictures
+step_pictures format world actor (Response response) built = (same_seen format world actor (Response response) refl).pictures
+step_pictures format world actor (Health cluster host healthy) built = (same_seen format world actor (Health cluster host healthy) refl).pictures
+step_pictures format world actor (FetchTimeout timeout) built = (same_seen format world actor (FetchTimeout timeout) refl).pictures
+step_pictures format world actor (DrainTimeout listener) built = (same_seen format world actor (DrainTimeout listener) refl).pictures
+step_pictures format world actor (TtlExpired kind name) built = (same_seen format world actor (TtlExpired kind name) refl).pictures
+step_pictures format world actor Publish built = cc
+step_pictures format world actor Reap built = cc
+step_pictures format world actor (Accept ask) built = cc
+step_pictures format world actor (Close connection) built = cc
+step_pictures format world (Worker worker) Settle built = refl
+step_pictures format world Stream Settle built = refl
+step_pictures format world health_checker Settle built = refl
+step_pictures format world Timer Settle built = refl
+step_pictures format world Main Settle built = refl
+
+-- so the pictures after a journal of such events are those before it
+pub pictures_after : (format : Format) (workers : ℕ) (world : World) (entries : List Entry) → HaveStepped format workers world entries
+    → (world_after format world entries).pictures ≡ world.pictures
+pictures_after format workers world [] had = refl
+pictures_after format workers world (entry ∷ entries) had =
+    pictures_after format workers (step format world entry.actor entry.event).0 entries had.1
+    ∙ step_pictures format world entry.actor entry.event had.0.built

@@ -1,13 +1,12 @@
 -- A registry's journal grows by steps, and what is known is made anew out of it.
-use Rattle.std.proofs.Common.{◌≡◌, ℕ, zero, suc, ◌+◌, ◌<◌, Bool, true, false, List, [], ◌∷◌, ◌++◌, Some, length, take, get_or, refl, sym, ap, ◌∙◌, subst, arith}
+use Rattle.std.proofs.Common.{◌≡◌, ℕ, zero, suc, ◌<◌, true, false, List, [], ◌∷◌, ◌++◌, Some, length, take, get_or, refl, sym, subst, arith}
 use Rattle.std.specs.List.{AllByRecursion}
-use Rattle.ev_types.specs.Events.{MayMake}
 use Rattle.ev_types.specs.declared.events.Entry.{Entry}
 use Rattle.ev_types.specs.declared.events.Event.{Event}
 use Rattle.ev_types.specs.declared.events.Event.TheVariants.{Connect, Disconnect, Response, Health, FetchTimeout, DrainTimeout, TtlExpired, Publish, Reap, Accept, Close, Settle}
 use Rattle.ev_types.specs.declared.journals.Format.{Format}
 use Rattle.ev_model.specs.World.{World, opening}
-use Rattle.ev_model.specs.Runs.{world_after, is_batched, IsRun, IsUnbroken}
+use Rattle.ev_model.specs.Runs.{world_after, is_batched, IsRun}
 use Rattle.ev_model.specs.Step.{step}
 use Rattle.ev_model.proofs.RunLemmas.{world_after-more, RunsFrom-more, IsUnbroken-more}
 use Rattle.ev_state.specs.Built.{is_built}

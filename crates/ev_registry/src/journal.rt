@@ -85,12 +85,7 @@ impl Registry {
     }
 
     // What an event does to what is known, in the world that the journal has led to.
-    fn step_on(
-        &self,
-        state: &mut State,
-        actor: Actor,
-        event: &Event,
-    ) -> Result<Answer, AllocError>
+    fn step_on(&self, state: &mut State, actor: Actor, event: &Event) -> Result<Answer, AllocError>
         requires at { IsAt state.old (world_now self.now) }
         requires allowed { MayMake self.now.workers actor event.now }
         requires built { IsTrue (is_built event.now) }

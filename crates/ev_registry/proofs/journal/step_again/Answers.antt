@@ -1,4 +1,4 @@
-use Rattle.std.proofs.Common.{ℕ, ◌+◌, List, [], ◌∷◌, ◌++◌, take, refl, sym, ap, subst, ◌∙◌}
+use Rattle.std.proofs.Common.{List, [], ◌∷◌, ◌++◌, take, refl, sym, ap, subst, ◌∙◌}
 use Rattle.std.proofs.lemmas.List.{take_more}
 use Rattle.ev_types.specs.declared.events.Entry.{Entry}
 use Rattle.ev_model.specs.World.{World, opening}
@@ -13,8 +13,8 @@ pub step_after-requires : goal.step_after-requires
 step_after-requires c =
     let before : World = world_after c.args.format (opening c.args.workers c.args.node.now) (take c.args.place c.args.journal.now) in
     let may : MayStep c.args.workers before c.index-journal-place.result =
-        subst (λ (e : Entry). MayStep c.args.workers before e) (sym c.index-journal-place.is)
-        (stepped_at c.args.format c.args.workers (opening c.args.workers c.args.node.now) c.args.journal.now c.args.place c.index-journal-place.result c.requires.stepped c.requires.within) in
+    subst (λ (e : Entry). MayStep c.args.workers before e) (sym c.index-journal-place.is)
+    (stepped_at c.args.format c.args.workers (opening c.args.workers c.args.node.now) c.args.journal.now c.args.place c.index-journal-place.result c.requires.stepped c.requires.within) in
     (refl, (c.requires.at, (may.allowed, (may.built, may.room))))
 
 pub returns : goal.returns
