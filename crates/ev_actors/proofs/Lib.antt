@@ -1,0 +1,4 @@
+pub mod SinceLemmas
+pub mod OrderLemmas
+pub mod FullLemmas
+pub mod PassLemmas
