@@ -103,13 +103,13 @@ sides_apart workers (Worker worker) (Worker other) is side = absurd side
 
 -- what waits
 
-waiting_joined : (actor : Actor) (waiting : List Operation) (o : Operation) → actor_same o.actor actor ≡ true
+pub waiting_joined : (actor : Actor) (waiting : List Operation) (o : Operation) → actor_same o.actor actor ≡ true
     → waiting_of actor (waiting ++ o ∷ []) ≡ waiting_of actor waiting ++ o ∷ []
 waiting_joined actor waiting o same =
     filter-append (λ (p : Operation). actor_same p.actor actor) waiting (o ∷ [])
     ∙ ap (λ b. waiting_of actor waiting ++ (if b then o ∷ [] else [])) same
 
-waiting_other : (actor : Actor) (waiting : List Operation) (o : Operation) → actor_same o.actor actor ≡ false
+pub waiting_other : (actor : Actor) (waiting : List Operation) (o : Operation) → actor_same o.actor actor ≡ false
     → waiting_of actor (waiting ++ o ∷ []) ≡ waiting_of actor waiting
 waiting_other actor waiting o same =
     filter-append (λ (p : Operation). actor_same p.actor actor) waiting (o ∷ [])
@@ -121,7 +121,7 @@ not_and true = refl
 not_and false = refl
 
 -- nothing of an actor waits where its operations are taken out
-waiting_gone : (one actor : Actor) (waiting : List Operation) → actor_same one actor ≡ true → waiting_of actor (waiting_without one waiting) ≡ []
+pub waiting_gone : (one actor : Actor) (waiting : List Operation) → actor_same one actor ≡ true → waiting_of actor (waiting_without one waiting) ≡ []
 waiting_gone one actor waiting same =
     filter_filter (λ (o : Operation). actor_same o.actor actor) (λ (o : Operation). not (actor_same o.actor one)) waiting
     ∙ filter_none (λ (o : Operation). not (actor_same o.actor one) && actor_same o.actor actor) waiting
@@ -142,7 +142,7 @@ others_by o one actor apart false is = none (actor_same o one)
     none false = refl
 
 -- and what waits of the others stays
-waiting_stays : (one actor : Actor) (waiting : List Operation) → actor_same one actor ≡ false
+pub waiting_stays : (one actor : Actor) (waiting : List Operation) → actor_same one actor ≡ false
     → waiting_of actor (waiting_without one waiting) ≡ waiting_of actor waiting
 waiting_stays one actor waiting apart =
     filter_filter (λ (o : Operation). actor_same o.actor actor) (λ (o : Operation). not (actor_same o.actor one)) waiting
@@ -158,7 +158,7 @@ record Keeps (front : List Line) (before waiting : List Operation) : Type 0 wher
 -- one more line: what goes out at it, and what waits behind it
 record Goes (script : ScriptParts) (front : List Line) (before waiting : List Operation) (line : Line) (rest : List Operation) : Type 0 where
   after : List Operation
-  out : stream before (line_operations script line ++ rest) ≡ put_out script waiting line ++ stream after rest
+  out : stream before (line_operations script line ++ rest) ≡ put_out script.auto waiting line ++ stream after rest
   keeps : Keeps (front ++ line ∷ []) after (waiting_behind waiting line)
 
 -- tests of an operation
@@ -379,10 +379,10 @@ module _ (script : ScriptParts) (front : List Line) (before waiting : List Opera
           ∙ ap (λ c. line_operation line ∷ (if c then step_behind line 1 Settle ∷ [] else [])) (full_is ∙ is)
 
       put_is : (b : Bool) → is_filled_by line waiting ≡ b
-          → put_out script waiting line ≡ (if b then waiting_of line.actor (joined_by line waiting) ++ step_behind line 1 Settle ∷ [] else [])
+          → put_out script.auto waiting line ≡ (if b then waiting_of line.actor (joined_by line waiting) ++ step_behind line 1 Settle ∷ [] else [])
       put_is b is =
           ap (λ c. if c then (if is_filled_by line waiting then waiting_of line.actor (joined_by line waiting) ++ step_behind line 1 Settle ∷ [] else [])
-          else (if is_settle line.event then waiting_of line.actor waiting ++ line_operation line ∷ [] else line_operation line ∷ automatic_behind script line)) batched
+          else (if is_settle line.event then waiting_of line.actor waiting ++ line_operation line ∷ [] else line_operation line ∷ automatic_behind script.auto line)) batched
           ∙ ap (λ c. if c then waiting_of line.actor (joined_by line waiting) ++ step_behind line 1 Settle ∷ [] else []) is
 
       behind_is : (b : Bool) → is_filled_by line waiting ≡ b
@@ -454,8 +454,8 @@ module _ (script : ScriptParts) (front : List Line) (before waiting : List Opera
           ∙ ap (λ os. os ++ stream (before ++ line_operation line ∷ []) rest)
           (sym
           (ap (λ c. if c then (if is_filled_by line waiting then waiting_of line.actor (joined_by line waiting) ++ step_behind line 1 Settle ∷ [] else [])
-          else (if is_settle line.event then waiting_of line.actor waiting ++ line_operation line ∷ [] else line_operation line ∷ automatic_behind script line)) alone
-          ∙ ap (λ c. if c then waiting_of line.actor waiting ++ line_operation line ∷ [] else line_operation line ∷ automatic_behind script line) ends));
+          else (if is_settle line.event then waiting_of line.actor waiting ++ line_operation line ∷ [] else line_operation line ∷ automatic_behind script.auto line)) alone
+          ∙ ap (λ c. if c then waiting_of line.actor waiting ++ line_operation line ∷ [] else line_operation line ∷ automatic_behind script.auto line) ends));
       keeps =
           subst (Keeps (front ++ line ∷ []) (before ++ line_operation line ∷ []))
           (sym
@@ -487,11 +487,11 @@ module _ (script : ScriptParts) (front : List Line) (before waiting : List Opera
         })
 
     put_alone : (b : Bool) → (script.auto && is_automatic line.actor) ≡ b
-        → put_out script waiting line ≡ line_operation line ∷ (if b then step_behind line 1 Publish ∷ step_behind line 2 Reap ∷ [] else [])
+        → put_out script.auto waiting line ≡ line_operation line ∷ (if b then step_behind line 1 Publish ∷ step_behind line 2 Reap ∷ [] else [])
     put_alone b is =
         ap (λ c. if c then (if is_filled_by line waiting then waiting_of line.actor (joined_by line waiting) ++ step_behind line 1 Settle ∷ [] else [])
-        else (if is_settle line.event then waiting_of line.actor waiting ++ line_operation line ∷ [] else line_operation line ∷ automatic_behind script line)) alone
-        ∙ ap (λ c. if c then waiting_of line.actor waiting ++ line_operation line ∷ [] else line_operation line ∷ automatic_behind script line) goes_on
+        else (if is_settle line.event then waiting_of line.actor waiting ++ line_operation line ∷ [] else line_operation line ∷ automatic_behind script.auto line)) alone
+        ∙ ap (λ c. if c then waiting_of line.actor waiting ++ line_operation line ∷ [] else line_operation line ∷ automatic_behind script.auto line) goes_on
         ∙ ap (λ c. line_operation line ∷ (if c then step_behind line 1 Publish ∷ step_behind line 2 Reap ∷ [] else [])) is
 
     first_out : (os : List Operation) → stream before (line_operation line ∷ os) ≡ line_operation line ∷ stream (before ++ line_operation line ∷ []) os
@@ -582,7 +582,7 @@ passes script front [] before waiting rise all may keeps =
 passes script front (line ∷ behind) before waiting rise all may keeps =
     let rest : List Operation = flat_map (line_operations script) behind ++ map (last_settle script) (range_with_len 0 script.workers) in
     let g : Goes script front before waiting line rest = goes script front before waiting line rest keeps may.0 behind rise all in
-    ap (λ os. put_out script waiting line ++ os)
+    ap (λ os. put_out script.auto waiting line ++ os)
     (passes script (front ++ line ∷ []) behind g.after (waiting_behind waiting line) rise (append_assoc front (line ∷ []) behind ∙ all) may.1 g.keeps)
     ∙ sym g.out
     ∙ ap (stream before)

@@ -27,16 +27,16 @@ abbrev pub is_filled_by : Line → List Operation → Bool
 is_filled_by line waiting = length (waiting_of line.actor (joined_by line waiting)) == batch_limit
 
 -- what follows a line that is no accept, close or settle: with `auto` a publication and a reaping
-abbrev pub automatic_behind : ScriptParts → Line → List Operation
-automatic_behind script line =
-    if script.auto && is_automatic line.actor then step_behind line 1 Publish ∷ step_behind line 2 Reap ∷ [] else []
+abbrev pub automatic_behind : Bool → Line → List Operation
+automatic_behind auto line =
+    if auto && is_automatic line.actor then step_behind line 1 Publish ∷ step_behind line 2 Reap ∷ [] else []
 
 -- What goes out at a line. At an accept or close nothing, but where the batch of its worker is full: then the batch, with a
 -- settle behind. At a settle its worker's batch, and the settle. At any other line the line, and what follows it.
-abbrev pub put_out : ScriptParts → List Operation → Line → List Operation
-put_out script waiting line =
+abbrev pub put_out : Bool → List Operation → Line → List Operation
+put_out auto waiting line =
     if is_batched line.event then (if is_filled_by line waiting then waiting_of line.actor (joined_by line waiting) ++ step_behind line 1 Settle ∷ [] else [])
-    else (if is_settle line.event then waiting_of line.actor waiting ++ line_operation line ∷ [] else line_operation line ∷ automatic_behind script line)
+    else (if is_settle line.event then waiting_of line.actor waiting ++ line_operation line ∷ [] else line_operation line ∷ automatic_behind auto line)
 
 -- what waits behind a line
 abbrev pub waiting_behind : List Operation → Line → List Operation
@@ -51,7 +51,7 @@ put_out_last script waiting worker = waiting_of (Worker worker) waiting ++ last_
 -- what goes out from these lines on
 abbrev pub one_pass : ScriptParts → List Operation → List Line → List Operation
 one_pass script waiting [] = flat_map (put_out_last script waiting) (range_with_len 0 script.workers)
-one_pass script waiting (line ∷ lines) = put_out script waiting line ++ one_pass script (waiting_behind waiting line) lines
+one_pass script waiting (line ∷ lines) = put_out script.auto waiting line ++ one_pass script (waiting_behind waiting line) lines
 
 -- one pass gives a script's operations in the order of a replay
 abbrev pub ReplaysInOnePass : Type 0
