@@ -1,9 +1,8 @@
 use ev_journal::render_journal;
 use ev_model_laws::{acknowledges_exactly, has_a_replay, has_one_replay, replay_holds_operations};
 use ev_registry::Registry;
-use ev_rules::{LiveRow, verdicts};
 use ev_types::{Actor, Arrival, Body, Event, Format, Gen, Response, Text, TryCopy, Verdict};
-use ev_verdicts::{Listed, verdicts as verdicts_by};
+use ev_verdicts::{Listed, LiveRow, verdicts};
 use ev_wire::read_response;
 use serde_json::Value;
 use std::alloc::Global;
@@ -70,14 +69,12 @@ fn judges_addresses_and_watched_names(rt: HostRuntime) -> Result<(), Fail> {
         let lives = live(alloc, &earlier, warming)?;
         let response = read(alloc, message)?;
         assert!(rt; response.kind.is_some());
-        let found = verdicts(alloc, lives.as_slice(), &[], &response)?;
-        assert_eq!(rt; found.as_slice(), [want].as_slice(), "{message}");
         let known = Listed {
             lives: lives.as_slice(),
             versions: &[],
         };
-        let looked_up = verdicts_by(alloc, &known, &response)?;
-        assert_eq!(rt; looked_up.as_slice(), [want].as_slice(), "{message}");
+        let found = verdicts(alloc, &known, &response)?;
+        assert_eq!(rt; found.as_slice(), [want].as_slice(), "{message}");
     }
     Ok(())
 }
@@ -87,8 +84,10 @@ const TWO_CLUSTERS: &str =
 
 // The lines of a journal: the first, that of a connect, and that of the response with two new clusters.
 const BEGUN: &str = "{\"format\":2,\"workers\":1}\n";
+
 const CONNECTED: &str =
     "{\"actor\":\"stream\",\"answer\":{\"requests\":[{\"node\":{\"id\":\"n\"},\"typeUrl\":\"type.googleapis.com/envoy.config.cluster.v3.Cluster\"}]},\"at\":2,\"op\":\"connect\",\"step\":0}\n";
+
 const MADE: &str =
     "{\"actor\":\"stream\",\"answer\":{\"requests\":[{\"responseNonce\":\"1\",\"typeUrl\":\"type.googleapis.com/envoy.config.cluster.v3.Cluster\"},{\"resourceNamesSubscribe\":[\"d\",\"s\"],\"typeUrl\":\"type.googleapis.com/envoy.config.endpoint.v3.ClusterLoadAssignment\"}],\"verdicts\":[\"new\",\"new\"]},\"at\":3,\"op\":\"response\",\"step\":0}\n";
 
