@@ -1,2 +1,3 @@
 pub mod HoldLemmas
 pub mod CloseLemmas
+pub mod LineLemmas

@@ -10,18 +10,23 @@ ghost use Rattle.ev_model.specs.Signals.{drain_timeout};
 ghost use Rattle.ev_model.specs.Connections.{settle};
 ghost use Rattle.ev_pictures.specs.Pictures.{published_answer};
 ghost use Rattle.ev_drain.specs.Retired.{has_row};
-ghost use Rattle.ev_worker.specs.Workers.{IsToldBy};
+ghost use Rattle.ev_types.specs.declared.journals.Format.{Format};
+ghost use Rattle.ev_model.specs.Runs.{world_after};
+ghost use Rattle.ev_model.specs.declared.pictures.Picture.{Picture};
+ghost use Rattle.ev_worker.specs.Batches.{entries_of};
+ghost use Rattle.ev_worker.specs.Workers.{AreAnswered, IsToldBy};
 ghost use Rattle.ev_retirement.specs.Holders.{StandsFor, timed_out, timeout_answer, with_expired, with_retired, without_generation};
 
 use crate::closing::{close_all, numbers_closing};
 use crate::in_use::InUse;
+use crate::lines::take_lines;
 use ev_drain::Drain;
 use ev_ledger::Ledger;
 use ev_model::Shown;
 use ev_pictures::Pictures;
 use ev_snapshot::Snapshot;
 use ev_types::{Format, Gen, Kind, Name, Seq};
-use ev_worker::Settled;
+use ev_worker::{Batch, Settled};
 use std::alloc::{AllocError, Global};
 use std::marker::Model;
 use std::sync::Arc;
@@ -133,6 +138,14 @@ impl Holders {
             version: snapshot.version(),
             snapshot,
         })
+    }
+
+    /// Takes over what a worker did since it settled: its lines open and close connections, one after another, and the world is
+    /// then the one after these entries. Out of memory, some of the first lines are taken: whoever holds this makes it anew.
+    pub fn take_batch(&mut self, batch: &Batch) -> Result<(), AllocError>
+        ensures world { OnOk result ((format : Format) (world : World) (picture : Picture) → StandsFor self.old world → AreAnswered format batch.now.worker world batch.now.lines → StandsFor self.new (world_after format world (entries_of batch.now.worker picture batch.now.lines))) }
+    {
+        take_lines(&mut self.ledger, batch.worker(), batch.lines())
     }
 
     /// The last snapshot, for a worker that begins. It takes no memory; it is refused where 2^63 - 1 owners hold it already.

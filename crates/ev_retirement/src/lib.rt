@@ -4,5 +4,7 @@
 mod closing;
 mod holders;
 mod in_use;
+mod lines;
 
 pub use holders::Holders;
+pub use lines::answer_of;
