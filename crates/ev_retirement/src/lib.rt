@@ -8,3 +8,6 @@ mod lines;
 
 pub use holders::Holders;
 pub use lines::answer_of;
+
+#[cfg(test)]
+mod tests;
