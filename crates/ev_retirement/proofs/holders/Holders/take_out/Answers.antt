@@ -1,5 +1,5 @@
-use Rattle.std.proofs.Common.{◌≡◌, ◌<◌, ℕ, List, length, take, get_or, sym, ap, ◌∙◌, subst, arith}
-use Rattle.std.proofs.lemmas.List.{take_more}
+use Rattle.std.proofs.Common.{◌≡◌, ◌<◌, ◌≤◌, ℕ, ◌++◌, ◌∷◌, [], List, length, take, sym, ap, ◌∙◌, subst, arith}
+use Rattle.std.proofs.lemmas.List.{take_all, take_more}
 use Rattle.ev_model.specs.World.{World}
 use Rattle.ev_retirement.specs.Holders.{StandsFor, without_generations}
 use Rattle.ev_retirement.proofs.ReapLemmas.{none_taken, one_taken}
@@ -12,7 +12,17 @@ pub loop-number-preserved : goal.loop-number-preserved
 loop-number-preserved c world stands =
     let numbers : List ℕ = c.args.numbers.now in
     let at : ℕ = c.loop-number.number-index in
+    let number : ℕ = c.number-item.result in
     let below : at < length numbers = omega arith in
     subst (StandsFor c.remove.new.self)
-    (one_taken (get_or numbers at 0) (take at numbers) world ∙ ap (λ (ns : List ℕ). without_generations ns world) (sym (take_more numbers at 0 below)))
+    (one_taken number (take at numbers) world
+    ∙ ap (λ (n : ℕ). without_generations (take at numbers ++ n ∷ []) world) c.number-item.is
+    ∙ ap (λ (ns : List ℕ). without_generations ns world) (sym (take_more numbers at number below)))
     (c.remove.ensures.world (without_generations (take at numbers) world) (c.loop-number.invariant world stands))
+
+pub returns : goal.returns
+returns c world stands =
+    let numbers : List ℕ = c.args.numbers.now in
+    let past : length numbers ≤ c.loop-number.number-index = omega arith in
+    subst (λ (ns : List ℕ). StandsFor c.loop-number.self (without_generations ns world)) (take_all c.loop-number.number-index numbers past)
+    (c.loop-number.invariant world stands)
