@@ -1,5 +1,5 @@
 -- A replay begins, goes on by a line, and ends with the last settles.
-use Rattle.std.proofs.Common.{◌≡◌, ◌⊎◌, inl, inr, drop, length-append, add-one, ℕ, zero, suc, ◌≤◌, ◌<◌, ◌+◌, List, [], ◌∷◌, ◌++◌, map, length, get_or, take, replicate, refl, sym, ap, ◌∙◌, subst, append_assoc, append-nil, arith}
+use Rattle.std.proofs.Common.{◌≡◌, ◌⊎◌, inl, inr, drop, length-append, add-one, ℕ, zero, suc, ◌≤◌, ◌<◌, ◌+◌, List, [], ◌∷◌, ◌++◌, map, length, get_or, take, replicate, refl, sym, ap, ◌∙◌, subst, append_assoc, arith}
 use Rattle.std.specs.Prelude.{slice_index_or, slice_set}
 use Rattle.std.proofs.Math.Seq.{drop-cons, get_or-append_seam}
 use Rattle.std.proofs.lemmas.Bool.{cases_lt}
@@ -10,19 +10,18 @@ use Rattle.std.proofs.lemmas.List.{get_or_append_left, flat_map_more, get_or-set
 use Rattle.std.specs.List.{flat_map, range_with_len}
 use Rattle.ev_types.specs.Scripts.{ScriptParts, IsScript}
 use Rattle.ev_types.specs.declared.events.Actor.TheVariants.{Worker}
-use Rattle.ev_types.specs.declared.events.Entry.{Entry}
 use Rattle.ev_types.specs.declared.events.Event.TheVariants.{Settle}
 use Rattle.ev_types.specs.declared.events.Line.{Line}
 use Rattle.ev_types.specs.declared.journals.Format.TheVariants.{Two}
-use Rattle.ev_model.specs.World.{World, opening}
-use Rattle.ev_model.specs.Dead.{last_picture, picture_at, picture_held}
+use Rattle.ev_model.specs.World.{opening}
+use Rattle.ev_model.specs.Dead.{last_picture, picture_at}
 use Rattle.ev_model.specs.Runs.{IsRun}
-use Rattle.ev_model.specs.Operations.{Operation, operation_of, last_settle}
+use Rattle.ev_model.specs.Operations.{Operation}
 use Rattle.ev_worker.specs.Workers.{WorkerParts}
 use Rattle.ev_actors.specs.Journals.{HasReplayed, JournalParts, WorksIn, nothing_done, world_now}
 use Rattle.ev_actors.specs.Passes.{one_pass, put_out, put_out_last, waiting_behind, waiting_of}
 use Rattle.ev_actors.specs.Taken.{GoesOn, HasBegun, HasSettled, HaveBegun, HaveSettled, IsSettling, IsTaken, IsUnderWay, last_of, operations_in}
-use Rattle.ev_actors.specs.Working.{AreAtWork, HaveWaiting, IsAtWork, operations_made}
+use Rattle.ev_actors.specs.Working.{AreAtWork, operations_made}
 use Rattle.ev_actors.proofs.PassLemmas.{in_one_pass}
 use Rattle.ev_actors.proofs.SettleLemmas.{goes_on_by, goes_on_twice, others_work, settled_operations}
 

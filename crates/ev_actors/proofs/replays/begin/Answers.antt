@@ -1,4 +1,4 @@
-use Rattle.std.proofs.Common.{◌≡◌, ◌+◌, sym, subst, ◌∙◌}
+use Rattle.std.proofs.Common.{◌+◌, sym, subst, ◌∙◌}
 use Rattle.ev_model.specs.Dead.{last_picture}
 use Rattle.ev_actors.specs.Journals.{world_now}
 use Rattle.ev_actors.specs.Taken.{HaveBegun}
