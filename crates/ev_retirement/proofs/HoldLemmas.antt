@@ -7,12 +7,12 @@ use Rattle.std.proofs.lemmas.Bool.Decides.{nat_tests}
 use Rattle.ev_types.specs.Statuses.{is_live}
 use Rattle.ev_types.specs.declared.contents.Kind.TheVariants.{Lds}
 use Rattle.ev_types.specs.declared.events.Answer.{Answer}
-use Rattle.ev_types.specs.declared.events.Answer.TheVariants.{Unchanged, Version, Ignored, Done}
+use Rattle.ev_types.specs.declared.events.Answer.TheVariants.{Unchanged, Version}
 use Rattle.ev_types.specs.declared.rows.RowStatus.{RowStatus}
 use Rattle.ev_types.specs.declared.rows.RowStatus.TheVariants.{Warming, Active, Draining, Dropped}
 use Rattle.ev_types.specs.declared.rows.GenRow.{GenRow}
-use Rattle.ev_model.specs.World.{World, OpenMember, last_version}
-use Rattle.ev_model.specs.Sorted.{put_by, sorted_by}
+use Rattle.ev_model.specs.World.{World, last_version}
+use Rattle.ev_model.specs.Sorted.{put_by}
 use Rattle.ev_model.specs.Rows.{is_row_of}
 use Rattle.ev_model.specs.Picture.{has_number, shown_of, shown_same}
 use Rattle.ev_model.specs.Dead.{shown_at}
@@ -20,9 +20,8 @@ use Rattle.ev_model.specs.Publishing.{publish}
 use Rattle.ev_model.specs.Signals.{drain_timeout, expire, is_draining, is_unexpired, unexpired}
 use Rattle.ev_model.specs.Tidy.{tidy}
 use Rattle.ev_pictures.specs.Pictures.{PicturesParts, StandsFor as HasPictures}
-use Rattle.ev_ledger.specs.Members.{StandsFor as HasOpened}
 use Rattle.ev_ledger.proofs.OrderLemmas.{any_sorted, any_put}
-use Rattle.ev_drain.specs.Retired.{Retired, comes_before, has_row, is_numbered, is_retired, kind_of_row, marked, newly_retired, retired_in, retired_of, retired_status, StandsFor as HasRetired}
+use Rattle.ev_drain.specs.Retired.{Retired, comes_before, has_row, is_numbered, is_retired, kind_of_row, marked, retired_in, retired_status, StandsFor as HasRetired}
 use Rattle.ev_retirement.specs.Holders.{HoldersParts, StandsFor, timed_out, timeout_answer, with_expired, with_retired, without_generation}
 
 -- a publication leaves all but the pictures

@@ -1,11 +1,10 @@
 -- A worker's lines, and the world.
-use Rattle.std.proofs.Common.{◌≡◌, ℕ, Bool, true, false, cond, List, [], ◌∷◌, ◌++◌, Option, None, Some, option_map, refl, sym, ap, ◌∙◌, subst}
+use Rattle.std.proofs.Common.{◌≡◌, ℕ, Bool, true, false, List, [], ◌∷◌, ◌++◌, Option, None, Some, refl, sym, ap, ◌∙◌}
 use Rattle.std.specs.Option.{option_and_then}
 use Rattle.std.proofs.lemmas.List.{append-nil}
 use Rattle.ev_types.specs.declared.events.Actor.TheVariants.{Worker as by_worker}
 use Rattle.ev_types.specs.declared.events.Event.{Event}
 use Rattle.ev_types.specs.declared.events.Event.TheVariants.{Connect, Disconnect, Response, Health, FetchTimeout, DrainTimeout, TtlExpired, Publish, Reap, Accept, Close, Settle}
-use Rattle.ev_types.specs.declared.hosts.Host.{Host}
 use Rattle.ev_types.specs.declared.events.Ask.{Ask}
 use Rattle.ev_types.specs.declared.journals.Format.{Format}
 use Rattle.ev_model.specs.World.{World, OpenMember}
@@ -13,17 +12,16 @@ use Rattle.ev_model.specs.Choice.{choice_of}
 use Rattle.ev_model.specs.Dead.{picture_held}
 use Rattle.ev_model.specs.Step.{step}
 use Rattle.ev_model.specs.Runs.{world_after}
-use Rattle.ev_model.specs.Connections.{accepted, closed, cluster_numbered, host_at, host_in, is_open, members_of}
+use Rattle.ev_model.specs.Connections.{accepted, cluster_numbered, host_at, host_in, is_open, members_of}
 use Rattle.ev_model.specs.declared.pictures.Picture.{Picture}
 use Rattle.ev_model.specs.declared.pictures.ServedCluster.{ServedCluster}
 use Rattle.ev_model.specs.declared.pictures.Choice.{Choice}
 use Rattle.ev_model.specs.declared.pictures.Choice.TheVariants.{NoListener, NoRoute, Local, Redirect, NoCluster, NoEndpoint, Served}
 use Rattle.ev_snapshot.specs.Chosen.{host_of, host_in as place_in}
 use Rattle.ev_ledger.specs.Members.{in_order, StandsFor as HasOpened}
-use Rattle.ev_worker.specs.Batches.{accepted_as, closed_as, entries_of}
+use Rattle.ev_worker.specs.Batches.{accepted_as, entries_of}
 use Rattle.ev_worker.specs.Members.{chosen_on, on_of}
 use Rattle.ev_worker.specs.Workers.{AreAnswered, IsAnswer}
-use Rattle.ev_worker.specs.declared.lines.Accepted.{Accepted}
 use Rattle.ev_worker.specs.declared.lines.Outcome.{Outcome}
 use Rattle.ev_worker.specs.declared.lines.BatchLine.{BatchLine}
 use Rattle.ev_retirement.specs.Holders.{HoldersParts, StandsFor}

@@ -1,4 +1,4 @@
-use Rattle.std.proofs.Common.{◌≡◌, List, ℕ, ap, ◌∙◌, subst}
+use Rattle.std.proofs.Common.{List, ℕ, ap, ◌∙◌, subst}
 use Rattle.ev_retirement.specs.Holders.{StandsFor, without_generations}
 use Rattle.ev_retirement.proofs.ReapLemmas.{all_taken}
 use Rattle.ev_retirement.proofs.holders.Holders.remove_all.Goals as goal

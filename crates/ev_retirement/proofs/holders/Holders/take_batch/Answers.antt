@@ -1,6 +1,5 @@
-use Rattle.std.proofs.Common.{◌≡◌, List, sym, ap, ◌∙◌, subst}
+use Rattle.std.proofs.Common.{sym, ap, ◌∙◌, subst}
 use Rattle.std.proofs.lemmas.Result.{IfOk-weaker}
-use Rattle.ev_model.specs.World.{World, OpenMember}
 use Rattle.ev_ledger.specs.Members.{in_order}
 use Rattle.ev_retirement.specs.Holders.{HoldersParts, StandsFor}
 use Rattle.ev_retirement.specs.Lines.{lines_leave}

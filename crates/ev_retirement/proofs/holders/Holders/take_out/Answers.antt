@@ -1,6 +1,5 @@
-use Rattle.std.proofs.Common.{◌≡◌, ◌<◌, ◌≤◌, ℕ, ◌++◌, ◌∷◌, [], List, length, take, sym, ap, ◌∙◌, subst, arith}
+use Rattle.std.proofs.Common.{◌<◌, ◌≤◌, ℕ, ◌++◌, ◌∷◌, [], List, length, take, sym, ap, ◌∙◌, subst, arith}
 use Rattle.std.proofs.lemmas.List.{take_all, take_more}
-use Rattle.ev_model.specs.World.{World}
 use Rattle.ev_retirement.specs.Holders.{StandsFor, without_generations}
 use Rattle.ev_retirement.proofs.ReapLemmas.{none_taken, one_taken}
 use Rattle.ev_retirement.proofs.holders.Holders.take_out.Goals as goal
