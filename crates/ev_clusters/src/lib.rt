@@ -20,6 +20,7 @@ ghost use Rattle.ev_warming.specs.Frames.{PassesResponses};
 
 mod arrivals;
 mod health;
+mod moved;
 mod reads;
 
 use ev_generations::Steps;
@@ -147,6 +148,7 @@ impl Clusters {
         ensures kept { OnOk result (AreKept self.new) }
         ensures drains { IfOk result (λ ended. option_to_list ended.active ≡ numbers_where (serves name.now) self.old.state.table.rows) }
         ensures dropped { IfOk result (λ ended. option_to_list ended.warming ≡ numbers_where (warms name.now) self.old.state.table.rows) }
+        ensures rows { OnOk result (self.new.state.table.rows ≡ rows_ended Cds name.now self.old.state.table.rows) }
         ensures bounded { OnOk result (steps.new ≤ steps.old + 2) }
         // Whatever world they stood for, they stand for that world where the name has come to its end.
         ensures stands { OnOk result ((world : World) → StandsFor self.old.state world → StandsFor self.new.state (record world { rows = rows_ended Cds name.now world.rows })) }

@@ -18,6 +18,7 @@ ghost use Rattle.ev_warming.specs.Changes.{began_to_drain, has_retired, is_over}
 mod addresses;
 mod arrivals;
 mod holders;
+mod moved;
 mod reads;
 #[cfg(test)]
 mod tests;
@@ -157,6 +158,7 @@ impl Listeners {
         ensures kept { OnOk result (AreKept self.new) }
         ensures drains { IfOk result (λ ended. option_to_list ended.active ≡ numbers_where (serves name.now) self.old.state.table.rows) }
         ensures dropped { IfOk result (λ ended. option_to_list ended.warming ≡ numbers_where (warms name.now) self.old.state.table.rows) }
+        ensures rows { OnOk result (self.new.state.table.rows ≡ rows_ended Lds name.now self.old.state.table.rows) }
         ensures bounded { OnOk result (steps.new ≤ steps.old + 2) }
         // Whatever world they stood for, they stand for that world where the name has come to its end.
         ensures stands { OnOk result ((world : World) → StandsFor self.old world → StandsFor self.new (record world { rows = rows_ended Lds name.now world.rows })) }

@@ -27,3 +27,4 @@ pub mod NewestLemmas
 pub mod FrameLemmas
 pub mod JudgedLemmas
 pub mod QuietLemmas
+pub mod MovedLemmas

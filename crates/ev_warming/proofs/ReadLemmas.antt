@@ -188,7 +188,7 @@ lives-world kind (row ∷ rows) = by (kind_same row.kind kind) refl (is_live row
     by false e false f rest = rest
 
 -- the names that live rows of a kind need
-needs-world : (kind : Kind) → is_by_name kind ≡ false → (rows : List GenRow) → AllByRecursion (λ (r : GenRow). content_kind r.content ≡ r.kind) rows
+pub needs-world : (kind : Kind) → is_by_name kind ≡ false → (rows : List GenRow) → AllByRecursion (λ (r : GenRow). content_kind r.content ≡ r.kind) rows
     → names_needed (rows_of_kind kind rows) ≡ flat_map (λ (live : Live). name_awaited (needs_of kind) (dependency_of live.content)) (map live_of (live_rows rows))
 needs-world kind rowed [] all = refl
 needs-world kind rowed (row ∷ rows) all = by (kind_same row.kind kind) refl (is_live row.status) refl (needs-world kind rowed rows all.1)

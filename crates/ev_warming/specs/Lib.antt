@@ -8,6 +8,7 @@ pub mod Promotion
 pub mod Worlds
 pub mod Forgetting
 pub mod Changes
+pub mod Moved
 pub mod Managers
 pub mod Arrivals
 pub mod Health

@@ -11,6 +11,7 @@ mod health;
 mod hosts;
 mod keys;
 mod manager;
+mod moved;
 mod names;
 mod newest;
 mod reads;

@@ -45,7 +45,7 @@ fn push_need(alloc: Global, row: &GenRow, names: &mut Vec<Name>) -> Result<(), A
 }
 
 // Sorts names, and leaves each once.
-fn sort(names: &mut Vec<Name>)
+pub(crate) fn sort(names: &mut Vec<Name>)
     ensures { names.new.items ≡ sorted_names names.old.items }
 {
     names.sort_unstable_by(|one, other| one.as_str().cmp(other.as_str()));
