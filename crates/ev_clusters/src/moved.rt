@@ -8,8 +8,8 @@ use std::alloc::{AllocError, Global};
 impl Clusters {
     ghost use Rattle.ev_clusters.specs.Clusters.{AreKept};
 
-    /// Of the names of endpoints that these clusters depended on, one of the first numbers each, those that no live one of the first does,
-    /// in the order of their bytes, each once. It looks at these alone.
+    /// The names of endpoints that these retired clusters depended on and no live cluster up to the number `made` does, in the order of
+    /// their bytes, each once; of clusters behind that number nothing is told. It looks at these clusters alone.
     pub fn names_lost(
         &self,
         alloc: Global,
@@ -22,8 +22,8 @@ impl Clusters {
         self.manager.state.names_lost(alloc, made, retired)
     }
 
-    /// Of the names of endpoints that live clusters behind the first numbers depend on, those that no live one of the first does, in the
-    /// order of their bytes, each once. It looks at those behind the first alone.
+    /// The names of endpoints that live clusters behind the number `made` depend on and no live one up to it does, in the order of
+    /// their bytes, each once. It looks at the clusters behind that number alone.
     pub fn names_gained(&self, alloc: Global, made: u32) -> Result<Seq<Name>, AllocError>
         requires kept { AreKept self.now }
         ensures { IfOk result (λ names. names ≡ names_gained made self.now.state.table.made self.now.state.table.rows) }

@@ -8,8 +8,8 @@ use std::alloc::{AllocError, Global};
 impl Listeners {
     ghost use Rattle.ev_listeners.specs.Listeners.{AreKept};
 
-    /// Of the names of routes that these listeners depended on, one of the first numbers each, those that no live one of the first does,
-    /// in the order of their bytes, each once. It looks at these alone.
+    /// The names of routes that these retired listeners depended on and no live listener up to the number `made` does, in the order of
+    /// their bytes, each once; of listeners behind that number nothing is told. It looks at these listeners alone.
     pub fn names_lost(
         &self,
         alloc: Global,
@@ -22,8 +22,8 @@ impl Listeners {
         self.manager.state.names_lost(alloc, made, retired)
     }
 
-    /// Of the names of routes that live listeners behind the first numbers depend on, those that no live one of the first does, in the
-    /// order of their bytes, each once. It looks at those behind the first alone.
+    /// The names of routes that live listeners behind the number `made` depend on and no live one up to it does, in the order of
+    /// their bytes, each once. It looks at the listeners behind that number alone.
     pub fn names_gained(&self, alloc: Global, made: u32) -> Result<Seq<Name>, AllocError>
         requires kept { AreKept self.now }
         ensures { IfOk result (λ names. names ≡ names_gained made self.now.state.table.made self.now.state.table.rows) }

@@ -1,9 +1,10 @@
 -- Names that generations began or ceased to depend on: what a walk over numbers gathers, and where a name is held.
-use Rattle.std.proofs.Common.{◌≡◌, ◌∙◌, ℕ, suc, ◌+◌, ◌-◌, ◌≤◌, Bool, true, false, cond, ◌&&◌, ◌||◌, List, [], ◌∷◌, ◌++◌, Option, filter, unwrap_or, refl, sym, ap, arith}
+use Rattle.std.proofs.Common.{◌≡◌, ◌∙◌, ℕ, suc, ◌+◌, ◌-◌, ◌<◌, ◌≤◌, Bool, true, false, cond, ◌&&◌, ◌||◌, List, [], ◌∷◌, ◌++◌, Option, filter, unwrap_or, refl, sym, ap, arith}
 use Rattle.std.specs.Prelude.{nat_le}
 use Rattle.std.specs.List.{list_any, flat_map}
 use Rattle.std.specs.Map.{lookup}
 use Rattle.std.specs.Str.{bytes_eq}
+use Rattle.std.proofs.lemmas.Bool.{leb-true, leb-false}
 use Rattle.std.proofs.lemmas.Grind.{flat_map-append}
 use Rattle.ev_types.specs.declared.rows.GenRow.{GenRow}
 use Rattle.ev_generations.specs.Tables.{numbers_of}
@@ -38,8 +39,18 @@ behind-more f made number later =
 pub behind-all : {X : Type 0} (f : ℕ → List X) (made drawn number : ℕ) → drawn ≤ number → (made ≤ drawn → number ≤ drawn) → (drawn ≤ made → number ≡ made)
     → flat_map f (numbers_behind made (number - made)) ≡ flat_map f (numbers_behind made (drawn - made))
 behind-all f made drawn number late early none =
-    let all : number - made ≡ drawn - made = omega arith in
+    let all : number - made ≡ drawn - made = by (nat_le drawn made) refl in
     λ i. flat_map f (numbers_behind made (all i))
+  where
+    by : (b : Bool) → nat_le drawn made ≡ b → number - made ≡ drawn - made
+    by true is =
+        let low : drawn ≤ made = leb-true drawn made is in
+        let same : number ≡ made = none low in
+        omega arith
+    by false isnt =
+        let high : made < drawn = leb-false drawn made isnt in
+        let last : number ≤ drawn = early (omega arith) in
+        omega arith
 
 -- a name is held where the number of a generation that depends on it is one of the first
 held-by : (made : ℕ) (name : List ℕ) (rows : List GenRow) → list_any (λ n. nat_le n made) (numbers_where (depends_on name) rows) ≡ is_held made rows name

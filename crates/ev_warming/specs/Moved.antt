@@ -10,7 +10,7 @@ use Rattle.ev_generations.specs.Tables.{row_in}
 use Rattle.ev_warming.specs.Ready.{name_needed}
 use Rattle.ev_warming.specs.Indexes.{depends_on}
 
--- a live row of one of the first numbers, up to this one, depends on the name
+-- a live row up to this number depends on the name
 abbrev pub is_held : ℕ → List GenRow → List ℕ → Bool
 is_held made rows name = list_any (λ (row : GenRow). nat_le row.number made && depends_on name row) rows
 
@@ -28,11 +28,11 @@ abbrev pub live_need_found : ℕ → List GenRow → Option GenRow → List (Lis
 live_need_found made rows None = []
 live_need_found made rows (Some row) = if is_live row.status then free_need made rows row.content else []
 
--- what the generation of a number leaves, where it is one of the first
+-- what the row of a number leaves, where it is up to `made`
 abbrev pub need_lost : ℕ → List GenRow → ℕ → List (List ℕ)
 need_lost made rows number = if nat_le number made then need_found made rows (row_in number rows) else []
 
--- what the generation of a number brings
+-- what the row of a number brings, where it is live
 abbrev pub need_gained : ℕ → List GenRow → ℕ → List (List ℕ)
 need_gained made rows number = live_need_found made rows (row_in number rows)
 
@@ -41,10 +41,11 @@ abbrev pub numbers_behind : ℕ → ℕ → List ℕ
 numbers_behind made zero = []
 numbers_behind made (suc count) = numbers_behind made count ++ (made + suc count) ∷ []
 
--- of the first rows those of these numbers depended on the names, and no live one does; in the order of their bytes, each once
+-- the names that the rows of these numbers, up to `made`, depend on or did so before they retired, and that aren't held; in the order of
+-- their bytes, each once
 abbrev pub names_lost : ℕ → List GenRow → List ℕ → List (List ℕ)
 names_lost made rows numbers = sorted_names (flat_map (need_lost made rows) numbers)
 
--- live rows of the numbers from the first to the second depend on the names, and no live one of the first rows does
+-- the names that live rows behind `made`, up to `drawn`, depend on, and that aren't held; in the order of their bytes, each once
 abbrev pub names_gained : ℕ → ℕ → List GenRow → List (List ℕ)
 names_gained made drawn rows = sorted_names (flat_map (need_gained made rows) (numbers_behind made (drawn - made)))

@@ -9,8 +9,8 @@ use ev_types::{Content, Gen, Name, Seq, TryCopy};
 use std::alloc::{AllocError, Global};
 
 impl State {
-    /// Of the names that these generations depended on, one of the first numbers each, those that no live one of the first does, in
-    /// the order of their bytes, each once. It looks at these generations alone, and where a name is held at the first that holds it.
+    /// The names that these retired generations depended on and no live generation up to the number `made` does, in the order of
+    /// their bytes, each once; of generations behind that number nothing is told. It looks at these generations alone.
     pub fn names_lost(
         &self,
         alloc: Global,
@@ -28,9 +28,8 @@ impl State {
         Ok(Seq::from_vec(names))
     }
 
-    /// Of the names that live generations behind the first numbers depend on, those that no live one of the first does, in the order
-    /// of their bytes, each once. It looks at the generations behind the first alone, and where a name is held at the first that
-    /// holds it.
+    /// The names that live generations behind the number `made` depend on and no live one up to it does, in the order of their bytes,
+    /// each once. It looks at the generations behind that number alone.
     pub fn names_gained(&self, alloc: Global, made: u32) -> Result<Seq<Name>, AllocError>
         requires indexed { IsIndexed self.now }
         ensures { IfOk result (λ names. names ≡ names_gained made self.now.table.made self.now.table.rows) }
@@ -43,7 +42,7 @@ impl State {
         Ok(Seq::from_vec(names))
     }
 
-    // Puts to the others what a generation leaves, where it is one of the first.
+    // Puts to the others the name that a generation up to the number `made` leaves.
     fn push_lost(
         &self,
         alloc: Global,
@@ -63,7 +62,7 @@ impl State {
         }
     }
 
-    // Puts to the others what a generation brings.
+    // Puts to the others the name that a live generation brings.
     fn push_gained(
         &self,
         alloc: Global,
@@ -82,7 +81,7 @@ impl State {
         }
     }
 
-    // Puts to the others the name that a generation of this content depends on, where no live one of the first does.
+    // Puts to the others the name that a generation of this content depends on, where no live one up to the number `made` does.
     fn push_free(
         &self,
         alloc: Global,
@@ -102,7 +101,8 @@ impl State {
         Ok(())
     }
 
-    // Whether a live generation of the first depends on a name.
+    // Whether a live generation up to the number `made` depends on a name. The generations of a name stand in the order in which they
+    // were made, so the first of them decides.
     fn is_held(&self, made: u32, name: &Name) -> bool
         requires indexed { IsIndexed self.now }
         ensures { result ≡ is_held made self.now.table.rows name.now }
@@ -114,7 +114,7 @@ impl State {
     }
 }
 
-// Whether one of these numbers is one of the first.
+// Whether one of these numbers is at most this one.
 fn has_first(made: u32, numbers: &[Gen]) -> bool
     ensures { result ≡ list_any (λ n. nat_le n made) numbers.now }
 {
