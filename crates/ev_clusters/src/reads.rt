@@ -16,8 +16,8 @@ ghost use Rattle.ev_warming.specs.Worlds.{StandsFor};
 
 use crate::Clusters;
 use ev_model::ServedCluster;
-use ev_rules::LiveRow;
 use ev_types::{Name, Seq, TryCopy};
+use ev_verdicts::LiveRow;
 use std::alloc::{AllocError, Global};
 
 impl Clusters {

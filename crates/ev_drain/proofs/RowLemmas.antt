@@ -21,7 +21,6 @@ use Rattle.ev_drain.specs.Retired.{Retired, comes_before, is_numbered, has_row, 
 use Rattle.ev_drain.specs.Notes.{row_of, rows_of, marked_note, is_waiting_note, is_dead_note}
 use Rattle.ev_types.specs.declared.journals.Format.{Format}
 use Rattle.ev_model.specs.World.{OpenMember}
-use Rattle.ev_model.specs.Picture.{has_number}
 use Rattle.ev_model.specs.Dead.{is_dead_at, is_open_on, waits_for_timer}
 use Rattle.ev_ledger.specs.Members.{count_of}
 
@@ -112,21 +111,20 @@ counted_any p (x ∷ xs) = by (p x) (counted_any p xs)
     by false rest = rest
 
 -- the dead entries are the dead rows
-dead_entry : (format : Format) (shown : List ℕ) (test : ℕ → Bool) (opened : List OpenMember) → ((n : ℕ) → test n ≡ has_number n shown)
-    → (e : ℕ × Note) → is_dead_note format test opened e ≡ is_dead_row format shown opened (row_of e)
-dead_entry format shown test opened same e =
-    ap (λ t. is_dead_at e.1.status ((t || not (count_of e.0 opened == 0)) || (waits_for_timer format e.1.kind && not e.1.expired))) (same e.0)
-    ∙ ap (λ t. is_dead_at e.1.status ((has_number e.0 shown || t) || (waits_for_timer format e.1.kind && not e.1.expired))) (counted_any (is_open_on e.0) opened)
+dead_entry : (format : Format) (shown : ℕ → Bool) (opened : List OpenMember)
+    → (e : ℕ × Note) → is_dead_note format shown opened e ≡ is_dead_row format shown opened (row_of e)
+dead_entry format shown opened e =
+    ap (λ t. is_dead_at e.1.status ((shown e.0 || t) || (waits_for_timer format e.1.kind && not e.1.expired))) (counted_any (is_open_on e.0) opened)
 
-pub dead_rows : (format : Format) (shown : List ℕ) (test : ℕ → Bool) (opened : List OpenMember) → ((n : ℕ) → test n ≡ has_number n shown)
-    → (es : List (ℕ × Note)) → map (λ e. e.0) (filter (is_dead_note format test opened) es) ≡ dead_of format shown opened (rows_of es)
-dead_rows format shown test opened same [] = refl
-dead_rows format shown test opened same (e ∷ es) =
-    by (is_dead_note format test opened e) (is_dead_row format shown opened (row_of e)) (dead_entry format shown test opened same e)
-    (dead_rows format shown test opened same es)
+pub dead_rows : (format : Format) (shown : ℕ → Bool) (opened : List OpenMember)
+    → (es : List (ℕ × Note)) → map (λ e. e.0) (filter (is_dead_note format shown opened) es) ≡ dead_of format shown opened (rows_of es)
+dead_rows format shown opened [] = refl
+dead_rows format shown opened (e ∷ es) =
+    by (is_dead_note format shown opened e) (is_dead_row format shown opened (row_of e)) (dead_entry format shown opened e)
+    (dead_rows format shown opened es)
   where
-    by : (t u : Bool) → t ≡ u → map (λ x. x.0) (filter (is_dead_note format test opened) es) ≡ dead_of format shown opened (rows_of es)
-        → map (λ x. x.0) (cond t (e ∷ filter (is_dead_note format test opened) es) (filter (is_dead_note format test opened) es))
+    by : (t u : Bool) → t ≡ u → map (λ x. x.0) (filter (is_dead_note format shown opened) es) ≡ dead_of format shown opened (rows_of es)
+        → map (λ x. x.0) (cond t (e ∷ filter (is_dead_note format shown opened) es) (filter (is_dead_note format shown opened) es))
         ≡ map (λ r. r.number) (cond u (row_of e ∷ filter (is_dead_row format shown opened) (rows_of es)) (filter (is_dead_row format shown opened) (rows_of es)))
     by true true h rest = ap (λ ns. e.0 ∷ ns) rest
     by true false h rest = absurd (true≢false h)

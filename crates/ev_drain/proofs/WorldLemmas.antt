@@ -83,8 +83,8 @@ le_same : (a b : ℕ) → is_le (nat_cmp a b) ≡ nat_le a b
 le_same a b = grind (arith, nat_tests)
 
 -- a row of the world is dead exactly where it is retired, and dead as such
-dead_same : (format : Format) (shown : List ℕ) (opened : List OpenMember) (world : World)
-    → ((n : ℕ) → has_number n shown ≡ has_number n (numbers_in_use world)) → ((n : ℕ) → list_any (is_open_on n) opened ≡ list_any (is_open_on n) world.opened)
+dead_same : (format : Format) (shown : ℕ → Bool) (opened : List OpenMember) (world : World)
+    → ((n : ℕ) → shown n ≡ has_number n (numbers_in_use world)) → ((n : ℕ) → list_any (is_open_on n) opened ≡ list_any (is_open_on n) world.opened)
     → (row : GenRow) → (is_retired row && is_dead_row format shown opened (retired_in world.expired row)) ≡ is_dead format world row
 dead_same format shown opened world shows opens row =
     ap (λ s. is_retired row && is_dead_at row.status ((s || list_any (is_open_on row.number) opened) || (waits_for_timer format row.kind && not (has_number row.number world.expired)))) (shows row.number)
@@ -98,9 +98,9 @@ dead_same format shown opened world shows opens row =
     by Dropped held = refl
 
 -- the dead rows of a drain are those of the world that it stands for
-pub dead_stands : (format : Format) (shown : List ℕ) (drain : List Retired) (opened : List OpenMember) (world : World)
+pub dead_stands : (format : Format) (shown : ℕ → Bool) (drain : List Retired) (opened : List OpenMember) (world : World)
     → StandsFor drain world.rows world.expired → opened ≡ sorted_by member_before world.opened
-    → ((n : ℕ) → has_number n shown ≡ has_number n (numbers_in_use world)) → dead_of format shown opened drain ≡ dead_numbers format world
+    → ((n : ℕ) → shown n ≡ has_number n (numbers_in_use world)) → dead_of format shown opened drain ≡ dead_numbers format world
 dead_stands format shown drain opened world stands holds shows =
     let dead : Retired → Bool = is_dead_row format shown opened in
     let retired : GenRow → Retired = retired_in world.expired in

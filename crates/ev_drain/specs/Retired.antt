@@ -16,7 +16,7 @@ use Rattle.ev_model.specs.World.{OpenMember}
 use Rattle.ev_model.specs.Sorted.{sorted_by}
 use Rattle.ev_model.specs.Picture.{has_number}
 use Rattle.ev_model.specs.Signals.{is_draining}
-use Rattle.ev_model.specs.Dead.{is_dead_at, is_in_use_by, waits_for_timer}
+use Rattle.ev_model.specs.Dead.{is_dead_at, is_open_on, waits_for_timer}
 
 -- a generation that drains or was dropped, and whether its drain timeout came
 pub record Retired : Type 0 where
@@ -67,13 +67,14 @@ is_waiting name row = is_draining_listener name row && not row.expired
 abbrev pub marked : List ℕ → Retired → Retired
 marked name row = record row { expired = row.expired || is_draining_listener name row }
 
--- nothing holds the row any more, by the numbers that are shown and the open connections
-abbrev pub is_dead_row : Format → List ℕ → List OpenMember → Retired → Bool
+-- nothing holds the row any more, by a test of what is shown and the open connections
+abbrev pub is_dead_row : Format → (ℕ → Bool) → List OpenMember → Retired → Bool
 is_dead_row format shown opened row =
-    is_dead_at row.status (is_in_use_by shown opened row.number || (waits_for_timer format row.kind && not row.expired))
+    is_dead_at row.status
+    ((shown row.number || list_any (is_open_on row.number) opened) || (waits_for_timer format row.kind && not row.expired))
 
 -- the numbers of the dead ones
-abbrev pub dead_of : Format → List ℕ → List OpenMember → List Retired → List ℕ
+abbrev pub dead_of : Format → (ℕ → Bool) → List OpenMember → List Retired → List ℕ
 dead_of format shown opened rows = map (λ (row : Retired). row.number) (filter (is_dead_row format shown opened) rows)
 
 -- a row of the world that no longer serves

@@ -1,24 +1,23 @@
-ghost use Rattle.std.specs.Prelude.{◌≡◌, ℕ, ◌||◌, ◌&&◌, ◌==◌, not, List, filter, map, nat_eq, IfOk};
-ghost use Rattle.indexmap.specs.IndexSet.{contains};
+ghost use Rattle.std.specs.Prelude.{◌≡◌, ℕ, ◌||◌, ◌&&◌, ◌==◌, not, List, filter, map, IfOk};
 ghost use Rattle.ev_model.specs.Dead.{is_dead_at, waits_for_timer};
 ghost use Rattle.ev_ledger.specs.Members.{count_of};
 ghost use Rattle.ev_drain.specs.Notes.{is_dead_note};
 
 use crate::notes::{Note, Notes};
+use crate::shown::Shows;
 use ev_ledger::Ledger;
 use ev_types::{Format, Gen, Kind, RowStatus};
-use indexmap::IndexSet;
 use std::alloc::{AllocError, Global};
 
 /// The numbers of the notes of generations that nothing holds, in order.
-pub(crate) fn dead_notes(
+pub(crate) fn dead_notes<S: Shows>(
     alloc: Global,
     notes: &Notes,
     format: Format,
     ledger: &Ledger,
-    shown: &IndexSet<Gen>,
+    shown: &S,
 ) -> Result<Vec<Gen>, AllocError>
-    ensures { IfOk result (λ dead. dead.items ≡ map (λ entry. entry.0) (filter (is_dead_note format (contains nat_eq shown.now) ledger.now) notes.now.entries)) }
+    ensures { IfOk result (λ dead. dead.items ≡ map (λ entry. entry.0) (filter (is_dead_note format (S.has shown.now) ledger.now) notes.now.entries)) }
 {
     notes
         .iter()
@@ -28,8 +27,8 @@ pub(crate) fn dead_notes(
 }
 
 // Whether nothing holds a generation any more.
-fn is_dead(format: Format, ledger: &Ledger, shown: &IndexSet<Gen>, number: Gen, note: &Note) -> bool
-    ensures { result ≡ is_dead_note format (contains nat_eq shown.now) ledger.now (number, note.now) }
+fn is_dead<S: Shows>(format: Format, ledger: &Ledger, shown: &S, number: Gen, note: &Note) -> bool
+    ensures { result ≡ is_dead_note format (S.has shown.now) ledger.now (number, note.now) }
 {
     match note.status {
         RowStatus::Warming => false,
@@ -40,10 +39,10 @@ fn is_dead(format: Format, ledger: &Ledger, shown: &IndexSet<Gen>, number: Gen, 
 }
 
 // Whether a picture in use or a connection holds a draining generation, or its drain timeout is awaited.
-fn is_held(format: Format, ledger: &Ledger, shown: &IndexSet<Gen>, number: Gen, note: &Note) -> bool
-    ensures { result ≡ ((contains nat_eq shown.now number || not (count_of number ledger.now == 0)) || (waits_for_timer format note.now.kind && not note.now.expired)) }
+fn is_held<S: Shows>(format: Format, ledger: &Ledger, shown: &S, number: Gen, note: &Note) -> bool
+    ensures { result ≡ ((S.has shown.now number || not (count_of number ledger.now == 0)) || (waits_for_timer format note.now.kind && not note.now.expired)) }
 {
-    shown.contains(&number)
+    shown.shows(number)
         || ledger.count(number) != 0
         || (waits_for_timer(format, note.kind) && !note.expired)
 }

@@ -13,7 +13,8 @@ ghost use Rattle.ev_ledger.specs.Members.{StandsFor as HasOpened};
 ghost use Rattle.ev_drain.specs.Retired.{Retired, newly_retired, comes_before, is_numbered, has_row, kind_of_row, is_expired, is_waiting, marked, dead_of, retired_status, StandsFor};
 
 use crate::dead::dead_notes;
-use crate::notes::{Note, Notes, any_waits, kind_of, mark, numbers, put};
+use crate::notes::{Note, Notes, any_waits, kind_of, mark, put};
+use crate::shown::Shows;
 use ev_ledger::Ledger;
 use ev_types::{Format, Gen, Kind, Name, RowStatus, Shared, TryCopy};
 use std::alloc::{AllocError, Global};
@@ -107,19 +108,18 @@ impl Drain {
     }
 
     /// The numbers of the generations that nothing holds any more, from the least, by a journal's format: `ledger` has the open
-    /// connections, and `shown` is what pictures in use show. It asks for counts, and looks at no connection.
-    pub fn dead(
+    /// connections, and `shown` tells what pictures in use show. It asks both by number, and looks at no connection.
+    pub fn dead<S: Shows>(
         &self,
         alloc: Global,
         format: Format,
         ledger: &Ledger,
-        shown: &[Gen],
+        shown: &S,
     ) -> Result<Vec<Gen>, AllocError>
-        ensures dead { IfOk result (λ dead. dead.items ≡ dead_of format shown.now ledger.now self.now) }
-        ensures world { IfOk result (λ dead. (world : World) → StandsFor self.now world.rows world.expired → HasOpened ledger.now world.opened → ((n : ℕ) → has_number n shown.now ≡ has_number n (numbers_in_use world)) → dead.items ≡ dead_numbers format world) }
+        ensures dead { IfOk result (λ dead. dead.items ≡ dead_of format (S.has shown.now) ledger.now self.now) }
+        ensures world { IfOk result (λ dead. (world : World) → StandsFor self.now world.rows world.expired → HasOpened ledger.now world.opened → ((n : ℕ) → S.has shown.now n ≡ has_number n (numbers_in_use world)) → dead.items ≡ dead_numbers format world) }
     {
-        let shown = numbers(alloc, shown)?;
-        dead_notes(alloc, &self.notes, format, ledger, &shown)
+        dead_notes(alloc, &self.notes, format, ledger, shown)
     }
 
     /// Takes a generation out. It takes no memory.

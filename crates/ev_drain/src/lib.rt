@@ -5,9 +5,11 @@ mod dead;
 mod deferred;
 mod drain;
 mod notes;
+mod shown;
 
 pub use deferred::Deferred;
 pub use drain::Drain;
+pub use shown::Shows;
 
 #[cfg(test)]
 mod tests;

@@ -1,7 +1,5 @@
-ghost use Rattle.std.specs.Prelude.{◌≡◌, ◌&&◌, ◌||◌, ℕ, not, map, nat_eq, IfOk, OnOk, OnErr};
+ghost use Rattle.std.specs.Prelude.{◌≡◌, ◌&&◌, ◌||◌, ℕ, not, map, OnOk, OnErr};
 ghost use Rattle.std.specs.List.{list_any};
-ghost use Rattle.indexmap.specs.IndexSet.{contains};
-ghost use Rattle.ev_model.specs.Picture.{has_number};
 ghost use Rattle.ev_drain.specs.Notes.{is_waiting_note, marked_note};
 ghost use Rattle.std.specs.Ordering.{nat_cmp};
 ghost use Rattle.std.specs.BTreeMap.{insert_entry, values, IsOrdered};
@@ -11,7 +9,6 @@ ghost use Rattle.ev_model.specs.Signals.{is_draining};
 ghost use Rattle.ev_types.specs.declared.contents.Kind.TheVariants.{Lds};
 
 use ev_types::{Gen, Kind, Name, RowStatus, Shared};
-use indexmap::IndexSet;
 use std::alloc::{AllocError, Global};
 use std::collections::BTreeMap;
 
@@ -107,15 +104,4 @@ fn mark_one(note: &mut Note, name: &str)
     if is_draining_listener(note, name) {
         note.expired = true;
     }
-}
-
-/// A set of these numbers.
-pub(crate) fn numbers(alloc: Global, shown: &[Gen]) -> Result<IndexSet<Gen>, AllocError>
-    ensures { IfOk result (λ set. (n : ℕ) → contains nat_eq set n ≡ has_number n shown.now) }
-{
-    let mut set = IndexSet::new(alloc);
-    for number in shown {
-        set.insert(*number)?;
-    }
-    Ok(set)
 }

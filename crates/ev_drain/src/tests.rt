@@ -1,11 +1,25 @@
 //! One way through the calls: a listener that drains while a connection is open on it, and a cluster that was dropped.
-use crate::{Deferred, Drain};
+use crate::{Deferred, Drain, Shows};
 use ev_ledger::Ledger;
 use ev_types::{
     Content, Format, Gen, GenRow, Kind, Name, RouteTable, RowStatus, Seq, Shared, TryCopy,
 };
 use std::alloc::Global;
 use std::test::Fail;
+
+// A list of what is shown.
+#[derive(Drop)]
+struct Listed(Vec<Gen>);
+
+impl Shows for Listed {
+    ghost use Rattle.ev_model.specs.Picture.{has_number};
+
+    ghost has = { λ listed number. has_number number listed.0.items };
+
+    fn shows(&self, number: Gen) -> bool {
+        self.0.iter().any(|shown| *shown == number)
+    }
+}
 
 fn row(alloc: Global, number: Gen) -> Result<GenRow, Fail> {
     let hosts = Seq::new(alloc);
@@ -28,20 +42,22 @@ fn rows_are_dead_once_nothing_holds_them(rt: HostRuntime) -> Result<(), Fail> {
     drain.retire(alloc, Kind::Lds, listener, &name, false)?;
     assert_eq!(rt; drain.kind(listener), Some(Kind::Lds));
     assert_eq!(rt; drain.kind(Gen::new(3)), None);
+    let none = Listed(Vec::new(alloc));
+    let shown = Listed(vec![in alloc; listener]?);
     let mut ledger = Ledger::new(alloc);
     ledger.open(0, 1, listener, None)?;
-    let dead = drain.dead(alloc, Format::One, &ledger, &[])?;
+    let dead = drain.dead(alloc, Format::One, &ledger, &none)?;
     assert_eq!(rt; dead.as_slice(), [cluster].as_slice());
     assert!(rt; ledger.close(0, 1));
-    let dead = drain.dead(alloc, Format::One, &ledger, &[listener])?;
+    let dead = drain.dead(alloc, Format::One, &ledger, &shown)?;
     assert_eq!(rt; dead.as_slice(), [cluster].as_slice());
-    let dead = drain.dead(alloc, Format::One, &ledger, &[])?;
+    let dead = drain.dead(alloc, Format::One, &ledger, &none)?;
     assert_eq!(rt; dead.as_slice(), [listener, cluster].as_slice());
-    let dead = drain.dead(alloc, Format::Two, &ledger, &[])?;
+    let dead = drain.dead(alloc, Format::Two, &ledger, &none)?;
     assert_eq!(rt; dead.as_slice(), [cluster].as_slice());
     assert!(rt; drain.expire(&name) && drain.expired(listener) && !drain.expire(&name));
     assert!(rt; !drain.expired(cluster));
-    let dead = drain.dead(alloc, Format::Two, &ledger, &[])?;
+    let dead = drain.dead(alloc, Format::Two, &ledger, &none)?;
     assert_eq!(rt; dead.as_slice(), [listener, cluster].as_slice());
     Ok(())
 }

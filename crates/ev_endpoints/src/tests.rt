@@ -34,18 +34,18 @@ fn trim(alloc: Global, kept: &mut Endpoints, port: u16) -> Result<(), Fail> {
     Ok(())
 }
 
-// Whether generation 1 has results of the hosts of ports 1 and 2.
-fn is_done(alloc: Global, kept: &Endpoints) -> Result<bool, Fail> {
+// Whether a generation has results of the hosts of ports 1 and 2.
+fn is_done(alloc: Global, kept: &Endpoints, number: u32) -> Result<bool, Fail> {
     let first = row(alloc, 1)?;
     let second = row(alloc, 2)?;
     let rows = Assignment::new(Seq::from_vec(vec![in alloc; first, second]?));
-    Ok(kept.first_round_done(Gen::new(1), &rows))
+    Ok(kept.first_round_done(Gen::new(number.max(1)), &rows))
 }
 
-// Whether a host of generation 1, which is checked, may be chosen.
-fn is_eligible(alloc: Global, kept: &Endpoints, port: u16) -> Result<bool, Fail> {
+// Whether a host of generation 1 may be chosen.
+fn is_eligible(alloc: Global, kept: &Endpoints, checked: bool, port: u16) -> Result<bool, Fail> {
     let row = row(alloc, port)?;
-    Ok(kept.eligible(Gen::new(1), true, &row))
+    Ok(kept.eligible(Gen::new(1), checked, &row))
 }
 
 fn result(alloc: Global, kept: &Endpoints, port: u16) -> Result<Option<bool>, Fail> {
@@ -53,21 +53,51 @@ fn result(alloc: Global, kept: &Endpoints, port: u16) -> Result<Option<bool>, Fa
     Ok(kept.result(Gen::new(1), &host))
 }
 
+// Both hosts of generation 1 get results, the first one twice: only then its first round is done, and that of no other.
+fn hears(alloc: Global, kept: &mut Endpoints) -> Result<bool, Fail> {
+    note(alloc, kept, 1, true)?;
+    note(alloc, kept, 1, false)?;
+    let early = is_done(alloc, kept, 1)?;
+    note(alloc, kept, 2, true)?;
+    let done = is_done(alloc, kept, 1)?;
+    let other = is_done(alloc, kept, 2)?;
+    Ok(!early && done && !other)
+}
+
+// The last result counts, and only where the cluster is checked.
+fn chooses(alloc: Global, kept: &Endpoints) -> Result<bool, Fail> {
+    let ill = is_eligible(alloc, kept, true, 1)?;
+    let well = is_eligible(alloc, kept, true, 2)?;
+    let unchecked = is_eligible(alloc, kept, false, 1)?;
+    Ok(!ill && well && unchecked)
+}
+
+// A copy has the same results.
+fn copies(alloc: Global, kept: &Endpoints) -> Result<bool, Fail> {
+    let copied = kept.copy(alloc)?;
+    let told = result(alloc, &copied, 1);
+    Ok(told? == Some(false))
+}
+
+// A host that left loses its result, and a generation that is over all of them.
+fn loses(alloc: Global, kept: &mut Endpoints) -> Result<bool, Fail> {
+    trim(alloc, kept, 2)?;
+    let gone = result(alloc, kept, 1)?;
+    let left = result(alloc, kept, 2)?;
+    kept.forget(Gen::new(1));
+    let forgotten = result(alloc, kept, 2)?;
+    Ok(gone.is_none() && left == Some(true) && forgotten.is_none())
+}
+
+fn keeps(alloc: Global, kept: &mut Endpoints) -> Result<bool, Fail> {
+    Ok(hears(alloc, kept)? && chooses(alloc, kept)? && copies(alloc, kept)? && loses(alloc, kept)?)
+}
+
 #[test]
 fn results_are_kept_by_generation_and_host(rt: HostRuntime) -> Result<(), Fail> {
     let alloc = rt.alloc();
     let mut kept = Endpoints::new(alloc);
-    note(alloc, &mut kept, 1, false)?;
-    assert_eq!(rt; is_done(alloc, &kept)?, false);
-    note(alloc, &mut kept, 2, true)?;
-    assert_eq!(rt; is_done(alloc, &kept)?, true);
-    assert_eq!(rt; is_eligible(alloc, &kept, 1)?, false);
-    assert_eq!(rt; is_eligible(alloc, &kept, 2)?, true);
-    let copied = kept.copy(alloc)?;
-    trim(alloc, &mut kept, 2)?;
-    assert_eq!(rt; result(alloc, &kept, 1)?, None);
-    kept.forget(Gen::new(1));
-    assert_eq!(rt; result(alloc, &kept, 2)?, None);
-    assert_eq!(rt; result(alloc, &copied, 1)?, Some(false));
+    let kept_well = keeps(alloc, &mut kept);
+    assert_eq!(rt; kept_well?, true);
     Ok(())
 }

@@ -9,8 +9,6 @@ mod outcome;
 mod parts;
 mod requests;
 mod rows;
-#[cfg(test)]
-mod tests;
 mod words;
 
 pub use journal::read_rows;

@@ -22,7 +22,7 @@ use Rattle.ev_model.specs.World.{OpenMember}
 use Rattle.ev_model.specs.Sorted.{put_by}
 use Rattle.ev_model.specs.Dead.{is_open_on, is_forwarded_to}
 use Rattle.ev_model.specs.Connections.{is_member, is_open, member_on, closed}
-use Rattle.ev_ledger.specs.Members.{comes_before, count_of, held_of, is_of_worker, connection_of}
+use Rattle.ev_ledger.specs.Members.{AreApart, comes_before, count_of, held_of, is_of_worker, connection_of}
 use Rattle.ev_ledger.specs.Entries.{key_order, member_of, members_of, weight, is_at_worker, held_at}
 use Rattle.ev_ledger.proofs.PlaceLemmas.{same_place, closed_leaves}
 
@@ -140,3 +140,14 @@ range_is w k = grind (arith, nat_tests)
 pub range_of_worker : (w : ℕ) (es : List ((ℕ × ℕ) × (ℕ × Option ℕ)))
     → entries_between key_order (Included (w, 0)) (Excluded (w + 1, 0)) es ≡ filter (is_at_worker w) es
 range_of_worker w es = λ i. filter (λ e. range_is w e.0 i) es
+
+-- no two entries have one place
+apart_later : (k : ℕ × ℕ) (es : List ((ℕ × ℕ) × (ℕ × Option ℕ))) → AllByRecursion (λ y. key_order k y ≡ Less) (keys_of es) → is_open (members_of es) k.0 k.1 ≡ false
+apart_later k [] all = refl
+apart_later k (e ∷ es) all =
+    ap (λ b. b || is_open (members_of es) k.0 k.1) (sym (same_place k.0 k.1 e.0.0 e.0.1) ∙ ap is_eq all.0) ∙ apart_later k es all.1
+
+pub apart_members : (es : List ((ℕ × ℕ) × (ℕ × Option ℕ))) → IsStrictlySortedBy key_order (keys_of es) → AreApart (members_of es)
+unfolding IsStrictlySortedBy
+apart_members [] sorted = tt
+apart_members (e ∷ es) sorted = (apart_later e.0 es sorted.0, apart_members es sorted.1)

@@ -2,10 +2,10 @@ ghost use Rattle.std.specs.Prelude.{◌≡◌, false, List, [], ◌∷◌, ◌++
 ghost use Rattle.ev_model.specs.World.{OpenMember};
 ghost use Rattle.ev_model.specs.Sorted.{put_by};
 ghost use Rattle.ev_model.specs.Connections.{is_open, member_on, closed};
-ghost use Rattle.ev_ledger.specs.Members.{comes_before, in_order, StandsFor, count_of, held_of};
+ghost use Rattle.ev_ledger.specs.Members.{comes_before, in_order, AreApart, StandsFor, count_of, held_of};
 
 use crate::counts::{count_in, lower_on, raise_on};
-use crate::members::{Members, held, put, take};
+use crate::members::{Members, held, is_there, put, take};
 use ev_types::{Gen, TryCopy};
 use indexmap::IndexMap;
 use std::alloc::{AllocError, Global};
@@ -96,8 +96,17 @@ impl Ledger {
         true
     }
 
+    /// Whether a worker has a connection of this number open. It looks at no other.
+    pub fn is_open(&self, worker: u32, conn: u64) -> bool
+        ensures answer { result ≡ is_open self.now worker conn }
+        ensures world { (opened : List OpenMember) → StandsFor self.now opened → result ≡ is_open opened worker conn }
+    {
+        is_there(&self.members, (worker as u64, conn))
+    }
+
     /// The connections that a worker has open, each with its listener, by their numbers from the least.
     pub fn held_by(&self, alloc: Global, worker: u32) -> Result<Vec<(u64, Gen)>, AllocError>
+        ensures apart { AreApart self.now }
         ensures held { IfOk result (λ held. held.items ≡ held_of worker self.now) }
         ensures world { IfOk result (λ held. (opened : List OpenMember) → StandsFor self.now opened → held.items ≡ held_of worker (in_order opened)) }
     {

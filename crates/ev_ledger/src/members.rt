@@ -1,4 +1,4 @@
-ghost use Rattle.std.specs.Prelude.{◌≡◌, ◌<◌, ◌^◌, ◌+◌, ◌==◌, length, map, filter, IfOk, OnOk, OnErr};
+ghost use Rattle.std.specs.Prelude.{◌≡◌, ◌<◌, ◌^◌, ◌+◌, ◌==◌, length, map, filter, is_some, IfOk, OnOk, OnErr};
 ghost use Rattle.std.specs.Map.{lookup, remove_entry};
 ghost use Rattle.std.specs.BTreeMap.{insert_entry, is_at, IsOrdered};
 ghost use Rattle.ev_ledger.specs.Entries.{key_order, held_at, is_at_worker};
@@ -41,6 +41,13 @@ pub(crate) fn take(members: &mut Members, place: (u64, u64)) -> Option<(Gen, Opt
     members.remove(&place)
 }
 
+/// Whether there is a connection at a place.
+pub(crate) fn is_there(members: &Members, place: (u64, u64)) -> bool
+    ensures { result ≡ is_some (lookup (is_at (key_order place)) members.now.entries) }
+{
+    members.contains_key(&place)
+}
+
 /// The numbers of a worker's connections, each with its listener.
 pub(crate) fn held(
     alloc: Global,
@@ -48,8 +55,11 @@ pub(crate) fn held(
     worker: u64,
 ) -> Result<Vec<(u64, Gen)>, AllocError>
     requires { worker + 1 < 2 ^ 64 }
-    ensures { IfOk result (λ held. held.items ≡ map held_at (filter (is_at_worker worker) members.now.entries)) }
+    ensures held { IfOk result (λ held. held.items ≡ map held_at (filter (is_at_worker worker) members.now.entries)) }
+    ensures ordered { IsOrdered key_order members.now }
 {
+    // They stand in the order of their places.
+    let _ = members.len();
     members
         .range((worker, 0)..(worker + 1, 0))
         .map(|(place, on)| (place.1, on.0))

@@ -13,9 +13,9 @@ fn each_worker_has_its_own_numbers(rt: HostRuntime) -> Result<(), Fail> {
     for workers in WORKERS {
         let mut ledger = Ledger::new(alloc);
         for worker in 0..workers {
-            assert!(rt; !ledger.close(worker, 7));
+            assert!(rt; !ledger.is_open(worker, 7) && !ledger.close(worker, 7));
             ledger.open(worker, 7, listener, Some(cluster))?;
-            assert!(rt; ledger.close(worker, 7));
+            assert!(rt; ledger.is_open(worker, 7) && ledger.close(worker, 7));
             ledger.open(worker, 7, cluster, None)?;
         }
         assert_eq!(rt; ledger.count(listener), 0);

@@ -9,8 +9,8 @@ ghost use Rattle.ev_listeners.specs.Addresses.{lives_numbered, numbers_at};
 use crate::Listeners;
 use crate::addresses::Addresses;
 use ev_generations::Generations;
-use ev_rules::LiveRow;
 use ev_types::{Gen, Host};
+use ev_verdicts::LiveRow;
 use std::alloc::{AllocError, Global};
 
 impl Listeners {

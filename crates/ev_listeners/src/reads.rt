@@ -15,8 +15,8 @@ ghost use Rattle.ev_warming.specs.Reads.{live_rows, names_watched, is_timeout_du
 
 use crate::Listeners;
 use ev_model::ServedListener;
-use ev_rules::LiveRow;
 use ev_types::{Name, Seq, TryCopy};
+use ev_verdicts::LiveRow;
 use std::alloc::{AllocError, Global};
 
 impl Listeners {

@@ -1,8 +1,10 @@
-ghost use Rattle.std.specs.Prelude.{◌≡◌, [], ◌∷◌, ◌++◌, IfOk, List, ℕ, nat_eq};
+ghost use Rattle.std.specs.Prelude.{◌≡◌, [], ◌∷◌, ◌++◌, IfOk, List, ℕ, map, nat_eq};
 ghost use Rattle.std.specs.Str.{bytes_eq};
 ghost use Rattle.indexmap.specs.IndexMap.{get};
 ghost use Rattle.std.specs.Option.{option_copied, option_or};
 ghost use Rattle.ev_model.specs.Choice.{cluster_named};
+ghost use Rattle.ev_model.specs.Picture.{has_number};
+ghost use Rattle.ev_model.specs.declared.pictures.ServedCluster.{ServedCluster};
 ghost use Rattle.ev_snapshot.specs.Tables.{cluster_numbered};
 
 use crate::names::ClusterName;
@@ -78,6 +80,16 @@ impl Clusters {
     {
         let _ = &self.list;
         self.by_number.get(&number.number())
+    }
+
+    /// Whether there is one of this number. It looks at no other.
+    pub(crate) fn has(&self, number: Gen) -> bool
+        ensures { result ≡ has_number number (map (λ (c : ServedCluster). c.number) self.now) }
+    {
+        match self.numbered(number) {
+            Some(_) => true,
+            None => false,
+        }
     }
 }
 

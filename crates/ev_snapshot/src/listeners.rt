@@ -1,9 +1,11 @@
-ghost use Rattle.std.specs.Prelude.{◌≡◌, [], ◌∷◌, ◌++◌, IfOk, ℕ, nat_eq};
+ghost use Rattle.std.specs.Prelude.{◌≡◌, [], ◌∷◌, ◌++◌, IfOk, ℕ, map, nat_eq};
 ghost use Rattle.std.specs.Option.{option_copied, option_or};
 ghost use Rattle.indexmap.specs.IndexMap.{get};
 ghost use Rattle.ev_types.specs.SameHosts.{host_same};
 ghost use Rattle.ev_types.specs.declared.hosts.Host.{Host};
 ghost use Rattle.ev_model.specs.Choice.{listener_at};
+ghost use Rattle.ev_model.specs.Picture.{has_number};
+ghost use Rattle.ev_model.specs.declared.pictures.ServedListener.{ServedListener};
 ghost use Rattle.ev_snapshot.specs.Tables.{listener_numbered};
 
 use crate::addresses::ListenerAddress;
@@ -79,6 +81,16 @@ impl Listeners {
     {
         let _ = &self.list;
         self.by_number.get(&number.number())
+    }
+
+    /// Whether there is one of this number. It looks at no other.
+    pub(crate) fn has(&self, number: Gen) -> bool
+        ensures { result ≡ has_number number (map (λ (l : ServedListener). l.number) self.now) }
+    {
+        match self.numbered(number) {
+            Some(_) => true,
+            None => false,
+        }
     }
 }
 

@@ -4,7 +4,7 @@ ghost use Rattle.std.specs.Option.{option_copied};
 ghost use Rattle.ev_model.specs.Choice.{by_host, by_route, by_routing, choice_in, choice_of, forwarded};
 ghost use Rattle.ev_model.specs.declared.pictures.ServedCluster.{ServedCluster};
 ghost use Rattle.ev_model.specs.declared.pictures.ServedListener.{ServedListener};
-ghost use Rattle.ev_model.specs.Picture.{shown_of};
+ghost use Rattle.ev_model.specs.Picture.{is_shown, shown_of};
 ghost use Rattle.ev_model.specs.World.{World};
 ghost use Rattle.ev_snapshot.specs.Chosen.{TakesEligible, TakesLowest, host_of, names_shown};
 
@@ -81,6 +81,15 @@ impl Snapshot {
         ensures { result ≡ self.now.version }
     {
         self.version
+    }
+
+    /// Whether it shows the generation of this number, as a cluster or as a listener. It looks two numbers up, and goes through
+    /// no list.
+    #[tactic(auto, using(crate::proofs::Numbered::shown_parts))]
+    pub fn shows(&self, number: Gen) -> bool
+        ensures { result ≡ is_shown number self.now.shown }
+    {
+        self.clusters.has(number) || self.listeners.has(number)
     }
 
     /// The host at a place of the cluster of this number, as `choose` answers both.

@@ -5,9 +5,9 @@ ghost use Rattle.ev_model.specs.Verdicts.{listening_address, shares_address};
 ghost use Rattle.ev_model.specs.Versions.{is_kept, is_version_of};
 ghost use Rattle.ev_verdicts.specs.Known.{is_at};
 
+use crate::LiveRow;
 use crate::addresses::address_of;
 use crate::known::Known;
-use ev_rules::LiveRow;
 use ev_types::{Content, Discovery, Host, KeptVersion, Kind, Serve};
 use std::alloc::{AllocError, Global};
 use std::marker::Model;

@@ -5,7 +5,7 @@ use Rattle.std.specs.Str.{bytes_eq}
 use Rattle.std.proofs.lemmas.Bool.{false_from_ne_true, le-leb, lt-leb}
 use Rattle.std.proofs.lemmas.List.{take_more, drop_more, drop_all}
 use Rattle.std.proofs.lemmas.List.Elements.{filter-append}
-use Rattle.std.proofs.lemmas.List.Folds.{list_any-append}
+use Rattle.std.proofs.lemmas.List.Folds.{list_any-append, list_any_at}
 use Rattle.ev_types.specs.Items.{ItemParts, ResponseParts}
 use Rattle.ev_types.specs.Kinds.{kind_same}
 use Rattle.ev_types.specs.Same.{bytes_decide}
@@ -26,7 +26,7 @@ use Rattle.ev_types.specs.declared.rows.GenRow.{GenRow}
 use Rattle.ev_model.specs.World.{World, Arrived}
 use Rattle.ev_model.specs.Watching.{is_by_name}
 use Rattle.ev_model.specs.Warming.{came_for, content_in, is_word, is_timeout}
-use Rattle.ev_model.specs.Verdicts.{items_named, is_among}
+use Rattle.ev_model.specs.Verdicts.{items_named, is_among, is_removed}
 use Rattle.ev_model.specs.Rows.{versions_left, arrived, with_statuses, removed_status, rows_left, add_item, add_items, keep_version, keep_value, with_content, refuse, renew, with_removals}
 use Rattle.ev_model.specs.Signals.{ended_status, rows_ended}
 use Rattle.ev_warming.specs.declared.state.State.{State}
@@ -254,9 +254,10 @@ removals-stand s world kind response rows stands =
     subst (StandsFor s) (removals-are kind response world rows)
     (versions-stand s (record world { rows = rows_left kind response world.rows }) (versions_left kind response world.versions) stands)
 
--- a name with a resource, and one without
-pub is_unlisted-some : (response : ResponseParts) (name : List ℕ) (count : ℕ) → count ≡ length (items_named name response.items) → 1 ≤ count → is_unlisted response name ≡ false
-is_unlisted-some response name count is some = (λ i. not (nat_le 1 (sym is i))) ∙ ap not (le-leb 1 count some)
+-- a listed name is removed where it stands at no resource
+pub is_unlisted-listed : (response : ResponseParts) (name : List ℕ) (removed : Bool) → removed ≡ is_removed response name → is_among name response.removed ≡ true → is_unlisted response name ≡ removed
+is_unlisted-listed response name removed is listed = (λ i. sym listed i && is_unlisted response name) ∙ sym is
 
-pub is_unlisted-none : (response : ResponseParts) (name : List ℕ) (count : ℕ) → count ≡ length (items_named name response.items) → count < 1 → is_unlisted response name ≡ true
-is_unlisted-none response name count is none = (λ i. not (nat_le 1 (sym is i))) ∙ ap not (lt-leb 1 count none)
+-- each of the removed names is listed
+pub listed-at : (names : List (List ℕ)) (place : ℕ) (name : List ℕ) → place < length names → name ≡ get_or names place name → is_among name names ≡ true
+listed-at names place name within is = list_any_at (λ n. bytes_eq n name) names place name within ((λ j. bytes_eq (sym is j) name) ∙ (bytes_decide name name).1 refl)

@@ -5,6 +5,7 @@ ghost use Rattle.ev_types.specs.declared.contents.Body.TheVariants.{Good};
 ghost use Rattle.ev_types.specs.declared.events.Verdict.TheVariants.{Kept};
 ghost use Rattle.ev_types.specs.declared.rows.Arrival.TheVariants.{Absent};
 ghost use Rattle.ev_model.specs.World.{World};
+ghost use Rattle.ev_model.specs.Verdicts.{is_among as is_listed};
 ghost use Rattle.ev_model.specs.Rows.{arrived, absent_names, with_removals, add_item, add_items};
 ghost use Rattle.ev_warming.specs.Indexes.{depends_on};
 ghost use Rattle.ev_warming.specs.Worlds.{StandsFor, needs_of};
@@ -13,9 +14,9 @@ ghost use Rattle.ev_warming.specs.Managers.{IsKept};
 ghost use Rattle.ev_warming.specs.Arrivals.{IsOnValue, AreOnValues, told_where};
 
 use crate::Manager;
-use crate::response::times_named;
 use ev_generations::Steps;
 use ev_types::{Arrival, Body, Item, Name, NameError, Response, Text, TryCopy, Verdict};
+use ev_verdicts::Mentions;
 use std::alloc::{AllocError, Global};
 use std::sync::ledger::Ledger;
 
@@ -58,8 +59,12 @@ impl Manager {
         ensures table { OnOk result (self.new.state.table ≡ self.old.state.table) }
         ensures stands { OnOk result ((world : World) → StandsFor self.old.state world → StandsFor self.new.state (record world { arrivals = world.arrivals ++ map (arrived (needs_of self.old.state.kind) Absent) (absent_names (needs_of self.old.state.kind) response.now world) })) }
     {
+        if response.removed.is_empty() {
+            return Ok(());
+        }
+        let mentions = Mentions::of(alloc, response)?;
         for name in response.removed.as_slice() {
-            self.tell_absence(alloc, response, name, steps)?;
+            self.tell_absence(alloc, &mentions, name, steps)?;
         }
         Ok(())
     }
@@ -68,17 +73,18 @@ impl Manager {
     fn tell_absence<L: Ledger>(
         &mut self,
         alloc: Global,
-        response: &Response,
+        mentions: &Mentions<'_>,
         name: &Text,
         steps: &mut Steps<L>,
     ) -> Result<(), AllocError>
         requires kept { IsKept self.old }
+        requires listed { is_listed name.now mentions.now.removed ≡ true }
         ensures kept { OnOk result (IsKept self.new) }
         ensures kind { OnOk result (self.new.state.kind ≡ self.old.state.kind) }
         ensures table { OnOk result (self.new.state.table ≡ self.old.state.table) }
-        ensures stands { OnOk result ((world : World) → StandsFor self.old.state world → StandsFor self.new.state (told_where (is_unlisted response.now name.now && list_any (depends_on name.now) self.old.state.table.rows) (needs_of self.old.state.kind) Absent name.now world)) }
+        ensures stands { OnOk result ((world : World) → StandsFor self.old.state world → StandsFor self.new.state (told_where (is_unlisted mentions.now name.now && list_any (depends_on name.now) self.old.state.table.rows) (needs_of self.old.state.kind) Absent name.now world)) }
     {
-        if times_named(name.as_str(), response.items.as_slice()) >= 1 {
+        if !mentions.is_removed(name.as_str()) {
             return Ok(());
         }
         self.tell(alloc, name, &Arrival::Absent, steps)

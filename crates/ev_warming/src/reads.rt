@@ -12,8 +12,8 @@ ghost use Rattle.ev_warming.specs.Reads.{live_rows, is_timeout_due};
 ghost use Rattle.ev_warming.specs.Worlds.{StandsFor, needs_of};
 
 use crate::{State, Watch};
-use ev_rules::LiveRow;
 use ev_types::{Gen, GenRow, Name, Seq};
+use ev_verdicts::LiveRow;
 use std::alloc::{AllocError, Global};
 
 impl State {

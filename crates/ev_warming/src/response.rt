@@ -1,9 +1,9 @@
-ghost use Rattle.std.specs.Prelude.{◌≡◌, ◌+◌, ◌^◌, ◌<◌, ◌≤◌, ◌++◌, ℕ, [], ◌∷◌, Some, All, EachIndex, slice_index, length, IfOk, OnOk};
+ghost use Rattle.std.specs.Prelude.{◌≡◌, ◌+◌, ◌^◌, ◌<◌, ◌≤◌, ◌++◌, ℕ, [], ◌∷◌, true, Some, All, EachIndex, slice_index, length, IfOk, OnOk};
 ghost use Rattle.ev_types.specs.Items.{IsBodyOf, content_kind};
 ghost use Rattle.ev_types.specs.declared.contents.Body.TheVariants.{Good};
 ghost use Rattle.ev_types.specs.declared.events.Verdict.TheVariants.{New};
 ghost use Rattle.ev_model.specs.World.{World};
-ghost use Rattle.ev_model.specs.Verdicts.{items_named};
+ghost use Rattle.ev_model.specs.Verdicts.{is_among as is_listed};
 ghost use Rattle.ev_model.specs.Rows.{rows_left, rows_with_new, with_statuses, with_removals, add_item, add_items};
 ghost use Rattle.ev_model.specs.Signals.{rows_ended};
 ghost use Rattle.ev_warming.specs.Due.{is_among};
@@ -15,6 +15,7 @@ use crate::Manager;
 use crate::state::put_one;
 use ev_generations::Steps;
 use ev_types::{Body, Content, Gen, Item, Name, NameError, Response, Seq, Text, TryCopy, Verdict};
+use ev_verdicts::Mentions;
 use std::alloc::{AllocError, Global};
 use std::sync::ledger::Ledger;
 
@@ -79,30 +80,35 @@ impl Manager {
         ensures told { OnOk result (Tells self.old.state.table.rows self.new.state.table.rows applied.old.retired applied.new.retired) }
         ensures stands { OnOk result ((world : World) → StandsFor self.old.state world → StandsFor self.new.state (record world { rows = rows_left self.old.state.kind response.now world.rows })) }
     {
+        if response.removed.is_empty() {
+            return Ok(());
+        }
+        let mentions = Mentions::of(alloc, response)?;
         for name in response.removed.as_slice() {
-            self.remove_name(alloc, response, name, applied, steps)?;
+            self.remove_name(alloc, &mentions, name, applied, steps)?;
         }
         Ok(())
     }
 
-    // A removed name comes to its end, where it stands at none of these resources.
+    // A removed name comes to its end, where it stands at no resource.
     fn remove_name<L: Ledger>(
         &mut self,
         alloc: Global,
-        response: &Response,
+        mentions: &Mentions<'_>,
         name: &Text,
         applied: &mut Applied,
         steps: &mut Steps<L>,
     ) -> Result<(), AllocError>
         requires kept { IsKept self.old }
+        requires listed { is_listed name.now mentions.now.removed ≡ true }
         ensures kept { OnOk result (IsKept self.new) }
         ensures kind { OnOk result (self.new.state.kind ≡ self.old.state.kind) }
         ensures made { OnOk result (self.new.state.table.made ≡ self.old.state.table.made) }
         ensures others { OnOk result (applied.new.made ≡ applied.old.made) }
         ensures told { OnOk result (Tells self.old.state.table.rows self.new.state.table.rows applied.old.retired applied.new.retired) }
-        ensures stands { OnOk result ((world : World) → StandsFor self.old.state world → StandsFor self.new.state (record world { rows = with_statuses (status_left_by self.old.state.kind response.now (name.now ∷ [])) world.rows })) }
+        ensures stands { OnOk result ((world : World) → StandsFor self.old.state world → StandsFor self.new.state (record world { rows = with_statuses (status_left_by self.old.state.kind mentions.now (name.now ∷ [])) world.rows })) }
     {
-        if times_named(name.as_str(), response.items.as_slice()) >= 1 {
+        if !mentions.is_removed(name.as_str()) {
             return Ok(());
         }
         match Name::new(alloc, name.as_str()) {
@@ -111,6 +117,7 @@ impl Manager {
             Err(NameError::OutOfMemory) => Err(AllocError),
         }
     }
+
     // A name comes to its end, and what retired is told.
     fn end_name<L: Ledger>(
         &mut self,
@@ -230,14 +237,4 @@ impl Manager {
         applied.made.push(added.number)?;
         put_one(&mut applied.retired, &added.dropped)
     }
-}
-
-// How many resources have this name.
-pub(crate) fn times_named(name: &str, items: &[Item]) -> usize
-    ensures { result ≡ length (items_named name.now items.now) }
-{
-    items
-        .iter()
-        .filter(|item| item.name.as_str() == name)
-        .count()
 }

@@ -18,22 +18,32 @@ use Rattle.ev_model.proofs.RunLemmas.{RunsFrom-more, world_after-more}
 use Rattle.ev_worker.specs.declared.lines.Accepted.{Accepted}
 use Rattle.ev_worker.specs.declared.lines.Closed.{Closed}
 use Rattle.ev_worker.specs.declared.lines.BatchLine.{BatchLine}
+use Rattle.ev_worker.specs.declared.lines.Outcome.TheVariants.{Accepted as accepted_outcome, Closed as closed_outcome}
 use Rattle.ev_worker.specs.Batches.{accept_line, accepted_answer, accepted_as, close_line, closed_answer, closed_as, entries_of, entry_of, outcome_answer}
-use Rattle.ev_worker.specs.Workers.{HasWorker, IsMadeFrom, SameOpen, StandsFor, WorkerParts}
+use Rattle.ev_worker.specs.Workers.{AreAnswered, HasWorker, IsAnswer, IsMadeFrom, SameOpen, StandsFor, WorkerParts}
 use Rattle.ev_worker.proofs.OpenLemmas.{accept_answer, accepted_same, close_answer, closed_same, open_same}
 
 -- a batch without lines is made from what is open
 pub begins : (worker : WorkerParts) → worker.lines ≡ [] → IsMadeFrom worker.opened worker
 begins worker none = record {
   answers = λ format workers world below has. subst (λ lines. RunsFrom format workers world (entries_of worker.number worker.picture lines)) (sym none) tt;
+  chosen = λ format world has. subst (λ lines. AreAnswered format worker.number world lines) (sym none) tt;
   leads = λ format world has. subst (λ lines. StandsFor worker (world_after format world (entries_of worker.number worker.picture lines))) (sym none) has;
 }
+
+-- one line more is answered where the lines before it lead
+answered_more : (format : Format) (worker : ℕ) (picture : Picture) (world : World) (lines : List BatchLine) (line : BatchLine) → AreAnswered format worker world lines
+    → IsAnswer worker (world_after format world (entries_of worker picture lines)) line.event line.outcome → AreAnswered format worker world (lines ++ line ∷ [])
+answered_more format worker picture world [] line all last = (last, tt)
+answered_more format worker picture world (first ∷ lines) line all last =
+    (all.0, answered_more format worker picture (step format world (by_worker worker) first.event).0 lines line all.1 last)
 
 -- one line more, after which these connections are open, is answered by the machine wherever the worker stands before it
 record GoesOn (worker : WorkerParts) (opened : List OpenMember) (line : BatchLine) : Type 0 where
   may : (workers : ℕ) → worker.number < workers → MayMake workers (by_worker worker.number) line.event
   answered : (format : Format) (world : World) → StandsFor worker world
       → outcome_answer worker.picture line.outcome ≡ (step format world (by_worker worker.number) line.event).1
+  chosen : (world : World) → StandsFor worker world → IsAnswer worker.number world line.event line.outcome
   leads : (format : Format) (world : World) → StandsFor worker world
       → HasWorker worker.number worker.picture opened (step format world (by_worker worker.number) line.event).0
 
@@ -53,6 +63,9 @@ made_more begun worker opened line spare goes made =
           subst (RunsFrom format workers world) (sym longer)
           (RunsFrom-more format workers world entries entry (made.answers format workers world below has) (goes.may workers below)
           (goes.answered format (world_after format world entries) (made.leads format world has)));
+      chosen = λ format world has.
+          answered_more format worker.number worker.picture world worker.lines line (made.chosen format world has)
+          (goes.chosen (world_after format world entries) (made.leads format world has));
       leads = λ format world has.
           let P : World → Type 0 = λ w. HasWorker worker.number worker.picture opened w in
           subst P (sym (ap (world_after format world) longer ∙ world_after-more format world entries entry))
@@ -68,6 +81,9 @@ accept_goes_on worker at ask = record {
       ap (λ b. accepted_answer worker.picture (accepted_as worker.picture ask b)) (open_same worker.number worker.opened world.opened stands.has ask.conn)
       ∙ accept_answer worker.picture ask worker.number world.opened
       ∙ ap (λ picture. (accepted picture ask worker.number world.opened).answer) (sym stands.holds);
+  chosen = λ world stands.
+      ap (λ b. accepted_outcome (accepted_as worker.picture ask b)) (open_same worker.number worker.opened world.opened stands.has ask.conn)
+      ∙ ap (λ picture. accepted_outcome (accepted_as picture ask (is_open world.opened worker.number ask.conn))) (sym stands.holds);
   leads = λ format world stands. record {
     holds = stands.holds;
     has = subst (λ picture. SameOpen worker.number (accepted worker.picture ask worker.number worker.opened).opened (accepted picture ask worker.number world.opened).opened) (sym stands.holds)
@@ -84,6 +100,7 @@ close_goes_on worker opened at connection left = record {
   answered = λ format world stands.
       ap (λ b. closed_answer (closed_as b)) (open_same worker.number worker.opened world.opened stands.has connection)
       ∙ close_answer connection worker.number world.opened;
+  chosen = λ world stands. ap (λ b. closed_outcome (closed_as b)) (open_same worker.number worker.opened world.opened stands.has connection);
   leads = λ format world stands. record {
     holds = stands.holds;
     has = λ n. left n ∙ closed_same connection worker.number worker.opened world.opened stands.has n;

@@ -1,14 +1,20 @@
 -- What contracts see of a worker, and what a world has of it.
-use Rattle.std.specs.Prelude.{◌≡◌, ◌<◌, ℕ, not, List, [], filter}
+use Rattle.std.specs.Prelude.{◌≡◌, ◌<◌, ℕ, not, ⊤, List, [], ◌∷◌, filter}
+use Rattle.ev_types.specs.declared.events.Actor.TheVariants.{Worker as by_worker}
+use Rattle.ev_types.specs.declared.events.Event.{Event}
+use Rattle.ev_types.specs.declared.events.Event.TheVariants.{Accept, Close}
 use Rattle.ev_types.specs.declared.journals.Format.{Format}
 use Rattle.ev_model.specs.World.{World, OpenMember}
 use Rattle.ev_model.specs.Dead.{last_picture, picture_held}
-use Rattle.ev_model.specs.Connections.{closed_by, is_member}
+use Rattle.ev_model.specs.Connections.{closed_by, is_member, is_open}
 use Rattle.ev_model.specs.Picture.{has_number}
+use Rattle.ev_model.specs.Step.{step}
 use Rattle.ev_model.specs.Runs.{RunsFrom, world_after}
 use Rattle.ev_model.specs.declared.pictures.Picture.{Picture}
 use Rattle.ev_worker.specs.declared.lines.BatchLine.{BatchLine}
-use Rattle.ev_worker.specs.Batches.{entries_of}
+use Rattle.ev_worker.specs.declared.lines.Outcome.{Outcome}
+use Rattle.ev_worker.specs.declared.lines.Outcome.TheVariants.{Accepted as accepted, Closed as closed}
+use Rattle.ev_worker.specs.Batches.{accepted_as, closed_as, entries_of}
 
 -- a worker: its number, the picture that it serves from, its open connections, what it did since it settled, and how many more
 -- connections have room
@@ -32,13 +38,30 @@ pub record HasWorker (number : ℕ) (picture : Picture) (opened : List OpenMembe
 abbrev pub StandsFor : WorkerParts → World → Type 0
 StandsFor worker world = HasWorker worker.number worker.picture worker.opened world
 
+-- an event of a worker is answered as the machine answers it in this world, by the picture that the worker holds there, and by its
+-- connections that are open
+abbrev pub IsAnswer : ℕ → World → Event → Outcome → Type 0
+IsAnswer worker world (Accept ask) outcome = outcome ≡ accepted (accepted_as (picture_held world worker) ask (is_open world.opened worker ask.conn))
+IsAnswer worker world (Close connection) outcome = outcome ≡ closed (closed_as (is_open world.opened worker connection))
+IsAnswer worker world event outcome = ⊥
+
+-- each of a worker's lines is answered so, one after another
+abbrev pub AreAnswered : Format → ℕ → World → List BatchLine → Type 0
+AreAnswered format worker world [] = ⊤
+AreAnswered format worker world (line ∷ lines) =
+    IsAnswer worker world line.event line.outcome × AreAnswered format worker (step format world (by_worker worker) line.event).0 lines
+
 -- The worker's batch was begun with these connections open. At any world in which the worker holds its picture and has these
--- open, each line of the batch is answered as the machine answers it there, one after another, and behind them the worker
+-- open, each line of the batch is answered as the machine answers it there, one after another, by the
+-- choice that it makes there, and behind them the worker
 -- stands for the world.
 pub record IsMadeFrom (begun : List OpenMember) (worker : WorkerParts) : Type 0 where
   pub answers : (format : Format) (workers : ℕ) (world : World) → worker.number < workers
       → HasWorker worker.number worker.picture begun world
       → RunsFrom format workers world (entries_of worker.number worker.picture worker.lines)
+  pub chosen : (format : Format) (world : World)
+      → HasWorker worker.number worker.picture begun world
+      → AreAnswered format worker.number world worker.lines
   pub leads : (format : Format) (world : World)
       → HasWorker worker.number worker.picture begun world
       → StandsFor worker (world_after format world (entries_of worker.number worker.picture worker.lines))

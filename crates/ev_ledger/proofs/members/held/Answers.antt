@@ -8,11 +8,14 @@ use Rattle.ev_ledger.proofs.EntryLemmas.{range_of_worker}
 use Rattle.ev_ledger.proofs.members.held.Goals as goal
 
 pub returns : goal.returns
-returns c =
-    IfOk-weaker c.collect.result _ _ (λ v h. h.0)
-    (fact_from_collect (λ xs v. (v.items ≡ xs) × (v.len ≡ length xs)) c.collect.result c.collect.ensures.ran
-    (YieldsList-from_map _ held_at
-    (YieldsList-at c.map.ensures.source
-    (YieldsList-from_rest (filter (is_at_worker c.args.worker) c.args.members.now.entries)
-    (c.range.ensures.between tt ∙ range_of_worker c.args.worker c.args.members.now.entries)))
-    c.map.ensures.closure (λ x r q k. search rules)))
+returns c = record {
+  held =
+      IfOk-weaker c.collect.result _ _ (λ v h. h.0)
+      (fact_from_collect (λ xs v. (v.items ≡ xs) × (v.len ≡ length xs)) c.collect.result c.collect.ensures.ran
+      (YieldsList-from_map _ held_at
+      (YieldsList-at c.map.ensures.source
+      (YieldsList-from_rest (filter (is_at_worker c.args.worker) c.args.members.now.entries)
+      (c.range.ensures.between tt ∙ range_of_worker c.args.worker c.args.members.now.entries)))
+      c.map.ensures.closure (λ x r q k. search rules)));
+  ordered = c.len.ensures.ordered;
+}

@@ -1,11 +1,13 @@
-use Rattle.std.proofs.Common.{◌∙◌, List, ℕ, [], ◌∷◌, refl, subst}
-use Rattle.std.proofs.lemmas.List.{take_all}
+use Rattle.std.proofs.Common.{◌≡◌, ◌∙◌, List, ℕ, [], ◌∷◌, refl, sym, subst}
+use Rattle.ev_types.specs.Items.{ResponseParts}
+use Rattle.ev_model.specs.Verdicts.{is_among}
+use Rattle.std.proofs.lemmas.List.{nil_from_length, take_all}
 use Rattle.ev_types.specs.declared.contents.Kind.{Kind}
 use Rattle.ev_model.specs.Rows.{with_statuses}
 use Rattle.ev_warming.specs.Changes.{status_left_by}
 use Rattle.ev_warming.specs.Worlds.{StandsFor}
 use Rattle.ev_warming.proofs.RetiredLemmas.{tells-none, tells-then}
-use Rattle.ev_warming.proofs.ResponseLemmas.{nothing-stands, more-stands}
+use Rattle.ev_warming.proofs.ResponseLemmas.{nothing-stands, more-stands, listed-at}
 use Rattle.ev_warming.proofs.manager.Manager.remove_names.Goals as goal
 
 pub loop-name-init : goal.loop-name-init
@@ -35,7 +37,9 @@ loop-name-preserved g c =
       told = tells-then c.args.self.now.state.table.rows s.table.rows t.table.rows c.args.applied.now.retired c.loop-name.applied.retired c.remove_name.new.applied.retired i.told e.told;
       stands = λ world stands.
           more-stands s t world kind response c.as_slice-name-items.result.now c.loop-name.name-index name c.loop-name-test.true c.name-item.is (i.stands world stands)
-          (λ w standing. subst (λ (k : Kind). StandsFor t (record w { rows = with_statuses (status_left_by k response (name ∷ [])) w.rows })) i.kind (e.stands w standing));
+          (λ w standing.
+          subst (λ (r : ResponseParts). StandsFor t (record w { rows = with_statuses (status_left_by kind r (name ∷ [])) w.rows })) c.in_ok-mentions.ensures
+          (subst (λ (k : Kind). StandsFor t (record w { rows = with_statuses (status_left_by k c.in_ok-mentions.mentions (name ∷ [])) w.rows })) i.kind (e.stands w standing)));
     }
 
 pub returns-clause-stands : goal.returns-clause-stands
@@ -46,3 +50,22 @@ returns-clause-stands g c =
     subst (λ (names : List (List ℕ)). StandsFor c.loop-name.self.state (record world { rows = with_statuses (status_left_by kind response names) world.rows }))
     (take_all c.loop-name.name-index c.as_slice-name-items.result.now c.loop-name-test.false ∙ c.as_slice-name-items.ensures.elements ∙ (λ i. (c.response.view_is i).removed))
     (c.loop-name.invariant.stands world stands)
+
+pub remove_name-requires-clause-listed : goal.remove_name-requires-clause-listed
+remove_name-requires-clause-listed g c =
+    let elements : c.as_slice-name-items.result.now ≡ c.args.response.now.removed = c.as_slice-name-items.ensures.elements ∙ (λ i. (c.response.view_is i).removed) in
+    (λ i. is_among c.name-item.result (c.in_ok-mentions.ensures i).removed)
+    ∙ (λ i. is_among c.name-item.result (sym elements i))
+    ∙ listed-at c.as_slice-name-items.result.now c.loop-name.name-index c.name-item.result c.loop-name-test.true c.name-item.is
+
+pub returns-then-is_empty-clause-stands : goal.returns-then-is_empty-clause-stands
+returns-then-is_empty-clause-stands g c =
+    let none : c.args.response.now.removed ≡ [] = (λ i. (sym c.response.view_is i).removed) ∙ nil_from_length c.response.inside.removed (c.is_empty.ensures.0 c.if-is_empty.true) in
+    let response = c.args.response.now in
+    let kind = c.args.self.now.state.kind in
+    λ world stands.
+    subst (λ (names : List (List ℕ)). StandsFor c.args.self.now.state (record world { rows = with_statuses (status_left_by kind response names) world.rows }))
+    (sym none) (nothing-stands c.args.self.now.state world response stands)
+
+pub returns-then-is_empty-clause-told : goal.returns-then-is_empty-clause-told
+returns-then-is_empty-clause-told g c = tells-none c.args.self.now.state.table.rows c.args.applied.now.retired

@@ -1,4 +1,6 @@
-use Rattle.std.proofs.Common.{◌∙◌, ◌<◌, ◌&&◌, length, get_or, subst}
+use Rattle.std.proofs.Common.{◌≡◌, ◌∙◌, ◌<◌, ◌≤◌, ◌&&◌, ℕ, List, [], length, get_or, sym, subst}
+use Rattle.ev_model.specs.Verdicts.{is_among}
+use Rattle.std.proofs.lemmas.List.{nil_from_length, take_all}
 use Rattle.std.specs.List.{list_any}
 use Rattle.ev_types.specs.declared.rows.Arrival.TheVariants.{Absent}
 use Rattle.ev_warming.specs.Indexes.{depends_on}
@@ -6,7 +8,8 @@ use Rattle.ev_warming.specs.Worlds.{needs_of, StandsFor}
 use Rattle.ev_warming.specs.Changes.{is_unlisted}
 use Rattle.ev_warming.specs.Arrivals.{told_where}
 use Rattle.ev_warming.proofs.ForgottenLemmas.{watched-same}
-use Rattle.ev_warming.proofs.AbsenceLemmas.{absent-more}
+use Rattle.ev_warming.proofs.AbsenceLemmas.{with_absent, absent-more, absent-none}
+use Rattle.ev_warming.proofs.ResponseLemmas.{listed-at}
 use Rattle.ev_warming.proofs.manager.Manager.tell_absences.Goals as goal
 
 pub loop-name-preserved : goal.loop-name-preserved
@@ -28,5 +31,27 @@ loop-name-preserved g c =
       stands = λ world stands.
           absent-more s t world response (needs_of s0.kind) s0.table.rows place name within (c.name-item.is ∙ (λ j. get_or (i.items j) place name)) (watched-same s0 world stands c.requires.kept.rows name) (i.stands world stands)
           (λ w standing.
-          subst (StandsFor t) (λ j. told_where (is_unlisted response name && list_any (depends_on name) (i.table j).rows) (needs_of (i.kind j)) Absent name w) (e.stands w standing));
+          subst (StandsFor t) (λ j. told_where (is_unlisted (c.in_ok-mentions.ensures j) name && list_any (depends_on name) (i.table j).rows) (needs_of (i.kind j)) Absent name w) (e.stands w standing));
     }
+
+pub tell_absence-requires-clause-listed : goal.tell_absence-requires-clause-listed
+tell_absence-requires-clause-listed g c =
+    (λ i. is_among c.name-item.result (c.in_ok-mentions.ensures i).removed)
+    ∙ (λ i. is_among c.name-item.result (sym c.loop-name.invariant.items i))
+    ∙ listed-at c.as_slice-name-items.result.now c.loop-name.name-index c.name-item.result c.loop-name-test.true c.name-item.is
+
+pub returns-then-is_empty-clause-stands : goal.returns-then-is_empty-clause-stands
+returns-then-is_empty-clause-stands g c =
+    let none : c.args.response.now.removed ≡ [] = (λ i. (sym c.response.view_is i).removed) ∙ nil_from_length c.response.inside.removed (c.is_empty.ensures.0 c.if-is_empty.true) in
+    let response = c.args.response.now in
+    let kind = needs_of c.args.self.now.state.kind in
+    λ world stands.
+    subst (λ names. StandsFor c.args.self.now.state (with_absent response kind world names)) (sym none) (absent-none c.args.self.now.state world response kind stands)
+
+pub returns-clause-stands : goal.returns-clause-stands
+returns-clause-stands g c =
+    let response = c.args.response.now in
+    let kind = needs_of c.args.self.now.state.kind in
+    let done : length response.removed ≤ c.loop-name.name-index = subst (λ (names : List (List ℕ)). length names ≤ c.loop-name.name-index) c.loop-name.invariant.items c.loop-name-test.false in
+    λ world stands.
+    subst (λ (names : List (List ℕ)). StandsFor c.loop-name.self.state (with_absent response kind world names)) (take_all c.loop-name.name-index response.removed done) (c.loop-name.invariant.stands world stands)

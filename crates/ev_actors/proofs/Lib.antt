@@ -1,0 +1,9 @@
+pub mod SinceLemmas
+pub mod OrderLemmas
+pub mod FullLemmas
+pub mod PassLemmas
+pub mod WorldLemmas
+pub mod SettleLemmas
+pub mod LineLemmas
+pub mod WaitingLemmas
+pub mod ReplayLemmas

@@ -1,0 +1,69 @@
+use Rattle.std.proofs.Common.{◌≡◌, ◌<◌, ◌+◌, ◌==◌, ℕ, Bool, true, false, length, map, ap, sym, ◌∙◌, subst, arith}
+use Rattle.std.proofs.lemmas.Bool.Decides.{nat_tests}
+use Rattle.std.proofs.lemmas.List.{length-map}
+use Rattle.std.proofs.lemmas.Result.{IfOk-weaker}
+use Rattle.ev_types.specs.Events.{MayMake}
+use Rattle.ev_types.specs.declared.events.Actor.TheVariants.{Worker}
+use Rattle.ev_types.specs.declared.events.Line.{Line}
+use Rattle.ev_model.specs.Runs.{is_batched}
+use Rattle.ev_model.specs.Operations.{is_settle}
+use Rattle.ev_worker.specs.Workers.{WorkerParts}
+use Rattle.ev_actors.specs.Taken.{HasSettled, HasWorked}
+use Rattle.ev_actors.specs.Working.{operation_made, operations_made}
+use Rattle.ev_actors.proofs.LineLemmas.{few_works, full_works, settle_works, worker_batches, worker_below}
+use Rattle.ev_actors.proofs.steps.worker_line.Goals as goal
+
+below : (workers number : ℕ) (line : Line) → line.actor ≡ Worker number → MayMake workers line.actor line.event → number < workers
+below workers number line own may = worker_below workers number line.event (subst (λ a. MayMake workers a line.event) own may)
+
+batches : (workers number : ℕ) (line : Line) → line.actor ≡ Worker number → MayMake workers line.actor line.event → is_settle line.event ≡ false → is_batched line.event ≡ true
+batches workers number line own may h = worker_batches workers number line.event (subst (λ a. MayMake workers a line.event) own may) h
+
+full_by : (room : ℕ) (worker : WorkerParts) → room + length worker.lines ≡ 256 → room ≡ 0 → (length (operations_made worker) == 256) ≡ true
+full_by room worker fits none =
+    let lines : length worker.lines ≡ 256 = omega arith in
+    ap (λ n. n == 256) (length-map worker.lines (operation_made worker.number) ∙ lines)
+
+not_full : (n : ℕ) → n < 256 → (n == 256) ≡ false
+not_full n h = grind (arith, nat_tests)
+
+few_by : (room : ℕ) (worker : WorkerParts) → room + length worker.lines ≡ 256 → (room ≡ 0 → ⊥) → length worker.lines < 256
+few_by room worker fits some = omega (arith, some)
+
+pub returns-then-is_settle : goal.returns-then-is_settle
+returns-then-is_settle g c =
+    IfOk-weaker c.settle.result
+    (λ u. HasSettled c.args.line.now.at 0 (g.R.Journaled.shows c.args.journaled.now) (g.R.Journaled.shows c.settle.new.journaled) c.args.worker.now c.settle.new.worker)
+    (λ u. HasWorked c.args.line.now (g.R.Journaled.shows c.args.journaled.now) (g.R.Journaled.shows c.settle.new.journaled) c.args.worker.now c.settle.new.worker)
+    (λ u settled.
+    settle_works c.args.line.now (g.R.Journaled.shows c.args.journaled.now) (g.R.Journaled.shows c.settle.new.journaled) c.args.worker.now c.settle.new.worker
+    c.requires.own c.requires.working.works
+    (below (g.R.Journaled.shows c.args.journaled.now).workers c.args.worker.now.number c.args.line.now c.requires.own c.requires.allowed)
+    (sym c.is_settle.ensures ∙ c.if-is_settle.true) settled)
+    c.settle.ensures
+
+pub returns-then-room-eq0 : goal.returns-then-room-eq0
+returns-then-room-eq0 g c =
+    IfOk-weaker c.settle-then-room-eq0.result
+    (λ u. HasSettled c.args.line.now.at 1 (g.R.Journaled.shows c.args.journaled.now) (g.R.Journaled.shows c.settle-then-room-eq0.new.journaled) c.join.new.worker c.settle-then-room-eq0.new.worker)
+    (λ u. HasWorked c.args.line.now (g.R.Journaled.shows c.args.journaled.now) (g.R.Journaled.shows c.settle-then-room-eq0.new.journaled) c.args.worker.now c.settle-then-room-eq0.new.worker)
+    (λ u settled.
+    full_works c.args.line.now (g.R.Journaled.shows c.args.journaled.now) (g.R.Journaled.shows c.settle-then-room-eq0.new.journaled) c.args.worker.now c.settle-then-room-eq0.new.worker
+    c.requires.own c.requires.working.works
+    (below (g.R.Journaled.shows c.args.journaled.now).workers c.args.worker.now.number c.args.line.now c.requires.own c.requires.allowed)
+    c.join.new.worker
+    (batches (g.R.Journaled.shows c.args.journaled.now).workers c.args.worker.now.number c.args.line.now c.requires.own c.requires.allowed (sym c.is_settle.ensures ∙ c.if-is_settle.false))
+    c.in_ok-join.ensures
+    (full_by c.room.result c.join.new.worker c.room.ensures c.if-room-eq0.true) settled)
+    c.settle-then-room-eq0.ensures
+
+pub returns-else-room-eq0 : goal.returns-else-room-eq0
+returns-else-room-eq0 g c =
+    let few : length c.join.new.worker.lines < 256 = few_by c.room.result c.join.new.worker c.room.ensures c.if-room-eq0.false in
+    few_works c.args.line.now (g.R.Journaled.shows c.args.journaled.now) (g.R.Journaled.shows c.args.journaled.now) c.args.worker.now c.join.new.worker
+    c.requires.own c.requires.working.works
+    (below (g.R.Journaled.shows c.args.journaled.now).workers c.args.worker.now.number c.args.line.now c.requires.own c.requires.allowed)
+    c.join.new.worker
+    (batches (g.R.Journaled.shows c.args.journaled.now).workers c.args.worker.now.number c.args.line.now c.requires.own c.requires.allowed (sym c.is_settle.ensures ∙ c.if-is_settle.false))
+    c.in_ok-join.ensures
+    (ap (λ n. n == 256) (length-map c.join.new.worker.lines (operation_made c.join.new.worker.number)) ∙ not_full (length c.join.new.worker.lines) few) few

@@ -1,0 +1,4 @@
+pub mod Passes
+pub mod Journals
+pub mod Working
+pub mod Taken

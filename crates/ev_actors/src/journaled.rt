@@ -1,0 +1,56 @@
+ghost use Rattle.std.specs.Prelude.{◌≡◌, ◌≤◌, ◌<◌, ◌+◌, [], ◌∷◌, IfOk, OnOk, OnErr};
+ghost use Rattle.std.specs.Arc.{arc_value};
+ghost use Rattle.ev_types.specs.Events.{IsMainSide, MayMake};
+ghost use Rattle.ev_types.specs.Scripts.{items_in};
+ghost use Rattle.ev_model.specs.Dead.{last_picture};
+ghost use Rattle.ev_model.specs.Runs.{IsRun};
+ghost use Rattle.ev_model.specs.Step.{step as machine_step};
+ghost use Rattle.ev_worker.specs.Workers.{IsToldBy};
+ghost use Rattle.ev_actors.specs.Journals.{JournalParts, WorksIn, with_entries, with_settled, world_behind, world_now};
+
+use ev_snapshot::Snapshot;
+use ev_types::{Actor, Answer, Entry, Event};
+use ev_worker::{Settled, Worker};
+use std::alloc::AllocError;
+use std::sync::Arc;
+
+/// What the actors of a script act on: it makes steps of the flat machine, one after another, and enters them in a journal.
+pub trait Journaled {
+    // what contracts see of it
+    ghost shows: { Self → JournalParts };
+
+    /// Makes one step of an actor of the main side and enters it in the journal. Out of memory, all stays as it was. The numbers
+    /// of generations have to suffice for an event's resources; at most one is drawn for each.
+    fn apply(
+        &mut self,
+        actor: Actor,
+        at: u32,
+        step: u32,
+        event: &Event,
+    ) -> Result<Answer, AllocError>
+        requires main { IsMainSide actor }
+        requires allowed { MayMake (shows self.old).workers actor event.now }
+        requires numbered { (world_now (shows self.old)).made + items_in event.now ≤ u32.MAX }
+        ensures answer { IfOk result (λ answer. answer ≡ (machine_step (shows self.old).format (world_now (shows self.old)) actor event.now).1) }
+        ensures entry { IfOk result (λ answer. shows self.new ≡ with_entries (record { actor = actor; at = at; step = step; event = event.now; answer = answer } ∷ []) (shows self.old)) }
+        ensures drawn { OnOk result ((world_now (shows self.new)).made ≤ (world_now (shows self.old)).made + items_in event.now) }
+        ensures err { OnErr result (shows self.new ≡ shows self.old) };
+
+    /// Enters what a worker did since it settled, and its settle behind, and answers what the worker takes over. Out of memory,
+    /// all stays as it was.
+    fn apply_batch(&mut self, worker: &Worker, at: u32, step: u32) -> Result<Settled, AllocError>
+        requires within { worker.now.number < (shows self.old).workers }
+        requires works { WorksIn worker.now (world_now (shows self.old)) }
+        ensures entries { OnOk result (shows self.new ≡ with_settled worker.now at step (shows self.old)) }
+        ensures told { IfOk result (λ settled. IsToldBy worker.now.number settled.closed (arc_value settled.snapshot) (world_behind worker.now (shows self.old))) }
+        ensures err { OnErr result (shows self.new ≡ shows self.old) };
+
+    /// The last picture.
+    fn snapshot(&self) -> Result<Arc<Snapshot>, AllocError>
+        ensures picture { IfOk result (λ snapshot. arc_value snapshot ≡ last_picture (world_now (shows self.now))) };
+
+    /// The entries of what was done, in order.
+    fn journal(&self) -> &[Entry]
+        ensures entries { result.now ≡ (shows self.now).journal }
+        ensures run { IsRun (shows self.now).format (shows self.now).workers (shows self.now).node (shows self.now).journal };
+}

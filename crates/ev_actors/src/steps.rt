@@ -1,0 +1,154 @@
+ghost use Rattle.std.specs.Prelude.{◌≡◌, ◌≤◌, ◌<◌, ◌+◌, ◌&&◌, true, length, OnOk};
+ghost use Rattle.ev_types.specs.Events.{IsMainSide, MayMake};
+ghost use Rattle.ev_types.specs.Scripts.{items_in};
+ghost use Rattle.ev_types.specs.declared.events.Actor.TheVariants.{Worker as by_worker};
+ghost use Rattle.ev_model.specs.Operations.{batch_limit, is_automatic, is_settle as is_settle_event};
+ghost use Rattle.ev_model.specs.Runs.{is_batched};
+ghost use Rattle.ev_actors.specs.Journals.{WorksIn, world_now};
+ghost use Rattle.ev_actors.specs.Taken.{HasEntered, HasFollowed, HasGoneOut, HasJoined, HasSettled, HasWorked, IsTaken};
+ghost use Rattle.ev_actors.specs.Working.{AreAtWork, IsAtWork};
+
+use crate::journaled::Journaled;
+use ev_types::{Actor, Event, Line, TryCopy};
+use ev_worker::Worker;
+use std::alloc::{AllocError, Global};
+
+// The settle of a worker: its batch goes into the journal, and it takes over the last picture.
+pub(crate) fn settle<R: Journaled>(
+    journaled: &mut R,
+    worker: &mut Worker,
+    at: u32,
+    step: u32,
+) -> Result<(), AllocError>
+    requires within { worker.old.number < (R.shows journaled.old).workers }
+    requires works { WorksIn worker.old (world_now (R.shows journaled.old)) }
+    ensures { OnOk result (HasSettled at step (R.shows journaled.old) (R.shows journaled.new) worker.old worker.new) }
+{
+    worker.prepare()?;
+    let settled = journaled.apply_batch(worker, at, step)?;
+    worker.adopt(settled);
+    Ok(())
+}
+
+// An accept or close joins the batch of its worker.
+fn join(alloc: Global, worker: &mut Worker, line: &Line) -> Result<(), AllocError>
+    requires room { length worker.old.lines < batch_limit }
+    requires batched { is_batched line.now.event ≡ true }
+    ensures { OnOk result (HasJoined line.now worker.old worker.new) }
+{
+    match &line.event {
+        Event::Accept(ask) => {
+            let ask = ask.copy(alloc)?;
+            let _ = worker.accept(line.at, ask);
+            Ok(())
+        }
+        Event::Close(conn) => {
+            let _ = worker.close(line.at, *conn);
+            Ok(())
+        }
+        _ => unreachable!(),
+    }
+}
+
+// A line of a worker: an accept or close joins the batch, which goes into the journal where it is full then; a settle ends it.
+fn worker_line<R: Journaled>(
+    alloc: Global,
+    journaled: &mut R,
+    worker: &mut Worker,
+    line: &Line,
+) -> Result<(), AllocError>
+    requires working { IsAtWork worker.old.number (world_now (R.shows journaled.old)) worker.old }
+    requires own { line.now.actor ≡ by_worker worker.old.number }
+    requires allowed { MayMake (R.shows journaled.old).workers line.now.actor line.now.event }
+    ensures { OnOk result (HasWorked line.now (R.shows journaled.old) (R.shows journaled.new) worker.old worker.new) }
+{
+    if is_settle(&line.event) {
+        return settle(journaled, worker, line.at, 0);
+    }
+    join(alloc, worker, line)?;
+    if worker.room() == 0 {
+        settle(journaled, worker, line.at, 1)
+    } else {
+        Ok(())
+    }
+}
+
+// Whether the event is a settle.
+fn is_settle(event: &Event) -> bool
+    ensures { result ≡ is_settle_event event.now }
+{
+    matches!(event, Event::Settle)
+}
+
+// Whether a publication and a reaping follow the actor's lines, by whether the script says `auto`.
+fn is_followed(auto: bool, actor: Actor) -> bool
+    ensures { result ≡ (auto && is_automatic actor) }
+{
+    auto && matches!(actor, Actor::Stream | Actor::Health | Actor::Timer)
+}
+
+// An event of the main side, whose answer is told to no one.
+fn enter<R: Journaled>(
+    journaled: &mut R,
+    actor: Actor,
+    at: u32,
+    step: u32,
+    event: &Event,
+) -> Result<(), AllocError>
+    requires main { IsMainSide actor }
+    requires allowed { MayMake (R.shows journaled.old).workers actor event.now }
+    requires numbered { (world_now (R.shows journaled.old)).made + items_in event.now ≤ u32.MAX }
+    ensures { OnOk result (HasEntered record { actor = actor; at = at; step = step; event = event.now } (R.shows journaled.old) (R.shows journaled.new)) }
+{
+    let _ = journaled.apply(actor, at, step, event)?;
+    Ok(())
+}
+
+// The publication and the reaping behind a line.
+fn follow<R: Journaled>(journaled: &mut R, line: &Line) -> Result<(), AllocError>
+    requires main { IsMainSide line.now.actor }
+    requires numbered { (world_now (R.shows journaled.old)).made ≤ u32.MAX }
+    ensures { OnOk result (HasFollowed line.now (R.shows journaled.old) (R.shows journaled.new)) }
+{
+    enter(journaled, line.actor, line.at, 1, &Event::Publish)?;
+    enter(journaled, line.actor, line.at, 2, &Event::Reap)?;
+    Ok(())
+}
+
+// A line of the main side, and what follows it.
+fn main_line<R: Journaled>(journaled: &mut R, auto: bool, line: &Line) -> Result<(), AllocError>
+    requires main { IsMainSide line.now.actor }
+    requires allowed { MayMake (R.shows journaled.old).workers line.now.actor line.now.event }
+    requires numbered { (world_now (R.shows journaled.old)).made + items_in line.now.event ≤ u32.MAX }
+    ensures { OnOk result (HasGoneOut auto line.now (R.shows journaled.old) (R.shows journaled.new)) }
+{
+    enter(journaled, line.actor, line.at, 0, &line.event)?;
+    let followed = is_followed(auto, line.actor);
+    if followed {
+        follow(journaled, line)
+    } else {
+        Ok(())
+    }
+}
+
+// A line of the script.
+pub(crate) fn take_line<R: Journaled>(
+    alloc: Global,
+    journaled: &mut R,
+    workers: &mut [Worker],
+    auto: bool,
+    line: &Line,
+) -> Result<(), AllocError>
+    requires count { length workers.old ≡ (R.shows journaled.old).workers }
+    requires working { AreAtWork (world_now (R.shows journaled.old)) workers.old }
+    requires allowed { MayMake (R.shows journaled.old).workers line.now.actor line.now.event }
+    requires numbered { (world_now (R.shows journaled.old)).made + items_in line.now.event ≤ u32.MAX }
+    ensures { OnOk result (IsTaken auto line.now (R.shows journaled.old) (R.shows journaled.new) workers.old workers.new) }
+{
+    match line.actor {
+        Actor::Worker(number) => {
+            worker_line(alloc, journaled, &mut workers[number as usize], line)
+        }
+        _ => main_line(journaled, auto, line),
+    }
+}

@@ -1,0 +1,59 @@
+-- What contracts see of the pictures, and what a world has of them.
+use Rattle.std.specs.Prelude.{◌≡◌, ◌<◌, ◌+◌, ◌||◌, ℕ, Bool, if◌then◌else◌, List, map, length, slice_set, Option, Some, None}
+use Rattle.std.specs.List.{list_any, AllByRecursion}
+use Rattle.ev_types.specs.declared.events.Answer.{Answer}
+use Rattle.ev_types.specs.declared.events.Answer.TheVariants.{Version, Unchanged}
+use Rattle.ev_model.specs.declared.pictures.Picture.{Picture}
+use Rattle.ev_model.specs.declared.pictures.Shown.{Shown}
+use Rattle.ev_model.specs.World.{World, nothing_shown, last_version}
+use Rattle.ev_model.specs.Picture.{is_shown, shown_same}
+use Rattle.ev_model.specs.Dead.{last_picture, picture_at}
+
+-- the picture that was published last, and the one that each worker holds
+pub record PicturesParts : Type 0 where
+  pub last : Picture
+  pub held : List Picture
+
+-- the picture before the first
+abbrev pub first_picture : Picture
+first_picture = record { version = 0; shown = nothing_shown }
+
+-- the version of a publication: none where nothing else is shown than in the last picture
+abbrev pub next_version : Shown → Picture → Option ℕ
+next_version shown last = if shown_same shown last.shown then None else Some (last.version + 1)
+
+-- the pictures after a publication
+abbrev pub with_shown : Shown → PicturesParts → PicturesParts
+with_shown shown pictures =
+    if shown_same shown pictures.last.shown
+    then pictures
+    else record pictures { last = record { version = pictures.last.version + 1; shown = shown } }
+
+-- the machine's answer to a publication, by its version
+abbrev pub published_answer : Option ℕ → Answer
+published_answer None = Unchanged
+published_answer (Some version) = Version version
+
+-- the pictures after this worker took over the last
+abbrev pub with_settled : ℕ → PicturesParts → PicturesParts
+with_settled worker pictures = record pictures { held = slice_set pictures.held worker pictures.last }
+
+-- the world after this worker took over the last picture
+abbrev pub settled_on : ℕ → World → World
+settled_on worker world = record world { held = slice_set world.held worker (last_version world) }
+
+-- the picture shows the generation of this number
+abbrev pub is_shown_in : ℕ → Picture → Bool
+is_shown_in number picture = is_shown number picture.shown
+
+-- a picture that a worker holds, or the last, shows the generation of this number
+abbrev pub is_shown_by : ℕ → PicturesParts → Bool
+is_shown_by number pictures = list_any (is_shown_in number) pictures.held || is_shown_in number pictures.last
+
+-- The pictures are those of the world: the last one, and of as many workers the one that each holds. The last one's version is
+-- that of the world's last picture, and each worker's was published.
+pub record StandsFor (pictures : PicturesParts) (world : World) : Type 0 where
+  pub published : length world.pictures ≡ pictures.last.version + 1
+  pub last : pictures.last ≡ last_picture world
+  pub held : pictures.held ≡ map (picture_at world) world.held
+  pub known : AllByRecursion (λ version. version < length world.pictures) world.held

@@ -1,0 +1,188 @@
+ghost use Rattle.std.specs.Prelude.{◌≡◌, ◌<◌, ◌+◌, ℕ, List, length, map, replicate, IfOk, OnOk, OnErr};
+ghost use Rattle.std.specs.Arc.{arc_value};
+ghost use Rattle.std.specs.List.{list_any};
+ghost use Rattle.ev_model.specs.World.{World, opening};
+ghost use Rattle.ev_model.specs.Picture.{has_number, shown_of};
+ghost use Rattle.ev_model.specs.Dead.{numbers_in_use};
+ghost use Rattle.ev_model.specs.Publishing.{publish};
+ghost use Rattle.ev_pictures.specs.Pictures.{StandsFor, first_picture, is_shown_by, is_shown_in, next_version, published_answer, settled_on, with_shown, with_settled};
+
+use ev_model::{Picture, Shown};
+use ev_snapshot::Snapshot;
+use ev_types::{Gen, Seq};
+use std::alloc::{AllocError, Global};
+use std::marker::Model;
+use std::sync::Arc;
+
+/// What was published last, and the snapshot that each worker holds. Contracts see the pictures. Each snapshot is shared.
+#[derive(Drop)]
+pub struct Pictures {
+    /// The last picture as data, which the next one is compared with.
+    picture: Picture,
+    last: Arc<Snapshot>,
+    held: Vec<Arc<Snapshot>>,
+}
+
+impl Model for Pictures {
+    ghost use Rattle.std.specs.Prelude.{◌≡◌, map};
+    ghost use Rattle.std.specs.Arc.{arc_value};
+    ghost use Rattle.ev_pictures.specs.Pictures.{PicturesParts};
+
+    ghost Value = { PicturesParts };
+
+    ghost view = { λ p. record { last = arc_value p.last; held = map arc_value p.held.items } };
+
+    ghost invariant = { λ p. p.picture ≡ arc_value p.last };
+}
+
+impl Pictures {
+    /// Nothing was published, and each of so many workers holds the empty picture.
+    pub fn new(alloc: Global, workers: u32) -> Result<Pictures, AllocError>
+        ensures empty { IfOk result (λ pictures. pictures ≡ record { last = first_picture; held = replicate workers first_picture }) }
+        ensures world { IfOk result (λ pictures. (node : List ℕ) → StandsFor pictures (opening workers node)) }
+    {
+        let picture = nothing(alloc);
+        let last = Snapshot::build(alloc, &picture)?;
+        let held = held_by_all(alloc, &last, workers)?;
+        Ok(Pictures {
+            picture,
+            last,
+            held,
+        })
+    }
+
+    /// Publishes what workers may serve now, under the next version, which it answers; where it is what the last picture shows,
+    /// nothing is published, and there is no version. Clusters and listeners that are as in the last picture are shared with it.
+    /// Out of memory, all stays as it was; so where versions are used up.
+    pub fn publish(&mut self, alloc: Global, shown: Shown) -> Result<Option<u64>, AllocError>
+        ensures version { IfOk result (λ version. version ≡ next_version shown self.old.last) }
+        ensures published { OnOk result (self.new ≡ with_shown shown self.old) }
+        ensures answer { IfOk result (λ version. (world : World) → StandsFor self.old world → shown ≡ shown_of world → (publish world).1 ≡ published_answer version) }
+        ensures world { OnOk result ((world : World) → StandsFor self.old world → shown ≡ shown_of world → StandsFor self.new (publish world).0) }
+        ensures err { OnErr result (self.new ≡ self.old) }
+    {
+        if shown == self.picture.shown {
+            return Ok(None);
+        }
+        let Ok(version) = next(self.picture.version) else {
+            return Err(AllocError);
+        };
+        let picture = Picture { version, shown };
+        let Ok(last) = Snapshot::build_from(alloc, &picture, &self.last) else {
+            return Err(AllocError);
+        };
+        self.picture = picture;
+        self.last = last;
+        Ok(Some(version))
+    }
+
+    /// A worker takes over the last snapshot, which it answers. It takes no memory; it is refused where 2^63 - 1 owners hold the
+    /// snapshot already, and all stays as it was then.
+    pub fn settle(&mut self, worker: u32) -> Result<Arc<Snapshot>, AllocError>
+        requires known { worker < length self.old.held }
+        ensures snapshot { IfOk result (λ snapshot. arc_value snapshot ≡ self.old.last) }
+        ensures settled { OnOk result (self.new ≡ with_settled worker self.old) }
+        ensures world { OnOk result ((world : World) → StandsFor self.old world → StandsFor self.new (settled_on worker world)) }
+        ensures err { OnErr result (self.new ≡ self.old) }
+    {
+        let Ok(kept) = self.snapshot() else {
+            return Err(AllocError);
+        };
+        let Ok(given) = self.snapshot() else {
+            return Err(AllocError);
+        };
+        self.held[worker as usize] = kept;
+        Ok(given)
+    }
+
+    /// Whether a picture in use shows the generation of this number: one that a worker holds, or the last. It looks two numbers
+    /// up in each, and goes through no picture.
+    pub fn shows(&self, number: Gen) -> bool
+        ensures shown { result ≡ is_shown_by number self.now }
+        ensures world { (world : World) → StandsFor self.now world → result ≡ has_number number (numbers_in_use world) }
+    {
+        self.is_shown(number)
+    }
+
+    // The same, as contracts see the pictures.
+    #[tactic(auto, using(crate::proofs::WorldLemmas::any_mapped))]
+    fn is_shown(&self, number: Gen) -> bool
+        ensures { result ≡ is_shown_by number self.now }
+    {
+        any_shows(self.held.as_slice(), number) || shows(&self.last, number)
+    }
+
+    /// The last snapshot, shared. It takes no memory; it is refused where 2^63 - 1 owners hold it already.
+    pub fn snapshot(&self) -> Result<Arc<Snapshot>, AllocError>
+        ensures last { IfOk result (λ snapshot. arc_value snapshot ≡ self.now.last) }
+    {
+        Arc::try_clone(&self.last)
+    }
+
+    /// The version of the last picture.
+    pub fn version(&self) -> u64
+        ensures last { result ≡ self.now.last.version }
+    {
+        self.last.version()
+    }
+
+    /// How many workers there are.
+    pub fn workers(&self) -> usize
+        ensures count { result ≡ length self.now.held }
+    {
+        self.held.len()
+    }
+}
+
+// The version after this one, where there is one.
+fn next(version: u64) -> Result<u64, AllocError>
+    ensures { IfOk result (λ next. next ≡ version + 1) }
+{
+    match version.checked_add(1) {
+        Some(next) => Ok(next),
+        None => Err(AllocError),
+    }
+}
+
+// The picture before the first.
+fn nothing(alloc: Global) -> Picture
+    ensures { result ≡ first_picture }
+{
+    Picture {
+        version: 0,
+        shown: Shown {
+            clusters: Seq::new(alloc),
+            listeners: Seq::new(alloc),
+        },
+    }
+}
+
+// The snapshot for each of so many workers.
+#[tactic(auto, using(crate::proofs::WorldLemmas::one_more))]
+fn held_by_all(
+    alloc: Global,
+    snapshot: &Arc<Snapshot>,
+    workers: u32,
+) -> Result<Vec<Arc<Snapshot>>, AllocError>
+    ensures { IfOk result (λ held. map arc_value held.items ≡ replicate workers (arc_value snapshot.now)) }
+{
+    let mut held = Vec::new(alloc);
+    for _ in 0..workers {
+        held.push(Arc::try_clone(snapshot)?)?;
+    }
+    Ok(held)
+}
+
+// Whether one of these snapshots shows the generation of this number.
+fn any_shows(held: &[Arc<Snapshot>], number: Gen) -> bool
+    ensures { result ≡ list_any (λ s. is_shown_in number (arc_value s)) held.now }
+{
+    held.iter().any(|snapshot| shows(snapshot, number))
+}
+
+// Whether a snapshot shows the generation of this number.
+fn shows(snapshot: &Arc<Snapshot>, number: Gen) -> bool
+    ensures { result ≡ is_shown_in number (arc_value snapshot.now) }
+{
+    snapshot.shows(number)
+}

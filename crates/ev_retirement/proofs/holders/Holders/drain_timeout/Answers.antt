@@ -1,0 +1,19 @@
+use Rattle.std.proofs.Common.{◌≡◌, sym, ap, ◌∙◌, subst}
+use Rattle.ev_retirement.specs.Holders.{HoldersParts, StandsFor, timed_out, timeout_answer}
+use Rattle.ev_retirement.proofs.HoldLemmas.{timeout_answers, timeout_leaves, timeout_stands}
+use Rattle.ev_retirement.proofs.holders.Holders.drain_timeout.Goals as goal
+
+pub returns-clause-answer : goal.returns-clause-answer
+returns-clause-answer c world stands =
+    let here : StandsFor _ world = subst (λ (v : HoldersParts). StandsFor v world) (sym c.self.view_is) stands in
+    timeout_answers c.args.name.now world ∙ ap timeout_answer (sym (c.expire.ensures.answer_by_world world.rows world.expired here.retired))
+
+pub returns-clause-machine : goal.returns-clause-machine
+returns-clause-machine c world stands =
+    let here : StandsFor _ world = subst (λ (v : HoldersParts). StandsFor v world) (sym c.self.view_is) stands in
+    timeout_leaves c.args.name.now world ∙ ap (λ meant. timed_out meant c.args.name.now world) (sym (c.expire.ensures.answer_by_world world.rows world.expired here.retired))
+
+pub returns-clause-world : goal.returns-clause-world
+returns-clause-world c world stands =
+    let here : StandsFor _ world = subst (λ (v : HoldersParts). StandsFor v world) (sym c.self.view_is) stands in
+    timeout_stands c.args.name.now _ c.expire.new.self world here c.expire.ensures.marked (c.expire.ensures.world world.rows world.expired here.retired)

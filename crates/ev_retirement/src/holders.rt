@@ -1,0 +1,144 @@
+ghost use Rattle.std.specs.Prelude.{◌≡◌, ◌<◌, ◌++◌, ◌∷◌, ℕ, List, true, false, length, IfOk, OnOk, OnErr};
+ghost use Rattle.std.specs.Arc.{arc_value};
+ghost use Rattle.ev_types.specs.Statuses.{is_live};
+ghost use Rattle.ev_types.specs.declared.rows.GenRow.{GenRow};
+ghost use Rattle.ev_types.specs.declared.events.Answer.TheVariants.{Settled as settled_answer};
+ghost use Rattle.ev_model.specs.World.{World, opening};
+ghost use Rattle.ev_model.specs.Picture.{shown_of};
+ghost use Rattle.ev_model.specs.Publishing.{publish, dead_numbers};
+ghost use Rattle.ev_model.specs.Signals.{drain_timeout};
+ghost use Rattle.ev_model.specs.Connections.{settle};
+ghost use Rattle.ev_pictures.specs.Pictures.{published_answer};
+ghost use Rattle.ev_drain.specs.Retired.{has_row};
+ghost use Rattle.ev_worker.specs.Workers.{IsToldBy};
+ghost use Rattle.ev_retirement.specs.Holders.{StandsFor, timed_out, timeout_answer, with_expired, with_retired, without_generation};
+
+use crate::closing::{close_all, numbers_closing};
+use crate::in_use::InUse;
+use ev_drain::Drain;
+use ev_ledger::Ledger;
+use ev_model::Shown;
+use ev_pictures::Pictures;
+use ev_snapshot::Snapshot;
+use ev_types::{Format, Gen, Kind, Name, Seq};
+use ev_worker::Settled;
+use std::alloc::{AllocError, Global};
+use std::marker::Model;
+use std::sync::Arc;
+
+/// What holds generations: the pictures that workers serve from, their open connections, and the generations that drain or were
+/// dropped, until nothing holds them any more.
+#[derive(Drop)]
+pub struct Holders {
+    pictures: Pictures,
+    ledger: Ledger,
+    drain: Drain,
+}
+
+impl Model for Holders {
+    ghost use Rattle.ev_retirement.specs.Holders.{HoldersParts};
+
+    ghost Value = { HoldersParts };
+
+    ghost view = { λ h. record { pictures = h.pictures; ledger = h.ledger; drain = h.drain } };
+}
+
+impl Holders {
+    /// Nothing was published, no connection is open, and no generation drains; each of so many workers holds the empty picture.
+    pub fn new(alloc: Global, workers: u32) -> Result<Holders, AllocError>
+        ensures world { IfOk result (λ holders. (node : List ℕ) → StandsFor holders (opening workers node)) }
+    {
+        let pictures = Pictures::new(alloc, workers)?;
+        Ok(Holders {
+            pictures,
+            ledger: Ledger::new(alloc),
+            drain: Drain::new(alloc),
+        })
+    }
+
+    /// Publishes what workers may serve now, under the next version, which it answers; where it is what the last picture shows,
+    /// nothing is published, and there is no version. Out of memory, all stays as it was; so where versions are used up.
+    pub fn publish(&mut self, alloc: Global, shown: Shown) -> Result<Option<u64>, AllocError>
+        ensures answer { IfOk result (λ version. (world : World) → StandsFor self.old world → shown ≡ shown_of world → (publish world).1 ≡ published_answer version) }
+        ensures world { OnOk result ((world : World) → StandsFor self.old world → shown ≡ shown_of world → StandsFor self.new (publish world).0) }
+        ensures err { OnErr result (self.new ≡ self.old) }
+    {
+        self.pictures.publish(alloc, shown)
+    }
+
+    /// The drain timeout of a listener's old generations: it came for those of this name that drain. It answers whether there
+    /// was one for which it hadn't come; where there was none, the machine ignores it, and else the world is to be tidied. It
+    /// takes no memory.
+    pub fn drain_timeout(&mut self, name: &Name) -> bool
+        ensures answer { (world : World) → StandsFor self.old world → (drain_timeout name.now world).1 ≡ timeout_answer result }
+        ensures machine { (world : World) → StandsFor self.old world → (drain_timeout name.now world).0 ≡ timed_out result name.now world }
+        ensures world { (world : World) → StandsFor self.old world → StandsFor self.new (with_expired name.now world) }
+    {
+        self.drain.expire(name)
+    }
+
+    /// Notes a generation that drains from now on, or was dropped, and served or warmed before. Out of memory, all stays as it
+    /// was.
+    pub fn retire(
+        &mut self,
+        alloc: Global,
+        kind: Kind,
+        number: Gen,
+        name: &Name,
+        dropped: bool,
+    ) -> Result<(), AllocError>
+        requires absent { has_row self.old.drain number ≡ false }
+        ensures world { OnOk result ((world : World) (before after : List GenRow) (row : GenRow) → StandsFor self.old world → world.rows ≡ before ++ row ∷ after → is_live row.status ≡ true → row.kind ≡ kind → row.number ≡ number → row.name ≡ name.now → StandsFor self.new (with_retired dropped before row after world)) }
+        ensures err { OnErr result (self.new ≡ self.old) }
+    {
+        self.drain.retire(alloc, kind, number, name, dropped)
+    }
+
+    /// The numbers of the generations that nothing holds any more, from the least, by a journal's format. Of each generation
+    /// that drains it asks the pictures in use and a count, and goes through no picture and no connection.
+    pub fn dead(&self, alloc: Global, format: Format) -> Result<Vec<Gen>, AllocError>
+        ensures world { IfOk result (λ dead. (world : World) → StandsFor self.now world → dead.items ≡ dead_numbers format world) }
+    {
+        let shown = InUse {
+            pictures: &self.pictures,
+        };
+        self.drain.dead(alloc, format, &self.ledger, &shown)
+    }
+
+    /// A dead generation goes, and its mark with it. It takes no memory.
+    pub fn remove(&mut self, number: Gen)
+        ensures world { (world : World) → StandsFor self.old world → StandsFor self.new (without_generation number world) }
+    {
+        self.drain.remove(number);
+    }
+
+    /// A worker settles: its connections on listeners whose drain timeout came are closed, and it takes over the last snapshot.
+    /// Out of memory, all stays as it was.
+    pub fn settle(&mut self, alloc: Global, worker: u32) -> Result<Settled, AllocError>
+        requires known { worker < length self.old.pictures.held }
+        ensures answer { IfOk result (λ settled. (world : World) → StandsFor self.old world → (settle worker world).1 ≡ settled_answer settled.closed settled.version) }
+        ensures told { IfOk result (λ settled. (world : World) → StandsFor self.old world → IsToldBy worker settled.closed (arc_value settled.snapshot) world) }
+        ensures world { OnOk result ((world : World) → StandsFor self.old world → StandsFor self.new (settle worker world).0) }
+        ensures err { OnErr result (self.new ≡ self.old) }
+    {
+        let Ok(closed) = numbers_closing(alloc, &self.ledger, &self.drain, worker) else {
+            return Err(AllocError);
+        };
+        let Ok(snapshot) = self.pictures.settle(worker) else {
+            return Err(AllocError);
+        };
+        close_all(&mut self.ledger, worker, closed.as_slice());
+        Ok(Settled {
+            closed: Seq::from_vec(closed),
+            version: snapshot.version(),
+            snapshot,
+        })
+    }
+
+    /// The last snapshot, for a worker that begins. It takes no memory; it is refused where 2^63 - 1 owners hold it already.
+    pub fn snapshot(&self) -> Result<Arc<Snapshot>, AllocError>
+        ensures last { IfOk result (λ snapshot. arc_value snapshot ≡ self.now.pictures.last) }
+    {
+        self.pictures.snapshot()
+    }
+}

@@ -1,0 +1,8 @@
+//! What holds generations: the pictures, the open connections, and those that drain or were dropped, as a world has them.
+#![tactic(auto)]
+
+mod closing;
+mod holders;
+mod in_use;
+
+pub use holders::Holders;
