@@ -1,1 +1,2 @@
 pub mod Managers
+pub mod Retired

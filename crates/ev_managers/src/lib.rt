@@ -4,6 +4,8 @@
 
 mod managers;
 mod response;
+mod retired;
 mod signals;
 
 pub use managers::Managers;
+pub use retired::Retired;

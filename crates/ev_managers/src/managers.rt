@@ -2,6 +2,7 @@ ghost use Rattle.std.specs.Prelude.{◌≡◌, ℕ, List, IfOk, OnOk};
 ghost use Rattle.ev_model.specs.World.{World, opening};
 ghost use Rattle.ev_model.specs.Tidy.{promoted, without_unwatched, without_old_results};
 
+use crate::retired::{Retired, put_all};
 use ev_clusters::Clusters;
 use ev_generations::Steps;
 use ev_listeners::Listeners;
@@ -18,6 +19,7 @@ pub struct Managers {
 
 impl Managers {
     ghost use Rattle.ev_managers.specs.Managers.{AreKept, StandFor};
+    ghost use Rattle.ev_managers.specs.Retired.{AreDrained};
 
     /// No generation, and nothing known. It takes no memory.
     pub fn new(alloc: Global) -> Managers
@@ -30,18 +32,22 @@ impl Managers {
         }
     }
 
-    /// Each generation that is due serves, and the one that served its name before it drains.
+    /// Each generation that is due serves, and the one that served its name before it drains, and is put to those that retired.
     pub fn promote<L: Ledger>(
         &mut self,
         alloc: Global,
+        retired: &mut Retired,
         steps: &mut Steps<L>,
     ) -> Result<(), AllocError>
         requires kept { AreKept self.old }
         ensures kept { OnOk result (AreKept self.new) }
+        ensures drained { OnOk result (AreDrained retired.old retired.new self.old self.new) }
         ensures stands { OnOk result ((world : World) → StandFor self.old world → StandFor self.new (promoted world)) }
     {
-        self.clusters.promote(alloc, steps)?;
-        self.listeners.promote(alloc, steps)?;
+        let clusters = self.clusters.promote(alloc, steps)?;
+        put_all(&mut retired.clusters, clusters.drained.as_slice())?;
+        let listeners = self.listeners.promote(alloc, steps)?;
+        put_all(&mut retired.listeners, listeners.drained.as_slice())?;
         Ok(())
     }
 

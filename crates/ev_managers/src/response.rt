@@ -1,19 +1,21 @@
-ghost use Rattle.std.specs.Prelude.{◌≡◌, ◌+◌, ◌^◌, ◌<◌, Some, length, OnOk};
+ghost use Rattle.std.specs.Prelude.{◌≡◌, ◌+◌, ◌^◌, ◌<◌, Some, length, IfOk, OnOk};
 ghost use Rattle.ev_types.specs.declared.contents.Kind.TheVariants.{Cds, Eds, Lds, Rds};
 ghost use Rattle.ev_model.specs.World.{World};
 ghost use Rattle.ev_model.specs.Rows.{with_removals, add_items};
 ghost use Rattle.ev_warming.specs.Arrivals.{AreOnValues};
 
-use crate::Managers;
+use crate::{Managers, Retired};
 use ev_generations::Steps;
-use ev_types::{Kind, Response, Verdict};
+use ev_types::{Kind, Response, Seq, Verdict};
 use std::alloc::{AllocError, Global};
 use std::sync::ledger::Ledger;
 
 impl Managers {
     ghost use Rattle.ev_managers.specs.Managers.{AreKept, MayBeGiven, StandFor};
+    ghost use Rattle.ev_managers.specs.Retired.{AreRetired};
 
-    /// A response of this kind, with the verdicts on its resources: removals first, then its resources in order.
+    /// A response of this kind, with the verdicts on its resources: removals first, then its resources in order. Answers
+    /// which generations retired.
     pub fn respond<L: Ledger>(
         &mut self,
         alloc: Global,
@@ -21,7 +23,7 @@ impl Managers {
         response: &Response,
         verdicts: &[Verdict],
         steps: &mut Steps<L>,
-    ) -> Result<(), AllocError>
+    ) -> Result<Retired, AllocError>
         requires kept { AreKept self.old }
         requires typed { response.now.kind ≡ Some kind }
         requires one_each { length verdicts.now ≡ length response.now.items }
@@ -29,6 +31,7 @@ impl Managers {
         requires room_for_clusters { self.old.clusters.state.table.made + length response.now.items < 2 ^ 32 }
         requires room_for_listeners { self.old.listeners.state.table.made + length response.now.items < 2 ^ 32 }
         ensures kept { OnOk result (AreKept self.new) }
+        ensures retired { IfOk result (λ retired. AreRetired retired self.old self.new) }
         // Whatever world they stood for, they stand for that world once the response's removals and resources are in.
         ensures stands { OnOk result ((world : World) → StandFor self.old world → StandFor self.new (add_items kind verdicts.now response.now.items (with_removals kind response.now world))) }
     {
@@ -47,20 +50,25 @@ impl Managers {
         response: &Response,
         verdicts: &[Verdict],
         steps: &mut Steps<L>,
-    ) -> Result<(), AllocError>
+    ) -> Result<Retired, AllocError>
         requires kept { AreKept self.old }
         requires typed { response.now.kind ≡ Some Cds }
         requires one_each { length verdicts.now ≡ length response.now.items }
         requires room { self.old.clusters.state.table.made + length response.now.items < 2 ^ 32 }
         ensures kept { OnOk result (AreKept self.new) }
+        ensures retired { IfOk result (λ retired. AreRetired retired self.old self.new) }
         ensures stands { OnOk result ((world : World) → StandFor self.old world → StandFor self.new (add_items Cds verdicts.now response.now.items (with_removals Cds response.now world))) }
     {
-        let _ = self.clusters.apply(alloc, response, verdicts, steps)?;
+        let applied = self.clusters.apply(alloc, response, verdicts, steps)?;
+        let retired = Retired {
+            clusters: applied.retired,
+            listeners: Seq::new(alloc),
+        };
         let made = self.clusters.made();
         if self.listeners.made() <= made {
             self.listeners.advance(made);
         }
-        Ok(())
+        Ok(retired)
     }
 
     // A response of listeners: the clusters' numbers go on after theirs.
@@ -70,20 +78,25 @@ impl Managers {
         response: &Response,
         verdicts: &[Verdict],
         steps: &mut Steps<L>,
-    ) -> Result<(), AllocError>
+    ) -> Result<Retired, AllocError>
         requires kept { AreKept self.old }
         requires typed { response.now.kind ≡ Some Lds }
         requires one_each { length verdicts.now ≡ length response.now.items }
         requires room { self.old.listeners.state.table.made + length response.now.items < 2 ^ 32 }
         ensures kept { OnOk result (AreKept self.new) }
+        ensures retired { IfOk result (λ retired. AreRetired retired self.old self.new) }
         ensures stands { OnOk result ((world : World) → StandFor self.old world → StandFor self.new (add_items Lds verdicts.now response.now.items (with_removals Lds response.now world))) }
     {
-        let _ = self.listeners.apply(alloc, response, verdicts, steps)?;
+        let applied = self.listeners.apply(alloc, response, verdicts, steps)?;
+        let retired = Retired {
+            clusters: Seq::new(alloc),
+            listeners: applied.retired,
+        };
         let made = self.listeners.made();
         if self.clusters.made() <= made {
             self.clusters.advance(made);
         }
-        Ok(())
+        Ok(retired)
     }
 
     // A response of endpoints.
@@ -93,16 +106,17 @@ impl Managers {
         response: &Response,
         verdicts: &[Verdict],
         steps: &mut Steps<L>,
-    ) -> Result<(), AllocError>
+    ) -> Result<Retired, AllocError>
         requires kept { AreKept self.old }
         requires typed { response.now.kind ≡ Some Eds }
         requires one_each { length verdicts.now ≡ length response.now.items }
         requires given { AreOnValues self.old.clusters.state.table.rows verdicts.now response.now.items }
         ensures kept { OnOk result (AreKept self.new) }
+        ensures retired { IfOk result (λ retired. AreRetired retired self.old self.new) }
         ensures stands { OnOk result ((world : World) → StandFor self.old world → StandFor self.new (add_items Eds verdicts.now response.now.items (with_removals Eds response.now world))) }
     {
         self.clusters.arrivals(alloc, response, verdicts, steps)?;
-        Ok(())
+        Ok(Retired::none(alloc))
     }
 
     // A response of routes.
@@ -112,15 +126,16 @@ impl Managers {
         response: &Response,
         verdicts: &[Verdict],
         steps: &mut Steps<L>,
-    ) -> Result<(), AllocError>
+    ) -> Result<Retired, AllocError>
         requires kept { AreKept self.old }
         requires typed { response.now.kind ≡ Some Rds }
         requires one_each { length verdicts.now ≡ length response.now.items }
         requires given { AreOnValues self.old.listeners.state.table.rows verdicts.now response.now.items }
         ensures kept { OnOk result (AreKept self.new) }
+        ensures retired { IfOk result (λ retired. AreRetired retired self.old self.new) }
         ensures stands { OnOk result ((world : World) → StandFor self.old world → StandFor self.new (add_items Rds verdicts.now response.now.items (with_removals Rds response.now world))) }
     {
         self.listeners.arrivals(alloc, response, verdicts, steps)?;
-        Ok(())
+        Ok(Retired::none(alloc))
     }
 }

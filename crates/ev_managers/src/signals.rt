@@ -7,7 +7,8 @@ ghost use Rattle.ev_model.specs.Signals.{is_meant, rows_ended, rows_meant, with_
 ghost use Rattle.ev_model.specs.Watching.{is_by_name};
 ghost use Rattle.ev_warming.specs.Indexes.{depends_on};
 
-use crate::Managers;
+use crate::retired::stood;
+use crate::{Managers, Retired};
 use ev_generations::Steps;
 use ev_types::{Arrival, Assignment, Content, Host, Kind, Name, RouteTable, Seq, Shared};
 use std::alloc::{AllocError, Global};
@@ -15,6 +16,7 @@ use std::sync::ledger::Ledger;
 
 impl Managers {
     ghost use Rattle.ev_managers.specs.Managers.{AreKept, StandFor, is_watched_in};
+    ghost use Rattle.ev_managers.specs.Retired.{AreRetired};
 
     /// Whether a live generation depends on this name of endpoints or of routes.
     pub fn is_watched(&self, kind: Kind, name: &str) -> bool
@@ -39,6 +41,8 @@ impl Managers {
         requires kept { AreKept self.old }
         requires watched { list_any (depends_on name.now) self.old.clusters.state.table.rows ≡ true }
         ensures kept { OnOk result (AreKept self.new) }
+        ensures clusters { OnOk result (self.new.clusters.state.table.rows ≡ self.old.clusters.state.table.rows) }
+        ensures listeners { OnOk result (self.new.listeners.state.table.rows ≡ self.old.listeners.state.table.rows) }
         ensures stands { OnOk result ((world : World) → StandFor self.old world → StandFor self.new (record world { arrivals = world.arrivals ++ arrived Eds arrival.now name.now ∷ [] })) }
     {
         self.clusters.arrival(alloc, name, arrival, steps)?;
@@ -56,38 +60,52 @@ impl Managers {
         requires kept { AreKept self.old }
         requires watched { list_any (depends_on name.now) self.old.listeners.state.table.rows ≡ true }
         ensures kept { OnOk result (AreKept self.new) }
+        ensures clusters { OnOk result (self.new.clusters.state.table.rows ≡ self.old.clusters.state.table.rows) }
+        ensures listeners { OnOk result (self.new.listeners.state.table.rows ≡ self.old.listeners.state.table.rows) }
         ensures stands { OnOk result ((world : World) → StandFor self.old world → StandFor self.new (record world { arrivals = world.arrivals ++ arrived Rds arrival.now name.now ∷ [] })) }
     {
         self.listeners.arrival(alloc, name, arrival, steps)?;
         Ok(())
     }
 
-    /// What a cluster's name stands for has come to its end: one that warms is dropped, and one that serves drains.
+    /// What a cluster's name stands for has come to its end: one that warms is dropped, and one that serves drains. Answers both.
     pub fn end_cluster<L: Ledger>(
         &mut self,
+        alloc: Global,
         name: &Name,
         steps: &mut Steps<L>,
-    ) -> Result<(), AllocError>
+    ) -> Result<Retired, AllocError>
         requires kept { AreKept self.old }
         ensures kept { OnOk result (AreKept self.new) }
+        ensures retired { IfOk result (λ retired. AreRetired retired self.old self.new) }
         ensures stands { OnOk result ((world : World) → StandFor self.old world → StandFor self.new (record world { rows = rows_ended Cds name.now world.rows })) }
     {
-        let _ = self.clusters.expire(name, steps)?;
-        Ok(())
+        let ended = self.clusters.expire(name, steps)?;
+        let clusters = stood(alloc, ended)?;
+        Ok(Retired {
+            clusters,
+            listeners: Seq::new(alloc),
+        })
     }
 
-    /// What a listener's name stands for has come to its end: one that warms is dropped, and one that serves drains.
+    /// What a listener's name stands for has come to its end: one that warms is dropped, and one that serves drains. Answers both.
     pub fn end_listener<L: Ledger>(
         &mut self,
+        alloc: Global,
         name: &Name,
         steps: &mut Steps<L>,
-    ) -> Result<(), AllocError>
+    ) -> Result<Retired, AllocError>
         requires kept { AreKept self.old }
         ensures kept { OnOk result (AreKept self.new) }
+        ensures retired { IfOk result (λ retired. AreRetired retired self.old self.new) }
         ensures stands { OnOk result ((world : World) → StandFor self.old world → StandFor self.new (record world { rows = rows_ended Lds name.now world.rows })) }
     {
-        let _ = self.listeners.expire(name, steps)?;
-        Ok(())
+        let ended = self.listeners.expire(name, steps)?;
+        let listeners = stood(alloc, ended)?;
+        Ok(Retired {
+            clusters: Seq::new(alloc),
+            listeners,
+        })
     }
 
     // The endpoints of a name, which is watched, have come to their end: they become none.
@@ -100,6 +118,8 @@ impl Managers {
         requires kept { AreKept self.old }
         requires watched { list_any (depends_on name.now) self.old.clusters.state.table.rows ≡ true }
         ensures kept { OnOk result (AreKept self.new) }
+        ensures clusters { OnOk result (self.new.clusters.state.table.rows ≡ self.old.clusters.state.table.rows) }
+        ensures listeners { OnOk result (self.new.listeners.state.table.rows ≡ self.old.listeners.state.table.rows) }
         ensures stands { OnOk result ((world : World) → StandFor self.old world → StandFor self.new (with_end Eds name.now world)) }
     {
         let none = Assignment::new(Seq::new(alloc));
@@ -118,6 +138,8 @@ impl Managers {
         requires kept { AreKept self.old }
         requires watched { list_any (depends_on name.now) self.old.listeners.state.table.rows ≡ true }
         ensures kept { OnOk result (AreKept self.new) }
+        ensures clusters { OnOk result (self.new.clusters.state.table.rows ≡ self.old.clusters.state.table.rows) }
+        ensures listeners { OnOk result (self.new.listeners.state.table.rows ≡ self.old.listeners.state.table.rows) }
         ensures stands { OnOk result ((world : World) → StandFor self.old world → StandFor self.new (with_end Rds name.now world)) }
     {
         let none = RouteTable {
@@ -129,35 +151,39 @@ impl Managers {
     }
 
     /// What a name of this kind stands for has come to its end: a cluster or listener goes as if it were removed, and endpoints or
-    /// routes become none, where the name is watched.
+    /// routes become none, where the name is watched. Answers which generations retired.
     pub fn end<L: Ledger>(
         &mut self,
         alloc: Global,
         kind: Kind,
         name: &Name,
         steps: &mut Steps<L>,
-    ) -> Result<(), AllocError>
+    ) -> Result<Retired, AllocError>
         requires kept { AreKept self.old }
         ensures kept { OnOk result (AreKept self.new) }
+        ensures retired { IfOk result (λ retired. AreRetired retired self.old self.new) }
         // Whatever world they stood for, they stand for that world where the name has come to its end: one of endpoints or of routes
         // is to be watched.
         ensures stands { OnOk result ((world : World) → StandFor self.old world → (is_by_name kind ≡ true → is_watched_in self.old kind name.now ≡ true) → StandFor self.new (with_end kind name.now world)) }
     {
         match kind {
-            Kind::Cds => self.end_cluster(name, steps)?,
-            Kind::Lds => self.end_listener(name, steps)?,
+            Kind::Cds => self.end_cluster(alloc, name, steps),
+            Kind::Lds => self.end_listener(alloc, name, steps),
             Kind::Eds => {
-                if self.clusters.is_watched(name.as_str()) {
-                    self.end_endpoints(alloc, name, steps)?;
+                if !self.clusters.is_watched(name.as_str()) {
+                    return Ok(Retired::none(alloc));
                 }
+                self.end_endpoints(alloc, name, steps)?;
+                Ok(Retired::none(alloc))
             }
             Kind::Rds => {
-                if self.listeners.is_watched(name.as_str()) {
-                    self.end_routes(alloc, name, steps)?;
+                if !self.listeners.is_watched(name.as_str()) {
+                    return Ok(Retired::none(alloc));
                 }
+                self.end_routes(alloc, name, steps)?;
+                Ok(Retired::none(alloc))
             }
         }
-        Ok(())
     }
 
     /// A health result of a host of a cluster. Answers whether it is for a generation; where it is for none, all stays as it was.

@@ -3,6 +3,10 @@ pub mod WholeLemmas
 pub mod KnownLemmas
 pub mod WatchedNames
 pub mod TidyLemmas
+pub mod AgeLemmas
+pub mod NameLists
+pub mod ChangeLemmas
+pub mod MoveLemmas
 pub mod StepLemmas
 pub mod RestLemmas
 pub mod TakeLemmas

@@ -29,14 +29,16 @@ use Rattle.ev_model_laws.specs.VersionsKept.{AreKeptOnce}
 use Rattle.ev_subscription.specs.Subscriptions.{SubscriptionParts, StandsFor as HasVersions, kept_of}
 use Rattle.ev_targets.specs.Targets.{TargetsParts, StandsFor as HasTargets}
 use Rattle.ev_state.specs.declared.state.State.{State}
+use Rattle.ev_state.specs.Ages.{AreLater}
 use Rattle.ev_state.specs.States.{Follows, Steps}
+use Rattle.ev_state.proofs.AgeLemmas.{later-same, end-later}
 use Rattle.ev_state.proofs.RestLemmas.{SameRest, rest_boots}
 
 -- the managers alone have changed
 pub managers_follow : (s : State) (m : Managers) (world after : World) → Follows s world world → StandFor m after
-    → after.node ≡ world.node → after.stream ≡ world.stream → after.versions ≡ world.versions → SameRest world after
+    → after.node ≡ world.node → after.stream ≡ world.stream → after.versions ≡ world.versions → SameRest world after → after.rows ≡ world.rows
     → Follows (record s { managers = m }) world after
-managers_follow s m world after follows stand node stream versions rest =
+managers_follow s m world after follows stand node stream versions rest rows =
     let had = follows.stands.subscription in
     record {
       stands = record {
@@ -49,8 +51,8 @@ managers_follow s m world after follows stand node stream versions rest =
         };
         targets = rest_boots s.targets world after rest follows.stands.targets;
       };
-      endpoints = follows.endpoints;
-      routes = follows.routes;
+      sound = follows.sound;
+      later = subst (AreLater world.made world.rows) (sym rows) (later-same world.made world.rows);
       heard = subst (λ (vs : List KeptVersion). All (IsDue (lives_of world)) vs) (sym versions) follows.heard;
       phase = rest.phase;
       held = follows.held ∙ sym rest.held;
@@ -63,11 +65,11 @@ managers_follow s m world after follows stand node stream versions rest =
 pub targets_follow : (s : State) (targets : TargetsParts) (world after : World) → Follows s world world → HasTargets targets after
     → StandFor s.managers after → HasVersions s.subscription after → after.versions ≡ world.versions
     → after.phase ≡ world.phase → after.held ≡ world.held → after.pictures ≡ world.pictures → after.opened ≡ world.opened → after.expired ≡ world.expired
-    → Follows (record s { targets = targets }) world after
-targets_follow s targets world after follows boots stand held versions phase kept pictures opened expired = record {
+    → after.rows ≡ world.rows → Follows (record s { targets = targets }) world after
+targets_follow s targets world after follows boots stand held versions phase kept pictures opened expired rows = record {
   stands = record { managers = stand; subscription = held; targets = boots };
-  endpoints = follows.endpoints;
-  routes = follows.routes;
+  sound = follows.sound;
+  later = subst (AreLater world.made world.rows) (sym rows) (later-same world.made world.rows);
   heard = subst (λ (vs : List KeptVersion). All (IsDue (lives_of world)) vs) (sym versions) follows.heard;
   phase = phase;
   held = follows.held ∙ sym kept;
@@ -126,7 +128,7 @@ health_ignored s m host healthy p world kept follows none stand =
     kept_by (record s { managers = m }) Ignored host healthy (filter p world.rows) world gone
     (ignores (record s { managers = m }) world kept
     (managers_follow s m world world follows (subst (λ (w : World). StandFor m w) same stand) refl refl refl
-    (record { pictures = refl; held = refl; opened = refl; expired = refl; first_clusters = refl; first_listeners = refl; late_clusters = refl; late_listeners = refl; phase = refl })))
+    (record { pictures = refl; held = refl; opened = refl; expired = refl; first_clusters = refl; first_listeners = refl; late_clusters = refl; late_listeners = refl; phase = refl }) refl))
 
 both_first : (a b : Bool) → (a && b) ≡ true → a ≡ true
 both_first true b h = refl
@@ -156,8 +158,8 @@ ended_follows s m subscription Cds name world follows stand held = record {
     subscription = record { node = held.node; stream = held.stream; versions = held.versions; kept_once = held.kept_once };
     targets = rest_boots s.targets world (with_end Cds name (forget_version Cds name world)) (record { pictures = refl; held = refl; opened = refl; expired = refl; first_clusters = refl; first_listeners = refl; late_clusters = refl; late_listeners = refl; phase = refl }) follows.stands.targets;
   };
-  endpoints = follows.endpoints;
-  routes = follows.routes;
+  sound = follows.sound;
+  later = end-later world.made Cds name world;
   heard = All-filter (λ (kept : KeptVersion). not (is_version_of Cds name kept)) (IsDue (lives_of world)) world.versions follows.heard;
   phase = refl;
   held = follows.held;
@@ -171,8 +173,8 @@ ended_follows s m subscription Eds name world follows stand held = record {
     subscription = record { node = held.node; stream = held.stream; versions = held.versions; kept_once = held.kept_once };
     targets = rest_boots s.targets world (with_end Eds name (forget_version Eds name world)) (record { pictures = refl; held = refl; opened = refl; expired = refl; first_clusters = refl; first_listeners = refl; late_clusters = refl; late_listeners = refl; phase = refl }) follows.stands.targets;
   };
-  endpoints = follows.endpoints;
-  routes = follows.routes;
+  sound = follows.sound;
+  later = end-later world.made Eds name world;
   heard = All-filter (λ (kept : KeptVersion). not (is_version_of Eds name kept)) (IsDue (lives_of world)) world.versions follows.heard;
   phase = refl;
   held = follows.held;
@@ -186,8 +188,8 @@ ended_follows s m subscription Lds name world follows stand held = record {
     subscription = record { node = held.node; stream = held.stream; versions = held.versions; kept_once = held.kept_once };
     targets = rest_boots s.targets world (with_end Lds name (forget_version Lds name world)) (record { pictures = refl; held = refl; opened = refl; expired = refl; first_clusters = refl; first_listeners = refl; late_clusters = refl; late_listeners = refl; phase = refl }) follows.stands.targets;
   };
-  endpoints = follows.endpoints;
-  routes = follows.routes;
+  sound = follows.sound;
+  later = end-later world.made Lds name world;
   heard = All-filter (λ (kept : KeptVersion). not (is_version_of Lds name kept)) (IsDue (lives_of world)) world.versions follows.heard;
   phase = refl;
   held = follows.held;
@@ -201,8 +203,8 @@ ended_follows s m subscription Rds name world follows stand held = record {
     subscription = record { node = held.node; stream = held.stream; versions = held.versions; kept_once = held.kept_once };
     targets = rest_boots s.targets world (with_end Rds name (forget_version Rds name world)) (record { pictures = refl; held = refl; opened = refl; expired = refl; first_clusters = refl; first_listeners = refl; late_clusters = refl; late_listeners = refl; phase = refl }) follows.stands.targets;
   };
-  endpoints = follows.endpoints;
-  routes = follows.routes;
+  sound = follows.sound;
+  later = end-later world.made Rds name world;
   heard = All-filter (λ (kept : KeptVersion). not (is_version_of Rds name kept)) (IsDue (lives_of world)) world.versions follows.heard;
   phase = refl;
   held = follows.held;
@@ -210,6 +212,13 @@ ended_follows s m subscription Rds name world follows stand held = record {
   opened = follows.opened;
   expired = follows.expired;
 }
+
+-- it draws no number
+pub end_draws : (kind : Kind) (name : List ℕ) (world : World) → (with_end kind name world).made ≡ world.made
+end_draws Cds name world = refl
+end_draws Eds name world = refl
+end_draws Lds name world = refl
+end_draws Rds name world = refl
 
 -- a name of endpoints or routes whose life is bounded is watched
 pub bounded_is_watched : (m : Managers) (kind : Kind) (name : List ℕ) (world : World) → AreKept m → StandFor m world → All (IsDue (lives_of world)) world.versions

@@ -25,8 +25,8 @@ stream_follows s subscription open_now world follows held =
         subscription = held;
         targets = record { phase = booted.phase; first_clusters = booted.first_clusters; first_listeners = booted.first_listeners; late_clusters = booted.late_clusters; late_listeners = booted.late_listeners };
       };
-      endpoints = follows.endpoints;
-      routes = follows.routes;
+      sound = follows.sound;
+      later = follows.later;
       heard = follows.heard;
       phase = refl;
       held = follows.held;

@@ -15,13 +15,21 @@ use Rattle.ev_warming.specs.Arrivals.{AreOnValues}
 use Rattle.ev_warming.specs.Worlds.{needs_of}
 use Rattle.ev_warming.proofs.JudgedLemmas.{values-judged}
 use Rattle.ev_managers.specs.declared.managers.Managers.{Managers}
+use Rattle.ev_managers.specs.declared.retired.Retired.{Retired}
 use Rattle.ev_managers.specs.Managers.{AreKept, StandFor, MayBeGiven}
+use Rattle.ev_managers.specs.Retired.{AreRetired}
+use Rattle.ev_warming.specs.Changes.{has_retired}
+use Rattle.ev_warming.specs.Worlds.{rows_of_kind}
 use Rattle.ev_managers.proofs.FrameLemmas.{see_the_same}
 use Rattle.ev_model_laws.specs.VersionsKept.{AreKeptOnce}
 use Rattle.ev_subscription.specs.Subscriptions.{SubscriptionParts, StandsFor as HasVersions, kept_of}
 use Rattle.ev_targets.specs.Targets.{TargetsParts, StandsFor as HasTargets}
 use Rattle.ev_state.specs.declared.state.State.{State}
+use Rattle.ev_state.specs.Ages.{AreLater}
+use Rattle.ev_state.specs.Moves.{HaveRetired}
 use Rattle.ev_state.specs.States.{Follows}
+use Rattle.ev_state.proofs.AgeLemmas.{response-later}
+use Rattle.ev_state.proofs.MoveLemmas.{told-have}
 use Rattle.ev_state.proofs.HeardLemmas.{IsDue, response_due}
 use Rattle.ev_state.proofs.RestLemmas.{SameRest, response_rest, rest_boots, FirstLeaves, first_leaves}
 
@@ -63,8 +71,8 @@ taken s m subscription targets kind response verdicts world follows of are stand
         };
         targets = boots after (rest_boots s.targets world after rest follows.stands.targets);
       };
-      endpoints = follows.endpoints;
-      routes = follows.routes;
+      sound = follows.sound;
+      later = subst (AreLater world.made world.rows) (sym first.seen.rows) (response-later kind response verdicts world);
       heard = subst (λ (vs : List KeptVersion). All (IsDue (lives_of world)) vs) (sym first.versions)
           (subst (λ (vs : List Verdict). All (IsDue (lives_of world)) (add_items kind vs response.items (with_removals kind response world)).versions) (sym judged)
           (response_due kind response (lives_of world) world.versions world follows.heard));
@@ -73,4 +81,17 @@ taken s m subscription targets kind response verdicts world follows of are stand
       pictures = first.pictures ∙ rest.pictures ∙ follows.pictures;
       opened = first.opened ∙ rest.opened ∙ follows.opened;
       expired = first.expired ∙ rest.expired ∙ follows.expired;
+    }
+
+-- and what retired is told of that world
+pub taken_retired : (retired : Retired) (m after : Managers) (kind : Kind) (response : ResponseParts) (verdicts : List Verdict) (world : World) → AreKept m → AreKept after
+    → StandFor m world → StandFor after (add_items kind verdicts response.items (with_removals kind response world)) → AreRetired retired m after
+    → HaveRetired retired world (with_first kind (made_names verdicts response.items) (add_items kind verdicts response.items (with_removals kind response world)))
+taken_retired retired m after kind response verdicts world kept kept_after stand stand_after are =
+    let led : World = add_items kind verdicts response.items (with_removals kind response world) in
+    let first : FirstLeaves led (with_first kind (made_names verdicts response.items) led) = first_leaves kind (made_names verdicts response.items) led in
+    let have = told-have retired m after world led kept kept_after stand stand_after are in
+    record {
+      clusters = λ n. have.clusters n ∙ (λ i. has_retired n (rows_of_kind Cds world.rows) (rows_of_kind Cds (sym first.seen.rows i)));
+      listeners = λ n. have.listeners n ∙ (λ i. has_retired n (rows_of_kind Lds world.rows) (rows_of_kind Lds (sym first.seen.rows i)));
     }

@@ -67,31 +67,39 @@ any_awaited kind name (live ∷ lives) =
     list_any-append (λ n. bytes_eq n name) (name_awaited kind (dependency_of live.content)) (flat_map (λ (live : Live). name_awaited kind (dependency_of live.content)) lives)
     ∙ or_same _ _ _ _ (awaited_is kind name (dependency_of live.content)) (any_awaited kind name lives)
 
+-- a name stands among sorted ones where it stands among them
+pub among_sorted : (names : List (List ℕ)) (name : List ℕ) → is_among name (sorted_names names) ≡ is_among name names
+among_sorted names name =
+    any_dedup (λ n. bytes_eq n name) bytes_eq (λ x y is. ap (λ n. bytes_eq n name) (sym ((bytes_decide x y).0 is))) (sorted_by is_before names)
+    ∙ any_sorted (λ n. bytes_eq n name) is_before names
+
 -- a name stands among those that are watched where it is watched
 pub among_watched : (lives : List Live) (kind : Kind) (name : List ℕ) → is_among name (watched_by lives kind) ≡ is_watched lives kind name
 among_watched lives kind name =
-    any_dedup (λ n. bytes_eq n name) bytes_eq (λ x y is. ap (λ n. bytes_eq n name) (sym ((bytes_decide x y).0 is)))
-    (sorted_by is_before (flat_map (λ (live : Live). name_awaited kind (dependency_of live.content)) lives))
-    ∙ any_sorted (λ n. bytes_eq n name) is_before (flat_map (λ (live : Live). name_awaited kind (dependency_of live.content)) lives)
+    among_sorted (flat_map (λ (live : Live). name_awaited kind (dependency_of live.content)) lives) name
     ∙ any_awaited kind name lives
+
+-- a name that stands among those that fail a test
+pub among_failing : (test : List ℕ → Bool) (names : List (List ℕ)) (name : List ℕ) → is_among name (filter (λ n. not (test n)) names) ≡ (is_among name names && not (test name))
+among_failing test [] name = refl
+among_failing test (first ∷ names) name = by (bytes_eq first name) refl (test first) refl (among_failing test names name)
+  where
+    and_false : (b : Bool) → (b && false) ≡ false
+    and_false true = refl
+    and_false false = refl
+
+    by : (b : Bool) → bytes_eq first name ≡ b → (t : Bool) → test first ≡ t
+        → is_among name (filter (λ n. not (test n)) names) ≡ (is_among name names && not (test name))
+        → is_among name (cond (not t) (first ∷ filter (λ n. not (test n)) names) (filter (λ n. not (test n)) names)) ≡ ((b || is_among name names) && not (test name))
+    by true is true passes rest =
+        let there : test name ≡ true = ap test (sym ((bytes_decide first name).0 is)) ∙ passes in
+        rest ∙ (λ i. is_among name names && not (there i)) ∙ and_false (is_among name names) ∙ (λ i. not (sym there i))
+    by true is false fails rest =
+        let away : test name ≡ false = ap test (sym ((bytes_decide first name).0 is)) ∙ fails in
+        ap (λ b. b || is_among name (filter (λ n. not (test n)) names)) is ∙ (λ i. not (sym away i))
+    by false isnt true passes rest = rest
+    by false isnt false fails rest = ap (λ b. b || is_among name (filter (λ n. not (test n)) names)) isnt ∙ rest
 
 -- a name that stands among those that aren't among the others
 pub among_other : (others names : List (List ℕ)) (name : List ℕ) → is_among name (other_than others names) ≡ (is_among name names && not (is_among name others))
-among_other others [] name = refl
-among_other others (first ∷ names) name = by (bytes_eq first name) refl (is_among first others) refl (among_other others names name)
-  where
-    by : (b : Bool) → bytes_eq first name ≡ b → (o : Bool) → is_among first others ≡ o
-        → is_among name (other_than others names) ≡ (is_among name names && not (is_among name others))
-        → is_among name (cond (not o) (first ∷ other_than others names) (other_than others names)) ≡ ((b || is_among name names) && not (is_among name others))
-    by true is true other rest =
-        let there : is_among name others ≡ true = ap (λ n. is_among n others) (sym ((bytes_decide first name).0 is)) ∙ other in
-        rest ∙ (λ i. is_among name names && not (there i)) ∙ and_false (is_among name names) ∙ (λ i. not (sym there i))
-      where
-        and_false : (b : Bool) → (b && false) ≡ false
-        and_false true = refl
-        and_false false = refl
-    by true is false apart rest =
-        let away : is_among name others ≡ false = ap (λ n. is_among n others) (sym ((bytes_decide first name).0 is)) ∙ apart in
-        ap (λ b. b || is_among name (other_than others names)) is ∙ (λ i. not (sym away i))
-    by false isnt true other rest = rest
-    by false isnt false apart rest = ap (λ b. b || is_among name (other_than others names)) isnt ∙ rest
+among_other others names name = among_failing (λ n. is_among n others) names name

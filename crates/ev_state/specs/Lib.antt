@@ -1,4 +1,5 @@
 pub mod Built
+pub mod Ages
 pub mod Known
 pub mod States
 pub mod Moves

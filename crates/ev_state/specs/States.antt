@@ -1,18 +1,19 @@
 -- What the managers, the subscription and the targets know together, and at which worlds they are.
 use Rattle.std.specs.Prelude.{◌≡◌, ℕ, true, false, [], ◌∷◌, All}
 use Rattle.std.specs.List.{AllByRecursion}
-use Rattle.ev_types.specs.declared.contents.Kind.TheVariants.{Eds, Rds}
 use Rattle.ev_types.specs.declared.events.Answer.{Answer}
 use Rattle.ev_types.specs.declared.rows.GenRow.{GenRow}
 use Rattle.ev_types.specs.declared.rows.KeptVersion.{KeptVersion}
 use Rattle.ev_model.specs.World.{World, nothing_shown}
 use Rattle.ev_model.specs.Live.{lives_of}
 use Rattle.ev_model.specs.Tidy.{is_version_due}
-use Rattle.ev_model.specs.Watching.{is_by_name, watched_of}
+use Rattle.ev_model.specs.Watching.{is_by_name}
+use Rattle.ev_warming.specs.Worlds.{IsSound}
 use Rattle.ev_managers.specs.Managers.{AreKept, StandFor}
 use Rattle.ev_subscription.specs.Subscriptions.{StandsFor as HasVersions}
 use Rattle.ev_targets.specs.Targets.{StandsFor as HasTargets}
 use Rattle.ev_state.specs.declared.state.State.{State}
+use Rattle.ev_state.specs.Ages.{AreLater}
 
 -- each part has what the world has of it
 pub record StandsFor (s : State) (world : World) : Type 0 where
@@ -20,13 +21,13 @@ pub record StandsFor (s : State) (world : World) : Type 0 where
   pub subscription : HasVersions s.subscription world
   pub targets : HasTargets s.targets world
 
--- An event leads from one world to another: each part has what the other has of it, and the names that are asked for are still
--- those that the first one watches. A version of endpoints or routes is kept only of such a name. The phase is still that of the
--- first, no worker did anything, and nothing was published.
+-- An event leads from one world to another: each part has what the other has of it, and each generation of the first stays in its
+-- place. A version of endpoints or routes is kept only of a name that the first one watches. The phase is still that of the first, no
+-- worker did anything, and nothing was published.
 pub record Follows (s : State) (before world : World) : Type 0 where
   pub stands : StandsFor s world
-  pub endpoints : s.endpoints ≡ watched_of before Eds
-  pub routes : s.routes ≡ watched_of before Rds
+  pub sound : IsSound before
+  pub later : AreLater before.made before.rows world.rows
   pub heard : All (λ (kept : KeptVersion). is_version_due (lives_of before) kept ≡ true) world.versions
   pub phase : world.phase ≡ before.phase
   pub held : s.held ≡ world.held

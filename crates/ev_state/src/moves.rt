@@ -1,17 +1,21 @@
-ghost use Rattle.std.specs.Prelude.{◌≡◌, IfOk, OnOk};
-ghost use Rattle.ev_types.specs.declared.contents.Kind.TheVariants.{Eds, Rds};
+ghost use Rattle.std.specs.Prelude.{◌≡◌, ℕ, IfOk, OnOk};
+ghost use Rattle.ev_types.specs.declared.contents.Kind.TheVariants.{Cds, Eds, Lds, Rds};
 ghost use Rattle.ev_model.specs.World.{World};
-ghost use Rattle.ev_model.specs.Requests.{other_than};
 ghost use Rattle.ev_model.specs.Tidy.{tidy};
 ghost use Rattle.ev_model.specs.Watching.{watched_of};
+ghost use Rattle.ev_warming.specs.Due.{is_among};
+ghost use Rattle.ev_warming.specs.Changes.{has_retired};
+ghost use Rattle.ev_warming.specs.Worlds.{IsSound, rows_of_kind};
 ghost use Rattle.ev_managers.specs.Managers.{AreKept, StandFor};
+ghost use Rattle.ev_state.specs.Ages.{AreLater};
 ghost use Rattle.ev_state.specs.States.{Follows};
-ghost use Rattle.ev_state.specs.Moves.{IsOver};
+ghost use Rattle.ev_state.specs.Moves.{HaveRetired, IsChange, IsOver};
 
 use crate::state::State;
 use ev_generations::Steps;
+use ev_managers::Retired;
 use ev_subscription::NameChange;
-use ev_types::{Name, Seq};
+use ev_types::Gen;
 use std::alloc::{AllocError, Global};
 use std::sync::ledger::Ledger;
 
@@ -24,63 +28,71 @@ pub(crate) struct Moves {
     pub(crate) left: bool,
 }
 
-// The names of a kind that are watched now, and what changed in them.
-#[derive(Drop)]
-struct Watched {
-    names: Seq<Name>,
-    change: NameChange,
-}
-
 impl State {
-    /// What follows an event by itself: what is due serves, what nobody needs is forgotten, and the phase moves on.
+    /// What follows an event by itself: what is due serves, what nobody needs is forgotten, and the phase moves on. So many numbers
+    /// were drawn before the event, and these generations it has retired. Only what it changed is looked at.
     pub(crate) fn tidy<L: Ledger>(
         &mut self,
         alloc: Global,
+        made: u32,
+        mut retired: Retired,
         steps: &mut Steps<L>,
     ) -> Result<Moves, AllocError>
         requires kept { AreKept self.old.managers }
         ensures kept { OnOk result (AreKept self.new.managers) }
-        ensures over { IfOk result (λ moves. (before world : World) → Follows self.old before world → IsOver self.new moves before (tidy world)) }
+        ensures over { IfOk result (λ moves. (before world : World) → Follows self.old before world → made ≡ before.made → HaveRetired retired before world → IsOver self.new moves before (tidy world)) }
     {
-        self.managers.promote(alloc, steps)?;
-        let endpoints = self.endpoints_watched(alloc)?;
-        let routes = self.routes_watched(alloc)?;
+        self.managers.promote(alloc, &mut retired, steps)?;
+        let endpoints = self.endpoints_changed(alloc, made, retired.clusters.as_slice())?;
+        let routes = self.routes_changed(alloc, made, retired.listeners.as_slice())?;
         self.subscription
-            .forget_unwatched(&endpoints.change.ended, &routes.change.ended);
+            .forget_unwatched(&endpoints.ended, &routes.ended);
         self.managers.forget(alloc, steps)?;
         let left = self
             .targets
             .advance(&self.managers.clusters, &self.managers.listeners);
-        self.endpoints = endpoints.names;
-        self.routes = routes.names;
         Ok(Moves {
-            endpoints: endpoints.change,
-            routes: routes.change,
+            endpoints,
+            routes,
             left,
         })
     }
 
-    // The names of endpoints that are watched now, by those that are asked for.
-    fn endpoints_watched(&self, alloc: Global) -> Result<Watched, AllocError>
+    // The names of endpoints that began and ceased to be watched since so many numbers were drawn and these clusters retired.
+    fn endpoints_changed(
+        &self,
+        alloc: Global,
+        made: u32,
+        retired: &[Gen],
+    ) -> Result<NameChange, AllocError>
         requires kept { AreKept self.now.managers }
-        ensures begun { IfOk result (λ w. w.change.begun ≡ other_than self.now.endpoints w.names) }
-        ensures ended { IfOk result (λ w. w.change.ended ≡ other_than w.names self.now.endpoints) }
-        ensures watched { IfOk result (λ w. (world : World) → StandFor self.now.managers world → w.names ≡ watched_of world Eds) }
+        ensures { IfOk result (λ change. (before world : World) → StandFor self.now.managers world → IsSound before → AreLater before.made before.rows world.rows
+            → made ≡ before.made → ((n : ℕ) → is_among retired.now n ≡ has_retired n (rows_of_kind Cds before.rows) (rows_of_kind Cds world.rows))
+            → IsChange change (watched_of before Eds) (watched_of world Eds)) }
     {
-        let names = self.managers.clusters.watched(alloc)?;
-        let change = NameChange::between(alloc, &self.endpoints, &names)?;
-        Ok(Watched { names, change })
+        let clusters = &self.managers.clusters;
+        let lost = clusters.names_lost(alloc, made, retired)?;
+        let gained = clusters.names_gained(alloc, made)?;
+        let change = NameChange::between(alloc, &lost, &gained)?;
+        Ok(change)
     }
 
-    // The names of routes that are watched now, by those that are asked for.
-    fn routes_watched(&self, alloc: Global) -> Result<Watched, AllocError>
+    // The names of routes that began and ceased to be watched since so many numbers were drawn and these listeners retired.
+    fn routes_changed(
+        &self,
+        alloc: Global,
+        made: u32,
+        retired: &[Gen],
+    ) -> Result<NameChange, AllocError>
         requires kept { AreKept self.now.managers }
-        ensures begun { IfOk result (λ w. w.change.begun ≡ other_than self.now.routes w.names) }
-        ensures ended { IfOk result (λ w. w.change.ended ≡ other_than w.names self.now.routes) }
-        ensures watched { IfOk result (λ w. (world : World) → StandFor self.now.managers world → w.names ≡ watched_of world Rds) }
+        ensures { IfOk result (λ change. (before world : World) → StandFor self.now.managers world → IsSound before → AreLater before.made before.rows world.rows
+            → made ≡ before.made → ((n : ℕ) → is_among retired.now n ≡ has_retired n (rows_of_kind Lds before.rows) (rows_of_kind Lds world.rows))
+            → IsChange change (watched_of before Rds) (watched_of world Rds)) }
     {
-        let names = self.managers.listeners.watched(alloc)?;
-        let change = NameChange::between(alloc, &self.routes, &names)?;
-        Ok(Watched { names, change })
+        let listeners = &self.managers.listeners;
+        let lost = listeners.names_lost(alloc, made, retired)?;
+        let gained = listeners.names_gained(alloc, made)?;
+        let change = NameChange::between(alloc, &lost, &gained)?;
+        Ok(change)
     }
 }

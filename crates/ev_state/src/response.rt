@@ -6,10 +6,12 @@ ghost use Rattle.ev_model.specs.Rows.{with_removals, add_items, made_names, with
 ghost use Rattle.ev_model.specs.Step.{respond, answered};
 ghost use Rattle.ev_managers.specs.Managers.{AreKept};
 ghost use Rattle.ev_state.specs.States.{Follows, IsAt, Steps as AreSteps};
+ghost use Rattle.ev_state.specs.Moves.{HaveRetired};
 
 use crate::known::Before;
 use crate::state::State;
 use ev_generations::Steps;
+use ev_managers::Retired;
 use ev_subscription::reply_of;
 use ev_types::{Answer, Kind, Response, Verdict};
 use ev_verdicts::{Mentions, verdicts_by_mentions};
@@ -52,8 +54,9 @@ impl State {
         let mentions = Mentions::of(alloc, response)?;
         let before = Before::new(&self.managers, &self.subscription);
         let verdicts = verdicts_by_mentions(alloc, &before, &mentions)?;
-        self.take(alloc, kind, verdicts.as_slice(), &mentions, steps)?;
-        let moves = self.tidy(alloc, steps)?;
+        let made = self.managers.clusters.made();
+        let retired = self.take(alloc, kind, verdicts.as_slice(), &mentions, steps)?;
+        let moves = self.tidy(alloc, made, retired, steps)?;
         let reply = reply_of(alloc, kind, response, verdicts.as_slice())?;
         let requests = self.subscription.requests_after(
             alloc,
@@ -65,7 +68,7 @@ impl State {
         Ok(Answer::Replied { requests, verdicts })
     }
 
-    // What a response does to each part, by the verdicts on its resources.
+    // What a response does to each part, by the verdicts on its resources. Answers which generations retired.
     fn take<L: Ledger>(
         &mut self,
         alloc: Global,
@@ -73,7 +76,7 @@ impl State {
         verdicts: &[Verdict],
         mentions: &Mentions<'_>,
         steps: &mut Steps<L>,
-    ) -> Result<(), AllocError>
+    ) -> Result<Retired, AllocError>
         ghost here: { World }
         requires at { IsAt self.old here }
         requires typed { mentions.now.kind ≡ Some kind }
@@ -83,12 +86,15 @@ impl State {
         ensures kept { OnOk result (AreKept self.new.managers) }
         ensures follows { OnOk result (Follows self.new here (with_first kind (made_names verdicts.now mentions.now.items)
             (add_items kind verdicts.now mentions.now.items (with_removals kind mentions.now here)))) }
+        ensures retired { IfOk result (λ retired. HaveRetired retired here (with_first kind (made_names verdicts.now mentions.now.items)
+            (add_items kind verdicts.now mentions.now.items (with_removals kind mentions.now here)))) }
     {
         let response = mentions.response();
-        self.managers
+        let retired = self
+            .managers
             .respond(alloc, kind, response, verdicts, steps)?;
         self.subscription.respond(alloc, kind, verdicts, mentions)?;
         self.targets.note_first(alloc, kind, response, verdicts)?;
-        Ok(())
+        Ok(retired)
     }
 }

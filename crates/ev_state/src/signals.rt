@@ -4,24 +4,29 @@ ghost use Rattle.ev_model.specs.World.{World};
 ghost use Rattle.ev_model.specs.Signals.{health, fetch_timeout, clusters_timeout, listeners_timeout, name_timeout, ttl_expired, moved};
 ghost use Rattle.ev_managers.specs.Managers.{AreKept};
 ghost use Rattle.ev_state.specs.States.{Follows, Steps as AreSteps};
+ghost use Rattle.ev_state.specs.Moves.{HaveRetired};
 
 use crate::state::State;
 use ev_generations::Steps;
+use ev_managers::Retired;
 use ev_types::{Answer, Arrival, Host, Kind, Name};
 use std::alloc::{AllocError, Global};
 use std::sync::ledger::Ledger;
 
 impl State {
-    // An event has led here: what follows it by itself follows, and its requests are sent.
+    // An event that drew no number, and retired these generations, has led here: what follows it by itself follows, and its requests
+    // are sent.
     fn moved<L: Ledger>(
         &mut self,
         alloc: Global,
+        retired: Retired,
         steps: &mut Steps<L>,
     ) -> Result<Answer, AllocError>
         requires kept { AreKept self.old.managers }
-        ensures { IfOk result (λ answer. (before world : World) → Follows self.old before world → AreSteps self.new answer (moved before world)) }
+        ensures { IfOk result (λ answer. (before world : World) → Follows self.old before world → world.made ≡ before.made → HaveRetired retired before world → AreSteps self.new answer (moved before world)) }
     {
-        let moves = self.tidy(alloc, steps)?;
+        let made = self.managers.clusters.made();
+        let moves = self.tidy(alloc, made, retired, steps)?;
         let requests = self
             .subscription
             .requests_after(alloc, None, moves.endpoints, moves.routes, moves.left)?;
@@ -43,7 +48,7 @@ impl State {
         if !self.managers.health(alloc, cluster, host, healthy, steps)? {
             return Ok(Answer::Ignored);
         }
-        let answer = self.moved(alloc, steps)?;
+        let answer = self.moved(alloc, Retired::none(alloc), steps)?;
         Ok(answer)
     }
 
@@ -59,7 +64,7 @@ impl State {
         if !self.targets.clusters_timeout() {
             return Ok(Answer::Ignored);
         }
-        let answer = self.moved(alloc, steps)?;
+        let answer = self.moved(alloc, Retired::none(alloc), steps)?;
         Ok(answer)
     }
 
@@ -75,7 +80,7 @@ impl State {
         if !self.targets.listeners_timeout() {
             return Ok(Answer::Ignored);
         }
-        let answer = self.moved(alloc, steps)?;
+        let answer = self.moved(alloc, Retired::none(alloc), steps)?;
         Ok(answer)
     }
 
@@ -94,7 +99,7 @@ impl State {
         }
         self.managers
             .arrive_endpoints(alloc, name, &Arrival::TimedOut, steps)?;
-        let answer = self.moved(alloc, steps)?;
+        let answer = self.moved(alloc, Retired::none(alloc), steps)?;
         Ok(answer)
     }
 
@@ -113,7 +118,7 @@ impl State {
         }
         self.managers
             .arrive_routes(alloc, name, &Arrival::TimedOut, steps)?;
-        let answer = self.moved(alloc, steps)?;
+        let answer = self.moved(alloc, Retired::none(alloc), steps)?;
         Ok(answer)
     }
 
@@ -132,8 +137,8 @@ impl State {
             return Ok(Answer::Ignored);
         }
         self.subscription.forget(kind, name.as_str());
-        self.managers.end(alloc, kind, name, steps)?;
-        let answer = self.moved(alloc, steps)?;
+        let retired = self.managers.end(alloc, kind, name, steps)?;
+        let answer = self.moved(alloc, retired, steps)?;
         Ok(answer)
     }
 }

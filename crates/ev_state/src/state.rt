@@ -4,18 +4,16 @@ ghost use Rattle.ev_model.specs.World.{opening};
 use ev_managers::Managers;
 use ev_subscription::Subscription;
 use ev_targets::Targets;
-use ev_types::{Name, Seq, Text, TryCopy};
+use ev_types::{Seq, Text, TryCopy};
 use std::alloc::{AllocError, Global};
 
-/// What is known: the managers, the subscription, how far the proxy has booted, the names of endpoints and of routes that are asked
-/// for, and the version that each worker holds. After want of memory nothing is promised of it.
+/// What is known: the managers, the subscription, how far the proxy has booted, and the version that each worker holds. After want
+/// of memory nothing is promised of it.
 #[derive(Drop)]
 pub struct State {
     pub managers: Managers,
     pub subscription: Subscription,
     pub targets: Targets,
-    pub endpoints: Seq<Name>,
-    pub routes: Seq<Name>,
     pub held: Seq<u64>,
 }
 
@@ -30,8 +28,6 @@ impl State {
             managers: Managers::new(alloc),
             subscription: Subscription::new(alloc, node.copy(alloc)?),
             targets: Targets::new(),
-            endpoints: Seq::new(alloc),
-            routes: Seq::new(alloc),
             held: Seq::from_vec(vec![in alloc; 0; workers as usize]?),
         })
     }

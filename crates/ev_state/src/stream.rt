@@ -1,13 +1,15 @@
 ghost use Rattle.std.specs.Prelude.{◌≡◌, IfOk};
 ghost use Rattle.ev_model.specs.Phase.{is_clusters};
 ghost use Rattle.ev_model.specs.World.{World};
+ghost use Rattle.ev_model.specs.Requests.{connect_requests};
 ghost use Rattle.ev_model.specs.Step.{connect, disconnect};
 ghost use Rattle.ev_managers.specs.Managers.{AreKept};
-ghost use Rattle.ev_state.specs.States.{Follows, Steps as AreSteps};
+ghost use Rattle.ev_state.specs.States.{Follows, StandsFor, Steps as AreSteps};
 
 use crate::state::State;
 use ev_generations::Steps;
-use ev_types::{Answer, Phase};
+use ev_managers::Retired;
+use ev_types::{Answer, Phase, Request, Seq};
 use std::alloc::{AllocError, Global};
 use std::sync::ledger::Ledger;
 
@@ -24,13 +26,25 @@ impl State {
         if self.subscription.is_open() {
             return Ok(Answer::Ignored);
         }
+        let requests = self.asked_at_first(alloc)?;
+        self.subscription.set_stream(true);
+        let made = self.managers.clusters.made();
+        let _ = self.tidy(alloc, made, Retired::none(alloc), steps)?;
+        Ok(Answer::Moved { requests })
+    }
+
+    // What is asked for as a stream opens. It goes over all generations, for the names that they depend on.
+    fn asked_at_first(&self, alloc: Global) -> Result<Seq<Request>, AllocError>
+        requires kept { AreKept self.now.managers }
+        ensures { IfOk result (λ requests. (world : World) → StandsFor self.now world → requests ≡ connect_requests world) }
+    {
+        let endpoints = self.managers.clusters.watched(alloc)?;
+        let routes = self.managers.listeners.watched(alloc)?;
         let asked = !self.awaits_clusters();
         let requests = self
             .subscription
-            .connect(alloc, &self.endpoints, &self.routes, asked)?;
-        self.subscription.set_stream(true);
-        let _ = self.tidy(alloc, steps)?;
-        Ok(Answer::Moved { requests })
+            .connect(alloc, &endpoints, &routes, asked)?;
+        Ok(requests)
     }
 
     // Whether the first clusters are awaited.
@@ -56,7 +70,8 @@ impl State {
             return Ok(Answer::Ignored);
         }
         self.subscription.set_stream(false);
-        let _ = self.tidy(alloc, steps)?;
+        let made = self.managers.clusters.made();
+        let _ = self.tidy(alloc, made, Retired::none(alloc), steps)?;
         Ok(Answer::Done)
     }
 }

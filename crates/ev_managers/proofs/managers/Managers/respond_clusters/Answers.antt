@@ -1,14 +1,44 @@
-use Rattle.std.proofs.Common.{refl, sym, ◌∙◌}
+use Rattle.std.proofs.Common.{refl, sym, ap, subst, arith, ◌∙◌}
 use Rattle.ev_types.specs.declared.contents.Kind.TheVariants.{Cds}
+use Rattle.ev_model.specs.Rows.{with_removals, add_items}
+use Rattle.ev_warming.specs.Due.{is_among}
+use Rattle.ev_managers.specs.declared.managers.Managers.{Managers}
+use Rattle.ev_managers.specs.Managers.{StandFor}
+use Rattle.ev_managers.specs.Retired.{AreRetired}
 use Rattle.ev_managers.proofs.FrameLemmas.{listeners_follow, clusters_apart}
+use Rattle.ev_managers.proofs.RetiredLemmas.{none-retired}
 use Rattle.ev_managers.proofs.managers.Managers.respond_clusters.Goals as goal
+use Rattle.ev_managers.proofs.managers.Managers.respond_clusters.Goals.{then-made, else-made}
 
-pub returns-then-made-clause-stands : goal.returns-then-made-clause-stands
-returns-then-made-clause-stands g c = λ world stands.
-    let clusters = c.in_ok-apply.ensures.stands world stands.clusters in
-    record {
-      clusters = clusters;
-      listeners = listeners_follow Cds c.args.response.now c.args.verdicts.now (record world { made = c.made-made.result }) world clusters.sound
-          (sym clusters.made ∙ sym c.made-made.ensures) refl
-          c.advance.new.self c.advance.ensures.kept.listeners clusters_apart (c.advance.ensures.stands world stands.listeners);
-    }
+pub returns-clause-stands : goal.returns-clause-stands
+returns-clause-stands g c = λ world stands.
+    elim c.if-made.branch [
+      | then-made w ↦
+          subst (λ (m : Managers). StandFor m (add_items Cds c.args.verdicts.now c.args.response.now.items (with_removals Cds c.args.response.now world))) (sym w.self-is)
+          (
+          let clusters = c.in_ok-applied.ensures.stands world stands.clusters in
+          record {
+            clusters = clusters;
+            listeners = listeners_follow Cds c.args.response.now c.args.verdicts.now (record world { made = c.made-made.result }) world clusters.sound
+                (sym clusters.made ∙ sym c.made-made.ensures) refl
+                w.advance.new.self w.advance.ensures.kept.listeners clusters_apart (w.advance.ensures.stands world stands.listeners);
+          }
+          )
+      | else-made w ↦ absurd (omega (arith, w.if-made.false, c.made.ensures, c.made-made.ensures, c.in_ok-applied.ensures.made, stands.clusters.made, stands.listeners.part.made))
+    ]
+
+pub returns-clause-retired : goal.returns-clause-retired
+returns-clause-retired g c =
+    elim c.if-made.branch [
+      | then-made w ↦
+          subst (λ (m : Managers). AreRetired (record { clusters = c.in_ok-applied.applied.retired; listeners = c.new.result }) c.args.self.now m) (sym w.self-is) (record {
+            clusters = c.in_ok-applied.ensures.retired;
+            listeners = λ n. ap (λ ns. is_among ns n) c.new.ensures.empty
+                ∙ none-retired c.args.self.now.listeners.state.table.rows w.advance.new.self.state.table.rows w.advance.ensures.rows n;
+          })
+      | else-made w ↦
+          subst (λ (m : Managers). AreRetired (record { clusters = c.in_ok-applied.applied.retired; listeners = c.new.result }) c.args.self.now m) (sym w.self-is) (record {
+            clusters = c.in_ok-applied.ensures.retired;
+            listeners = λ n. ap (λ ns. is_among ns n) c.new.ensures.empty ∙ none-retired c.args.self.now.listeners.state.table.rows c.args.self.now.listeners.state.table.rows refl n;
+          })
+    ]

@@ -60,7 +60,7 @@ replies s requests verdicts given given2 kind mentioned response moves reply her
     let told : reply ≡ reply_of kind mentioned given = replied ∙ (λ i. reply_of kind (sym same i) ((are2 ∙ sym are) i)) in
     let sent : requests ≡ requests_of here after (Some (reply_of kind mentioned given)) =
     asked after (all_watched here) (all_watched after) over.follows.stands.subscription
-    over.moves.endpoints_begun over.moves.endpoints_ended over.moves.routes_begun over.moves.routes_ended
+    over.moves.endpoints.begun over.moves.endpoints.ended over.moves.routes.begun over.moves.routes.ended
     ∙ (λ i. requests_by after.stream (all_watched here) (all_watched after) (over.moves.left i) after.versions (Some (told i))) in
     let base : Steps s (Replied requests verdicts) (answered kind mentioned given here) =
     record { kept = kept; follows = over.follows; answer = λ i. Replied (sent i) (sym are i) } in
@@ -83,6 +83,6 @@ returns g c =
     (c.in_ok-moves.ensures.over g.here
     (with_first c.args.kind (made_names c.as_slice.result.now c.in_ok-mentions.mentions.items)
     (add_items c.args.kind c.as_slice.result.now c.in_ok-mentions.mentions.items (with_removals c.args.kind c.in_ok-mentions.mentions g.here)))
-    c.in_ok-take.ensures.follows)
+    c.in_ok-retired.ensures.follows (c.made-made.ensures ∙ at.follows.stands.managers.clusters.made) c.in_ok-retired.ensures.retired)
     c.in_ok-reply.ensures
     c.in_ok-requests.ensures

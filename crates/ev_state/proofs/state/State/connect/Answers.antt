@@ -4,17 +4,18 @@ use Rattle.ev_model.specs.Phase.{is_clusters}
 use Rattle.ev_model.specs.Requests.{connect_requests, connect_requests_by}
 use Rattle.ev_model.specs.Tidy.{tidy}
 use Rattle.ev_state.proofs.StepLemmas.{where_false, stream_follows}
+use Rattle.ev_state.proofs.MoveLemmas.{none-have}
 use Rattle.ev_state.proofs.state.State.connect.Goals as goal
 
 pub returns : goal.returns
 returns g c = λ world follows.
     let closed = sym follows.stands.subscription.stream ∙ sym c.is_open.ensures ∙ c.if-is_open.false in
     let over = c.in_ok-tidy.ensures.over world (record world { stream = true })
-    (stream_follows c.args.self.now c.set_stream.new.self true world follows (c.set_stream.ensures.stands world follows.stands.subscription)) in
+    (stream_follows c.args.self.now c.set_stream.new.self true world follows (c.set_stream.ensures.stands world follows.stands.subscription))
+    (c.made-made.ensures ∙ follows.stands.managers.clusters.made) (none-have c.none.result world (record world { stream = true }) c.none.ensures refl) in
     where_false c.tidy.new.self (Moved c.in_ok-requests.requests) world.stream (world, Ignored) (tidy (record world { stream = true }), Moved (connect_requests world)) closed
     (record {
       kept = c.in_ok-tidy.ensures.kept;
       follows = over.follows;
-      answer = ap Moved (c.in_ok-requests.ensures world follows.stands.subscription
-          ∙ (λ i. connect_requests_by world.node (record { endpoints = follows.endpoints i; routes = follows.routes i }) (not ((c.awaits_clusters-asked.ensures ∙ ap is_clusters follows.stands.targets.phase) i)) world.versions));
+      answer = ap Moved (c.in_ok-requests.ensures world follows.stands);
     })

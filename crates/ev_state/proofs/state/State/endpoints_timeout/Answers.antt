@@ -7,6 +7,7 @@ use Rattle.ev_model.specs.Rows.{arrived}
 use Rattle.ev_model.specs.Signals.{is_awaited, moved}
 use Rattle.ev_state.proofs.SignalLemmas.{managers_follow, due_is_watched}
 use Rattle.ev_state.proofs.StepLemmas.{where_true}
+use Rattle.ev_state.proofs.MoveLemmas.{none-have}
 use Rattle.ev_state.proofs.state.State.endpoints_timeout.Goals as goal
 
 pub arrive_endpoints-requires-clause-watched : goal.arrive_endpoints-requires-clause-watched
@@ -20,4 +21,5 @@ returns g c = λ world follows.
     (sym (c.timeout_due.ensures.world world follows.stands.managers.clusters) ∙ c.if-not-timeout_due.false)
     (c.in_ok-answer.ensures world after
     (managers_follow c.args.self.now c.arrive_endpoints.new.self world after follows (c.in_ok-arrive_endpoints.ensures.stands world follows.stands.managers) refl refl refl
-    (record { pictures = refl; held = refl; opened = refl; expired = refl; first_clusters = refl; first_listeners = refl; late_clusters = refl; late_listeners = refl; phase = refl })))
+    (record { pictures = refl; held = refl; opened = refl; expired = refl; first_clusters = refl; first_listeners = refl; late_clusters = refl; late_listeners = refl; phase = refl }) refl)
+    refl (none-have c.none.result world after c.none.ensures refl))

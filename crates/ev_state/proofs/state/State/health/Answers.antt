@@ -2,6 +2,7 @@ use Rattle.std.proofs.Common.{refl, sym, ◌∙◌}
 use Rattle.ev_model.specs.World.{World}
 use Rattle.ev_model.specs.Signals.{is_meant, with_results, rows_meant}
 use Rattle.ev_state.proofs.SignalLemmas.{managers_follow, health_led, health_ignored}
+use Rattle.ev_state.proofs.MoveLemmas.{none-have}
 use Rattle.ev_state.proofs.state.State.health.Goals as goal
 
 pub returns-then-not-branch : goal.returns-then-not-branch
@@ -18,4 +19,5 @@ returns g c = λ world follows.
     (sym (c.in_ok-health.ensures.ignored world follows.stands.managers) ∙ c.if-not-branch.false)
     (c.in_ok-answer.ensures world after
     (managers_follow c.args.self.now c.health.new.self world after follows (c.in_ok-health.ensures.stands world follows.stands.managers) refl refl refl
-    (record { pictures = refl; held = refl; opened = refl; expired = refl; first_clusters = refl; first_listeners = refl; late_clusters = refl; late_listeners = refl; phase = refl })))
+    (record { pictures = refl; held = refl; opened = refl; expired = refl; first_clusters = refl; first_listeners = refl; late_clusters = refl; late_listeners = refl; phase = refl }) refl)
+    refl (none-have c.none.result world after c.none.ensures refl))

@@ -8,6 +8,7 @@ use Rattle.ev_managers.proofs.FrameLemmas.{see_the_same}
 use Rattle.ev_targets.specs.Targets.{StandsFor as HasTargets}
 use Rattle.ev_state.proofs.SignalLemmas.{targets_follow, not_true}
 use Rattle.ev_state.proofs.StepLemmas.{where_false}
+use Rattle.ev_state.proofs.MoveLemmas.{none-have}
 use Rattle.ev_state.proofs.state.State.listeners_timeout.Goals as goal
 
 pub returns : goal.returns
@@ -23,4 +24,5 @@ returns g c = λ world follows.
     (targets_follow c.args.self.now c.listeners_timeout.new.self world after follows boots
     (see_the_same c.args.self.now.managers world after (record { rows = refl; made = refl; arrivals = refl; results = refl }) follows.stands.managers)
     (record { node = had.node; stream = had.stream; versions = had.versions; kept_once = had.kept_once })
-    refl refl refl refl refl refl))
+    refl refl refl refl refl refl refl)
+    refl (none-have c.none.result world after c.none.ensures refl))

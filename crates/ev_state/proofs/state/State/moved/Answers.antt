@@ -6,13 +6,13 @@ use Rattle.ev_model.specs.World.{World}
 use Rattle.ev_state.proofs.state.State.moved.Goals as goal
 
 pub returns : goal.returns
-returns g c = λ before world follows.
-    let over = c.in_ok-moves.ensures.over before world follows in
+returns g c = λ before world follows drawn have.
+    let over = c.in_ok-moves.ensures.over before world follows (c.made-made.ensures ∙ follows.stands.managers.clusters.made ∙ drawn) have in
     let after : World = tidy world in
     record {
       kept = c.in_ok-moves.ensures.kept;
       follows = over.follows;
       answer = ap Moved (c.in_ok-requests.ensures after (all_watched before) (all_watched after) over.follows.stands.subscription
-          over.moves.endpoints_begun over.moves.endpoints_ended over.moves.routes_begun over.moves.routes_ended
+          over.moves.endpoints.begun over.moves.endpoints.ended over.moves.routes.begun over.moves.routes.ended
           ∙ (λ i. requests_by after.stream (all_watched before) (all_watched after) (over.moves.left i) after.versions None));
     }

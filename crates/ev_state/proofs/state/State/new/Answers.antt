@@ -12,8 +12,8 @@ returns c = record {
       subscription = record { node = c.new-2.ensures.node ∙ c.in_ok-copy.ensures.equal; stream = c.new-2.ensures.closed; versions = λ kind. c.new-2.ensures.empty kind; kept_once = keeps_versions.opens c.args.workers c.args.node.now };
       targets = c.new-3.ensures c.args.workers c.args.node.now;
     };
-    endpoints = c.new-4.ensures.empty;
-    routes = c.new-5.ensures.empty;
+    sound = (c.new.ensures.stands c.args.workers c.args.node.now).clusters.sound;
+    later = tt;
     heard = All-nil _;
     phase = refl;
     held = c.from_vec.ensures.elements ∙ c.in_ok-vec.ensures.items_if_clones_equal (λ y is. is);

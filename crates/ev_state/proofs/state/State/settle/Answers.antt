@@ -4,7 +4,9 @@ use Rattle.ev_model.specs.declared.pictures.Shown.{Shown}
 use Rattle.ev_model.specs.World.{World, OpenMember, last_version}
 use Rattle.ev_model.specs.Connections.{closed_by, left_open}
 use Rattle.ev_types.specs.declared.events.Answer.TheVariants.{Settled}
+use Rattle.ev_warming.specs.Frames.{seen-sound}
 use Rattle.ev_managers.proofs.FrameLemmas.{see_the_same}
+use Rattle.ev_state.proofs.AgeLemmas.{later-same}
 use Rattle.ev_state.proofs.state.State.settle.Goals as goal
 
 pub returns : goal.returns
@@ -21,8 +23,8 @@ returns c = λ world follows.
           subscription = record { node = had.node; stream = had.stream; versions = had.versions; kept_once = had.kept_once };
           targets = record { phase = booted.phase; first_clusters = booted.first_clusters; first_listeners = booted.first_listeners; late_clusters = booted.late_clusters; late_listeners = booted.late_listeners };
         };
-        endpoints = follows.endpoints;
-        routes = follows.routes;
+        sound = seen-sound world after (record { rows = refl; made = refl; arrivals = refl; results = refl }) follows.sound;
+        later = later-same after.made after.rows;
         heard = follows.heard;
         phase = refl;
         held = c.set.ensures ∙ (λ i. slice_set (follows.held i) c.args.worker (sym version i));

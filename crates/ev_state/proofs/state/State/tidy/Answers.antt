@@ -2,31 +2,40 @@ use Rattle.std.proofs.Common.{◌≡◌, ◌&&◌, not, Bool, refl, sym, ap, ◌
 use Rattle.std.proofs.lemmas.List.Elements.{filter_passes}
 use Rattle.ev_types.specs.declared.contents.Kind.TheVariants.{Eds, Rds}
 use Rattle.ev_types.specs.declared.rows.Phase.{Phase}
+use Rattle.ev_types.specs.declared.rows.GenRow.{GenRow}
 use Rattle.ev_model.specs.World.{World}
+use Rattle.ev_model.specs.Warming.{is_ready_by}
+use Rattle.ev_warming.specs.Due.{is_among}
+use Rattle.ev_warming.specs.Frames.{seen-sound}
 use Rattle.ev_model.specs.Live.{lives_of}
 use Rattle.ev_model.specs.Phase.{is_clusters}
-use Rattle.ev_model.specs.Requests.{other_than}
-use Rattle.ev_model.specs.Tidy.{tidy, promoted, without_unwatched, without_old_results, is_version_due}
+use Rattle.ev_model.specs.Tidy.{tidy, has_successor, promoted, without_unwatched, without_old_results, is_version_due}
 use Rattle.ev_state.specs.States.{Follows}
 use Rattle.ev_subscription.specs.Subscriptions.{StandsFor as HasVersions}
 use Rattle.ev_targets.specs.Targets.{StandsFor as HasTargets}
 use Rattle.ev_managers.proofs.FrameLemmas.{see_the_same}
+use Rattle.ev_state.proofs.AgeLemmas.{later-same, later-then, later-promoted}
+use Rattle.ev_state.proofs.MoveLemmas.{promoted-have}
 use Rattle.ev_state.proofs.TidyLemmas.{ended_of}
 use Rattle.ev_state.proofs.state.State.tidy.Goals as goal
 
 pub returns-clause-over : goal.returns-clause-over
-returns-clause-over g c = λ before world follows.
+returns-clause-over g c = λ before world follows drawn have.
     let w1 : World = promoted world in
     let w3 : World = without_old_results (without_unwatched w1) in
     let first = c.in_ok-promote.ensures.stands world follows.stands.managers in
     let third = c.in_ok-forget.ensures.stands w1 first in
-    let e_watched = c.in_ok-endpoints.ensures.watched w1 first in
-    let r_watched = c.in_ok-routes.ensures.watched w1 first in
+    let m = c.args.self.now.managers in
+    let now_later = later-promoted before.made (λ (row : GenRow). has_successor world.arrivals world.results world.rows row) (λ (row : GenRow). is_ready_by world.arrivals world.results row) world.rows in
+    let later = later-then before.made before.rows world.rows w1.rows follows.later now_later in
+    let told = promoted-have c.args.retired c.promote.new.retired m c.promote.new.self before world c.requires.kept c.in_ok-promote.ensures.kept follows.stands.managers first
+    c.in_ok-promote.ensures.drained follows.later have in
+    let endpoints = c.in_ok-endpoints.ensures before w1 first follows.sound later drawn (λ n. ap (λ ns. is_among ns n) c.as_slice.ensures.elements ∙ told.clusters n) in
+    let routes = c.in_ok-routes.ensures before w1 first follows.sound later drawn (λ n. ap (λ ns. is_among ns n) c.as_slice-2.ensures.elements ∙ told.listeners n) in
     let had = follows.stands.subscription in
     let held1 : HasVersions c.args.self.now.subscription w1 = record { node = had.node; stream = had.stream; versions = had.versions; kept_once = had.kept_once } in
-    let e_ended = c.in_ok-endpoints.ensures.ended ∙ (λ i. other_than (e_watched i) (follows.endpoints i)) in
-    let r_ended = c.in_ok-routes.ensures.ended ∙ (λ i. other_than (r_watched i) (follows.routes i)) in
-    let left2 = c.forget_unwatched.ensures w1 held1 (ended_of Eds before w1 c.in_ok-endpoints.endpoints.change.ended refl e_ended follows.heard) (ended_of Rds before w1 c.in_ok-routes.routes.change.ended refl r_ended follows.heard) in
+    let left2 = c.forget_unwatched.ensures w1 held1 (ended_of Eds before w1 c.in_ok-endpoints.endpoints.ended refl endpoints.ended follows.heard)
+    (ended_of Rds before w1 c.in_ok-routes.routes.ended refl routes.ended follows.heard) in
     let booted = follows.stands.targets in
     let booted3 : HasTargets c.args.self.now.targets w3 = record {
       phase = booted.phase;
@@ -43,8 +52,8 @@ returns-clause-over g c = λ before world follows.
           subscription = record { node = left2.node; stream = left2.stream; versions = left2.versions; kept_once = left2.kept_once };
           targets = moved;
         };
-        endpoints = e_watched;
-        routes = r_watched;
+        sound = seen-sound w3 (tidy world) (record { rows = refl; made = refl; arrivals = refl; results = refl }) third.clusters.sound;
+        later = later-same world.made w1.rows;
         heard = filter_passes (is_version_due (lives_of w1)) world.versions;
         phase = refl;
         held = follows.held;
@@ -53,10 +62,8 @@ returns-clause-over g c = λ before world follows.
         expired = follows.expired;
       };
       moves = record {
-        endpoints_begun = c.in_ok-endpoints.ensures.begun ∙ (λ i. other_than (follows.endpoints i) (e_watched i));
-        endpoints_ended = e_ended;
-        routes_begun = c.in_ok-routes.ensures.begun ∙ (λ i. other_than (follows.routes i) (r_watched i));
-        routes_ended = r_ended;
+        endpoints = endpoints;
+        routes = routes;
         left = c.advance-left.ensures.left ∙ (λ i. is_clusters ((booted.phase ∙ follows.phase) i) && not (is_clusters (moved.phase i)));
       };
     }

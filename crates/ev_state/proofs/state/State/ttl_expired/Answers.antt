@@ -5,7 +5,8 @@ use Rattle.ev_model.specs.World.{World}
 use Rattle.ev_model.specs.Signals.{moved, with_end, forget_version}
 use Rattle.ev_model.specs.Versions.{is_bounded}
 use Rattle.ev_managers.proofs.FrameLemmas.{see_the_same}
-use Rattle.ev_state.proofs.SignalLemmas.{ended_follows, bounded_is_watched}
+use Rattle.ev_state.proofs.SignalLemmas.{ended_follows, end_draws, bounded_is_watched}
+use Rattle.ev_state.proofs.MoveLemmas.{told-have}
 use Rattle.ev_state.proofs.StepLemmas.{where_true}
 use Rattle.ev_state.proofs.state.State.ttl_expired.Goals as goal
 
@@ -16,8 +17,11 @@ returns g c = λ world follows.
     let forgotten : World = forget_version c.args.kind c.args.name.now world in
     let after : World = with_end c.args.kind c.args.name.now forgotten in
     let stand = see_the_same m world forgotten (record { rows = refl; made = refl; arrivals = refl; results = refl }) follows.stands.managers in
+    let stand_after = c.in_ok-retired.ensures.stands forgotten stand (bounded_is_watched m c.args.kind c.args.name.now world c.requires.kept follows.stands.managers follows.heard bounded) in
     where_true c.moved.new.self c.in_ok-answer.answer (is_bounded world.versions c.args.kind c.args.name.now) (moved world after) (world, Ignored) bounded
     (c.in_ok-answer.ensures world after
     (ended_follows c.args.self.now c.end.new.self c.forget.new.self c.args.kind c.args.name.now world follows
-    (c.in_ok-end.ensures.stands forgotten stand (bounded_is_watched m c.args.kind c.args.name.now world c.requires.kept follows.stands.managers follows.heard bounded))
-    (subst (λ (n : List ℕ). HasVersions c.forget.new.self (forget_version c.args.kind n world)) c.as_str-2.ensures.bytes (c.forget.ensures.stands world follows.stands.subscription))))
+    stand_after
+    (subst (λ (n : List ℕ). HasVersions c.forget.new.self (forget_version c.args.kind n world)) c.as_str-2.ensures.bytes (c.forget.ensures.stands world follows.stands.subscription)))
+    (end_draws c.args.kind c.args.name.now forgotten)
+    (told-have c.in_ok-retired.retired m c.end.new.self world after c.requires.kept c.in_ok-retired.ensures.kept follows.stands.managers stand_after c.in_ok-retired.ensures.retired))

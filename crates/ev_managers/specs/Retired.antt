@@ -1,0 +1,18 @@
+-- Which generations of both managers retired.
+use Rattle.std.specs.Prelude.{◌≡◌, ℕ, ◌||◌}
+use Rattle.ev_warming.specs.Due.{is_among}
+use Rattle.ev_warming.specs.Changes.{has_retired, began_to_drain}
+use Rattle.ev_managers.specs.declared.managers.Managers.{Managers}
+use Rattle.ev_managers.specs.declared.retired.Retired.{Retired}
+
+-- these began to drain or were dropped between the managers before and after, and no others
+pub record AreRetired (retired : Retired) (before after : Managers) : Type 0 where
+  pub clusters : (number : ℕ) → is_among retired.clusters number ≡ has_retired number before.clusters.state.table.rows after.clusters.state.table.rows
+  pub listeners : (number : ℕ) → is_among retired.listeners number ≡ has_retired number before.listeners.state.table.rows after.listeners.state.table.rows
+
+-- the second ones are the first ones and those that began to drain between the managers before and after, and no others
+pub record AreDrained (retired more : Retired) (before after : Managers) : Type 0 where
+  pub clusters : (number : ℕ)
+      → is_among more.clusters number ≡ (is_among retired.clusters number || began_to_drain number before.clusters.state.table.rows after.clusters.state.table.rows)
+  pub listeners : (number : ℕ)
+      → is_among more.listeners number ≡ (is_among retired.listeners number || began_to_drain number before.listeners.state.table.rows after.listeners.state.table.rows)
