@@ -72,7 +72,7 @@ world_settled before after worker at n is =
 same_works : (old : WorkerParts) (spare : ℕ) (world : World) → WorksIn old world → WorksIn (record old { spare = spare }) world
 same_works old spare world works = record {
   begun = works.begun;
-  made = record { answers = works.made.answers; leads = works.made.leads };
+  made = record { answers = works.made.answers; chosen = works.made.chosen; leads = works.made.leads };
   has = works.has;
 }
 

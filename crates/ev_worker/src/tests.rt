@@ -58,8 +58,39 @@ fn nothing(alloc: Global, version: u64) -> Picture {
     }
 }
 
+// Where a connection went.
+#[derive(Clone, Copy, Debug, PartialEq, Eq)]
+enum Way {
+    InUse,
+    NoListener,
+    // to the host of the cluster, through the listener
+    Served,
+    Elsewhere,
+}
+
+fn way_of(answer: Accepted) -> Way {
+    match answer {
+        Accepted::InUse => Way::InUse,
+        Accepted::Chosen(Choice::NoListener) => Way::NoListener,
+        Accepted::Chosen(
+            Choice::Served {
+                listener,
+                cluster,
+                host,
+            },
+        ) => {
+            if listener.number() == 2 && cluster.number() == 1 && host == 0 {
+                Way::Served
+            } else {
+                Way::Elsewhere
+            }
+        }
+        Accepted::Chosen(_) => Way::Elsewhere,
+    }
+}
+
 // A connection that comes to a worker whose batch has room.
-fn accept(alloc: Global, worker: &mut Worker, at: u32, conn: u64) -> Result<Accepted, Fail> {
+fn accept(alloc: Global, worker: &mut Worker, at: u32, conn: u64) -> Result<Way, Fail> {
     let ask = Ask {
         conn,
         address: host(alloc, "10.1.0.1", 8080)?,
@@ -70,7 +101,7 @@ fn accept(alloc: Global, worker: &mut Worker, at: u32, conn: u64) -> Result<Acce
     if worker.room() == 0 {
         return Err(Fail::new("full"));
     }
-    Ok(worker.accept(at, ask))
+    Ok(way_of(worker.accept(at, ask)))
 }
 
 fn close(worker: &mut Worker, at: u32, conn: u64) -> Option<Closed> {
@@ -94,14 +125,6 @@ fn settled(
     })
 }
 
-fn served() -> Accepted {
-    Accepted::Chosen(Choice::Served {
-        listener: Gen::new(2),
-        cluster: Gen::new(1),
-        host: 0,
-    })
-}
-
 // A number is in use from its accept until its close.
 fn opens_and_closes(alloc: Global, worker: &mut Worker) -> Result<bool, Fail> {
     let first = accept(alloc, worker, 7, 5)?;
@@ -110,11 +133,13 @@ fn opens_and_closes(alloc: Global, worker: &mut Worker) -> Result<bool, Fail> {
     let gone = close(worker, 10, 5);
     let anew = accept(alloc, worker, 11, 5)?;
     let other = accept(alloc, worker, 12, 6)?;
-    let accepts = first == served()
-        && again == Accepted::InUse
-        && anew == served()
-        && other == served();
-    Ok(accepts && done == Some(Closed::Done) && gone == Some(Closed::NotOpen))
+    let accepts = first == Way::Served && anew == Way::Served && other == Way::Served;
+    Ok(
+        accepts
+            && again == Way::InUse
+            && done == Some(Closed::Done)
+            && gone == Some(Closed::NotOpen),
+    )
 }
 
 // What was closed at a settle is gone, and all else stays open.
@@ -133,7 +158,7 @@ fn goes_on(alloc: Global, worker: &mut Worker) -> Result<bool, Fail> {
     let done = close(worker, 14, 6);
     let none = accept(alloc, worker, 15, 6)?;
     let closes = gone == Some(Closed::NotOpen) && done == Some(Closed::Done);
-    Ok(closes && none == Accepted::Chosen(Choice::NoListener))
+    Ok(closes && none == Way::NoListener)
 }
 
 fn works(alloc: Global, worker: &mut Worker) -> Result<bool, Fail> {
@@ -148,7 +173,7 @@ fn works(alloc: Global, worker: &mut Worker) -> Result<bool, Fail> {
 // Accepts so many connections as a batch has lines for.
 fn fills(alloc: Global, worker: &mut Worker, first: u64) -> Result<bool, Fail> {
     for at in 0..256 {
-        if accept(alloc, worker, at, first + u64::from(at))? == Accepted::InUse {
+        if accept(alloc, worker, at, first + u64::from(at))? == Way::InUse {
             return Ok(false);
         }
     }
