@@ -22,8 +22,6 @@ mod arrivals;
 mod health;
 mod moved;
 mod reads;
-#[cfg(test)]
-mod tests;
 
 use ev_generations::Steps;
 use ev_types::{Arrival, Gen, GenRow, Kind, Name, Response, Verdict};
