@@ -58,39 +58,8 @@ fn nothing(alloc: Global, version: u64) -> Picture {
     }
 }
 
-// Where a connection went.
-#[derive(Clone, Copy, Debug, PartialEq, Eq)]
-enum Way {
-    InUse,
-    NoListener,
-    // to the host of the cluster, through the listener
-    Served,
-    Elsewhere,
-}
-
-fn way_of(answer: Accepted) -> Way {
-    match answer {
-        Accepted::InUse => Way::InUse,
-        Accepted::Chosen(Choice::NoListener) => Way::NoListener,
-        Accepted::Chosen(
-            Choice::Served {
-                listener,
-                cluster,
-                host,
-            },
-        ) => {
-            if listener.number() == 2 && cluster.number() == 1 && host == 0 {
-                Way::Served
-            } else {
-                Way::Elsewhere
-            }
-        }
-        Accepted::Chosen(_) => Way::Elsewhere,
-    }
-}
-
 // A connection that comes to a worker whose batch has room.
-fn accept(alloc: Global, worker: &mut Worker, at: u32, conn: u64) -> Result<Way, Fail> {
+fn accept(alloc: Global, worker: &mut Worker, at: u32, conn: u64) -> Result<Accepted, Fail> {
     let ask = Ask {
         conn,
         address: host(alloc, "10.1.0.1", 8080)?,
@@ -101,7 +70,7 @@ fn accept(alloc: Global, worker: &mut Worker, at: u32, conn: u64) -> Result<Way,
     if worker.room() == 0 {
         return Err(Fail::new("full"));
     }
-    Ok(way_of(worker.accept(at, ask)))
+    Ok(worker.accept(at, ask))
 }
 
 fn close(worker: &mut Worker, at: u32, conn: u64) -> Option<Closed> {
@@ -111,114 +80,64 @@ fn close(worker: &mut Worker, at: u32, conn: u64) -> Option<Closed> {
     Some(worker.close(at, conn))
 }
 
-fn settled(
-    alloc: Global,
-    closed: Seq<u64>,
-    version: u64,
-    picture: &Picture,
-) -> Result<Settled, Fail> {
-    let snapshot = Snapshot::build(alloc, picture)?;
-    Ok(Settled {
-        closed,
-        version,
-        snapshot,
-    })
-}
-
-// A number is in use from its accept until its close.
-fn opens_and_closes(alloc: Global, worker: &mut Worker) -> Result<bool, Fail> {
-    let first = accept(alloc, worker, 7, 5)?;
-    let again = accept(alloc, worker, 8, 5)?;
-    let done = close(worker, 9, 5);
-    let gone = close(worker, 10, 5);
-    let anew = accept(alloc, worker, 11, 5)?;
-    let other = accept(alloc, worker, 12, 6)?;
-    let accepts = first == Way::Served && anew == Way::Served && other == Way::Served;
-    Ok(
-        accepts
-            && again == Way::InUse
-            && done == Some(Closed::Done)
-            && gone == Some(Closed::NotOpen),
-    )
-}
-
-// What was closed at a settle is gone, and all else stays open.
-fn settles(alloc: Global, worker: &mut Worker) -> Result<bool, Fail> {
-    let closed = Seq::from_vec(vec![in alloc; 5]?);
-    let picture = nothing(alloc, 2);
-    let settled = settled(alloc, closed, 2, &picture)?;
-    worker.prepare()?;
-    worker.adopt(settled);
-    Ok(worker.version() == 2 && worker.room() == 256 && !worker.idle())
-}
-
-// A number that a settle closed isn't open, the other is, and a picture without listeners takes none.
-fn goes_on(alloc: Global, worker: &mut Worker) -> Result<bool, Fail> {
-    let gone = close(worker, 13, 5);
-    let done = close(worker, 14, 6);
-    let none = accept(alloc, worker, 15, 6)?;
-    let closes = gone == Some(Closed::NotOpen) && done == Some(Closed::Done);
-    Ok(closes && none == Way::NoListener)
-}
-
-fn works(alloc: Global, worker: &mut Worker) -> Result<bool, Fail> {
-    let idle = worker.idle();
-    let opened = opens_and_closes(alloc, worker)?;
-    let batch = worker.batch();
-    let lines = worker.room() == 250 && batch.worker() == 0 && batch.lines().len() == 6;
-    let settled = settles(alloc, worker)?;
-    Ok(idle && opened && lines && settled && goes_on(alloc, worker)?)
-}
-
-// Accepts so many connections as a batch has lines for.
-fn fills(alloc: Global, worker: &mut Worker, first: u64) -> Result<bool, Fail> {
-    for at in 0..256 {
-        if accept(alloc, worker, at, first + u64::from(at))? == Way::InUse {
-            return Ok(false);
-        }
-    }
-    Ok(worker.room() == 0 && !worker.idle())
-}
-
-// A full batch is emptied by a settle.
-fn fills_and_settles(alloc: Global, worker: &mut Worker, version: u64) -> Result<bool, Fail> {
-    let full = fills(alloc, worker, version * 1000)?;
-    let picture = both(alloc)?;
-    let settled = settled(alloc, Seq::new(alloc), version, &picture)?;
-    worker.prepare()?;
-    worker.adopt(settled);
-    Ok(full && worker.room() == 256 && worker.batch().lines().is_empty())
-}
-
-fn fills_three_batches(alloc: Global, worker: &mut Worker) -> Result<bool, Fail> {
-    for version in 1..4 {
-        if !fills_and_settles(alloc, worker, version)? {
-            return Ok(false);
-        }
-    }
-    Ok(true)
-}
-
-fn worker(alloc: Global, number: u32) -> Result<Worker, Fail> {
-    let picture = both(alloc)?;
-    let snapshot = Snapshot::build(alloc, &picture)?;
-    Ok(Worker::new(alloc, number, snapshot)?)
-}
-
 #[test]
 fn numbers_are_in_use_until_they_are_closed(rt: HostRuntime) -> Result<(), Fail> {
     let alloc = rt.alloc();
-    let mut worker = worker(alloc, 0)?;
-    let right = works(alloc, &mut worker);
-    assert_eq!(rt; right?, true);
+    let mut worker = Worker::new(alloc, 0, Snapshot::build(alloc, &both(alloc)?)?)?;
+    assert!(rt; worker.idle());
+    let served = Accepted::Chosen(Choice::Served {
+        listener: Gen::new(2),
+        cluster: Gen::new(1),
+        host: 0,
+    });
+    assert_eq!(rt; accept(alloc, &mut worker, 7, 5)?, served);
+    assert_eq!(rt; accept(alloc, &mut worker, 8, 5)?, Accepted::InUse);
+    assert_eq!(rt; close(&mut worker, 9, 5), Some(Closed::Done));
+    assert_eq!(rt; close(&mut worker, 10, 5), Some(Closed::NotOpen));
+    assert_eq!(rt; accept(alloc, &mut worker, 11, 5)?, served);
+    assert_eq!(rt; accept(alloc, &mut worker, 12, 6)?, served);
+    assert_eq!(rt; worker.room(), 250);
+    assert_eq!(rt;
+        (worker.batch().worker(), worker.batch().lines().len()),
+        (0, 6)
+    );
+    worker.prepare()?;
+    worker.adopt(Settled {
+        closed: Seq::from_vec(vec![in alloc; 5]?),
+        version: 2,
+        snapshot: Snapshot::build(alloc, &nothing(alloc, 2))?,
+    });
+    assert_eq!(rt;
+        (worker.version(), worker.room(), worker.idle()),
+        (2, 256, false)
+    );
+    assert_eq!(rt; close(&mut worker, 13, 5), Some(Closed::NotOpen));
+    assert_eq!(rt; close(&mut worker, 14, 6), Some(Closed::Done));
+    assert_eq!(rt;
+        accept(alloc, &mut worker, 15, 6)?,
+        Accepted::Chosen(Choice::NoListener)
+    );
     Ok(())
 }
 
 #[test]
 fn a_batch_has_256_lines(rt: HostRuntime) -> Result<(), Fail> {
     let alloc = rt.alloc();
-    let mut worker = worker(alloc, 3)?;
-    let right = fills_three_batches(alloc, &mut worker);
-    assert_eq!(rt; right?, true);
+    let mut worker = Worker::new(alloc, 3, Snapshot::build(alloc, &both(alloc)?)?)?;
+    for version in 1..4 {
+        for at in 0..256 {
+            let conn = version * 1000 + u64::from(at);
+            let answer = accept(alloc, &mut worker, at, conn)?;
+            assert!(rt; answer != Accepted::InUse);
+        }
+        assert_eq!(rt; (worker.room(), worker.idle()), (0, false));
+        worker.prepare()?;
+        worker.adopt(Settled {
+            closed: Seq::new(alloc),
+            version,
+            snapshot: Snapshot::build(alloc, &both(alloc)?)?,
+        });
+        assert_eq!(rt; (worker.room(), worker.batch().lines().len()), (256, 0));
+    }
     Ok(())
 }
