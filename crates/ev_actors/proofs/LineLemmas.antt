@@ -1,22 +1,19 @@
 -- A line of a worker, and a line of the main side: what goes out is in the journal, and what waits is in the batch.
 use Rattle.std.proofs.Common.{◌≡◌, ℕ, ◌≤◌, ◌<◌, ◌+◌, ◌==◌, ◌&&◌, Bool, true, false, if◌then◌else◌, List, [], ◌∷◌, ◌++◌, map, length, refl, sym, ap, ◌∙◌, subst, append_assoc, append-nil, arith}
-use Rattle.std.proofs.lemmas.Bool.Decides.{nat_tests}
 use Rattle.ev_types.specs.Events.{IsMainSide, IsWorkerOf, MayMake}
 use Rattle.ev_types.specs.Scripts.{items_in}
 use Rattle.ev_types.specs.declared.events.Actor.{Actor}
 use Rattle.ev_types.specs.declared.events.Actor.TheVariants.{Stream, Health, Timer, Main, Worker}
-use Rattle.ev_types.specs.declared.events.Entry.{Entry}
 use Rattle.ev_types.specs.declared.events.Event.{Event}
 use Rattle.ev_types.specs.declared.events.Event.TheVariants.{Connect, Disconnect, Response, Health as health, FetchTimeout, DrainTimeout, TtlExpired, Publish, Reap, Accept, Close, Settle}
 use Rattle.ev_types.specs.declared.events.Line.{Line}
-use Rattle.ev_model.specs.World.{World}
-use Rattle.ev_model.specs.Runs.{is_batched, world_after}
-use Rattle.ev_model.specs.Operations.{Operation, actor_decides, actor_same, entry_of, is_automatic, is_settle, line_operation, operation_of, step_behind}
+use Rattle.ev_model.specs.Runs.{is_batched}
+use Rattle.ev_model.specs.Operations.{Operation, actor_decides, entry_of, is_automatic, is_settle, line_operation, step_behind}
 use Rattle.ev_worker.specs.Workers.{HasWorker, WorkerParts}
-use Rattle.ev_actors.specs.Journals.{JournalParts, WorksIn, with_entries, world_now}
+use Rattle.ev_actors.specs.Journals.{JournalParts, WorksIn, world_now}
 use Rattle.ev_actors.specs.Passes.{automatic_behind, is_filled_by, joined_by, put_out, waiting_behind, waiting_of, waiting_without}
-use Rattle.ev_actors.specs.Taken.{GoesOn, HasEntered, HasFollowed, HasGoneOut, HasJoined, HasSettled, HasWorked, operations_in}
-use Rattle.ev_actors.specs.Working.{IsAtWork, operations_made}
+use Rattle.ev_actors.specs.Taken.{HasEntered, HasFollowed, HasGoneOut, HasJoined, HasSettled, HasWorked, operations_in}
+use Rattle.ev_actors.specs.Working.{operations_made}
 use Rattle.ev_actors.proofs.PassLemmas.{waiting_gone, waiting_joined}
 use Rattle.ev_actors.proofs.WorldLemmas.{entries_leave}
 use Rattle.ev_actors.proofs.SettleLemmas.{goes_on_by, goes_on_twice, operations_with, others_work, published_now, settle_draws, settled_operations, world_with}

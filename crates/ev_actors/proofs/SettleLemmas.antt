@@ -1,13 +1,12 @@
 -- What a settle enters, and that its worker works on.
 use Rattle.std.proofs.Common.{◌≡◌, ℕ, zero, suc, ◌<◌, List, [], ◌∷◌, ◌++◌, map, length, replicate, refl, sym, ap, ◌∙◌, subst}
 use Rattle.std.proofs.lemmas.List.{map-append}
-use Rattle.ev_types.specs.declared.events.Actor.{Actor}
 use Rattle.ev_types.specs.declared.events.Actor.TheVariants.{Worker}
 use Rattle.ev_types.specs.declared.events.Entry.{Entry}
 use Rattle.ev_types.specs.declared.events.Event.TheVariants.{Settle}
 use Rattle.ev_types.specs.declared.journals.Format.{Format}
 use Rattle.ev_model.specs.declared.pictures.Picture.{Picture}
-use Rattle.ev_model.specs.World.{World, OpenMember, opening}
+use Rattle.ev_model.specs.World.{World, opening}
 use Rattle.ev_model.specs.Connections.{settle}
 use Rattle.ev_model.specs.Step.{step}
 use Rattle.ev_model.specs.Runs.{world_after, RunsFrom}
@@ -15,7 +14,7 @@ use Rattle.ev_model.specs.Operations.{Operation, operation_of}
 use Rattle.ev_model.proofs.RunLemmas.{world_after-more, length-held}
 use Rattle.ev_model_laws.specs.Kept.{HoldsPublished}
 use Rattle.ev_model_laws.proofs.HeldLemmas.{opens_held}
-use Rattle.ev_worker.specs.Batches.{entries_of, entry_of}
+use Rattle.ev_worker.specs.Batches.{entries_of}
 use Rattle.ev_worker.specs.Workers.{HasWorker, IsMadeFrom, IsToldBy, StandsFor, WorkerParts}
 use Rattle.ev_worker.specs.declared.lines.BatchLine.{BatchLine}
 use Rattle.ev_actors.specs.Journals.{JournalParts, WorksIn, entries_made, settle_made, with_entries, with_settled, world_behind, world_now}

@@ -1,10 +1,9 @@
 -- A line that one of the workers, or the main side, has made: all work on, and what waits is theirs.
-use Rattle.std.proofs.Common.{◌≡◌, ℕ, ◌≤◌, ◌<◌, ◌+◌, ◌==◌, Bool, true, false, List, [], ◌∷◌, ◌++◌, length, get_or, refl, sym, ap, ◌∙◌, subst, arith}
+use Rattle.std.proofs.Common.{◌≡◌, ℕ, ◌<◌, ◌==◌, Bool, true, false, List, length, get_or, refl, sym, ap, ◌∙◌, subst, arith}
 use Rattle.std.specs.Prelude.{slice_set}
 use Rattle.std.proofs.lemmas.List.{get_or-set_other, length-set}
 use Rattle.std.proofs.lemmas.Grind.{get_or-set_at}
 use Rattle.ev_types.specs.Events.{IsMainSide, MayMake}
-use Rattle.ev_types.specs.Scripts.{items_in}
 use Rattle.ev_types.specs.Same.{numbers_decide}
 use Rattle.ev_types.specs.declared.events.Actor.{Actor}
 use Rattle.ev_types.specs.declared.events.Actor.TheVariants.{Worker}
@@ -12,9 +11,9 @@ use Rattle.ev_types.specs.declared.events.Line.{Line}
 use Rattle.ev_model.specs.Runs.{is_batched}
 use Rattle.ev_model.specs.Operations.{Operation, actor_same, is_settle, line_operation}
 use Rattle.ev_worker.specs.Workers.{WorkerParts}
-use Rattle.ev_actors.specs.Journals.{JournalParts, WorksIn, world_now}
-use Rattle.ev_actors.specs.Passes.{is_filled_by, put_out, waiting_behind, waiting_of}
-use Rattle.ev_actors.specs.Taken.{HasGoneOut, HasWorked, IsTaken, operations_in}
+use Rattle.ev_actors.specs.Journals.{JournalParts, world_now}
+use Rattle.ev_actors.specs.Passes.{is_filled_by, waiting_behind, waiting_of}
+use Rattle.ev_actors.specs.Taken.{HasGoneOut, HasWorked, IsTaken}
 use Rattle.ev_actors.specs.Working.{AreAtWork, HaveWaiting, IsAtWork, operations_made}
 use Rattle.ev_actors.proofs.PassLemmas.{waiting_other, waiting_stays}
 use Rattle.ev_actors.proofs.LineLemmas.{behind_alone, behind_batched, main_alone}

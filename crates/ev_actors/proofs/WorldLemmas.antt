@@ -1,14 +1,13 @@
 -- What others do leaves what a worker holds and has open.
-use Rattle.std.proofs.Common.{◌≡◌, ◌≢◌, ℕ, ◌<◌, Bool, true, false, not, ◌&&◌, ◌||◌, ◌==◌, List, [], ◌∷◌, ◌++◌, filter, length, refl, sym, ap, ◌∙◌, subst, arith}
-use Rattle.std.specs.Prelude.{⊤, slice_index_or, slice_set}
+use Rattle.std.proofs.Common.{◌≡◌, ℕ, Bool, true, false, not, ◌&&◌, ◌==◌, List, [], ◌∷◌, ◌++◌, filter, length, refl, sym, ap, ◌∙◌}
+use Rattle.std.specs.Prelude.{⊤, slice_index_or}
 use Rattle.std.specs.Cmp.{first_so}
-use Rattle.std.proofs.lemmas.Bool.{both_ways}
 use Rattle.std.proofs.lemmas.List.{append-nil, get_or-set_other, get_or_append_left}
 use Rattle.std.proofs.lemmas.List.Elements.{filter-append}
-use Rattle.ev_types.specs.Events.{MayMake, IsMainSide}
+use Rattle.ev_types.specs.Events.{MayMake}
 use Rattle.ev_types.specs.Same.{numbers_decide}
 use Rattle.ev_types.specs.declared.events.Actor.{Actor}
-use Rattle.ev_types.specs.declared.events.Actor.TheVariants.{Stream, Health as health_checker, Timer, Main, Worker}
+use Rattle.ev_types.specs.declared.events.Actor.TheVariants.{Worker}
 use Rattle.ev_types.specs.declared.events.Ask.{Ask}
 use Rattle.ev_types.specs.declared.events.Entry.{Entry}
 use Rattle.ev_types.specs.declared.events.Event.{Event}
@@ -18,19 +17,19 @@ use Rattle.ev_model.specs.declared.pictures.Choice.{Choice}
 use Rattle.ev_model.specs.declared.pictures.Choice.TheVariants.{NoListener, NoRoute, Local, Redirect, NoCluster, NoEndpoint, Served}
 use Rattle.ev_model.specs.declared.pictures.Picture.{Picture}
 use Rattle.ev_model.specs.declared.pictures.Shown.{Shown}
-use Rattle.ev_model.specs.World.{World, OpenMember, nothing_shown, last_version, opening}
+use Rattle.ev_model.specs.World.{World, OpenMember, nothing_shown, last_version}
 use Rattle.ev_model.specs.Choice.{choice_of}
 use Rattle.ev_model.specs.Dead.{shown_at, picture_at, picture_held, version_held}
 use Rattle.ev_model.specs.Picture.{shown_of, shown_same, has_number}
 use Rattle.ev_types.specs.declared.events.Answer.TheVariants.{Unchanged, Version}
-use Rattle.ev_model.specs.Connections.{accepted, closed, is_closing, is_member, is_open, left_open, members_of, accept, close, settle}
+use Rattle.ev_model.specs.Connections.{accepted, closed, is_closing, is_member, is_open, left_open, members_of}
 use Rattle.ev_model.specs.Step.{step}
-use Rattle.ev_model.specs.Runs.{world_after, RunsFrom}
+use Rattle.ev_model.specs.Runs.{world_after}
 use Rattle.ev_model_laws.specs.Kept.{HoldsPublished}
 use Rattle.ev_model_laws.proofs.OperationLists.{filter_through}
-use Rattle.ev_model_laws.proofs.KeepLemmas.{either, is_for_managers, seen_of, step-each}
+use Rattle.ev_model_laws.proofs.KeepLemmas.{either, seen_of, step-each}
 use Rattle.ev_model_laws.proofs.SeenLemmas.{IsSameSeen, same_seen}
-use Rattle.ev_model_laws.proofs.HeldLemmas.{opens_held, step-held}
+use Rattle.ev_model_laws.proofs.HeldLemmas.{step-held}
 use Rattle.ev_worker.specs.Workers.{HasWorker, SameOpen}
 
 -- the world after entries and others behind
@@ -124,12 +123,12 @@ module _ (number : ℕ) (picture : Picture) (opened : List OpenMember) where
         };
     published = either (HasWorker number picture opened) (shown_same (shown_of world) (shown_at world (last_version world))) (world, Unchanged)
         (record world { pictures = world.pictures ++ shown_of world ∷ [] }, Version (length world.pictures)) has (record {
-      holds =
-          ap (λ (shown : Shown). record { version = version_held world number; shown = shown })
-          (get_or_append_left world.pictures (shown_of world ∷ []) nothing_shown (version_held world number) (published number))
-          ∙ has.holds;
-      has = has.has;
-    });
+          holds =
+              ap (λ (shown : Shown). record { version = version_held world number; shown = shown })
+              (get_or_append_left world.pictures (shown_of world ∷ []) nothing_shown (version_held world number) (published number))
+              ∙ has.holds;
+          has = has.has;
+        });
     reaped = record { holds = has.holds; has = has.has };
     accepted = λ ask worker is. record {
       holds = has.holds;

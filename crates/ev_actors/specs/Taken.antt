@@ -1,5 +1,5 @@
 -- What the steps of a replay do.
-use Rattle.std.specs.Prelude.{ℕ, ◌≡◌, ◌≤◌, ◌<◌, ◌+◌, Bool, List, [], ◌∷◌, ◌++◌, map, length, get_or}
+use Rattle.std.specs.Prelude.{ℕ, ◌≡◌, ◌≤◌, ◌<◌, ◌+◌, Bool, List, [], ◌∷◌, ◌++◌, map, length, get_or, take}
 use Rattle.std.specs.List.{flat_map}
 use Rattle.ev_types.specs.Scripts.{ScriptParts, items_in}
 use Rattle.ev_types.specs.declared.events.Actor.TheVariants.{Worker}
@@ -85,6 +85,14 @@ last_of at worker = operations_made worker ++ record { actor = Worker worker.num
 pub record HaveSettled (at : ℕ) (before after : JournalParts) (workers : List WorkerParts) : Type 0 where
   pub goes_on : GoesOn before after
   pub out : operations_in after ≡ operations_in before ++ flat_map (last_of at) workers
+
+-- the workers before this place have settled at a line, in order, and the others are as they were
+pub record IsSettling (at : ℕ) (before now : JournalParts) (all workers : List WorkerParts) (place : ℕ) : Type 0 where
+  pub goes_on : GoesOn before now
+  pub count : length workers ≡ length all
+  pub same : (k : ℕ) (d : WorkerParts) → place ≤ k → k < length workers → get_or workers k d ≡ get_or all k d
+  pub working : (k : ℕ) (d : WorkerParts) → place ≤ k → k < length workers → WorksIn (get_or workers k d) (world_now now)
+  pub out : operations_in now ≡ operations_in before ++ flat_map (last_of at) (take place all)
 
 -- it is the worker of this number, with this picture, and it has done nothing yet
 pub record HasBegun (place : ℕ) (shown : Picture) (worker : WorkerParts) : Type 0 where

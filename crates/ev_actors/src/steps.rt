@@ -1,4 +1,4 @@
-ghost use Rattle.std.specs.Prelude.{◌≡◌, ◌≤◌, ◌<◌, ◌+◌, ◌&&◌, true, length, OnOk};
+ghost use Rattle.std.specs.Prelude.{◌≡◌, ◌≤◌, ◌<◌, ◌+◌, ◌&&◌, ◌↔◌, true, length, IsTrue, OnOk};
 ghost use Rattle.ev_types.specs.Events.{IsMainSide, MayMake};
 ghost use Rattle.ev_types.specs.Scripts.{items_in};
 ghost use Rattle.ev_types.specs.declared.events.Actor.TheVariants.{Worker as by_worker};
@@ -66,11 +66,20 @@ fn worker_line<R: Journaled>(
         return settle(journaled, worker, line.at, 0);
     }
     join(alloc, worker, line)?;
-    if worker.room() == 0 {
+    let full = is_full(worker);
+    if full {
         settle(journaled, worker, line.at, 1)
     } else {
         Ok(())
     }
+}
+
+// Whether the batch of the worker has no room left.
+fn is_full(worker: &Worker) -> bool
+    ensures full { IsTrue result ↔ (length worker.now.lines ≡ batch_limit) }
+    ensures few { length worker.now.lines ≤ batch_limit }
+{
+    worker.room() == 0
 }
 
 // Whether the event is a settle.

@@ -1,5 +1,5 @@
 -- The entries of the drain's map as rows.
-use Rattle.std.proofs.Common.{◌≡◌, ℕ, suc, Bool, true, false, not, ◌&&◌, ◌||◌, ◌==◌, cond, List, [], ◌∷◌, filter, map, length, Option, None, Some, refl, sym, ap, ◌∙◌, arith}
+use Rattle.std.proofs.Common.{◌≡◌, ℕ, suc, Bool, true, false, not, ◌&&◌, ◌||◌, ◌==◌, cond, List, [], ◌∷◌, filter, map, length, Some, refl, sym, ap, ◌∙◌, arith}
 use Rattle.std.specs.List.{list_any, find}
 use Rattle.std.specs.List.Sorted.{IsStrictlySortedBy}
 use Rattle.std.specs.Option.{is_some, option_map}
@@ -22,7 +22,6 @@ use Rattle.ev_drain.specs.Notes.{row_of, rows_of, marked_note, is_waiting_note, 
 use Rattle.ev_types.specs.declared.journals.Format.{Format}
 use Rattle.ev_model.specs.World.{OpenMember}
 use Rattle.ev_model.specs.Dead.{is_dead_at, is_open_on, waits_for_timer}
-use Rattle.ev_ledger.specs.Members.{count_of}
 
 -- the entry of a number is found exactly at the row of this number
 pub same_number : (n k : ℕ) → is_eq (nat_cmp n k) ≡ (k == n)

@@ -11,7 +11,6 @@ use Rattle.std.specs.Map.{keys_of}
 use Rattle.ev_drain.specs.declared.notes.Note.{Note}
 use Rattle.ev_drain.specs.Notes.{rows_of}
 use Rattle.ev_drain.proofs.RowLemmas.{same_number}
-use Rattle.std.specs.Cmp.{IsTotalOrder}
 use Rattle.std.proofs.lemmas.Bool.{true≢false, false≢true, or_parts}
 use Rattle.std.proofs.lemmas.Bool.Decides.{nat_tests}
 use Rattle.std.proofs.lemmas.Cmp.{nat_cmp_total, on_total}
@@ -24,12 +23,12 @@ use Rattle.ev_types.specs.declared.rows.GenRow.{GenRow}
 use Rattle.ev_model.specs.World.{World, OpenMember}
 use Rattle.ev_model.specs.Sorted.{put_by, sorted_by}
 use Rattle.ev_model.specs.Picture.{has_number}
-use Rattle.ev_model.specs.Dead.{is_dead, is_dead_at, is_in_use_by, is_open_on, waits_for_timer, numbers_in_use}
+use Rattle.ev_model.specs.Dead.{is_dead, is_dead_at, is_open_on, waits_for_timer, numbers_in_use}
 use Rattle.ev_model.specs.Publishing.{ascending, dead_numbers}
 use Rattle.ev_ledger.specs.Members.{comes_before as member_before}
 use Rattle.ev_ledger.proofs.OrderLemmas.{IsOrder, any_sorted, filter_sorted, put_put, any_put}
 use Rattle.ev_ledger.proofs.PlaceLemmas.{le_order}
-use Rattle.ev_drain.specs.Retired.{Retired, comes_before, is_numbered, is_retired, retired_in, retired_of, dead_of, is_dead_row, StandsFor, is_waiting, marked, has_row, newly_retired, retired_status}
+use Rattle.ev_drain.specs.Retired.{Retired, comes_before, is_numbered, is_retired, retired_in, dead_of, is_dead_row, StandsFor, is_waiting, marked, has_row, newly_retired, retired_status}
 
 number_order : IsOrder comes_before
 number_order = le_order (λ (a b : Retired). nat_cmp a.number b.number) (on_total (λ (r : Retired). r.number) nat_cmp_total)

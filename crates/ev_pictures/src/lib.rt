@@ -4,3 +4,6 @@
 mod pictures;
 
 pub use pictures::Pictures;
+
+#[cfg(test)]
+mod tests;

@@ -6,10 +6,9 @@ use Rattle.std.proofs.lemmas.Bool.Decides.{nat_tests}
 use Rattle.std.proofs.lemmas.List.Folds.{list_any-append}
 use Rattle.std.specs.Ordering.{is_le, nat_cmp, ordering_then}
 use Rattle.ev_types.specs.declared.rows.GenRow.{GenRow}
-use Rattle.ev_model.specs.World.{World, OpenMember, last_version}
+use Rattle.ev_model.specs.World.{World, OpenMember}
 use Rattle.ev_model.specs.Sorted.{put_by, sorted_by}
 use Rattle.ev_model.specs.Picture.{has_number}
-use Rattle.ev_model.specs.Dead.{last_picture}
 use Rattle.ev_model.specs.Publishing.{ascending}
 use Rattle.ev_model.specs.Connections.{closed, closed_by, is_closing, is_member, is_open, left_open, settle}
 use Rattle.ev_model.specs.declared.pictures.Picture.{Picture}
@@ -18,7 +17,7 @@ use Rattle.ev_ledger.specs.Members.{AreApart, comes_before, connection_of, held_
 use Rattle.ev_ledger.proofs.PlaceLemmas.{closed_leaves, filter_in_order}
 use Rattle.ev_drain.specs.Retired.{Retired, comes_before as row_before, has_row, is_expired, is_numbered, is_retired, retired_in, StandsFor as HasRetired}
 use Rattle.ev_worker.specs.Workers.{IsToldBy}
-use Rattle.ev_retirement.specs.Closing.{closed_all, closes, is_among, numbers_closing}
+use Rattle.ev_retirement.specs.Closing.{closed_all, is_among, numbers_closing}
 use Rattle.ev_retirement.specs.Holders.{HoldersParts, StandsFor}
 use Rattle.ev_retirement.proofs.HoldLemmas.{unmarked}
 

@@ -1,17 +1,18 @@
 -- Holders and the world that they stand for.
-use Rattle.std.proofs.Common.{◌≡◌, ℕ, Bool, true, false, not, ◌&&◌, ◌||◌, ◌==◌, cond, Result, Ok, Err, OnOk, List, [], ◌∷◌, ◌++◌, filter, map, length, refl, sym, ap, ◌∙◌, subst, arith}
-use Rattle.std.specs.List.{list_any, AllByRecursion}
+use Rattle.std.proofs.Common.{◌≡◌, ℕ, Bool, true, false, not, ◌&&◌, ◌||◌, ◌==◌, cond, Result, Ok, Err, OnOk, Some, List, [], ◌∷◌, ◌++◌, filter, map, length, refl, sym, ap, ◌∙◌, subst, arith}
+use Rattle.std.specs.List.{list_any, find, AllByRecursion}
+use Rattle.std.specs.Option.{is_some, option_map}
 use Rattle.std.proofs.lemmas.Bool.{true≢false, false≢true}
 use Rattle.std.proofs.lemmas.Bool.Decides.{nat_tests}
 use Rattle.ev_types.specs.Statuses.{is_live}
 use Rattle.ev_types.specs.declared.contents.Kind.TheVariants.{Lds}
 use Rattle.ev_types.specs.declared.events.Answer.{Answer}
-use Rattle.ev_types.specs.declared.events.Answer.TheVariants.{Unchanged, Version, Ignored, Done}
+use Rattle.ev_types.specs.declared.events.Answer.TheVariants.{Unchanged, Version}
 use Rattle.ev_types.specs.declared.rows.RowStatus.{RowStatus}
 use Rattle.ev_types.specs.declared.rows.RowStatus.TheVariants.{Warming, Active, Draining, Dropped}
 use Rattle.ev_types.specs.declared.rows.GenRow.{GenRow}
-use Rattle.ev_model.specs.World.{World, OpenMember, last_version}
-use Rattle.ev_model.specs.Sorted.{put_by, sorted_by}
+use Rattle.ev_model.specs.World.{World, last_version}
+use Rattle.ev_model.specs.Sorted.{put_by}
 use Rattle.ev_model.specs.Rows.{is_row_of}
 use Rattle.ev_model.specs.Picture.{has_number, shown_of, shown_same}
 use Rattle.ev_model.specs.Dead.{shown_at}
@@ -19,9 +20,8 @@ use Rattle.ev_model.specs.Publishing.{publish}
 use Rattle.ev_model.specs.Signals.{drain_timeout, expire, is_draining, is_unexpired, unexpired}
 use Rattle.ev_model.specs.Tidy.{tidy}
 use Rattle.ev_pictures.specs.Pictures.{PicturesParts, StandsFor as HasPictures}
-use Rattle.ev_ledger.specs.Members.{StandsFor as HasOpened}
 use Rattle.ev_ledger.proofs.OrderLemmas.{any_sorted, any_put}
-use Rattle.ev_drain.specs.Retired.{Retired, comes_before, has_row, is_numbered, is_retired, marked, newly_retired, retired_in, retired_of, retired_status, StandsFor as HasRetired}
+use Rattle.ev_drain.specs.Retired.{Retired, comes_before, has_row, is_numbered, is_retired, kind_of_row, marked, retired_in, retired_status, StandsFor as HasRetired}
 use Rattle.ev_retirement.specs.Holders.{HoldersParts, StandsFor, timed_out, timeout_answer, with_expired, with_retired, without_generation}
 
 -- a publication leaves all but the pictures
@@ -192,6 +192,16 @@ remove_stands number holders drain world stands is retired = record {
   retired = retired;
   marked = subst (λ d. AllByRecursion (λ m. has_row d m ≡ true) (filter (λ n. not (n == number)) world.expired)) (sym is) (left_marked number holders.drain world.expired stands.marked);
 }
+
+-- a row of a number has a kind
+pub kind_there : (drain : List Retired) (number : ℕ) → is_some (kind_of_row drain number) ≡ has_row drain number
+kind_there [] number = refl
+kind_there (row ∷ drain) number = by (is_numbered number row) (kind_there drain number)
+  where
+    by : (t : Bool) → is_some (kind_of_row drain number) ≡ has_row drain number
+        → is_some (option_map (λ (r : Retired). r.kind) (cond t (Some row) (find (is_numbered number) drain))) ≡ (t || has_row drain number)
+    by true rest = refl
+    by false rest = rest
 
 -- two facts of what is given make a third one
 pub on_ok : {T E : Type 0} {P Q R : Type 0} (result : Result T E) → OnOk result P → OnOk result Q → (P → Q → R) → OnOk result R

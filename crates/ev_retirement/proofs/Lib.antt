@@ -1,2 +1,4 @@
 pub mod HoldLemmas
 pub mod CloseLemmas
+pub mod LineLemmas
+pub mod ReapLemmas

@@ -1,5 +1,5 @@
 -- Which connections a settle closes, by the drain.
-use Rattle.std.specs.Prelude.{ℕ, Bool, not, ◌&&◌, ◌==◌, List, [], ◌∷◌, filter, map}
+use Rattle.std.specs.Prelude.{ℕ, Bool, not, ◌&&◌, ◌==◌, List, filter, map}
 use Rattle.ev_model.specs.World.{OpenMember}
 use Rattle.ev_model.specs.Picture.{has_number}
 use Rattle.ev_drain.specs.Retired.{Retired, is_expired}

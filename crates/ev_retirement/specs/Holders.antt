@@ -1,10 +1,11 @@
 -- What contracts see of what holds generations, and what a world has of it.
-use Rattle.std.specs.Prelude.{◌≡◌, ℕ, Bool, true, false, not, ◌==◌, if◌then◌else◌, List, [], ◌∷◌, ◌++◌, filter}
-use Rattle.std.specs.List.{AllByRecursion}
+use Rattle.std.specs.Prelude.{◌≡◌, ℕ, Bool, true, false, not, ⊤, ◌==◌, if◌then◌else◌, List, [], ◌∷◌, ◌++◌, filter}
+use Rattle.std.specs.List.{list_any, AllByRecursion}
 use Rattle.ev_types.specs.declared.events.Answer.{Answer}
 use Rattle.ev_types.specs.declared.events.Answer.TheVariants.{Ignored, Done}
 use Rattle.ev_types.specs.declared.rows.GenRow.{GenRow}
 use Rattle.ev_model.specs.World.{World, OpenMember}
+use Rattle.ev_model.specs.Picture.{has_number}
 use Rattle.ev_model.specs.Signals.{unexpired}
 use Rattle.ev_model.specs.Tidy.{tidy}
 use Rattle.ev_pictures.specs.Pictures.{PicturesParts, StandsFor as HasPictures}
@@ -43,6 +44,18 @@ without_generation number world = record world {
   rows = filter (λ (row : GenRow). not (row.number == number)) world.rows;
   expired = filter (λ n. not (n == number)) world.expired;
 }
+
+-- the world without the generations of these numbers, and without their marks
+abbrev pub without_generations : List ℕ → World → World
+without_generations numbers world = record world {
+  rows = filter (λ (row : GenRow). not (has_number row.number numbers)) world.rows;
+  expired = filter (λ n. not (has_number n numbers)) world.expired;
+}
+
+-- no two rows have one number
+abbrev pub AreNumbered : List GenRow → Type 0
+AreNumbered [] = ⊤
+AreNumbered (row ∷ rows) = (list_any (λ (other : GenRow). other.number == row.number) rows ≡ false) × AreNumbered rows
 
 -- the world in which one row of these drains, or is dropped
 abbrev pub with_retired : Bool → List GenRow → GenRow → List GenRow → World → World

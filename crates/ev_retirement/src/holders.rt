@@ -5,23 +5,28 @@ ghost use Rattle.ev_types.specs.declared.rows.GenRow.{GenRow};
 ghost use Rattle.ev_types.specs.declared.events.Answer.TheVariants.{Settled as settled_answer};
 ghost use Rattle.ev_model.specs.World.{World, opening};
 ghost use Rattle.ev_model.specs.Picture.{shown_of};
-ghost use Rattle.ev_model.specs.Publishing.{publish, dead_numbers};
+ghost use Rattle.ev_model.specs.Publishing.{publish, dead_numbers, without_dead};
 ghost use Rattle.ev_model.specs.Signals.{drain_timeout};
 ghost use Rattle.ev_model.specs.Connections.{settle};
 ghost use Rattle.ev_pictures.specs.Pictures.{published_answer};
 ghost use Rattle.ev_drain.specs.Retired.{has_row};
-ghost use Rattle.ev_worker.specs.Workers.{IsToldBy};
-ghost use Rattle.ev_retirement.specs.Holders.{StandsFor, timed_out, timeout_answer, with_expired, with_retired, without_generation};
+ghost use Rattle.ev_types.specs.declared.journals.Format.{Format};
+ghost use Rattle.ev_model.specs.Runs.{world_after};
+ghost use Rattle.ev_model.specs.declared.pictures.Picture.{Picture};
+ghost use Rattle.ev_worker.specs.Batches.{entries_of};
+ghost use Rattle.ev_worker.specs.Workers.{AreAnswered, IsToldBy};
+ghost use Rattle.ev_retirement.specs.Holders.{AreNumbered, StandsFor, timed_out, timeout_answer, with_expired, with_retired, without_generation, without_generations};
 
 use crate::closing::{close_all, numbers_closing};
 use crate::in_use::InUse;
+use crate::lines::take_lines;
 use ev_drain::Drain;
 use ev_ledger::Ledger;
 use ev_model::Shown;
 use ev_pictures::Pictures;
 use ev_snapshot::Snapshot;
 use ev_types::{Format, Gen, Kind, Name, Seq};
-use ev_worker::Settled;
+use ev_worker::{Batch, Settled};
 use std::alloc::{AllocError, Global};
 use std::marker::Model;
 use std::sync::Arc;
@@ -112,6 +117,23 @@ impl Holders {
         self.drain.remove(number);
     }
 
+    /// These dead generations go, one after another, and their marks with them. It takes no memory.
+    pub fn remove_all(&mut self, dead: &[Gen])
+        ensures world { (world : World) → StandsFor self.old world → StandsFor self.new (without_generations dead.now world) }
+        ensures reaped { (format : Format) (world : World) → StandsFor self.old world → AreNumbered world.rows → dead.now ≡ dead_numbers format world → StandsFor self.new (without_dead format world) }
+    {
+        self.take_out(dead);
+    }
+
+    // The same, for any numbers.
+    fn take_out(&mut self, numbers: &[Gen])
+        ensures { (world : World) → StandsFor self.old world → StandsFor self.new (without_generations numbers.now world) }
+    {
+        for number in numbers {
+            self.remove(*number);
+        }
+    }
+
     /// A worker settles: its connections on listeners whose drain timeout came are closed, and it takes over the last snapshot.
     /// Out of memory, all stays as it was.
     pub fn settle(&mut self, alloc: Global, worker: u32) -> Result<Settled, AllocError>
@@ -133,6 +155,29 @@ impl Holders {
             version: snapshot.version(),
             snapshot,
         })
+    }
+
+    /// Takes over what a worker did since it settled: its lines open and close connections, one after another, and the world is
+    /// then the one after these entries. Out of memory, some of the first lines are taken: whoever holds this makes it anew.
+    pub fn take_batch(&mut self, batch: &Batch) -> Result<(), AllocError>
+        ensures world { OnOk result ((format : Format) (world : World) (picture : Picture) → StandsFor self.old world → AreAnswered format batch.now.worker world batch.now.lines → StandsFor self.new (world_after format world (entries_of batch.now.worker picture batch.now.lines))) }
+    {
+        take_lines(&mut self.ledger, batch.worker(), batch.lines())
+    }
+
+    /// Whether a generation was retired, and not removed since.
+    #[tactic(auto, using(crate::proofs::HoldLemmas::kind_there))]
+    pub fn has_retired(&self, number: Gen) -> bool
+        ensures { result ≡ has_row self.now.drain number }
+    {
+        self.drain.kind(number).is_some()
+    }
+
+    /// How many workers there are.
+    pub fn workers(&self) -> usize
+        ensures { result ≡ length self.now.pictures.held }
+    {
+        self.pictures.workers()
     }
 
     /// The last snapshot, for a worker that begins. It takes no memory; it is refused where 2^63 - 1 owners hold it already.

@@ -4,5 +4,10 @@
 mod closing;
 mod holders;
 mod in_use;
+mod lines;
 
 pub use holders::Holders;
+pub use lines::answer_of;
+
+#[cfg(test)]
+mod tests;

@@ -8,6 +8,7 @@ mod workers;
 
 pub use batches::Batch;
 pub use lines::{Accepted, BatchLine, Closed, Outcome, Settled};
+pub use members::on_of;
 pub use workers::Worker;
 
 #[cfg(test)]

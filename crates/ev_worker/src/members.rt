@@ -30,8 +30,8 @@ pub(crate) fn open_on(members: &mut Members, conn: u64, on: Option<(Gen, Option<
     };
 }
 
-/// What an accept opens its connection on, by how it was answered.
-pub(crate) fn on_of(answer: &Accepted) -> Option<(Gen, Option<Gen>)>
+/// What an accept opens its connection on, by how it was answered: a listener and, where it is forwarded, a cluster.
+pub fn on_of(answer: &Accepted) -> Option<(Gen, Option<Gen>)>
     ensures { result ≡ on_of answer.now }
 {
     match answer {

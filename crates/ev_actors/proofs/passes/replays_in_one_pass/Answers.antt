@@ -1,5 +1,4 @@
 use Rattle.ev_actors.proofs.PassLemmas.{in_one_pass}
-use Rattle.ev_actors.proofs.WorldLemmas.{entries_leave}
 use Rattle.ev_actors.proofs.passes.replays_in_one_pass.Goals as goal
 
 pub returns : goal.returns

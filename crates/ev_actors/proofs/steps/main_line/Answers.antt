@@ -1,4 +1,4 @@
-use Rattle.std.proofs.Common.{◌≡◌, sym, ◌∙◌}
+use Rattle.std.proofs.Common.{sym, ◌∙◌}
 use Rattle.std.proofs.lemmas.Result.{IfOk-weaker}
 use Rattle.ev_actors.specs.Taken.{HasFollowed, HasGoneOut}
 use Rattle.ev_actors.proofs.LineLemmas.{goes_alone, goes_followed}

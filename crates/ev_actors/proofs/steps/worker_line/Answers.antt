@@ -1,4 +1,5 @@
-use Rattle.std.proofs.Common.{◌≡◌, ◌<◌, ◌+◌, ◌==◌, ℕ, Bool, true, false, length, map, ap, sym, ◌∙◌, subst, arith}
+use Rattle.std.proofs.Common.{◌≡◌, ◌≤◌, ◌<◌, ◌↔◌, ◌==◌, IsTrue, ℕ, Bool, true, false, length, ap, sym, ◌∙◌, subst, arith}
+use Rattle.std.proofs.lemmas.Bool.{both_ways}
 use Rattle.std.proofs.lemmas.Bool.Decides.{nat_tests}
 use Rattle.std.proofs.lemmas.List.{length-map}
 use Rattle.std.proofs.lemmas.Result.{IfOk-weaker}
@@ -19,16 +20,17 @@ below workers number line own may = worker_below workers number line.event (subs
 batches : (workers number : ℕ) (line : Line) → line.actor ≡ Worker number → MayMake workers line.actor line.event → is_settle line.event ≡ false → is_batched line.event ≡ true
 batches workers number line own may h = worker_batches workers number line.event (subst (λ a. MayMake workers a line.event) own may) h
 
-full_by : (room : ℕ) (worker : WorkerParts) → room + length worker.lines ≡ 256 → room ≡ 0 → (length (operations_made worker) == 256) ≡ true
-full_by room worker fits none =
-    let lines : length worker.lines ≡ 256 = omega arith in
-    ap (λ n. n == 256) (length-map worker.lines (operation_made worker.number) ∙ lines)
+full_by : (worker : WorkerParts) (full : Bool) → IsTrue full ↔ (length worker.lines ≡ 256) → full ≡ true → (length (operations_made worker) == 256) ≡ true
+full_by worker full says is =
+    ap (λ n. n == 256) (length-map worker.lines (operation_made worker.number) ∙ says.0 is)
 
 not_full : (n : ℕ) → n < 256 → (n == 256) ≡ false
 not_full n h = grind (arith, nat_tests)
 
-few_by : (room : ℕ) (worker : WorkerParts) → room + length worker.lines ≡ 256 → (room ≡ 0 → ⊥) → length worker.lines < 256
-few_by room worker fits some = omega (arith, some)
+few_by : (worker : WorkerParts) (full : Bool) → IsTrue full ↔ (length worker.lines ≡ 256) → length worker.lines ≤ 256 → full ≡ false → length worker.lines < 256
+few_by worker full says most is =
+    let no : length worker.lines ≡ 256 → ⊥ = λ same. both_ways full is (says.1 same) in
+    omega (arith, no)
 
 pub returns-then-is_settle : goal.returns-then-is_settle
 returns-then-is_settle g c =
@@ -42,24 +44,24 @@ returns-then-is_settle g c =
     (sym c.is_settle.ensures ∙ c.if-is_settle.true) settled)
     c.settle.ensures
 
-pub returns-then-room-eq0 : goal.returns-then-room-eq0
-returns-then-room-eq0 g c =
-    IfOk-weaker c.settle-then-room-eq0.result
-    (λ u. HasSettled c.args.line.now.at 1 (g.R.Journaled.shows c.args.journaled.now) (g.R.Journaled.shows c.settle-then-room-eq0.new.journaled) c.join.new.worker c.settle-then-room-eq0.new.worker)
-    (λ u. HasWorked c.args.line.now (g.R.Journaled.shows c.args.journaled.now) (g.R.Journaled.shows c.settle-then-room-eq0.new.journaled) c.args.worker.now c.settle-then-room-eq0.new.worker)
+pub returns-then-full : goal.returns-then-full
+returns-then-full g c =
+    IfOk-weaker c.settle-then-full.result
+    (λ u. HasSettled c.args.line.now.at 1 (g.R.Journaled.shows c.args.journaled.now) (g.R.Journaled.shows c.settle-then-full.new.journaled) c.join.new.worker c.settle-then-full.new.worker)
+    (λ u. HasWorked c.args.line.now (g.R.Journaled.shows c.args.journaled.now) (g.R.Journaled.shows c.settle-then-full.new.journaled) c.args.worker.now c.settle-then-full.new.worker)
     (λ u settled.
-    full_works c.args.line.now (g.R.Journaled.shows c.args.journaled.now) (g.R.Journaled.shows c.settle-then-room-eq0.new.journaled) c.args.worker.now c.settle-then-room-eq0.new.worker
+    full_works c.args.line.now (g.R.Journaled.shows c.args.journaled.now) (g.R.Journaled.shows c.settle-then-full.new.journaled) c.args.worker.now c.settle-then-full.new.worker
     c.requires.own c.requires.working.works
     (below (g.R.Journaled.shows c.args.journaled.now).workers c.args.worker.now.number c.args.line.now c.requires.own c.requires.allowed)
     c.join.new.worker
     (batches (g.R.Journaled.shows c.args.journaled.now).workers c.args.worker.now.number c.args.line.now c.requires.own c.requires.allowed (sym c.is_settle.ensures ∙ c.if-is_settle.false))
     c.in_ok-join.ensures
-    (full_by c.room.result c.join.new.worker c.room.ensures c.if-room-eq0.true) settled)
-    c.settle-then-room-eq0.ensures
+    (full_by c.join.new.worker c.is_full-full.result c.is_full-full.ensures.full c.if-full.true) settled)
+    c.settle-then-full.ensures
 
-pub returns-else-room-eq0 : goal.returns-else-room-eq0
-returns-else-room-eq0 g c =
-    let few : length c.join.new.worker.lines < 256 = few_by c.room.result c.join.new.worker c.room.ensures c.if-room-eq0.false in
+pub returns-else-full : goal.returns-else-full
+returns-else-full g c =
+    let few : length c.join.new.worker.lines < 256 = few_by c.join.new.worker c.is_full-full.result c.is_full-full.ensures.full c.is_full-full.ensures.few c.if-full.false in
     few_works c.args.line.now (g.R.Journaled.shows c.args.journaled.now) (g.R.Journaled.shows c.args.journaled.now) c.args.worker.now c.join.new.worker
     c.requires.own c.requires.working.works
     (below (g.R.Journaled.shows c.args.journaled.now).workers c.args.worker.now.number c.args.line.now c.requires.own c.requires.allowed)

@@ -1,4 +1,4 @@
-use Rattle.std.proofs.Common.{◌≡◌, rules}
+use Rattle.std.proofs.Common.{rules}
 use Rattle.std.proofs.lemmas.Map.Made.{map_same_pairs}
 use Rattle.ev_drain.specs.Notes.{marked_note}
 use Rattle.ev_drain.proofs.notes.mark.Goals as goal

@@ -1,4 +1,4 @@
-use Rattle.std.proofs.Common.{◌≡◌, List, ℕ, map, ap, subst, ◌∙◌}
+use Rattle.std.proofs.Common.{map, ap, subst, ◌∙◌}
 use Rattle.std.specs.List.{list_any}
 use Rattle.ev_drain.specs.Retired.{Retired, marked, is_waiting}
 use Rattle.ev_drain.specs.Notes.{rows_of}

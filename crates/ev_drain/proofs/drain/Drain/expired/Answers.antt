@@ -1,4 +1,4 @@
-use Rattle.std.proofs.Common.{◌≡◌, ℕ, Option, Some, None, false, refl, sym, ap, ◌∙◌}
+use Rattle.std.proofs.Common.{false, refl, sym, ap, ◌∙◌}
 use Rattle.std.specs.Option.{option_map, option_copied, unwrap_or}
 use Rattle.ev_drain.specs.declared.notes.Note.{Note}
 use Rattle.ev_drain.specs.Retired.{Retired, is_expired}

@@ -1,4 +1,4 @@
-use Rattle.std.proofs.Common.{◌≡◌, not, filter, ap, ◌∙◌}
+use Rattle.std.proofs.Common.{not, filter, ap, ◌∙◌}
 use Rattle.ev_drain.specs.Retired.{is_numbered}
 use Rattle.ev_drain.specs.Notes.{rows_of}
 use Rattle.ev_drain.proofs.RowLemmas.{remove_rows}

@@ -1,4 +1,4 @@
-use Rattle.std.proofs.Common.{◌≡◌, sym, ap, ◌∙◌}
+use Rattle.std.proofs.Common.{sym, ap, ◌∙◌}
 use Rattle.ev_model.specs.Picture.{has_number}
 use Rattle.ev_drain.proofs.WorldLemmas.{retire_stands}
 use Rattle.ev_model.specs.Sorted.{put_by}

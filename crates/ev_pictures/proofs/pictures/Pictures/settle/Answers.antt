@@ -1,7 +1,6 @@
-use Rattle.std.proofs.Common.{◌≡◌, map, slice_set, sym, ap, ◌∙◌, subst}
+use Rattle.std.proofs.Common.{slice_set, sym, ap, ◌∙◌, subst}
 use Rattle.std.specs.Arc.{arc_value}
 use Rattle.std.proofs.lemmas.List.{map-set}
-use Rattle.ev_model.specs.declared.pictures.Picture.{Picture}
 use Rattle.ev_pictures.specs.Pictures.{PicturesParts, StandsFor, settled_on}
 use Rattle.ev_pictures.proofs.WorldLemmas.{settle_stands}
 use Rattle.ev_pictures.proofs.pictures.Pictures.settle.Goals as goal

@@ -1,4 +1,4 @@
-use Rattle.std.proofs.Common.{◌≡◌, ◌∙◌}
+use Rattle.std.proofs.Common.{◌∙◌}
 use Rattle.ev_pictures.proofs.WorldLemmas.{shows_stands}
 use Rattle.ev_pictures.proofs.pictures.Pictures.shows.Goals as goal
 

@@ -1,4 +1,4 @@
-use Rattle.std.proofs.Common.{◌≡◌, sym, subst}
+use Rattle.std.proofs.Common.{sym, subst}
 use Rattle.std.proofs.lemmas.Result.{IfOk-weaker}
 use Rattle.ev_pictures.proofs.WorldLemmas.{shows_stands}
 use Rattle.ev_retirement.specs.Holders.{HoldersParts, StandsFor}

@@ -1,4 +1,4 @@
-use Rattle.std.proofs.Common.{◌≡◌, sym, ap, ◌∙◌, subst}
+use Rattle.std.proofs.Common.{sym, ap, ◌∙◌, subst}
 use Rattle.ev_retirement.specs.Holders.{HoldersParts, StandsFor, timed_out, timeout_answer}
 use Rattle.ev_retirement.proofs.HoldLemmas.{timeout_answers, timeout_leaves, timeout_stands}
 use Rattle.ev_retirement.proofs.holders.Holders.drain_timeout.Goals as goal

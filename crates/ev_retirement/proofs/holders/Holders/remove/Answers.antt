@@ -1,4 +1,4 @@
-use Rattle.std.proofs.Common.{◌≡◌, sym, subst}
+use Rattle.std.proofs.Common.{sym, subst}
 use Rattle.ev_retirement.specs.Holders.{HoldersParts, StandsFor}
 use Rattle.ev_retirement.proofs.HoldLemmas.{remove_stands}
 use Rattle.ev_retirement.proofs.holders.Holders.remove.Goals as goal

@@ -1,4 +1,4 @@
-use Rattle.std.proofs.Common.{◌≡◌, List, sym, ap, ◌∙◌, subst}
+use Rattle.std.proofs.Common.{List, sym, ap, ◌∙◌, subst}
 use Rattle.ev_types.specs.declared.rows.GenRow.{GenRow}
 use Rattle.ev_drain.specs.Retired.{has_row, StandsFor as HasRetired}
 use Rattle.ev_retirement.specs.Holders.{HoldersParts, StandsFor}

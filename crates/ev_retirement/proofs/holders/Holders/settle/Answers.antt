@@ -1,9 +1,8 @@
 use Rattle.std.proofs.Common.{◌≡◌, ℕ, List, sym, ap, ◌∙◌, subst}
 use Rattle.std.specs.Arc.{arc_value}
 use Rattle.ev_types.specs.declared.events.Answer.TheVariants.{Settled}
-use Rattle.ev_model.specs.World.{World, last_version}
+use Rattle.ev_model.specs.World.{last_version}
 use Rattle.ev_model.specs.declared.pictures.Picture.{Picture}
-use Rattle.ev_worker.specs.Workers.{IsToldBy}
 use Rattle.ev_retirement.specs.Closing.{closed_all}
 use Rattle.ev_retirement.specs.Holders.{HoldersParts, StandsFor}
 use Rattle.ev_retirement.proofs.CloseLemmas.{settle_stands, settle_told}

@@ -1,0 +1,6 @@
+use Rattle.ev_actors.specs.Taken.{IsSettling}
+use Rattle.ev_actors.proofs.replays.settle_all.Given as goal
+
+abbrev pub invariant-loop-number : goal.invariant-loop-number
+invariant-loop-number g l =
+    IsSettling l.at (g.R.Journaled.shows l.fn.journaled) (g.R.Journaled.shows l.journaled) l.fn.workers l.workers l.number

@@ -1,0 +1,117 @@
+-- A worker's lines, and the world.
+use Rattle.std.proofs.Common.{◌≡◌, ℕ, Bool, true, false, List, [], ◌∷◌, ◌++◌, Option, None, Some, refl, sym, ap, ◌∙◌}
+use Rattle.std.specs.Option.{option_and_then}
+use Rattle.std.proofs.lemmas.List.{append-nil}
+use Rattle.ev_types.specs.declared.events.Actor.TheVariants.{Worker as by_worker}
+use Rattle.ev_types.specs.declared.events.Event.{Event}
+use Rattle.ev_types.specs.declared.events.Event.TheVariants.{Connect, Disconnect, Response, Health, FetchTimeout, DrainTimeout, TtlExpired, Publish, Reap, Accept, Close, Settle}
+use Rattle.ev_types.specs.declared.events.Ask.{Ask}
+use Rattle.ev_types.specs.declared.journals.Format.{Format}
+use Rattle.ev_model.specs.World.{World, OpenMember}
+use Rattle.ev_model.specs.Choice.{choice_of}
+use Rattle.ev_model.specs.Dead.{picture_held}
+use Rattle.ev_model.specs.Step.{step}
+use Rattle.ev_model.specs.Runs.{world_after}
+use Rattle.ev_model.specs.Connections.{accepted, cluster_numbered, host_at, host_in, is_open, members_of}
+use Rattle.ev_model.specs.declared.pictures.Picture.{Picture}
+use Rattle.ev_model.specs.declared.pictures.ServedCluster.{ServedCluster}
+use Rattle.ev_model.specs.declared.pictures.Choice.{Choice}
+use Rattle.ev_model.specs.declared.pictures.Choice.TheVariants.{NoListener, NoRoute, Local, Redirect, NoCluster, NoEndpoint, Served}
+use Rattle.ev_snapshot.specs.Chosen.{host_of, host_in as place_in}
+use Rattle.ev_ledger.specs.Members.{in_order, StandsFor as HasOpened}
+use Rattle.ev_worker.specs.Batches.{accepted_as, entries_of}
+use Rattle.ev_worker.specs.Members.{chosen_on, on_of}
+use Rattle.ev_worker.specs.Workers.{AreAnswered, IsAnswer}
+use Rattle.ev_worker.specs.declared.lines.Outcome.{Outcome}
+use Rattle.ev_worker.specs.declared.lines.BatchLine.{BatchLine}
+use Rattle.ev_retirement.specs.Holders.{HoldersParts, StandsFor}
+use Rattle.ev_retirement.specs.Lines.{accept_leaves, event_leaves, lines_leave, opened_on}
+
+-- a snapshot's host of a cluster and place is the machine's
+pub same_host : (picture : Picture) (number place : ℕ) → host_of picture number place ≡ host_at picture number place
+same_host picture number place = by (cluster_numbered picture.shown number)
+  where
+    by : (found : Option ServedCluster) → place_in found place ≡ option_and_then (host_in place) found
+    by None = refl
+    by (Some cluster) = refl
+
+-- a choice opens what it opens a connection on
+chosen_opens : (worker connection : ℕ) (choice : Choice) (opened : List OpenMember) → is_open opened worker connection ≡ false
+    → opened ++ members_of worker connection choice ≡ opened_on worker connection (chosen_on choice) opened
+chosen_opens worker connection NoListener opened none = append-nil opened
+chosen_opens worker connection (NoRoute listener) opened none = simp none refl
+chosen_opens worker connection (Local listener status) opened none = simp none refl
+chosen_opens worker connection (Redirect listener) opened none = simp none refl
+chosen_opens worker connection (NoCluster listener) opened none = simp none refl
+chosen_opens worker connection (NoEndpoint listener) opened none = simp none refl
+chosen_opens worker connection (Served listener cluster place) opened none = simp none refl
+
+accept_opens : (picture : Picture) (ask : Ask) (worker : ℕ) (opened : List OpenMember)
+    → (accepted picture ask worker opened).opened ≡ opened_on worker ask.conn (on_of (accepted_as picture ask (is_open opened worker ask.conn))) opened
+accept_opens picture ask worker opened = by (is_open opened worker ask.conn) refl
+  where
+    by : (t : Bool) → is_open opened worker ask.conn ≡ t → (accepted picture ask worker opened).opened ≡ opened_on worker ask.conn (on_of (accepted_as picture ask t)) opened
+    by true is = simp is refl
+    by false is = simp is (chosen_opens worker ask.conn (choice_of picture ask) opened is)
+
+-- what the machine leaves open after an event of a worker
+pub event_opens : (format : Format) (worker : ℕ) (world : World) (event : Event) (outcome : Outcome) → IsAnswer worker world event outcome
+    → (step format world (by_worker worker) event).0.opened ≡ event_leaves worker event outcome world.opened
+event_opens format worker world (Accept ask) outcome is =
+    accept_opens (picture_held world worker) ask worker world.opened ∙ ap (λ o. accept_leaves worker ask.conn o world.opened) (sym is)
+event_opens format worker world (Close connection) outcome is = refl
+event_opens format worker world Connect outcome is = absurd is
+event_opens format worker world Disconnect outcome is = absurd is
+event_opens format worker world (Response response) outcome is = absurd is
+event_opens format worker world (Health cluster host healthy) outcome is = absurd is
+event_opens format worker world (FetchTimeout timeout) outcome is = absurd is
+event_opens format worker world (DrainTimeout listener) outcome is = absurd is
+event_opens format worker world (TtlExpired kind name) outcome is = absurd is
+event_opens format worker world Publish outcome is = absurd is
+event_opens format worker world Reap outcome is = absurd is
+event_opens format worker world Settle outcome is = absurd is
+
+-- and it leaves the rest
+pub event_stands : (format : Format) (worker : ℕ) (holders : HoldersParts) (ledger : List OpenMember) (world : World) (event : Event) (outcome : Outcome)
+    → StandsFor holders world → IsAnswer worker world event outcome → HasOpened ledger (step format world (by_worker worker) event).0.opened
+    → StandsFor (record holders { ledger = ledger }) (step format world (by_worker worker) event).0
+event_stands format worker holders ledger world (Accept ask) outcome stands is has = record {
+  pictures = record { published = stands.pictures.published; last = stands.pictures.last; held = stands.pictures.held; known = stands.pictures.known };
+  opened = has;
+  retired = stands.retired;
+  marked = stands.marked;
+}
+event_stands format worker holders ledger world (Close connection) outcome stands is has = record {
+  pictures = record { published = stands.pictures.published; last = stands.pictures.last; held = stands.pictures.held; known = stands.pictures.known };
+  opened = has;
+  retired = stands.retired;
+  marked = stands.marked;
+}
+event_stands format worker holders ledger world Connect outcome stands is has = absurd is
+event_stands format worker holders ledger world Disconnect outcome stands is has = absurd is
+event_stands format worker holders ledger world (Response response) outcome stands is has = absurd is
+event_stands format worker holders ledger world (Health cluster host healthy) outcome stands is has = absurd is
+event_stands format worker holders ledger world (FetchTimeout timeout) outcome stands is has = absurd is
+event_stands format worker holders ledger world (DrainTimeout listener) outcome stands is has = absurd is
+event_stands format worker holders ledger world (TtlExpired kind name) outcome stands is has = absurd is
+event_stands format worker holders ledger world Publish outcome stands is has = absurd is
+event_stands format worker holders ledger world Reap outcome stands is has = absurd is
+event_stands format worker holders ledger world Settle outcome stands is has = absurd is
+
+-- a whole batch
+pub lines_stand : (format : Format) (worker : ℕ) (picture : Picture) (lines : List BatchLine) (holders : HoldersParts) (ledger : List OpenMember) (world : World)
+    → StandsFor holders world → AreAnswered format worker world lines → HasOpened ledger (lines_leave worker lines world.opened)
+    → StandsFor (record holders { ledger = ledger }) (world_after format world (entries_of worker picture lines))
+lines_stand format worker picture [] holders ledger world stands all has = record { pictures = stands.pictures; opened = has; retired = stands.retired; marked = stands.marked }
+lines_stand format worker picture (line ∷ lines) holders ledger world stands all has =
+    let after : World = (step format world (by_worker worker) line.event).0 in
+    let opens : after.opened ≡ event_leaves worker line.event line.outcome world.opened = event_opens format worker world line.event line.outcome all.0 in
+    lines_stand format worker picture lines (record holders { ledger = in_order after.opened }) ledger after
+    (event_stands format worker holders (in_order after.opened) world line.event line.outcome stands all.0 refl) all.1
+    (has ∙ ap (λ opened. in_order (lines_leave worker lines opened)) (sym opens))
+
+-- one line more
+pub record Leads (worker : ℕ) (now : List OpenMember) (left lines : List BatchLine) (opened : List OpenMember) : Type 0 where
+  pub between : List OpenMember
+  pub has : HasOpened now between
+  pub leads : lines_leave worker left between ≡ lines_leave worker lines opened

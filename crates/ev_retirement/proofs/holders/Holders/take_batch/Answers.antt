@@ -1,0 +1,19 @@
+use Rattle.std.proofs.Common.{sym, ap, ◌∙◌, subst}
+use Rattle.std.proofs.lemmas.Result.{IfOk-weaker}
+use Rattle.ev_ledger.specs.Members.{in_order}
+use Rattle.ev_retirement.specs.Holders.{HoldersParts, StandsFor}
+use Rattle.ev_retirement.specs.Lines.{lines_leave}
+use Rattle.ev_retirement.proofs.LineLemmas.{lines_stand}
+use Rattle.ev_retirement.proofs.holders.Holders.take_batch.Goals as goal
+
+pub returns : goal.returns
+returns c = record {
+  world =
+      IfOk-weaker c.take_lines.result _ _
+      (λ v taken format world picture stands answered.
+      let here : StandsFor _ world = subst (λ (h : HoldersParts). StandsFor h world) (sym c.self.view_is) stands in
+      lines_stand format c.args.batch.now.worker picture c.args.batch.now.lines _ c.take_lines.new.ledger world here answered
+      (taken world.opened here.opened
+      ∙ ap (λ w. in_order (lines_leave w c.lines.result.now world.opened)) c.worker.ensures
+      ∙ ap (λ ls. in_order (lines_leave c.args.batch.now.worker ls world.opened)) c.lines.ensures.lines)) c.take_lines.ensures;
+}

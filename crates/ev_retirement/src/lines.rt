@@ -1,0 +1,165 @@
+ghost use Rattle.std.specs.Prelude.{◌≡◌, List, IfOk, OnOk};
+ghost use Rattle.ev_model.specs.World.{OpenMember};
+ghost use Rattle.ev_model.specs.Connections.{answer_of, served_by};
+ghost use Rattle.ev_snapshot.specs.Chosen.{host_of};
+ghost use Rattle.ev_ledger.specs.Members.{StandsFor as HasOpened};
+ghost use Rattle.ev_worker.specs.Batches.{outcome_answer, accepted_answer, closed_answer};
+ghost use Rattle.ev_retirement.specs.Lines.{accept_leaves, event_leaves, lines_leave, opened_on};
+
+use ev_ledger::Ledger;
+use ev_model::Choice;
+use ev_snapshot::Snapshot;
+use ev_types::{Answer, Event, Gen, TryCopy};
+use ev_worker::{Accepted, BatchLine, Closed, Outcome, on_of};
+use std::alloc::{AllocError, Global};
+
+/// Opens and closes what a worker's lines opened and closed, one after another. Out of memory, some of the first are taken.
+pub(crate) fn take_lines(
+    ledger: &mut Ledger,
+    worker: u32,
+    lines: &[BatchLine],
+) -> Result<(), AllocError>
+    ensures { OnOk result ((opened : List OpenMember) → HasOpened ledger.old opened → HasOpened ledger.new (lines_leave worker lines.now opened)) }
+{
+    for line in lines {
+        take_line(ledger, worker, line)?;
+    }
+    Ok(())
+}
+
+// Opens or closes what a line opened or closed.
+fn take_line(ledger: &mut Ledger, worker: u32, line: &BatchLine) -> Result<(), AllocError>
+    ensures { OnOk result ((opened : List OpenMember) → HasOpened ledger.old opened → HasOpened ledger.new (event_leaves worker line.now.event line.now.outcome opened)) }
+{
+    match &line.event {
+        Event::Accept(ask) => take_accept(ledger, worker, ask.conn, &line.outcome),
+        Event::Close(conn) => {
+            ledger.close(worker, *conn);
+            Ok(())
+        }
+        _ => Ok(()),
+    }
+}
+
+// Opens what an accept opened.
+fn take_accept(
+    ledger: &mut Ledger,
+    worker: u32,
+    conn: u64,
+    outcome: &Outcome,
+) -> Result<(), AllocError>
+    ensures { OnOk result ((opened : List OpenMember) → HasOpened ledger.old opened → HasOpened ledger.new (accept_leaves worker conn outcome.now opened)) }
+{
+    match outcome {
+        Outcome::Accepted(accepted) => open_on(ledger, worker, conn, on_of(accepted)),
+        Outcome::Closed(_) => Ok(()),
+    }
+}
+
+// Opens a connection on a listener and, where it is forwarded, on a cluster, where none of its number is open.
+fn open_on(
+    ledger: &mut Ledger,
+    worker: u32,
+    conn: u64,
+    on: Option<(Gen, Option<Gen>)>,
+) -> Result<(), AllocError>
+    ensures { OnOk result ((opened : List OpenMember) → HasOpened ledger.old opened → HasOpened ledger.new (opened_on worker conn on opened)) }
+{
+    let Some(on) = on else {
+        return Ok(());
+    };
+    if ledger.is_open(worker, conn) {
+        return Ok(());
+    }
+    ledger.open(worker, conn, on.0, on.1)
+}
+
+/// The machine's answer for how a line of a worker was answered: `snapshot` is what the worker served from, which has the host
+/// that a connection goes to.
+pub fn answer_of(
+    alloc: Global,
+    snapshot: &Snapshot,
+    outcome: &Outcome,
+) -> Result<Answer, AllocError>
+    ensures { IfOk result (λ answer. answer ≡ outcome_answer snapshot.now outcome.now) }
+{
+    match outcome {
+        Outcome::Accepted(accepted) => accepted_answer(alloc, snapshot, accepted),
+        Outcome::Closed(closed) => Ok(closed_answer(*closed)),
+    }
+}
+
+// The answer for how a close was answered.
+fn closed_answer(closed: Closed) -> Answer
+    ensures { result ≡ closed_answer closed }
+{
+    match closed {
+        Closed::Done => Answer::Done,
+        Closed::NotOpen => Answer::NotOpen,
+    }
+}
+
+// The answer for how an accept was answered.
+fn accepted_answer(
+    alloc: Global,
+    snapshot: &Snapshot,
+    accepted: &Accepted,
+) -> Result<Answer, AllocError>
+    ensures { IfOk result (λ answer. answer ≡ accepted_answer snapshot.now accepted.now) }
+{
+    match accepted {
+        Accepted::InUse => Ok(Answer::InUse),
+        Accepted::Chosen(choice) => choice_answer(alloc, snapshot, choice),
+    }
+}
+
+// The answer for a choice.
+#[tactic(auto, using(crate::proofs::LineLemmas::same_host))]
+fn choice_answer(alloc: Global, snapshot: &Snapshot, choice: &Choice) -> Result<Answer, AllocError>
+    ensures { IfOk result (λ answer. answer ≡ answer_of snapshot.now choice.now) }
+{
+    match choice {
+        Choice::NoListener => Ok(Answer::NoListener),
+        Choice::NoRoute { listener } => Ok(Answer::NoRoute {
+            listener: *listener,
+        }),
+        Choice::Local { listener, status } => Ok(Answer::Local {
+            listener: *listener,
+            status: *status,
+        }),
+        Choice::Redirect { listener } => Ok(Answer::Redirect {
+            listener: *listener,
+        }),
+        Choice::NoCluster { listener } => Ok(Answer::NoCluster {
+            listener: *listener,
+        }),
+        Choice::NoEndpoint { listener } => Ok(Answer::NoEndpoint {
+            listener: *listener,
+        }),
+        Choice::Served {
+            listener,
+            cluster,
+            host,
+        } => served_answer(alloc, snapshot, *listener, *cluster, *host),
+    }
+}
+
+// The answer for a choice that goes to a host.
+fn served_answer(
+    alloc: Global,
+    snapshot: &Snapshot,
+    listener: Gen,
+    cluster: Gen,
+    place: u32,
+) -> Result<Answer, AllocError>
+    ensures { IfOk result (λ answer. answer ≡ served_by listener cluster (host_of snapshot.now cluster place)) }
+{
+    match snapshot.host(cluster, place) {
+        Some(host) => Ok(Answer::Served {
+            listener,
+            cluster,
+            host: host.copy(alloc)?,
+        }),
+        None => Ok(Answer::NoEndpoint { listener }),
+    }
+}
