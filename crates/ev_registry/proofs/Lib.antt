@@ -1,2 +1,8 @@
-pub mod RunSteps
+pub mod PlainLemmas
+pub mod BuiltLemmas
+pub mod Standing
+pub mod RowLemmas
+pub mod VersionLemmas
+pub mod TextLemmas
+pub mod ResponseLemmas
 pub mod NumberLemmas

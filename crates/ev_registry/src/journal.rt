@@ -1,38 +1,36 @@
-ghost use Rattle.std.specs.Prelude.{◌≡◌, ◌≤◌, ◌<◌, ◌+◌, ◌^◌, [], ◌∷◌, ◌++◌, length, take, IsTrue, IfOk, OnOk, OnErr};
+ghost use Rattle.std.specs.Prelude.{◌≡◌, ◌≤◌, ◌+◌, [], ◌∷◌, ◌++◌, IfOk, OnOk, OnErr};
+ghost use Rattle.ev_model.specs.World.{last_version};
 ghost use Rattle.ev_types.specs.Events.{MayMake};
 ghost use Rattle.ev_types.specs.Scripts.{items_in};
-ghost use Rattle.ev_model.specs.World.{World, last_version, opening};
-ghost use Rattle.ev_model.specs.Runs.{IsRun, world_after};
+ghost use Rattle.ev_model.specs.Runs.{IsRun};
 ghost use Rattle.ev_model.specs.Step.{step as machine_step};
-ghost use Rattle.ev_state.specs.Built.{is_built};
-ghost use Rattle.ev_state.specs.States.{IsAt};
-ghost use Rattle.ev_registry.specs.Registries.{HaveStepped, MayStep};
+ghost use Rattle.ev_registry.specs.Built.{IsBuilt};
 
-use ev_state::State;
+use crate::state::{State, first_state};
 use ev_types::{Actor, Answer, Entry, Event, Format, Text, TryCopy};
 use std::alloc::{AllocError, Global};
 use std::marker::Model;
 
-/// What is known, and the journal of what was done: a run of the machine. Where want of memory cut an event off, what was known is
-/// let go, and made anew out of the journal with the next event.
+/// The managers' state and the journal of what was done: a run of the machine.
 #[derive(Drop)]
 pub struct Registry {
     alloc: Global,
     format: Format,
     workers: u32,
     node: Text,
-    state: Option<State>,
+    state: State,
     journal: Vec<Entry>,
 }
 
 impl Model for Registry {
     ghost use Rattle.ev_registry.specs.Registries.{RegistryParts, StandsFor};
+    ghost use Rattle.ev_registry.specs.Worlds.{world_of};
 
     ghost Value = { RegistryParts };
 
     ghost view = { λ r. record { format = r.format; workers = r.workers; node = r.node; journal = r.journal.items } };
 
-    ghost invariant = { λ r. StandsFor r.state record { format = r.format; workers = r.workers; node = r.node; journal = r.journal.items } };
+    ghost invariant = { λ r. StandsFor (world_of r.state) record { format = r.format; workers = r.workers; node = r.node; journal = r.journal.items } };
 }
 
 impl Registry {
@@ -54,14 +52,14 @@ impl Registry {
             format,
             workers,
             node: node.copy(alloc)?,
-            state: Some(State::new(alloc, workers, node)?),
+            state: first_state(alloc, workers, node)?,
             journal: Vec::new(alloc),
         })
     }
 
-    /// Makes one step of the machine and enters it in the journal. Out of memory, all stays as it was. So far it takes the events of
-    /// the stream and the health checker, fetch timeouts, ends of times to live, and settles. The numbers of generations have to
-    /// suffice for an event's resources; at most one is drawn for each.
+    /// Makes one step of the machine and enters it in the journal. Out of memory, all stays as it was. So far it takes
+    /// connects, responses of clusters that wait for nothing with heartbeats of such, and settles. The numbers of generations
+    /// have to suffice for an event's resources; at most one is drawn for each.
     pub fn apply(
         &mut self,
         actor: Actor,
@@ -70,97 +68,24 @@ impl Registry {
         event: &Event,
     ) -> Result<Answer, AllocError>
         requires allowed { MayMake self.old.workers actor event.now }
-        requires built { IsTrue (is_built event.now) }
+        requires built { IsBuilt event.now }
         requires numbered { (world_now self.old).made + items_in event.now ≤ u32.MAX }
         ensures answer { IfOk result (λ answer. answer ≡ (machine_step self.old.format (world_now self.old) actor event.now).1) }
         ensures entry { IfOk result (λ answer. self.new ≡ record self.old { journal = self.old.journal ++ record { actor = actor; at = at; step = step; event = event.now; answer = answer } ∷ [] }) }
         ensures drawn { OnOk result ((world_now self.new).made ≤ (world_now self.old).made + items_in event.now) }
         ensures err { OnErr result (self.new ≡ self.old) }
     {
-        let mut state = self.take_state()?;
-        let answer = self.step_on(&mut state, actor, event)?;
-        let entry = self.entry_of(actor, at, step, event, &answer)?;
-        self.enter(state, entry)?;
-        Ok(answer)
-    }
-
-    // What an event does to what is known, in the world that the journal has led to.
-    fn step_on(&self, state: &mut State, actor: Actor, event: &Event) -> Result<Answer, AllocError>
-        requires at { IsAt state.old (world_now self.now) }
-        requires allowed { MayMake self.now.workers actor event.now }
-        requires built { IsTrue (is_built event.now) }
-        requires room { (world_now self.now).made + items_in event.now < 2 ^ 32 }
-        ensures at { OnOk result (IsAt state.new (machine_step self.now.format (world_now self.now) actor event.now).0) }
-        ensures answer { IfOk result (λ answer. answer ≡ (machine_step self.now.format (world_now self.now) actor event.now).1) }
-    {
-        step_after(
-            state,
-            self.alloc,
-            self.format,
-            self.workers,
-            &self.node,
-            self.journal.as_slice(),
-            actor,
-            event,
-        )
-    }
-
-    // An event with its answer, as an entry.
-    fn entry_of(
-        &self,
-        actor: Actor,
-        at: u32,
-        step: u32,
-        event: &Event,
-        answer: &Answer,
-    ) -> Result<Entry, AllocError>
-        ensures { IfOk result (λ entry. entry ≡ record { actor = actor; at = at; step = step; event = event.now; answer = answer.now }) }
-    {
-        Ok(Entry {
+        let (state, answer) = self.state.step(self.alloc, self.format, actor, event)?;
+        let entry = Entry {
             actor,
             at,
             step,
             event: event.copy(self.alloc)?,
             answer: answer.copy(self.alloc)?,
-        })
-    }
-
-    // Enters what was done, and what is known behind it. Out of memory, all stays as it was.
-    fn enter(&mut self, state: State, entry: Entry) -> Result<(), AllocError>
-        requires may { MayStep self.old.workers (world_now self.old) entry }
-        requires answered { entry.answer ≡ (machine_step self.old.format (world_now self.old) entry.actor entry.event).1 }
-        requires at { IsAt state (machine_step self.old.format (world_now self.old) entry.actor entry.event).0 }
-        ensures entry { OnOk result (self.new ≡ record self.old { journal = self.old.journal ++ entry ∷ [] }) }
-        ensures err { OnErr result (self.new ≡ self.old) }
-    {
+        };
         self.journal.push(entry)?;
-        self.state = Some(state);
-        Ok(())
-    }
-
-    // Takes out what is known, which is made anew where it was lost.
-    fn take_state(&mut self) -> Result<State, AllocError>
-        ensures at { IfOk result (λ state. IsAt state (world_now self.old)) }
-        ensures same { self.new ≡ self.old }
-    {
-        match self.state.take() {
-            Some(state) => Ok(state),
-            None => made_anew(
-                self.alloc,
-                self.format,
-                self.workers,
-                &self.node,
-                self.journal.as_slice(),
-            ),
-        }
-    }
-
-    /// The version of the last published picture: so far none is published.
-    pub fn latest(&self) -> u64
-        ensures { result ≡ last_version (world_now self.now) }
-    {
-        let _ = &self.state;
-        0
+        self.state = state;
+        Ok(answer)
     }
 
     /// The entries of what was done, in order.
@@ -170,75 +95,12 @@ impl Registry {
     {
         self.journal.as_slice()
     }
-}
 
-// What is known after a journal: each of its events once more.
-fn made_anew(
-    alloc: Global,
-    format: Format,
-    workers: u32,
-    node: &Text,
-    journal: &[Entry],
-) -> Result<State, AllocError>
-    requires stepped { HaveStepped format workers (opening workers node.now) journal.now }
-    ensures { IfOk result (λ state. IsAt state (world_after format (opening workers node.now) journal.now)) }
-{
-    let mut state = State::new(alloc, workers, node)?;
-    for place in 0..journal.len() {
-        step_again(&mut state, alloc, format, workers, node, journal, place)?;
+    /// The version of the last published picture.
+    pub fn latest(&self) -> u64
+        ensures { result ≡ last_version (world_now self.now) }
+    {
+        let _ = &self.state;
+        0
     }
-    Ok(state)
-}
-
-// The event at a place of a journal once more.
-fn step_again(
-    state: &mut State,
-    alloc: Global,
-    format: Format,
-    workers: u32,
-    node: &Text,
-    journal: &[Entry],
-    place: usize,
-) -> Result<(), AllocError>
-    requires within { place < length journal.now }
-    requires stepped { HaveStepped format workers (opening workers node.now) journal.now }
-    requires at { IsAt state.old (world_after format (opening workers node.now) (take place journal.now)) }
-    ensures { OnOk result (IsAt state.new (world_after format (opening workers node.now) (take (place + 1) journal.now))) }
-{
-    let entry = &journal[place];
-    let _ = step_after(
-        state,
-        alloc,
-        format,
-        workers,
-        node,
-        &journal[..place],
-        entry.actor,
-        &entry.event,
-    )?;
-    Ok(())
-}
-
-// One step in the world that a journal has led to.
-fn step_after(
-    state: &mut State,
-    alloc: Global,
-    format: Format,
-    workers: u32,
-    node: &Text,
-    journal: &[Entry],
-    actor: Actor,
-    event: &Event,
-) -> Result<Answer, AllocError>
-    ghost here: { World }
-    requires is { here ≡ world_after format (opening workers node.now) journal.now }
-    requires at { IsAt state.old here }
-    requires allowed { MayMake workers actor event.now }
-    requires built { IsTrue (is_built event.now) }
-    requires room { here.made + items_in event.now < 2 ^ 32 }
-    ensures at { OnOk result (IsAt state.new (machine_step format here actor event.now).0) }
-    ensures answer { IfOk result (λ answer. answer ≡ (machine_step format here actor event.now).1) }
-{
-    let answer = state.step(alloc, format, actor, event)?;
-    Ok(answer)
 }
