@@ -1,5 +1,6 @@
 use ev_model_laws::{acknowledges_exactly, has_a_replay, has_one_replay, replay_holds_operations};
 use ev_registry::Registry;
+use ev_rules::{LiveRow as SearchedRow, verdicts as verdicts_by_search};
 use ev_types::{Actor, Arrival, Body, Event, Format, Gen, Response, Text, TryCopy, Verdict};
 use ev_verdicts::{Listed, LiveRow, verdicts};
 use ev_wire::read_response;
@@ -22,6 +23,27 @@ fn live<'a>(
     for item in response.items.as_slice() {
         if let (Some(kind), Body::Good(content)) = (response.kind, &item.body) {
             rows.push(LiveRow {
+                kind,
+                number: Gen::new(1),
+                name: item.name.as_str(),
+                content,
+                warming,
+            })?;
+        }
+    }
+    Ok(rows)
+}
+
+// The same, as the verdicts by a search of lists take them.
+fn searched<'a>(
+    alloc: Global,
+    response: &'a Response,
+    warming: bool,
+) -> Result<Vec<SearchedRow<'a>>, Fail> {
+    let mut rows = Vec::new(alloc);
+    for item in response.items.as_slice() {
+        if let (Some(kind), Body::Good(content)) = (response.kind, &item.body) {
+            rows.push(SearchedRow {
                 kind,
                 number: Gen::new(1),
                 name: item.name.as_str(),
@@ -68,12 +90,15 @@ fn judges_addresses_and_watched_names(rt: HostRuntime) -> Result<(), Fail> {
         let lives = live(alloc, &earlier, warming)?;
         let response = read(alloc, message)?;
         assert!(rt; response.kind.is_some());
+        let rows = searched(alloc, &earlier, warming)?;
+        let found = verdicts_by_search(alloc, rows.as_slice(), &[], &response)?;
+        assert_eq!(rt; found.as_slice(), [want].as_slice(), "{message}");
         let known = Listed {
             lives: lives.as_slice(),
             versions: &[],
         };
-        let found = verdicts(alloc, &known, &response)?;
-        assert_eq!(rt; found.as_slice(), [want].as_slice(), "{message}");
+        let looked_up = verdicts(alloc, &known, &response)?;
+        assert_eq!(rt; looked_up.as_slice(), [want].as_slice(), "{message}");
     }
     Ok(())
 }
