@@ -5,13 +5,7 @@ script without another fault, as kind 6 at line 1. Each fault of the format it t
 """
 
 # The operations that the program takes. Take a word's place here once it is built.
-BUILT_OPERATIONS = {'connect', 'response', 'settle'}
-
-# The types of resource whose responses the program takes.
-BUILT_TYPES = {'cds'}
-
-# Whether clusters that wait are taken: those of type EDS, and those with health checks.
-WAITING_CLUSTERS = False
+BUILT_OPERATIONS = {'connect', 'disconnect', 'response', 'health', 'fetchTimeout', 'ttlExpired', 'settle'}
 
 # Whether the header's member `auto` is taken.
 AUTO = False
@@ -22,19 +16,7 @@ def header(reading):
         yield 'the header\'s member auto'
 
 
-def line(op, response):
+def line(op):
     """Why a good line is not taken yet, in words."""
     if op not in BUILT_OPERATIONS:
         yield f'the operation {op}'
-    if response is None:
-        return
-    if response.kind not in BUILT_TYPES:
-        names = {'eds': 'endpoints', 'lds': 'listeners', 'rds': 'routes', None: 'a type that isn\'t read'}
-        yield f'responses of {names[response.kind]}'
-        return
-    contents = [item.read for item in response.items if item.read and not item.broken]
-    if not WAITING_CLUSTERS and response.kind == 'cds':
-        if any('eds' in content for content in contents):
-            yield 'clusters of type EDS, which wait for endpoints'
-        if any('rows' in content and content['checked'] for content in contents):
-            yield 'clusters with health checks, which wait for results'

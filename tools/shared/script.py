@@ -320,5 +320,5 @@ def not_built(reading):
     """(line, words) for each line of a good script that today's program does not take yet."""
     found = [(1, words) for words in not_built_yet.header(reading)]
     for line in reading.lines:
-        found += [(line.at, words) for words in not_built_yet.line(line.op, line.response)]
+        found += [(line.at, words) for words in not_built_yet.line(line.op)]
     return found

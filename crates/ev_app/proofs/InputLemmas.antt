@@ -1,5 +1,5 @@
 -- What the input is, by what the reader of scripts answers.
-use Rattle.std.proofs.Common.{◌≡◌, ℕ, Bool, true, false, cond, List, [], get_or, IsTrue, Option, None, Some, option_and_then, Vec, Result, Ok, Err, refl, sym, ap, subst, ◌∙◌, inl, inr, arith}
+use Rattle.std.proofs.Common.{◌≡◌, ℕ, Bool, true, false, cond, List, [], IsTrue, Option, None, Some, option_and_then, Vec, Result, Ok, Err, refl, sym, ap, subst, ◌∙◌, inl, inr, arith}
 use Rattle.std.specs.Prelude.{IfOk, IfErr}
 use Rattle.std.specs.Io.KnownBytes.{IsAtEnd}
 use Rattle.std.specs.declared.alloc.Global.{Global}
@@ -8,32 +8,14 @@ use Rattle.ev_io.specs.declared.faults.ScriptFault.TheVariants.{Bad, Read, OutOf
 use Rattle.ev_io.specs.Outside.{Takes}
 use Rattle.ev_io.specs.LinesState.{LinesState, HasTaken, IsWithin}
 use Rattle.ev_types.specs.Scripts.{ScriptParts}
-use Rattle.ev_types.specs.declared.events.Event.{Event}
-use Rattle.ev_types.specs.declared.events.Event.TheVariants.{Connect, Disconnect, Response, Health, FetchTimeout, DrainTimeout, TtlExpired, Publish, Reap, Accept, Close, Settle}
 use Rattle.ev_types.specs.declared.events.Line.{Line}
-use Rattle.ev_registry.specs.Built.{IsBuilt}
 use Rattle.ev_script.specs.declared.script.ScriptEnd.{ScriptEnd}
 use Rattle.ev_script.specs.declared.script.ScriptEnd.TheVariants.{Whole, Journal}
 use Rattle.ev_script.specs.Faults.{Input, worker_of}
 use Rattle.ev_script.specs.ReadInput.{input_of}
 use Rattle.ev_script.specs.ReadScript.{KeepsLines, IsScriptAnswer, AreOfForms}
-use Rattle.ev_app.specs.BuiltLines.{is_taken, taken_line, built_lines, IsTakenLine, IsTaken}
+use Rattle.ev_app.specs.BuiltLines.{taken_line, built_lines, IsTakenLine, IsTaken}
 use Rattle.ev_app.specs.Input.{TakesInput, IsInputAnswer}
-
--- an event that is taken is built
-taken_built : (event : Event) → is_taken event ≡ true → IsBuilt event
-taken_built Connect e = tt
-taken_built Disconnect e = cc
-taken_built (Response response) e = e
-taken_built (Health cluster host healthy) e = cc
-taken_built (FetchTimeout timeout) e = cc
-taken_built (DrainTimeout listener) e = cc
-taken_built (TtlExpired kind name) e = cc
-taken_built Publish e = cc
-taken_built Reap e = cc
-taken_built (Accept ask) e = cc
-taken_built (Close connection) e = cc
-taken_built Settle e = tt
 
 -- what is kept of a line is the line
 pub keeps_lines : KeepsLines built_lines IsTakenLine
@@ -47,7 +29,7 @@ keeps_lines at tree line k = (
 pub script_taken : (script : ScriptParts) → script.auto ≡ false → AreOfForms IsTakenLine script.lines → IsTaken script
 script_taken script by_hand are = record {
   by_hand = by_hand;
-  built = λ k other h. taken_built (get_or script.lines k other).event (are k other h).1.1;
+  built = λ k other h. (are k other h).1.1;
 }
 
 -- the bytes taken

@@ -1,32 +1,17 @@
 -- A script whose lines the registry takes is replayed line by line: nothing follows a line, and nothing is batched.
 use Rattle.std.proofs.Common.{◌≡◌, Bool, false, not, ◌&&◌, ◌%◌, ◌==◌, cond, List, [], ◌∷◌, ◌++◌, map, filter, length, take, get_or, ℕ, ◌+◌, ◌<◌, ◌≤◌, refl, ap, ◌∙◌, arith}
-use Rattle.std.specs.Prelude.{All}
+use Rattle.std.specs.Prelude.{All, IsTrue}
 use Rattle.std.specs.List.{list_any, flat_map, range_with_len}
 use Rattle.std.proofs.lemmas.List.Elements.{All-head, All-tail, All-append, All-map, All-weaker}
 use Rattle.std.proofs.lemmas.List.Sums.{sum_by_more_le}
 use Rattle.ev_types.specs.Scripts.{ScriptParts, items_in, items_of}
-use Rattle.ev_types.specs.declared.events.Event.{Event}
-use Rattle.ev_types.specs.declared.events.Event.TheVariants.{Connect, Disconnect, Response, Health, FetchTimeout, DrainTimeout, TtlExpired, Publish, Reap, Accept, Close, Settle}
+use Rattle.ev_types.specs.declared.events.Event.TheVariants.{Publish, Reap, Settle}
 use Rattle.ev_types.specs.declared.events.Line.{Line}
 use Rattle.ev_model.specs.Runs.{is_batched}
 use Rattle.ev_model.specs.Operations.{Operation, line_operation, step_behind, is_automatic, is_since_settle, is_full_at, batch_limit, followers, line_operations, last_settle, actor_same, is_earlier, is_settle_between, is_in_batch, with_batch, replay_operations}
-use Rattle.ev_registry.specs.Built.{IsBuilt}
+use Rattle.ev_state.specs.Built.{is_built}
+use Rattle.ev_registry.proofs.RunSteps.{built_alone}
 use Rattle.ev_app.specs.BuiltLines.{IsTaken}
-
--- an event that the registry takes is no accept or close
-not_batched : (event : Event) → IsBuilt event → is_batched event ≡ false
-not_batched Connect built = refl
-not_batched Disconnect built = refl
-not_batched (Response response) built = refl
-not_batched (Health cluster host healthy) built = refl
-not_batched (FetchTimeout timeout) built = refl
-not_batched (DrainTimeout listener) built = refl
-not_batched (TtlExpired kind name) built = refl
-not_batched Publish built = refl
-not_batched Reap built = refl
-not_batched (Accept ask) built = absurd built
-not_batched (Close connection) built = absurd built
-not_batched Settle built = refl
 
 -- nothing follows a line that is no accept or close, without `auto`
 nothing_follows : (script : ScriptParts) (line : Line) → script.auto ≡ false → is_batched line.event ≡ false → followers script line ≡ []
@@ -35,13 +20,13 @@ nothing_follows script line by_hand alone =
     ∙ ap (λ (batched : Bool). cond (batched && (length (filter (is_since_settle script.lines line) script.lines) % batch_limit == 0)) (step_behind line 1 Settle ∷ []) []) alone
 
 -- so each of the lines is one operation
-lines_alone : (script : ScriptParts) (lines : List Line) → script.auto ≡ false → All (λ (line : Line). IsBuilt line.event) lines
+lines_alone : (script : ScriptParts) (lines : List Line) → script.auto ≡ false → All (λ (line : Line). IsTrue (is_built line.event)) lines
     → flat_map (line_operations script) lines ≡ map line_operation lines
 lines_alone script [] by_hand built = refl
 lines_alone script (line ∷ lines) by_hand built =
     ap (λ (os : List Operation). (line_operation line ∷ os) ++ flat_map (line_operations script) lines)
-    (nothing_follows script line by_hand (not_batched line.event (All-head (λ (l : Line). IsBuilt l.event) line lines built)))
-    ∙ ap (λ (os : List Operation). line_operation line ∷ os) (lines_alone script lines by_hand (All-tail (λ (l : Line). IsBuilt l.event) line lines built))
+    (nothing_follows script line by_hand (built_alone line.event (All-head (λ (l : Line). IsTrue (is_built l.event)) line lines built)))
+    ∙ ap (λ (os : List Operation). line_operation line ∷ os) (lines_alone script lines by_hand (All-tail (λ (l : Line). IsTrue (is_built l.event)) line lines built))
 
 -- among operations of which none is an accept or close nothing is batched
 no_batch : (all : List Operation) (last : Operation) (os : List Operation) → All (λ (o : Operation). is_batched o.event ≡ false) os
@@ -73,7 +58,7 @@ taken_operations script taken =
     none : All (λ (o : Operation). is_batched o.event ≡ false) (map line_operation script.lines ++ map (last_settle script) (range_with_len 0 script.workers))
     none = All-append (λ (o : Operation). is_batched o.event ≡ false) (map line_operation script.lines) (map (last_settle script) (range_with_len 0 script.workers))
         (All-map (λ (o : Operation). is_batched o.event ≡ false) line_operation script.lines
-        (All-weaker (λ (line : Line). IsBuilt line.event) (λ (line : Line). is_batched line.event ≡ false) (λ line built. not_batched line.event built) script.lines taken.built))
+        (All-weaker (λ (line : Line). IsTrue (is_built line.event)) (λ (line : Line). is_batched line.event ≡ false) (λ line built. built_alone line.event built) script.lines taken.built))
         (All-map (λ (o : Operation). is_batched o.event ≡ false) (last_settle script) (range_with_len 0 script.workers) (λ k worker h. refl))
 
 -- the resources of the lines before a place and of the one there are among those of all lines

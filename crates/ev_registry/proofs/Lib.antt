@@ -1,8 +1,2 @@
-pub mod PlainLemmas
-pub mod BuiltLemmas
-pub mod Standing
-pub mod RowLemmas
-pub mod VersionLemmas
-pub mod TextLemmas
-pub mod ResponseLemmas
 pub mod NumberLemmas
+pub mod RunSteps

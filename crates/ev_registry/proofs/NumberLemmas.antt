@@ -1,30 +1,33 @@
--- At most one number is drawn for each resource.
-use Rattle.std.proofs.Common.{◌≡◌, ℕ, ◌+◌, ◌≤◌, Bool, true, false, if◌then◌else◌, List, [], ◌∷◌, ◌++◌, length, Option, sym, subst, arith}
+-- At most one number is drawn for each resource, nothing is published by an event that is built, and workers stay.
+use Rattle.std.proofs.Common.{◌≡◌, ℕ, ◌+◌, ◌≤◌, Bool, true, false, cond, List, [], ◌∷◌, ◌++◌, length, refl, sym, subst, ◌∙◌, arith}
 use Rattle.ev_types.specs.Items.{ItemParts, ResponseParts}
 use Rattle.ev_types.specs.Scripts.{items_in}
 use Rattle.ev_types.specs.declared.contents.Kind.{Kind}
-use Rattle.ev_types.specs.declared.contents.Kind.TheVariants.{Cds}
+use Rattle.ev_types.specs.declared.contents.Kind.TheVariants.{Cds, Eds, Lds, Rds}
 use Rattle.ev_types.specs.declared.contents.Content.{Content}
 use Rattle.ev_types.specs.declared.contents.Body.{Body}
 use Rattle.ev_types.specs.declared.contents.Body.TheVariants.{Good, Bad, Beat}
 use Rattle.ev_types.specs.declared.events.Actor.{Actor}
 use Rattle.ev_types.specs.declared.events.Actor.TheVariants.{Stream, Health as health_checker, Timer, Main, Worker}
-use Rattle.ev_types.specs.declared.events.Answer.{Answer}
 use Rattle.ev_types.specs.declared.events.Entry.{Entry}
 use Rattle.ev_types.specs.declared.events.Event.{Event}
 use Rattle.ev_types.specs.declared.events.Event.TheVariants.{Connect, Disconnect, Response, Health, FetchTimeout, DrainTimeout, TtlExpired, Publish, Reap, Accept, Close, Settle}
 use Rattle.ev_types.specs.declared.events.Verdict.{Verdict}
 use Rattle.ev_types.specs.declared.events.Verdict.TheVariants.{New, Same, Kept, Unasked, Renewed, Refused}
 use Rattle.ev_types.specs.declared.journals.Format.{Format}
-use Rattle.ev_model.specs.World.{World, opening}
+use Rattle.ev_model.specs.World.{World}
 use Rattle.ev_model.specs.Live.{lives_of}
-use Rattle.ev_model.specs.Verdicts.{verdicts_of}
-use Rattle.ev_model.specs.Rows.{with_content, add_row, keep_version, keep_value, add_item, add_items, with_removals}
-use Rattle.ev_model.specs.Step.{step, respond_by}
-use Rattle.ev_model.proofs.RunLemmas.{world_after-more}
-use Rattle.ev_registry.specs.Built.{is_built, IsBuilt}
-use Rattle.ev_registry.specs.Registries.{RegistryParts, world_now}
-use Rattle.ev_registry.proofs.BuiltLemmas.{built_kind}
+use Rattle.ev_model.specs.Verdicts.{verdicts_for}
+use Rattle.ev_model.specs.Watching.{is_watched}
+use Rattle.ev_model.specs.Rows.{with_content, add_row, keep_version, keep_value, refuse, add_item, add_items, with_removals, with_first, made_names}
+use Rattle.ev_model.specs.Signals.{with_end, forget_version}
+use Rattle.ev_model.specs.Runs.{world_after}
+use Rattle.ev_model.specs.Step.{step}
+use Rattle.ev_model.proofs.RunLemmas.{world_after-more, length-held}
+use Rattle.ev_model_laws.proofs.EventLemmas.{step-leads}
+use Rattle.ev_model_laws.proofs.SeenLemmas.{same_seen}
+use Rattle.ev_state.specs.Built.{is_built}
+use Rattle.ev_registry.specs.Registries.{HaveStepped}
 
 content_made : (change : Content → World → World) (body : Body) (world : World)
     → ((content : Content) → (change content world).made ≤ world.made + 1)
@@ -33,58 +36,120 @@ content_made change (Good content) world few = few content
 content_made change (Bad rule) world few = omega arith
 content_made change Beat world few = omega arith
 
-item_made : (verdict : Verdict) (item : ItemParts) (world : World) → (add_item Cds verdict item world).made ≤ world.made + 1
-item_made New item world = content_made (add_row Cds item) item.body world (λ content. omega arith)
-item_made Same item world = content_made (λ content. keep_version Cds item) item.body world (λ content. omega arith)
-item_made Kept item world = content_made (keep_value Cds item) item.body world (λ content. omega arith)
-item_made Unasked item world = omega arith
-item_made Renewed item world = omega arith
-item_made (Refused rule) item world = omega arith
+told_made : (watched : Bool) (more world : World) → more.made ≡ world.made → (cond watched more world).made ≤ world.made + 1
+told_made true more world same = omega arith
+told_made false more world same = omega arith
 
-items_made : (verdicts : List Verdict) (items : List ItemParts) (world : World) → (add_items Cds verdicts items world).made ≤ world.made + length items
-items_made [] items world = omega arith
-items_made (verdict ∷ verdicts) [] world = omega arith
-items_made (verdict ∷ verdicts) (item ∷ items) world =
-    let one : (add_item Cds verdict item world).made ≤ world.made + 1 = item_made verdict item world in
-    let more : (add_items Cds verdicts items (add_item Cds verdict item world)).made ≤ (add_item Cds verdict item world).made + length items =
-    items_made verdicts items (add_item Cds verdict item world) in
+refused_made : (kind : Kind) (name : List ℕ) (world : World) → (refuse kind name world).made ≤ world.made + 1
+refused_made Cds name world = omega arith
+refused_made Eds name world = told_made (is_watched (lives_of world) Eds name) _ world refl
+refused_made Lds name world = omega arith
+refused_made Rds name world = told_made (is_watched (lives_of world) Rds name) _ world refl
+
+item_made : (kind : Kind) (verdict : Verdict) (item : ItemParts) (world : World) → (add_item kind verdict item world).made ≤ world.made + 1
+item_made kind New item world = content_made (add_row kind item) item.body world (λ content. omega arith)
+item_made kind Same item world = content_made (λ content. keep_version kind item) item.body world (λ content. omega arith)
+item_made kind Kept item world = content_made (keep_value kind item) item.body world (λ content. omega arith)
+item_made kind Unasked item world = omega arith
+item_made kind Renewed item world = omega arith
+item_made kind (Refused rule) item world = refused_made kind item.name world
+
+items_made : (kind : Kind) (verdicts : List Verdict) (items : List ItemParts) (world : World) → (add_items kind verdicts items world).made ≤ world.made + length items
+items_made kind [] items world = omega arith
+items_made kind (verdict ∷ verdicts) [] world = omega arith
+items_made kind (verdict ∷ verdicts) (item ∷ items) world =
+    let one : (add_item kind verdict item world).made ≤ world.made + 1 = item_made kind verdict item world in
+    let more : (add_items kind verdicts items (add_item kind verdict item world)).made ≤ (add_item kind verdict item world).made + length items =
+    items_made kind verdicts items (add_item kind verdict item world) in
     omega arith
 
-if_made : (b : Bool) (one other : World × Answer) (n : ℕ) → one.0.made ≤ n → other.0.made ≤ n → (if b then one else other).0.made ≤ n
-if_made true one other n o t = o
-if_made false one other n o t = t
+removals_made : (kind : Kind) (response : ResponseParts) (world : World) → (with_removals kind response world).made ≡ world.made
+removals_made Cds response world = refl
+removals_made Eds response world = refl
+removals_made Lds response world = refl
+removals_made Rds response world = refl
 
-respond_made : (response : ResponseParts) (world : World) → is_built response ≡ true
-    → (respond_by response.kind response world).0.made ≤ world.made + length response.items
-respond_made response world built =
-    subst (λ (kind : Option Kind). (respond_by kind response world).0.made ≤ world.made + length response.items) (sym (built_kind response built))
-    (items_made (verdicts_of (lives_of world) world.versions response) response.items (with_removals Cds response world))
+first_made : (kind : Kind) (names : List (List ℕ)) (world : World) → (with_first kind names world).made ≡ world.made
+first_made Cds names world = refl
+first_made Eds names world = refl
+first_made Lds names world = refl
+first_made Rds names world = refl
 
--- a built event draws at most one number for each of its resources
-pub step_made : (format : Format) (world : World) (actor : Actor) (event : Event) → IsBuilt event
-    → (step format world actor event).0.made ≤ world.made + items_in event
-step_made format world actor Connect built = if_made world.stream _ _ (world.made + 0) (omega arith) (omega arith)
-step_made format world actor (Response response) built =
-    if_made world.stream (respond_by response.kind response world) _ (world.made + length response.items) (respond_made response world built) (omega arith)
-step_made format world (Worker worker) Settle built = omega arith
-step_made format world Stream Settle built = omega arith
-step_made format world health_checker Settle built = omega arith
-step_made format world Timer Settle built = omega arith
-step_made format world Main Settle built = omega arith
-step_made format world actor Disconnect built = absurd built
-step_made format world actor (Health cluster host healthy) built = absurd built
-step_made format world actor (FetchTimeout timeout) built = absurd built
-step_made format world actor (DrainTimeout listener) built = absurd built
-step_made format world actor (TtlExpired kind name) built = absurd built
-step_made format world actor Publish built = absurd built
-step_made format world actor Reap built = absurd built
-step_made format world actor (Accept ask) built = absurd built
-step_made format world actor (Close connection) built = absurd built
+end_made : (kind : Kind) (name : List ℕ) (world : World) → (with_end kind name world).made ≡ world.made
+end_made Cds name world = refl
+end_made Eds name world = refl
+end_made Lds name world = refl
+end_made Rds name world = refl
 
--- the same of a registry that one entry more stands in
-pub entry_made : (registry : RegistryParts) (entry : Entry) → IsBuilt entry.event
-    → (world_now (record registry { journal = registry.journal ++ entry ∷ [] })).made ≤ (world_now registry).made + items_in entry.event
-entry_made registry entry built =
-    subst (λ (world : World). world.made ≤ (world_now registry).made + items_in entry.event)
-    (sym (world_after-more registry.format (opening registry.workers registry.node) registry.journal entry))
-    (step_made registry.format (world_now registry) entry.actor entry.event built)
+few : (m n : ℕ) → m ≤ m + n
+few m n = omega arith
+
+-- an event draws at most one number for each of its resources
+pub step_made : (format : Format) (world : World) (actor : Actor) (event : Event) → (step format world actor event).0.made ≤ world.made + items_in event
+step_made format world actor event =
+    step-leads (λ did. did.0.made ≤ world.made + items_in event) format world actor event (record {
+      ignored = few world.made (items_in event);
+      connected = λ is. few world.made (items_in event);
+      disconnected = λ is. few world.made (items_in event);
+      replied = λ kind response is typed.
+          let verdicts : List Verdict = verdicts_for kind (lives_of world) world.versions response in
+          let left : World = with_removals kind response world in
+          let all : (add_items kind verdicts response.items left).made ≤ left.made + length response.items = items_made kind verdicts response.items left in
+          let same : left.made ≡ world.made = removals_made kind response world in
+          let first : (with_first kind (made_names verdicts response.items) (add_items kind verdicts response.items left)).made ≡ (add_items kind verdicts response.items left).made =
+          first_made kind (made_names verdicts response.items) (add_items kind verdicts response.items left) in
+          subst (λ (e : Event). (with_first kind (made_names verdicts response.items) (add_items kind verdicts response.items left)).made ≤ world.made + items_in e) (sym is) (omega arith);
+      resulted = λ cluster host healthy rows is. few world.made (items_in event);
+      timed = λ timeout name is named. few world.made (items_in event);
+      clusters_late = λ timeout is. few world.made (items_in event);
+      listeners_late = λ timeout is. few world.made (items_in event);
+      expired = λ name numbers is. few world.made (items_in event);
+      ended = λ kind name is bounded.
+          subst (λ n. n ≤ world.made + items_in event) (sym (end_made kind name (forget_version kind name world))) (few world.made (items_in event));
+      unchanged = λ is. few world.made (items_in event);
+      published = λ is. few world.made (items_in event);
+      reaped = λ is. few world.made (items_in event);
+      accepted = λ ask worker is by. few world.made (items_in event);
+      closed = λ connection worker is by. few world.made (items_in event);
+      settled = λ worker is by. few world.made (items_in event);
+    })
+
+pub entry_made : (format : Format) (world : World) (entries : List Entry) (entry : Entry)
+    → (world_after format world (entries ++ entry ∷ [])).made ≤ (world_after format world entries).made + items_in entry.event
+entry_made format world entries entry =
+    subst (λ (w : World). w.made ≤ (world_after format world entries).made + items_in entry.event) (sym (world_after-more format world entries entry))
+    (step_made format (world_after format world entries) entry.actor entry.event)
+
+-- events change no number of workers
+pub held_after : (format : Format) (world : World) (entries : List Entry) → length (world_after format world entries).held ≡ length world.held
+held_after format world [] = refl
+held_after format world (entry ∷ entries) =
+    held_after format (step format world entry.actor entry.event).0 entries ∙ length-held format world entry.actor entry.event
+
+-- an event that is built publishes nothing
+step_pictures : (format : Format) (world : World) (actor : Actor) (event : Event) → is_built event ≡ true
+    → (step format world actor event).0.pictures ≡ world.pictures
+step_pictures format world actor Connect built = (same_seen format world actor Connect refl).pictures
+step_pictures format world actor Disconnect built = (same_seen format world actor Disconnect refl).pictures
+step_pictures format world actor (Response response) built = (same_seen format world actor (Response response) refl).pictures
+step_pictures format world actor (Health cluster host healthy) built = (same_seen format world actor (Health cluster host healthy) refl).pictures
+step_pictures format world actor (FetchTimeout timeout) built = (same_seen format world actor (FetchTimeout timeout) refl).pictures
+step_pictures format world actor (DrainTimeout listener) built = (same_seen format world actor (DrainTimeout listener) refl).pictures
+step_pictures format world actor (TtlExpired kind name) built = (same_seen format world actor (TtlExpired kind name) refl).pictures
+step_pictures format world actor Publish built = cc
+step_pictures format world actor Reap built = cc
+step_pictures format world actor (Accept ask) built = cc
+step_pictures format world actor (Close connection) built = cc
+step_pictures format world (Worker worker) Settle built = refl
+step_pictures format world Stream Settle built = refl
+step_pictures format world health_checker Settle built = refl
+step_pictures format world Timer Settle built = refl
+step_pictures format world Main Settle built = refl
+
+-- so the pictures after a journal of such events are those before it
+pub pictures_after : (format : Format) (workers : ℕ) (world : World) (entries : List Entry) → HaveStepped format workers world entries
+    → (world_after format world entries).pictures ≡ world.pictures
+pictures_after format workers world [] had = refl
+pictures_after format workers world (entry ∷ entries) had =
+    pictures_after format workers (step format world entry.actor entry.event).0 entries had.1
+    ∙ step_pictures format world entry.actor entry.event had.0.built

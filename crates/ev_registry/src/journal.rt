@@ -1,17 +1,21 @@
-ghost use Rattle.std.specs.Prelude.{◌≡◌, ◌≤◌, ◌+◌, [], ◌∷◌, ◌++◌, IfOk, OnOk, OnErr};
-ghost use Rattle.ev_model.specs.World.{last_version};
+ghost use Rattle.std.specs.Prelude.{◌≡◌, ◌≤◌, ◌<◌, ◌+◌, ◌^◌, [], ◌∷◌, ◌++◌, length, take, IsTrue, IfOk, OnOk, OnErr};
 ghost use Rattle.ev_types.specs.Events.{MayMake};
 ghost use Rattle.ev_types.specs.Scripts.{items_in};
-ghost use Rattle.ev_model.specs.Runs.{IsRun};
+ghost use Rattle.ev_model.specs.World.{World, last_version, opening};
+ghost use Rattle.ev_model.specs.Runs.{IsRun, world_after};
 ghost use Rattle.ev_model.specs.Step.{step as machine_step};
-ghost use Rattle.ev_registry.specs.Built.{IsBuilt};
+ghost use Rattle.ev_state.specs.Built.{is_built};
+ghost use Rattle.ev_state.specs.States.{IsAt};
+ghost use Rattle.ev_registry.specs.Registries.{HaveStepped, MayStep};
 
-use crate::state::{State, first_state};
+use ev_state::State;
 use ev_types::{Actor, Answer, Entry, Event, Format, Text, TryCopy};
 use std::alloc::{AllocError, Global};
 use std::marker::Model;
+use std::mem::{drop, replace};
 
-/// The managers' state and the journal of what was done: a run of the machine.
+/// What is known, and the journal of what was done: a run of the machine. Where want of memory cut an event off, what is known counts as
+/// lost, and is made anew out of the journal with the next event.
 #[derive(Drop)]
 pub struct Registry {
     alloc: Global,
@@ -19,18 +23,18 @@ pub struct Registry {
     workers: u32,
     node: Text,
     state: State,
+    is_lost: bool,
     journal: Vec<Entry>,
 }
 
 impl Model for Registry {
     ghost use Rattle.ev_registry.specs.Registries.{RegistryParts, StandsFor};
-    ghost use Rattle.ev_registry.specs.Worlds.{world_of};
 
     ghost Value = { RegistryParts };
 
     ghost view = { λ r. record { format = r.format; workers = r.workers; node = r.node; journal = r.journal.items } };
 
-    ghost invariant = { λ r. StandsFor (world_of r.state) record { format = r.format; workers = r.workers; node = r.node; journal = r.journal.items } };
+    ghost invariant = { λ r. StandsFor r.is_lost r.state record { format = r.format; workers = r.workers; node = r.node; journal = r.journal.items } };
 }
 
 impl Registry {
@@ -47,19 +51,22 @@ impl Registry {
         requires few { workers ≤ 16 }
         ensures empty { IfOk result (λ made. made ≡ record { format = format; workers = workers; node = node.now; journal = [] }) }
     {
+        let kept = node.copy(alloc)?;
+        let state = State::new(alloc, workers, node)?;
         Ok(Registry {
             alloc,
             format,
             workers,
-            node: node.copy(alloc)?,
-            state: first_state(alloc, workers, node)?,
+            node: kept,
+            state,
+            is_lost: false,
             journal: Vec::new(alloc),
         })
     }
 
-    /// Makes one step of the machine and enters it in the journal. Out of memory, all stays as it was. So far it takes
-    /// connects, responses of clusters that wait for nothing with heartbeats of such, and settles. The numbers of generations
-    /// have to suffice for an event's resources; at most one is drawn for each.
+    /// Makes one step of the machine and enters it in the journal. Out of memory, all stays as it was. So far it takes the events of
+    /// the stream and the health checker, fetch timeouts, ends of times to live, and settles. The numbers of generations have to
+    /// suffice for an event's resources; at most one is drawn for each.
     pub fn apply(
         &mut self,
         actor: Actor,
@@ -68,24 +75,36 @@ impl Registry {
         event: &Event,
     ) -> Result<Answer, AllocError>
         requires allowed { MayMake self.old.workers actor event.now }
-        requires built { IsBuilt event.now }
+        requires built { IsTrue (is_built event.now) }
         requires numbered { (world_now self.old).made + items_in event.now ≤ u32.MAX }
         ensures answer { IfOk result (λ answer. answer ≡ (machine_step self.old.format (world_now self.old) actor event.now).1) }
         ensures entry { IfOk result (λ answer. self.new ≡ record self.old { journal = self.old.journal ++ record { actor = actor; at = at; step = step; event = event.now; answer = answer } ∷ [] }) }
         ensures drawn { OnOk result ((world_now self.new).made ≤ (world_now self.old).made + items_in event.now) }
         ensures err { OnErr result (self.new ≡ self.old) }
     {
-        let (state, answer) = self.state.step(self.alloc, self.format, actor, event)?;
-        let entry = Entry {
-            actor,
-            at,
-            step,
-            event: event.copy(self.alloc)?,
-            answer: answer.copy(self.alloc)?,
-        };
+        if self.is_lost {
+            make_anew(
+                &mut self.state,
+                self.alloc,
+                self.format,
+                self.workers,
+                &self.node,
+                self.journal.as_slice(),
+            )?;
+        }
+        self.is_lost = true;
+        let answer = self.state.step(self.alloc, self.format, actor, event)?;
+        let entry = entry_of(self.alloc, actor, at, step, event, &answer)?;
         self.journal.push(entry)?;
-        self.state = state;
+        self.is_lost = false;
         Ok(answer)
+    }
+
+    /// The version of the last published picture: so far none is published.
+    pub fn latest(&self) -> u64
+        ensures { result ≡ last_version (world_now self.now) }
+    {
+        0
     }
 
     /// The entries of what was done, in order.
@@ -95,12 +114,64 @@ impl Registry {
     {
         self.journal.as_slice()
     }
+}
 
-    /// The version of the last published picture.
-    pub fn latest(&self) -> u64
-        ensures { result ≡ last_version (world_now self.now) }
-    {
-        let _ = &self.state;
-        0
+// An event with its answer, as an entry.
+fn entry_of(
+    alloc: Global,
+    actor: Actor,
+    at: u32,
+    step: u32,
+    event: &Event,
+    answer: &Answer,
+) -> Result<Entry, AllocError>
+    ensures { IfOk result (λ entry. entry ≡ record { actor = actor; at = at; step = step; event = event.now; answer = answer.now }) }
+{
+    Ok(Entry {
+        actor,
+        at,
+        step,
+        event: event.copy(alloc)?,
+        answer: answer.copy(alloc)?,
+    })
+}
+
+// What is known after a journal, in place of what was known: each of its events once more.
+fn make_anew(
+    state: &mut State,
+    alloc: Global,
+    format: Format,
+    workers: u32,
+    node: &Text,
+    journal: &[Entry],
+) -> Result<(), AllocError>
+    requires stepped { HaveStepped format workers (opening workers node.now) journal.now }
+    ensures { OnOk result (IsAt state.new (world_after format (opening workers node.now) journal.now)) }
+{
+    let opened = State::new(alloc, workers, node)?;
+    drop(replace(state, opened));
+    for place in 0..journal.len() {
+        step_again(state, alloc, format, workers, node, journal, place)?;
     }
+    Ok(())
+}
+
+// The event at a place of a journal once more.
+fn step_again(
+    state: &mut State,
+    alloc: Global,
+    format: Format,
+    workers: u32,
+    node: &Text,
+    journal: &[Entry],
+    place: usize,
+) -> Result<(), AllocError>
+    requires within { place < length journal.now }
+    requires stepped { HaveStepped format workers (opening workers node.now) journal.now }
+    requires at { IsAt state.old (world_after format (opening workers node.now) (take place journal.now)) }
+    ensures { OnOk result (IsAt state.new (world_after format (opening workers node.now) (take (place + 1) journal.now))) }
+{
+    let entry = &journal[place];
+    let _ = state.step(alloc, format, entry.actor, &entry.event)?;
+    Ok(())
 }

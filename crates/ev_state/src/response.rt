@@ -1,19 +1,23 @@
-ghost use Rattle.std.specs.Prelude.{◌≡◌, ◌+◌, ◌^◌, ◌<◌, Some, length, IfOk, OnOk};
+ghost use Rattle.std.specs.Prelude.{◌≡◌, ◌+◌, ◌^◌, ◌<◌, Some, IsSome, length, IfOk, OnOk};
+ghost use Rattle.ev_types.specs.declared.contents.Kind.{Kind};
 ghost use Rattle.ev_model.specs.World.{World};
 ghost use Rattle.ev_model.specs.Live.{lives_of};
 ghost use Rattle.ev_model.specs.Verdicts.{verdicts_of};
 ghost use Rattle.ev_model.specs.Rows.{with_removals, add_items, made_names, with_first};
-ghost use Rattle.ev_model.specs.Step.{respond, answered};
+ghost use Rattle.ev_model.specs.Requests.{Watched, other_than, requests_by, reply_of};
+ghost use Rattle.ev_model.specs.Step.{respond, responded, answered};
 ghost use Rattle.ev_managers.specs.Managers.{AreKept};
+ghost use Rattle.ev_subscription.specs.Subscriptions.{StandsFor as HasVersions};
 ghost use Rattle.ev_state.specs.States.{Follows, IsAt, Steps as AreSteps};
-ghost use Rattle.ev_state.specs.Moves.{HaveRetired};
+ghost use Rattle.ev_state.specs.Moves.{HaveRetired, IsOver};
 
 use crate::known::Before;
+use crate::moves::Moves;
 use crate::state::State;
 use ev_generations::Steps;
 use ev_managers::Retired;
 use ev_subscription::reply_of;
-use ev_types::{Answer, Kind, Response, Verdict};
+use ev_types::{Answer, Kind, Request, Response, Seq, Verdict};
 use ev_verdicts::{Mentions, verdicts_by_mentions};
 use std::alloc::{AllocError, Global};
 use std::sync::ledger::Ledger;
@@ -52,12 +56,64 @@ impl State {
         ensures { IfOk result (λ answer. AreSteps self.new answer (answered kind response.now (verdicts_of (lives_of here) here.versions response.now) here)) }
     {
         let mentions = Mentions::of(alloc, response)?;
+        let verdicts = self.judge(alloc, &mentions)?;
+        let moves = self.take(alloc, kind, verdicts.as_slice(), &mentions, steps)?;
+        let requests = self.reply(alloc, kind, response, verdicts.as_slice(), moves)?;
+        Ok(Answer::Replied { requests, verdicts })
+    }
+
+    // The verdicts on the resources of a response that wasn't taken yet.
+    fn judge(&self, alloc: Global, mentions: &Mentions<'_>) -> Result<Seq<Verdict>, AllocError>
+        requires kept { AreKept self.now.managers }
+        requires typed { IsSome mentions.now.kind }
+        ensures one_each { IfOk result (λ verdicts. length verdicts ≡ length mentions.now.items) }
+        ensures judged { IfOk result (λ verdicts. (kind : Kind) (world : World) → IsAt self.now world → mentions.now.kind ≡ Some kind
+            → verdicts ≡ verdicts_of (lives_of world) world.versions mentions.now) }
+    {
         let before = Before::new(&self.managers, &self.subscription);
-        let verdicts = verdicts_by_mentions(alloc, &before, &mentions)?;
+        let verdicts = verdicts_by_mentions(alloc, &before, mentions)?;
+        Ok(verdicts)
+    }
+
+    // What a response does to everything that is known, by the verdicts on its resources, and what it changes of what is asked for.
+    fn take<L: Ledger>(
+        &mut self,
+        alloc: Global,
+        kind: Kind,
+        verdicts: &[Verdict],
+        mentions: &Mentions<'_>,
+        steps: &mut Steps<L>,
+    ) -> Result<Moves, AllocError>
+        ghost here: { World }
+        requires at { IsAt self.old here }
+        requires typed { mentions.now.kind ≡ Some kind }
+        requires room { here.made + length mentions.now.items < 2 ^ 32 }
+        requires one_each { length verdicts.now ≡ length mentions.now.items }
+        requires judged { verdicts.now ≡ verdicts_of (lives_of here) here.versions mentions.now }
+        ensures kept { OnOk result (AreKept self.new.managers) }
+        ensures over { IfOk result (λ moves. IsOver self.new moves here (responded kind mentions.now verdicts.now here)) }
+    {
         let made = self.managers.clusters.made();
-        let retired = self.take(alloc, kind, verdicts.as_slice(), &mentions, steps)?;
+        let retired = self.enter(alloc, kind, verdicts, mentions, steps)?;
         let moves = self.tidy(alloc, made, retired, steps)?;
-        let reply = reply_of(alloc, kind, response, verdicts.as_slice())?;
+        Ok(moves)
+    }
+
+    // The requests that answer a response: its reply, and what its changes ask for.
+    fn reply(
+        &self,
+        alloc: Global,
+        kind: Kind,
+        response: &Response,
+        verdicts: &[Verdict],
+        moves: Moves,
+    ) -> Result<Seq<Request>, AllocError>
+        ensures { IfOk result (λ requests. (world : World) (before after : Watched) → HasVersions self.now.subscription world
+            → moves.endpoints.begun ≡ other_than before.endpoints after.endpoints → moves.endpoints.ended ≡ other_than after.endpoints before.endpoints
+            → moves.routes.begun ≡ other_than before.routes after.routes → moves.routes.ended ≡ other_than after.routes before.routes
+            → requests ≡ requests_by world.stream before after moves.left world.versions (Some (reply_of kind response.now verdicts.now))) }
+    {
+        let reply = reply_of(alloc, kind, response, verdicts)?;
         let requests = self.subscription.requests_after(
             alloc,
             Some(reply),
@@ -65,11 +121,11 @@ impl State {
             moves.routes,
             moves.left,
         )?;
-        Ok(Answer::Replied { requests, verdicts })
+        Ok(requests)
     }
 
     // What a response does to each part, by the verdicts on its resources. Answers which generations retired.
-    fn take<L: Ledger>(
+    fn enter<L: Ledger>(
         &mut self,
         alloc: Global,
         kind: Kind,

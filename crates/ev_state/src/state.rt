@@ -24,11 +24,13 @@ impl State {
     pub fn new(alloc: Global, workers: u32, node: &Text) -> Result<State, AllocError>
         ensures { IfOk result (λ s. IsAt s (opening workers node.now)) }
     {
+        let node = node.copy(alloc)?;
+        let held = vec![in alloc; 0; workers as usize]?;
         Ok(State {
             managers: Managers::new(alloc),
-            subscription: Subscription::new(alloc, node.copy(alloc)?),
+            subscription: Subscription::new(alloc, node),
             targets: Targets::new(),
-            held: Seq::from_vec(vec![in alloc; 0; workers as usize]?),
+            held: Seq::from_vec(held),
         })
     }
 }

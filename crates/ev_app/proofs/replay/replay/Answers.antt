@@ -1,5 +1,5 @@
 use Rattle.std.proofs.Common.{rules, ◌≡◌, List, [], ◌∷◌, ◌++◌, map, length, get_or, ap, sym, subst, ◌∙◌, append_assoc, ℕ, ◌+◌, ◌<◌, ◌≤◌, take, arith}
-use Rattle.std.specs.Prelude.{All}
+use Rattle.std.specs.Prelude.{All, IsTrue}
 use Rattle.std.specs.List.{range_with_len}
 use Rattle.std.proofs.lemmas.List.{map-append}
 use Rattle.std.proofs.lemmas.List.FromFn.{map-range_with_len_more}
@@ -9,14 +9,14 @@ use Rattle.ev_app.proofs.ReplayLemmas.{items_at}
 use Rattle.ev_types.specs.declared.events.Entry.{Entry}
 use Rattle.ev_types.specs.declared.events.Line.{Line}
 use Rattle.ev_model.specs.Operations.{Operation, operation_of, line_operation, last_settle}
-use Rattle.ev_registry.specs.Built.{IsBuilt}
+use Rattle.ev_state.specs.Built.{is_built}
 use Rattle.ev_app.proofs.replay.replay.Goals as goal
 
 -- the line at a place is one that the registry takes
-built_at : (lines items : List Line) (k : ℕ) (line : Line) → All (λ (l : Line). IsBuilt l.event) lines → items ≡ lines → k < length items
-    → line ≡ get_or items k line → IsBuilt line.event
+built_at : (lines items : List Line) (k : ℕ) (line : Line) → All (λ (l : Line). IsTrue (is_built l.event)) lines → items ≡ lines → k < length items
+    → line ≡ get_or items k line → IsTrue (is_built line.event)
 built_at lines items k line built same within is =
-    subst (λ (l : Line). IsBuilt l.event) (sym (is ∙ ap (λ (ls : List Line). get_or ls k line) same)) (built k line (omega (arith, ap length same)))
+    subst (λ (l : Line). IsTrue (is_built l.event)) (sym (is ∙ ap (λ (ls : List Line). get_or ls k line) same)) (built k line (omega (arith, ap length same)))
 
 pub apply-requires-clause-built : goal.apply-requires-clause-built
 apply-requires-clause-built c =

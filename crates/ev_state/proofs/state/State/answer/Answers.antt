@@ -1,11 +1,12 @@
 use Rattle.std.proofs.Common.{◌≡◌, ◌+◌, ◌<◌, ◌^◌, List, length, Some, ap, sym, subst, ◌∙◌}
+use Rattle.ev_types.specs.Items.{ResponseParts}
 use Rattle.ev_types.specs.declared.contents.Kind.{Kind}
 use Rattle.ev_types.specs.declared.contents.Request.{Request}
 use Rattle.ev_types.specs.declared.events.Verdict.{Verdict}
 use Rattle.ev_types.specs.declared.events.Answer.TheVariants.{Replied}
 use Rattle.ev_model.specs.World.{World}
+use Rattle.ev_model.specs.Live.{lives_of}
 use Rattle.ev_model.specs.Verdicts.{verdicts_of}
-use Rattle.ev_model.specs.Rows.{with_removals, add_items, made_names, with_first}
 use Rattle.ev_model.specs.Step.{responded, answered}
 use Rattle.ev_model.specs.Requests.{Watched, all_watched, other_than, requests_by, requests_of, reply_of}
 use Rattle.ev_managers.specs.Managers.{AreKept}
@@ -14,21 +15,12 @@ use Rattle.ev_state.specs.declared.state.State.{State}
 use Rattle.ev_state.specs.declared.moves.Moves.{Moves}
 use Rattle.ev_state.specs.Moves.{IsOver}
 use Rattle.ev_state.specs.States.{Steps}
-use Rattle.ev_types.specs.Items.{ResponseParts}
-use Rattle.ev_model.specs.Live.{lives_of}
-use Rattle.ev_verdicts.specs.Known.{Tells}
-use Rattle.ev_state.specs.Known.{BeforeParts, answers_before}
-use Rattle.ev_state.proofs.KnownLemmas.{tells}
 use Rattle.ev_state.proofs.state.State.answer.Goals as goal
 
 pub take-requires : goal.take-requires
 take-requires g c κs within =
     let at = c.requires.1.0 in
-    let typed = ap (λ (r : ResponseParts). r.kind) c.in_ok-mentions.ensures ∙ c.requires.1.1.0 in
-    let told : Tells (answers_before c.new-before.result) c.args.kind (lives_of g.here) g.here.versions =
-    subst (λ (b : BeforeParts). Tells (answers_before b) c.args.kind (lives_of g.here) g.here.versions) (sym c.new-before.ensures)
-    (tells c.args.self.now.managers.clusters.state c.args.self.now.managers.listeners c.args.self.now.subscription c.args.kind g.here
-    at.kept.clusters.clusters at.kept.listeners at.follows.stands.managers.clusters at.follows.stands.managers.listeners at.follows.stands.subscription at.whole) in (
+    let typed = ap (λ (r : ResponseParts). r.kind) c.in_ok-mentions.ensures ∙ c.requires.1.1.0 in (
       within,
       (
         at,
@@ -38,26 +30,25 @@ take-requires g c κs within =
             subst (λ (r : ResponseParts). g.here.made + length r.items < 4294967296) (sym c.in_ok-mentions.ensures) c.requires.1.1.1,
             (
               ap length c.as_slice.ensures.elements ∙ c.in_ok-verdicts.ensures.one_each,
-              c.as_slice.ensures.elements ∙ c.in_ok-verdicts.ensures.verdicts c.args.kind (lives_of g.here) g.here.versions typed told,
+              c.as_slice.ensures.elements ∙ c.in_ok-verdicts.ensures.judged c.args.kind g.here at typed,
             ),
           ),
         ),
       ),
     )
 
-replies : (s : State) (requests : List Request) (verdicts given given2 : List Verdict) (kind : Kind) (mentioned response : ResponseParts) (moves : Moves) (reply : Request) (here : World)
+replies : (s : State) (requests : List Request) (verdicts given given2 : List Verdict) (kind : Kind) (mentioned response : ResponseParts) (moves : Moves) (here : World)
     → AreKept s.managers
     → mentioned ≡ response → given ≡ verdicts → given2 ≡ verdicts → given ≡ verdicts_of (lives_of here) here.versions response
     → IsOver s moves here (responded kind mentioned given here)
-    → reply ≡ reply_of kind response given2
     → ((world : World) (before after : Watched) → HasVersions s.subscription world
     → moves.endpoints.begun ≡ other_than before.endpoints after.endpoints → moves.endpoints.ended ≡ other_than after.endpoints before.endpoints
     → moves.routes.begun ≡ other_than before.routes after.routes → moves.routes.ended ≡ other_than after.routes before.routes
-    → requests ≡ requests_by world.stream before after moves.left world.versions (Some reply))
+    → requests ≡ requests_by world.stream before after moves.left world.versions (Some (reply_of kind response given2)))
     → Steps s (Replied requests verdicts) (answered kind response (verdicts_of (lives_of here) here.versions response) here)
-replies s requests verdicts given given2 kind mentioned response moves reply here kept same are are2 judged over replied asked =
+replies s requests verdicts given given2 kind mentioned response moves here kept same are are2 judged over asked =
     let after : World = responded kind mentioned given here in
-    let told : reply ≡ reply_of kind mentioned given = replied ∙ (λ i. reply_of kind (sym same i) ((are2 ∙ sym are) i)) in
+    let told : reply_of kind response given2 ≡ reply_of kind mentioned given = (λ i. reply_of kind (sym same i) ((are2 ∙ sym are) i)) in
     let sent : requests ≡ requests_of here after (Some (reply_of kind mentioned given)) =
     asked after (all_watched here) (all_watched after) over.follows.stands.subscription
     over.moves.endpoints.begun over.moves.endpoints.ended over.moves.routes.begun over.moves.routes.ended
@@ -69,20 +60,11 @@ replies s requests verdicts given given2 kind mentioned response moves reply her
 
 pub returns : goal.returns
 returns g c =
-    let at = c.requires.1.0 in
     let typed = ap (λ (r : ResponseParts). r.kind) c.in_ok-mentions.ensures ∙ c.requires.1.1.0 in
-    let told : Tells (answers_before c.new-before.result) c.args.kind (lives_of g.here) g.here.versions =
-    subst (λ (b : BeforeParts). Tells (answers_before b) c.args.kind (lives_of g.here) g.here.versions) (sym c.new-before.ensures)
-    (tells c.args.self.now.managers.clusters.state c.args.self.now.managers.listeners c.args.self.now.subscription c.args.kind g.here
-    at.kept.clusters.clusters at.kept.listeners at.follows.stands.managers.clusters at.follows.stands.managers.listeners at.follows.stands.subscription at.whole) in
-    replies c.tidy.new.self c.in_ok-requests.requests c.in_ok-verdicts.verdicts c.as_slice.result.now c.as_slice-2.result.now c.args.kind c.in_ok-mentions.mentions c.args.response.now
-    c.in_ok-moves.moves c.in_ok-reply.reply g.here
+    replies c.take.new.self c.in_ok-requests.requests c.in_ok-verdicts.verdicts c.as_slice.result.now c.as_slice-2.result.now c.args.kind c.in_ok-mentions.mentions c.args.response.now
+    c.in_ok-moves.moves g.here
     c.in_ok-moves.ensures.kept c.in_ok-mentions.ensures c.as_slice.ensures.elements c.as_slice-2.ensures.elements
-    (c.as_slice.ensures.elements ∙ c.in_ok-verdicts.ensures.verdicts c.args.kind (lives_of g.here) g.here.versions typed told
+    (c.as_slice.ensures.elements ∙ c.in_ok-verdicts.ensures.judged c.args.kind g.here c.requires.1.0 typed
     ∙ ap (verdicts_of (lives_of g.here) g.here.versions) c.in_ok-mentions.ensures)
-    (c.in_ok-moves.ensures.over g.here
-    (with_first c.args.kind (made_names c.as_slice.result.now c.in_ok-mentions.mentions.items)
-    (add_items c.args.kind c.as_slice.result.now c.in_ok-mentions.mentions.items (with_removals c.args.kind c.in_ok-mentions.mentions g.here)))
-    c.in_ok-retired.ensures.follows (c.made-made.ensures ∙ at.follows.stands.managers.clusters.made) c.in_ok-retired.ensures.retired)
-    c.in_ok-reply.ensures
+    c.in_ok-moves.ensures.over
     c.in_ok-requests.ensures

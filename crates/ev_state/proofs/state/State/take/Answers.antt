@@ -1,32 +1,10 @@
-use Rattle.std.proofs.Common.{◌≡◌, ap, sym, subst, ◌∙◌}
-use Rattle.ev_types.specs.Items.{ResponseParts}
-use Rattle.ev_model.specs.World.{World}
+use Rattle.std.proofs.Common.{◌∙◌}
 use Rattle.ev_model.specs.Rows.{with_removals, add_items, made_names, with_first}
-use Rattle.ev_managers.specs.Managers.{StandFor, MayBeGiven}
-use Rattle.ev_targets.specs.Targets.{StandsFor as HasTargets}
-use Rattle.ev_state.proofs.TakeLemmas.{may_be_given, taken, taken_retired}
 use Rattle.ev_state.proofs.state.State.take.Goals as goal
 
-pub respond-requires-clause-given : goal.respond-requires-clause-given
-respond-requires-clause-given g c =
-    subst (λ (r : ResponseParts). MayBeGiven c.args.self.now.managers c.args.kind c.args.verdicts.now r.items) (sym c.response-response.ensures)
-    (may_be_given c.args.self.now.managers c.args.kind c.args.mentions.now c.args.verdicts.now g.here
-    c.requires.1.0.kept c.requires.1.0.follows.stands.managers c.requires.1.1.0 c.requires.1.1.1.1.1)
-
-pub returns-clause-follows : goal.returns-clause-follows
-returns-clause-follows g c =
-    taken c.args.self.now c.respond.new.self c.respond-2.new.self c.note_first.new.self c.args.kind c.args.mentions.now c.args.verdicts.now g.here
-    c.requires.1.0.follows c.requires.1.1.0 c.requires.1.1.1.1.1
-    (subst (λ (r : ResponseParts). StandFor c.respond.new.self (add_items c.args.kind c.args.verdicts.now r.items (with_removals c.args.kind r g.here)))
-    c.response-response.ensures (c.in_ok-retired.ensures.stands g.here c.requires.1.0.follows.stands.managers))
-    (c.in_ok-respond.ensures g.here c.requires.1.0.follows.stands.subscription)
-    (λ w boots. subst (λ (r : ResponseParts). HasTargets c.note_first.new.self (with_first c.args.kind (made_names c.args.verdicts.now r.items) w))
-    c.response-response.ensures (c.in_ok-note_first.ensures.stands w boots))
-
-pub returns-clause-retired : goal.returns-clause-retired
-returns-clause-retired g c =
-    taken_retired c.in_ok-retired.retired c.args.self.now.managers c.respond.new.self c.args.kind c.args.mentions.now c.args.verdicts.now g.here
-    c.requires.1.0.kept c.in_ok-retired.ensures.kept c.requires.1.0.follows.stands.managers
-    (subst (λ (r : ResponseParts). StandFor c.respond.new.self (add_items c.args.kind c.args.verdicts.now r.items (with_removals c.args.kind r g.here)))
-    c.response-response.ensures (c.in_ok-retired.ensures.stands g.here c.requires.1.0.follows.stands.managers))
-    c.in_ok-retired.ensures.retired
+pub returns-clause-over : goal.returns-clause-over
+returns-clause-over g c =
+    c.in_ok-moves.ensures.over g.here
+    (with_first c.args.kind (made_names c.args.verdicts.now c.args.mentions.now.items)
+    (add_items c.args.kind c.args.verdicts.now c.args.mentions.now.items (with_removals c.args.kind c.args.mentions.now g.here)))
+    c.in_ok-retired.ensures.follows (c.made-made.ensures ∙ c.requires.1.0.follows.stands.managers.clusters.made) c.in_ok-retired.ensures.retired
