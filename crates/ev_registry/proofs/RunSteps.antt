@@ -1,9 +1,11 @@
 -- A registry's journal grows by steps, and what is known is made anew out of it.
-use Rattle.std.proofs.Common.{◌≡◌, ℕ, zero, suc, ◌<◌, true, false, ◌∙◌, ap, List, [], ◌∷◌, ◌++◌, Some, length, take, get_or, refl, sym, subst, arith}
+use Rattle.std.proofs.Common.{◌≡◌, ℕ, zero, suc, ◌+◌, ◌<◌, ◌≤◌, true, false, ◌∙◌, ap, List, [], ◌∷◌, ◌++◌, Some, length, take, get_or, refl, sym, subst, arith}
 use Rattle.std.specs.List.{AllByRecursion}
 use Rattle.std.proofs.lemmas.List.{length-replicate}
 use Rattle.ev_types.specs.Events.{MayMake}
 use Rattle.ev_types.specs.declared.events.Actor.{Actor}
+use Rattle.ev_types.specs.Scripts.{items_in}
+use Rattle.ev_types.specs.declared.events.Answer.{Answer}
 use Rattle.ev_types.specs.declared.events.Entry.{Entry}
 use Rattle.ev_types.specs.declared.events.Event.{Event}
 use Rattle.ev_types.specs.declared.events.Event.TheVariants.{Connect, Disconnect, Response, Health, FetchTimeout, DrainTimeout, TtlExpired, Publish, Reap, Accept, Close, Settle}
@@ -15,7 +17,7 @@ use Rattle.ev_model.proofs.RunLemmas.{world_after-more, RunsFrom-more, IsUnbroke
 use Rattle.ev_state.specs.Built.{is_built}
 use Rattle.ev_state.specs.declared.state.State.{State}
 use Rattle.ev_state.specs.States.{IsAt}
-use Rattle.ev_registry.proofs.NumberLemmas.{held_after}
+use Rattle.ev_registry.proofs.NumberLemmas.{held_after, entry_made}
 use Rattle.ev_registry.specs.Registries.{RegistryParts, world_now, MayStep, HaveStepped, StandsFor}
 
 -- one step more
@@ -92,3 +94,38 @@ goes_on state registry entry run stepped may answered at =
       stepped = stepped_more registry.format registry.workers begun registry.journal entry stepped may;
       at = λ here. subst (IsAt state) (sym (world_after-more registry.format begun registry.journal entry)) at;
     }
+
+-- an event that was made on what is known, and its entry
+pub enters : (state : State) (registry now : RegistryParts) (given pushed : List Entry) (entry : Entry) (actor : Actor) (at step_number : ℕ) (event : Event) (answer : Answer)
+    → IsRun registry.format registry.workers registry.node registry.journal
+    → HaveStepped registry.format registry.workers (opening registry.workers registry.node) registry.journal
+    → registry ≡ now → given ≡ registry.journal → pushed ≡ registry.journal ++ entry ∷ []
+    → entry ≡ record { actor = actor; at = at; step = step_number; event = event; answer = answer }
+    → MayMake now.workers actor event → is_built event ≡ true → (world_now now).made + items_in event ≤ 4294967295
+    → answer ≡ (step registry.format (world_after registry.format (opening registry.workers registry.node) given) actor event).1
+    → IsAt state (step registry.format (world_after registry.format (opening registry.workers registry.node) given) actor event).0
+    → StandsFor false state (record registry { journal = pushed })
+enters state registry now given pushed entry actor at step_number event answer run stepped view same pushes is allowed built room answered led =
+    let here : List Entry → World = λ entries. world_after registry.format (opening registry.workers registry.node) entries in
+    let made : Entry = record { actor = actor; at = at; step = step_number; event = event; answer = answer } in
+    let enough : (world_now registry).made + items_in event ≤ 4294967295 =
+    subst (λ (r : RegistryParts). (world_now r).made + items_in event ≤ 4294967295) (sym view) room in
+    let may : MayStep registry.workers (world_now registry) made =
+    record { allowed = subst (λ (r : RegistryParts). MayMake r.workers actor event) (sym view) allowed; built = built; room = omega (arith, enough) } in
+    let whole : StandsFor false state (record registry { journal = registry.journal ++ made ∷ [] }) =
+    goes_on state registry made run stepped may
+    (subst (λ (es : List Entry). answer ≡ (step registry.format (here es) actor event).1) same answered)
+    (subst (λ (es : List Entry). IsAt state (step registry.format (here es) actor event).0) same led) in
+    subst (λ (es : List Entry). StandsFor false state (record registry { journal = es })) (sym pushes)
+    (subst (λ (e : Entry). StandsFor false state (record registry { journal = registry.journal ++ e ∷ [] })) (sym is) whole)
+
+-- it drew at most one number for each of its resources
+pub draws : (registry now : RegistryParts) (pushed : List Entry) (entry : Entry) (event : Event) → registry ≡ now → pushed ≡ registry.journal ++ entry ∷ []
+    → items_in entry.event ≡ items_in event
+    → (world_after registry.format (opening registry.workers registry.node) pushed).made ≤ (world_now now).made + items_in event
+draws registry now pushed entry event view pushes same =
+    let begun : World = opening registry.workers registry.node in
+    subst (λ (es : List Entry). (world_after registry.format begun es).made ≤ (world_now now).made + items_in event) (sym pushes)
+    (subst (λ (r : RegistryParts). (world_after registry.format begun (registry.journal ++ entry ∷ [])).made ≤ (world_now r).made + items_in event) view
+    (subst (λ n. (world_after registry.format begun (registry.journal ++ entry ∷ [])).made ≤ (world_now registry).made + n) same
+    (entry_made registry.format begun registry.journal entry)))

@@ -1,4 +1,4 @@
-ghost use Rattle.std.specs.Prelude.{◌≡◌, ◌≤◌, ◌<◌, ◌+◌, ◌^◌, [], ◌∷◌, ◌++◌, length, take, IsTrue, IfOk, OnOk, OnErr};
+ghost use Rattle.std.specs.Prelude.{false, ◌≡◌, ◌≤◌, ◌<◌, ◌+◌, ◌^◌, [], ◌∷◌, ◌++◌, length, take, IsTrue, IfOk, OnOk, OnErr};
 ghost use Rattle.ev_types.specs.Events.{MayMake};
 ghost use Rattle.ev_types.specs.Scripts.{items_in};
 ghost use Rattle.ev_model.specs.World.{World, last_version, opening};
@@ -82,18 +82,26 @@ impl Registry {
         ensures drawn { OnOk result ((world_now self.new).made ≤ (world_now self.old).made + items_in event.now) }
         ensures err { OnErr result (self.new ≡ self.old) }
     {
-        if self.is_lost {
-            make_anew(
-                &mut self.state,
-                self.alloc,
-                self.format,
-                self.workers,
-                &self.node,
-                self.journal.as_slice(),
-            )?;
-        }
-        self.is_lost = true;
-        let answer = self.state.step(self.alloc, self.format, actor, event)?;
+        let is_lost = replace(&mut self.is_lost, true);
+        recover(
+            &mut self.state,
+            is_lost,
+            self.alloc,
+            self.format,
+            self.workers,
+            &self.node,
+            self.journal.as_slice(),
+        )?;
+        let answer = step_after(
+            &mut self.state,
+            self.alloc,
+            self.format,
+            self.workers,
+            &self.node,
+            self.journal.as_slice(),
+            actor,
+            event,
+        )?;
         let entry = entry_of(self.alloc, actor, at, step, event, &answer)?;
         self.journal.push(entry)?;
         self.is_lost = false;
@@ -104,6 +112,8 @@ impl Registry {
     pub fn latest(&self) -> u64
         ensures { result ≡ last_version (world_now self.now) }
     {
+        // so says the invariant
+        let _ = &self.state;
         0
     }
 
@@ -136,9 +146,10 @@ fn entry_of(
     })
 }
 
-// What is known after a journal, in place of what was known: each of its events once more.
-fn make_anew(
+// Makes what is known after a journal anew, where it was lost: each of its events once more.
+fn recover(
     state: &mut State,
+    is_lost: bool,
     alloc: Global,
     format: Format,
     workers: u32,
@@ -146,8 +157,12 @@ fn make_anew(
     journal: &[Entry],
 ) -> Result<(), AllocError>
     requires stepped { HaveStepped format workers (opening workers node.now) journal.now }
+    requires kept { is_lost ≡ false → IsAt state.old (world_after format (opening workers node.now) journal.now) }
     ensures { OnOk result (IsAt state.new (world_after format (opening workers node.now) journal.now)) }
 {
+    if !is_lost {
+        return Ok(());
+    }
     let opened = State::new(alloc, workers, node)?;
     drop(replace(state, opened));
     for place in 0..journal.len() {
@@ -172,6 +187,39 @@ fn step_again(
     ensures { OnOk result (IsAt state.new (world_after format (opening workers node.now) (take (place + 1) journal.now))) }
 {
     let entry = &journal[place];
-    let _ = state.step(alloc, format, entry.actor, &entry.event)?;
+    let _ = step_after(
+        state,
+        alloc,
+        format,
+        workers,
+        node,
+        &journal[..place],
+        entry.actor,
+        &entry.event,
+    )?;
     Ok(())
+}
+
+// One step in the world that a journal has led to.
+fn step_after(
+    state: &mut State,
+    alloc: Global,
+    format: Format,
+    workers: u32,
+    node: &Text,
+    journal: &[Entry],
+    actor: Actor,
+    event: &Event,
+) -> Result<Answer, AllocError>
+    ghost here: { World }
+    requires is { here ≡ world_after format (opening workers node.now) journal.now }
+    requires at { IsAt state.old here }
+    requires allowed { MayMake workers actor event.now }
+    requires built { IsTrue (is_built event.now) }
+    requires room { here.made + items_in event.now < 2 ^ 32 }
+    ensures at { OnOk result (IsAt state.new (machine_step format here actor event.now).0) }
+    ensures answer { IfOk result (λ answer. answer ≡ (machine_step format here actor event.now).1) }
+{
+    let answer = state.step(alloc, format, actor, event)?;
+    Ok(answer)
 }

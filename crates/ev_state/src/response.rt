@@ -108,6 +108,7 @@ impl State {
         verdicts: &[Verdict],
         moves: Moves,
     ) -> Result<Seq<Request>, AllocError>
+        requires one_each { length verdicts.now ≡ length response.now.items }
         ensures { IfOk result (λ requests. (world : World) (before after : Watched) → HasVersions self.now.subscription world
             → moves.endpoints.begun ≡ other_than before.endpoints after.endpoints → moves.endpoints.ended ≡ other_than after.endpoints before.endpoints
             → moves.routes.begun ≡ other_than before.routes after.routes → moves.routes.ended ≡ other_than after.routes before.routes

@@ -1,18 +1,21 @@
-use Rattle.std.proofs.Common.{◌≡◌, ◌≤◌, ◌+◌, [], ◌∷◌, ◌++◌, ap, sym, subst}
+use Rattle.std.proofs.Common.{ap}
 use Rattle.ev_types.specs.Scripts.{items_in}
 use Rattle.ev_types.specs.declared.events.Entry.{Entry}
-use Rattle.ev_model.specs.World.{opening}
-use Rattle.ev_registry.specs.Registries.{RegistryParts, world_now}
-use Rattle.ev_registry.proofs.NumberLemmas.{entry_made}
+use Rattle.ev_registry.specs.Registries.{RegistryParts}
+use Rattle.ev_registry.proofs.RunSteps.{enters, draws}
 use Rattle.ev_registry.proofs.journal.Registry.apply.Goals as goal
+
+pub invariant_of-self-2 : goal.invariant_of-self-2
+invariant_of-self-2 c =
+    enters c.step_after.new.state
+    record { format = c.self.inside.format; workers = c.self.inside.workers; node = c.self.inside.node; journal = c.self.inside.journal.items }
+    c.args.self.now c.as_slice-2.result.now c.push.new.self.items c.in_ok-entry.entry c.args.actor c.args.at c.args.step c.args.event.now c.in_ok-answer.answer
+    c.self.invariant.run c.self.invariant.stepped c.self.view_is c.as_slice-2.ensures.value c.in_ok-push.ensures.items c.in_ok-entry.ensures
+    c.requires.allowed c.requires.built c.requires.numbered c.in_ok-answer.ensures.answer c.in_ok-answer.ensures.at
 
 pub returns-clause-drawn : goal.returns-clause-drawn
 returns-clause-drawn c =
-    let old : RegistryParts = c.args.self.now in
-    let entry : Entry = c.in_ok-entry.entry in
-    let same : items_in entry.event ≡ items_in c.args.event.now = ap (λ (e : Entry). items_in e.event) c.in_ok-entry.ensures in
-    subst (λ (r : RegistryParts). (world_now r).made ≤ (world_now old).made + items_in c.args.event.now) (sym c.in_ok-enter.ensures.entry)
-    (subst (λ (r : RegistryParts). (world_now (record r { journal = r.journal ++ entry ∷ [] })).made ≤ (world_now old).made + items_in c.args.event.now)
-    (sym c.in_ok-state.ensures.same)
-    (subst (λ n. (world_now (record old { journal = old.journal ++ entry ∷ [] })).made ≤ (world_now old).made + n) same
-    (entry_made old.format (opening old.workers old.node) old.journal entry)))
+    draws
+    record { format = c.self.inside.format; workers = c.self.inside.workers; node = c.self.inside.node; journal = c.self.inside.journal.items }
+    c.args.self.now c.push.new.self.items c.in_ok-entry.entry c.args.event.now
+    c.self.view_is c.in_ok-push.ensures.items (ap (λ (e : Entry). items_in e.event) c.in_ok-entry.ensures)

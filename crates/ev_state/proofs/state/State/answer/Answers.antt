@@ -37,6 +37,11 @@ take-requires g c κs within =
       ),
     )
 
+pub reply-requires : goal.reply-requires
+reply-requires g c = record {
+  one_each = ap length c.as_slice-2.ensures.elements ∙ c.in_ok-verdicts.ensures.one_each ∙ ap (λ (r : ResponseParts). length r.items) c.in_ok-mentions.ensures;
+}
+
 replies : (s : State) (requests : List Request) (verdicts given given2 : List Verdict) (kind : Kind) (mentioned response : ResponseParts) (moves : Moves) (here : World)
     → AreKept s.managers
     → mentioned ≡ response → given ≡ verdicts → given2 ≡ verdicts → given ≡ verdicts_of (lives_of here) here.versions response
