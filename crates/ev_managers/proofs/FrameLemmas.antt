@@ -1,10 +1,10 @@
 -- What an event of one kind leaves as it was for the manager of the other kind.
-use Rattle.std.proofs.Common.{◌≡◌, ℕ, ◌+◌, Bool, true, false, not, ◌&&◌, ◌||◌, cond, List, [], ◌∷◌, ◌++◌, map, filter, None, refl, sym, ap, ◌∙◌, subst}
+use Rattle.std.proofs.Common.{◌≡◌, ℕ, Bool, true, false, ◌&&◌, ◌||◌, cond, List, [], ◌∷◌, ◌++◌, map, filter, None, refl, sym, ap, ◌∙◌, subst}
 use Rattle.std.specs.Prelude.{IsSome, filter_map, nat_eq, Option, Some, unwrap_or}
 use Rattle.std.proofs.lemmas.List.Folds.{list_any-append}
 use Rattle.std.specs.List.{list_any, fold, zip, AllByRecursion as ByRecursion, last_or}
 use Rattle.std.specs.Str.{bytes_eq}
-use Rattle.std.proofs.lemmas.Bool.{cond_both, both_ways, false≢true}
+use Rattle.std.proofs.lemmas.Bool.{both_ways, false≢true}
 use Rattle.ev_types.specs.Items.{ItemParts, ResponseParts}
 use Rattle.ev_types.specs.Kinds.{kind_same, kind_decides}
 use Rattle.ev_types.specs.SameHosts.{host_same}
@@ -27,7 +27,7 @@ use Rattle.ev_model.specs.Live.{lives_of}
 use Rattle.ev_model.specs.Verdicts.{is_removed}
 use Rattle.ev_model.specs.Warming.{came_for, content_in, is_word, is_timeout, has_result, is_healthy, is_result_of, is_checked, assignment_by}
 use Rattle.ev_model.specs.Watching.{is_watched}
-use Rattle.ev_model.specs.Rows.{is_row_of, removed_status, with_statuses, status_left, arrived, absent_names, with_removals, with_absences, replaced_status, new_row, add_row, keep_version, keep_value, with_content, refuse, told_of_refusal, add_item, add_items}
+use Rattle.ev_model.specs.Rows.{removed_status, with_statuses, status_left, arrived, absent_names, with_removals, replaced_status, new_row, add_row, keep_version, keep_value, with_content, refuse, add_item, add_items}
 use Rattle.ev_model.specs.Signals.{ended_status, rows_ended, is_meant, rows_meant, result_for, with_results}
 use Rattle.ev_model.specs.Tidy.{has_host}
 use Rattle.ev_generations.specs.Tables.{row_in, numbers_of}

@@ -1,5 +1,5 @@
 -- Generations behind an event: which changes keep each in its place, and that one is found by its number as before.
-use Rattle.std.proofs.Common.{◌≡◌, ◌∙◌, ℕ, ◌+◌, ◌<◌, ◌≤◌, Bool, true, false, cond, ◌&&◌, nat_eq, List, [], ◌∷◌, ◌++◌, Option, None, Some, refl, sym, ap, subst, arith}
+use Rattle.std.proofs.Common.{◌≡◌, ◌∙◌, ℕ, ◌<◌, ◌≤◌, Bool, true, false, cond, ◌&&◌, nat_eq, List, [], ◌∷◌, ◌++◌, None, Some, refl, sym, ap, subst, arith}
 use Rattle.std.specs.List.{AllByRecursion, fold, zip}
 use Rattle.std.proofs.lemmas.Bool.{eqb-true, false≢true}
 use Rattle.ev_types.specs.Items.{ItemParts, ResponseParts}

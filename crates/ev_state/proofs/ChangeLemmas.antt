@@ -1,5 +1,5 @@
 -- Which names began and ceased to be watched, by the generations that an event made and retired.
-use Rattle.std.proofs.Common.{◌≡◌, ◌∙◌, ℕ, suc, zero, ◌+◌, ◌<◌, ◌≤◌, ◌-◌, Bool, true, false, cond, not, ◌&&◌, ◌||◌, nat_eq, List, [], ◌∷◌, ◌++◌, ◌⊎◌, inl, inr, Option, None, Some, refl, sym, ap, subst, arith}
+use Rattle.std.proofs.Common.{◌≡◌, ◌∙◌, ℕ, suc, zero, ◌+◌, ◌<◌, ◌≤◌, ◌-◌, Bool, true, false, cond, not, ◌&&◌, ◌||◌, nat_eq, List, [], ◌∷◌, Option, None, Some, refl, sym, ap, arith}
 use Rattle.std.specs.Prelude.{nat_le}
 use Rattle.std.specs.Cmp.{both_ways}
 use Rattle.std.specs.List.{AllByRecursion, list_any, flat_map}
@@ -8,9 +8,8 @@ use Rattle.std.proofs.lemmas.List.Folds.{list_any-append}
 use Rattle.ev_types.specs.Statuses.{is_live}
 use Rattle.ev_types.specs.declared.rows.GenRow.{GenRow}
 use Rattle.ev_model.specs.Requests.{other_than}
-use Rattle.ev_model.specs.Verdicts.{is_among as is_named_among}
 use Rattle.ev_model_laws.proofs.AnyLemmas.{or_so, any_so}
-use Rattle.ev_generations.specs.Tables.{GenerationsParts, IsTable, row_in, numbers_of}
+use Rattle.ev_generations.specs.Tables.{IsTable, row_in}
 use Rattle.ev_generations.proofs.TableLemmas.{number-row_in}
 use Rattle.ev_warming.specs.Due.{is_among}
 use Rattle.ev_warming.specs.Changes.{is_over, has_retired}
@@ -20,7 +19,7 @@ use Rattle.ev_warming.specs.Reads.{names_watched, names_needed}
 use Rattle.ev_warming.specs.Moved.{is_held, need_lost, need_gained, numbers_behind, names_lost, names_gained}
 use Rattle.ev_warming.proofs.WhereLemmas.{own-rows}
 use Rattle.ev_state.specs.Ages.{IsLater, AreLater}
-use Rattle.ev_state.proofs.AgeLemmas.{Found, found-later, found-earlier}
+use Rattle.ev_state.proofs.AgeLemmas.{found-later, found-earlier}
 use Rattle.ev_state.proofs.NameLists.{needs_it, is_watcher, sorted-in_order, other-in_order, same-names, among-watched, among-lost, among-gained}
 use Rattle.ev_state.proofs.WatchedNames.{among_other}
 

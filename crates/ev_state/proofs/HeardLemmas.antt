@@ -1,6 +1,6 @@
 -- A response keeps versions of endpoints and routes only of names that were watched before it.
-use Rattle.std.proofs.Common.{◌≡◌, ℕ, Bool, true, false, not, ◌||◌, ◌&&◌, cond, List, [], ◌∷◌, ◌++◌, map, filter, Option, Some, None, refl, sym, ap, ◌∙◌, subst}
-use Rattle.std.specs.List.{All, AllByRecursion as ByRecursion, fold, zip, list_any}
+use Rattle.std.proofs.Common.{◌≡◌, ℕ, Bool, true, false, not, ◌||◌, cond, List, [], ◌∷◌, Option, Some, None, refl, sym, subst}
+use Rattle.std.specs.List.{All, AllByRecursion as ByRecursion, fold, zip}
 use Rattle.std.proofs.lemmas.Bool.{cond_both, false≢true}
 use Rattle.std.proofs.lemmas.List.Elements.{All-map, All-weaker, All-filter, All-from_recursion, recursion_from_All}
 use Rattle.ev_types.specs.Items.{ItemParts, ResponseParts}
@@ -19,7 +19,7 @@ use Rattle.ev_model.specs.Live.{newest_of}
 use Rattle.ev_model.specs.Versions.{is_version_of, bounded_as, with_version}
 use Rattle.ev_model.specs.Verdicts.{is_taken, against, good_verdict, verdict_of, verdicts_from, verdicts_for, lives_after, lives_left}
 use Rattle.ev_model.specs.Watching.{is_by_name, is_watched}
-use Rattle.ev_model.specs.Rows.{with_removals, version_in, keep_version, add_row, keep_value, with_content, refuse, told_of_refusal, renew, add_item, add_items, is_version_left}
+use Rattle.ev_model.specs.Rows.{with_removals, version_in, keep_version, add_row, keep_value, with_content, refuse, renew, add_item, add_items, is_version_left}
 use Rattle.ev_model.specs.Tidy.{is_version_due}
 use Rattle.ev_model_laws.proofs.VersionLemmas.{all_with}
 use Rattle.ev_model_laws.proofs.VerdictLemmas.{fits, judged_by, verdict_each, verdict_fits}

@@ -1,9 +1,8 @@
 -- What the managers answer where verdicts are asked for is what the world tells.
-use Rattle.std.proofs.Common.{◌≡◌, ℕ, Bool, true, false, not, ◌&&◌, ◌||◌, cond, List, [], ◌∷◌, map, filter, Option, Some, None, refl, sym, ap, ◌∙◌, subst}
-use Rattle.std.specs.List.{list_any, AllByRecursion as ByRecursion}
+use Rattle.std.proofs.Common.{◌≡◌, ℕ, Bool, true, false, ◌&&◌, ◌||◌, cond, List, [], ◌∷◌, map, filter, None, refl, sym, ap, ◌∙◌}
+use Rattle.std.specs.List.{AllByRecursion as ByRecursion}
 use Rattle.std.specs.Str.{bytes_eq}
 use Rattle.std.proofs.lemmas.Bool.{false≢true, cond_both, both_ways}
-use Rattle.ev_types.specs.Items.{content_kind}
 use Rattle.ev_types.specs.Kinds.{kind_same, kind_decides}
 use Rattle.ev_types.specs.Statuses.{is_live}
 use Rattle.ev_types.specs.declared.contents.Kind.{Kind}
@@ -14,12 +13,10 @@ use Rattle.ev_types.specs.declared.clusters.Discovery.{Discovery}
 use Rattle.ev_types.specs.declared.clusters.Discovery.TheVariants.{Static, Eds as by_eds}
 use Rattle.ev_types.specs.declared.listeners.Serve.{Serve}
 use Rattle.ev_types.specs.declared.listeners.Serve.TheVariants.{Rds as by_rds, Inline, Tcp}
-use Rattle.ev_types.specs.declared.hosts.Host.{Host}
 use Rattle.ev_types.specs.declared.rows.GenRow.{GenRow}
 use Rattle.ev_types.specs.declared.rows.Live.{Live}
 use Rattle.ev_model.specs.World.{World}
 use Rattle.ev_model.specs.Live.{live_of, lives_of, is_named, latest, newest_of}
-use Rattle.ev_model.specs.Verdicts.{listening_address, shares_address}
 use Rattle.ev_model.specs.Watching.{is_by_name, is_watched, is_dependency, dependency_of, discovery_dependency, serve_dependency}
 use Rattle.ev_warming.specs.declared.state.State.{State}
 use Rattle.ev_warming.specs.Reads.{live_rows}
@@ -28,7 +25,7 @@ use Rattle.ev_warming.proofs.NewestLemmas.{newest-world}
 use Rattle.ev_warming.proofs.ReadLemmas.{watched-world}
 use Rattle.ev_listeners.specs.Listeners.{ListenersKept, AreKept as AreListeners, StandsFor as HasListeners}
 use Rattle.ev_listeners.proofs.StandLemmas.{holders-world}
-use Rattle.ev_verdicts.specs.Known.{Tells, is_at}
+use Rattle.ev_verdicts.specs.Known.{Tells}
 use Rattle.ev_subscription.specs.Subscriptions.{SubscriptionParts, StandsFor as HasVersions}
 use Rattle.ev_subscription.proofs.KindLemmas.{kept_is}
 use Rattle.ev_state.specs.Known.{newest_by, watched_by, answers_by}

@@ -1,6 +1,5 @@
 -- What an event changed: the generations that retired, and the names that began and ceased to be watched.
-use Rattle.std.proofs.Common.{◌≡◌, ◌∙◌, ℕ, ◌<◌, Bool, true, false, not, ◌&&◌, ◌||◌, nat_eq, List, [], Option, None, Some, refl, sym, ap, subst}
-use Rattle.std.specs.List.{IsDistinct}
+use Rattle.std.proofs.Common.{◌≡◌, ◌∙◌, ℕ, ◌<◌, Bool, true, false, not, ◌&&◌, ◌||◌, List, [], Option, None, Some, refl, sym, ap, subst}
 use Rattle.std.proofs.lemmas.Bool.{false≢true}
 use Rattle.ev_types.specs.Statuses.{is_live}
 use Rattle.ev_types.specs.declared.contents.Kind.{Kind}
@@ -12,7 +11,7 @@ use Rattle.ev_model.specs.Rows.{with_statuses}
 use Rattle.ev_model.specs.Tidy.{promoted, promoted_status, has_successor}
 use Rattle.ev_model.specs.Warming.{is_ready_by}
 use Rattle.ev_model.specs.Watching.{is_by_name, sorted_names, watched_of}
-use Rattle.ev_generations.specs.Tables.{IsTable, row_in, numbers_of}
+use Rattle.ev_generations.specs.Tables.{IsTable, row_in}
 use Rattle.ev_warming.specs.declared.state.State.{State as Part}
 use Rattle.ev_warming.specs.Due.{is_among}
 use Rattle.ev_warming.specs.Changes.{is_over, has_retired, began_to_drain}

@@ -1,5 +1,5 @@
 -- What a response leaves of a world: all that isn't of generations, names or versions.
-use Rattle.std.proofs.Common.{◌≡◌, ℕ, Bool, true, false, cond, List, [], ◌∷◌, Option, refl, sym, ap, ◌∙◌, subst}
+use Rattle.std.proofs.Common.{◌≡◌, ℕ, Bool, true, false, cond, List, [], ◌∷◌, refl, sym, ◌∙◌}
 use Rattle.std.specs.List.{fold, zip}
 use Rattle.ev_types.specs.Items.{ItemParts, ResponseParts}
 use Rattle.ev_types.specs.declared.contents.Kind.{Kind}
@@ -9,17 +9,11 @@ use Rattle.ev_types.specs.declared.contents.Body.TheVariants.{Good, Bad, Beat}
 use Rattle.ev_types.specs.declared.contents.Content.{Content}
 use Rattle.ev_types.specs.declared.events.Verdict.{Verdict}
 use Rattle.ev_types.specs.declared.events.Verdict.TheVariants.{New, Same, Kept, Unasked, Renewed, Refused}
-use Rattle.ev_types.specs.declared.rows.Phase.{Phase}
-use Rattle.ev_model.specs.declared.pictures.Shown.{Shown}
-use Rattle.ev_model.specs.World.{World, OpenMember}
+use Rattle.ev_model.specs.World.{World}
 use Rattle.ev_model.specs.Live.{lives_of}
 use Rattle.ev_model.specs.Watching.{is_watched}
-use Rattle.ev_model.specs.Rows.{with_removals, add_row, keep_version, keep_value, with_content, refuse, add_item, add_items, with_first, made_names}
+use Rattle.ev_model.specs.Rows.{with_removals, add_row, keep_version, keep_value, with_content, refuse, add_item, add_items, with_first}
 use Rattle.ev_warming.specs.Frames.{SameSeen}
-use Rattle.ev_managers.specs.declared.managers.Managers.{Managers}
-use Rattle.ev_managers.specs.Managers.{StandFor}
-use Rattle.ev_managers.proofs.FrameLemmas.{see_the_same}
-use Rattle.ev_subscription.specs.Subscriptions.{SubscriptionParts, StandsFor as HasVersions}
 use Rattle.ev_targets.specs.Targets.{TargetsParts, StandsFor as HasTargets}
 
 -- the rest of the worlds is the same

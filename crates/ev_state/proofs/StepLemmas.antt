@@ -1,10 +1,9 @@
 -- Steps of the machine by cases, and what changes of a world leave.
-use Rattle.std.proofs.Common.{◌≡◌, ℕ, Bool, true, false, cond, List, refl, sym, subst}
+use Rattle.std.proofs.Common.{◌≡◌, Bool, true, false, cond, refl, sym, subst}
 use Rattle.ev_types.specs.declared.events.Answer.{Answer}
 use Rattle.ev_model.specs.World.{World}
 use Rattle.ev_managers.proofs.FrameLemmas.{see_the_same}
 use Rattle.ev_subscription.specs.Subscriptions.{SubscriptionParts, StandsFor as HasVersions}
-use Rattle.ev_targets.specs.Targets.{TargetsParts, StandsFor as HasTargets}
 use Rattle.ev_state.specs.declared.state.State.{State}
 use Rattle.ev_state.specs.States.{Follows, Steps}
 

@@ -1,13 +1,12 @@
 -- Generations are of clusters or of listeners: no event makes one of endpoints or routes.
-use Rattle.std.proofs.Common.{◌≡◌, ℕ, ◌+◌, Bool, true, false, not, List, [], ◌∷◌, ◌++◌, map, filter, refl, cond}
-use Rattle.std.specs.List.{All, AllByRecursion as ByRecursion, fold, zip}
+use Rattle.std.proofs.Common.{◌≡◌, ℕ, Bool, true, false, not, List, [], ◌∷◌, ◌++◌, filter, cond}
+use Rattle.std.specs.List.{AllByRecursion as ByRecursion, fold, zip}
 use Rattle.std.proofs.lemmas.Bool.{cond_both}
 use Rattle.ev_types.specs.Items.{ItemParts, ResponseParts}
 use Rattle.ev_types.specs.declared.contents.Kind.{Kind}
 use Rattle.ev_types.specs.declared.contents.Kind.TheVariants.{Cds, Eds, Lds, Rds}
 use Rattle.ev_types.specs.declared.contents.Body.{Body}
 use Rattle.ev_types.specs.declared.contents.Body.TheVariants.{Good, Bad, Beat}
-use Rattle.ev_types.specs.declared.contents.Content.{Content}
 use Rattle.ev_types.specs.declared.events.Actor.{Actor}
 use Rattle.ev_types.specs.declared.events.Answer.{Answer}
 use Rattle.ev_types.specs.declared.events.Event.{Event}
@@ -16,13 +15,12 @@ use Rattle.ev_types.specs.declared.events.Verdict.TheVariants.{New, Same, Kept, 
 use Rattle.ev_types.specs.declared.journals.Format.{Format}
 use Rattle.ev_types.specs.declared.rows.GenRow.{GenRow}
 use Rattle.ev_types.specs.declared.rows.RowStatus.{RowStatus}
-use Rattle.ev_types.specs.declared.rows.Live.{Live}
 use Rattle.ev_model.specs.World.{World}
 use Rattle.ev_model.specs.Live.{lives_of}
 use Rattle.ev_model.specs.Dead.{is_dead}
-use Rattle.ev_model.specs.Verdicts.{lives_left, verdicts_for, verdict_of}
+use Rattle.ev_model.specs.Verdicts.{lives_left, verdicts_for}
 use Rattle.ev_model.specs.Watching.{is_by_name, is_watched}
-use Rattle.ev_model.specs.Rows.{with_statuses, with_removals, status_left, replaced_status, new_row, add_row, keep_version, keep_value, with_content, refuse, add_item, add_items, made_names, with_first, rows_with_new}
+use Rattle.ev_model.specs.Rows.{with_statuses, with_removals, status_left, replaced_status, new_row, add_row, keep_version, keep_value, with_content, refuse, add_item, add_items, made_names, with_first}
 use Rattle.ev_model.specs.Signals.{with_end, forget_version, ended_status}
 use Rattle.ev_model.specs.Step.{step}
 use Rattle.ev_model_laws.proofs.CameLemmas.{by_name_not}

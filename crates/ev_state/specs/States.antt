@@ -1,5 +1,5 @@
 -- What the managers, the subscription and the targets know together, and at which worlds they are.
-use Rattle.std.specs.Prelude.{◌≡◌, ℕ, true, false, [], ◌∷◌, All}
+use Rattle.std.specs.Prelude.{◌≡◌, true, false, [], ◌∷◌, All}
 use Rattle.std.specs.List.{AllByRecursion}
 use Rattle.ev_types.specs.declared.events.Answer.{Answer}
 use Rattle.ev_types.specs.declared.rows.GenRow.{GenRow}

@@ -1,4 +1,4 @@
-use Rattle.std.proofs.Common.{sym, subst}
+use Rattle.std.proofs.Common.{subst}
 use Rattle.ev_model.specs.World.{World}
 use Rattle.ev_state.specs.States.{IsAt}
 use Rattle.ev_registry.proofs.RunSteps.{may_make}

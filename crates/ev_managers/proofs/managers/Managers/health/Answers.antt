@@ -1,6 +1,5 @@
-use Rattle.std.proofs.Common.{refl, sym, ap, ◌∙◌}
+use Rattle.std.proofs.Common.{refl, ap}
 use Rattle.ev_types.specs.Kinds.{kind_same}
-use Rattle.ev_types.specs.declared.contents.Kind.{Kind}
 use Rattle.ev_types.specs.declared.contents.Kind.TheVariants.{Cds}
 use Rattle.ev_model.specs.Signals.{with_results, rows_meant}
 use Rattle.ev_managers.proofs.FrameLemmas.{listeners_stay, health_leaves}

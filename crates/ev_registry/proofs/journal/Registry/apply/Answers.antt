@@ -1,7 +1,6 @@
 use Rattle.std.proofs.Common.{ap}
 use Rattle.ev_types.specs.Scripts.{items_in}
 use Rattle.ev_types.specs.declared.events.Entry.{Entry}
-use Rattle.ev_registry.specs.Registries.{RegistryParts}
 use Rattle.ev_registry.proofs.RunSteps.{enters, draws}
 use Rattle.ev_registry.proofs.journal.Registry.apply.Goals as goal
 

@@ -2,7 +2,6 @@ use Rattle.std.proofs.Common.{Bool, true, cond, ◌||◌, refl, sym, subst, ◌�
 use Rattle.std.specs.Prelude.{is_some}
 use Rattle.ev_types.specs.declared.events.Answer.TheVariants.{Ignored}
 use Rattle.ev_model.specs.World.{World}
-use Rattle.ev_model.specs.Phase.{is_clusters}
 use Rattle.ev_model.specs.Signals.{moved}
 use Rattle.ev_managers.proofs.FrameLemmas.{see_the_same}
 use Rattle.ev_targets.specs.Targets.{StandsFor as HasTargets}

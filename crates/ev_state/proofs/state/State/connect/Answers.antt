@@ -1,7 +1,6 @@
-use Rattle.std.proofs.Common.{true, false, not, refl, sym, ap, ◌∙◌}
+use Rattle.std.proofs.Common.{true, refl, sym, ap, ◌∙◌}
 use Rattle.ev_types.specs.declared.events.Answer.TheVariants.{Ignored, Moved}
-use Rattle.ev_model.specs.Phase.{is_clusters}
-use Rattle.ev_model.specs.Requests.{connect_requests, connect_requests_by}
+use Rattle.ev_model.specs.Requests.{connect_requests}
 use Rattle.ev_model.specs.Tidy.{tidy}
 use Rattle.ev_state.proofs.StepLemmas.{where_false, stream_follows}
 use Rattle.ev_state.proofs.MoveLemmas.{none-have}

@@ -1,4 +1,4 @@
-use Rattle.std.proofs.Common.{true, false, refl, sym, ◌∙◌}
+use Rattle.std.proofs.Common.{false, refl, sym, ◌∙◌}
 use Rattle.ev_types.specs.declared.events.Answer.TheVariants.{Ignored, Done}
 use Rattle.ev_model.specs.Tidy.{tidy}
 use Rattle.ev_state.proofs.StepLemmas.{where_true, stream_follows}

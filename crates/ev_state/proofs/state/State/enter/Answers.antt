@@ -1,6 +1,5 @@
-use Rattle.std.proofs.Common.{◌≡◌, ap, sym, subst, ◌∙◌}
+use Rattle.std.proofs.Common.{sym, subst}
 use Rattle.ev_types.specs.Items.{ResponseParts}
-use Rattle.ev_model.specs.World.{World}
 use Rattle.ev_model.specs.Rows.{with_removals, add_items, made_names, with_first}
 use Rattle.ev_managers.specs.Managers.{StandFor, MayBeGiven}
 use Rattle.ev_targets.specs.Targets.{StandsFor as HasTargets}

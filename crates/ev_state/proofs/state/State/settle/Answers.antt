@@ -1,7 +1,7 @@
-use Rattle.std.proofs.Common.{◌≡◌, ℕ, List, [], ◌∷◌, refl, sym, ap, ◌∙◌}
+use Rattle.std.proofs.Common.{◌≡◌, ℕ, List, refl, sym, ap, ◌∙◌}
 use Rattle.std.specs.Prelude.{slice_set, length, ◌-◌}
 use Rattle.ev_model.specs.declared.pictures.Shown.{Shown}
-use Rattle.ev_model.specs.World.{World, OpenMember, last_version}
+use Rattle.ev_model.specs.World.{World, last_version}
 use Rattle.ev_model.specs.Connections.{closed_by, left_open}
 use Rattle.ev_types.specs.declared.events.Answer.TheVariants.{Settled}
 use Rattle.ev_warming.specs.Frames.{seen-sound}

@@ -1,7 +1,6 @@
-use Rattle.std.proofs.Common.{◌≡◌, ◌&&◌, not, Bool, refl, sym, ap, ◌∙◌, subst}
+use Rattle.std.proofs.Common.{◌&&◌, not, refl, ap, ◌∙◌}
 use Rattle.std.proofs.lemmas.List.Elements.{filter_passes}
 use Rattle.ev_types.specs.declared.contents.Kind.TheVariants.{Eds, Rds}
-use Rattle.ev_types.specs.declared.rows.Phase.{Phase}
 use Rattle.ev_types.specs.declared.rows.GenRow.{GenRow}
 use Rattle.ev_model.specs.World.{World}
 use Rattle.ev_model.specs.Warming.{is_ready_by}
@@ -10,7 +9,6 @@ use Rattle.ev_warming.specs.Frames.{seen-sound}
 use Rattle.ev_model.specs.Live.{lives_of}
 use Rattle.ev_model.specs.Phase.{is_clusters}
 use Rattle.ev_model.specs.Tidy.{tidy, has_successor, promoted, without_unwatched, without_old_results, is_version_due}
-use Rattle.ev_state.specs.States.{Follows}
 use Rattle.ev_subscription.specs.Subscriptions.{StandsFor as HasVersions}
 use Rattle.ev_targets.specs.Targets.{StandsFor as HasTargets}
 use Rattle.ev_managers.proofs.FrameLemmas.{see_the_same}
