@@ -29,14 +29,14 @@ abbrev AreNew : ℕ → List GenRow → Type 0
 AreNew made rows = AllByRecursion (λ (row : GenRow). made < row.number) rows
 
 itself : (row : GenRow) → IsLater row row
-itself row = record { same = refl; over = λ h. h }
+itself row = record { same = refl; over = λ h. refl }
 
 pub later-same : (made : ℕ) (rows : List GenRow) → AreLater made rows rows
 later-same made [] = tt
 later-same made (row ∷ rows) = (itself row, later-same made rows)
 
 one_then : (a b c : GenRow) → IsLater a b → IsLater b c → IsLater a c
-one_then a b c x y = record { same = y.same ∙ (λ i. record (x.same i) { status = c.status }); over = λ h. y.over (x.over h) }
+one_then a b c x y = record { same = y.same ∙ (λ i. record (x.same i) { status = c.status }); over = λ h. y.over (ap is_live (x.over h) ∙ h) ∙ x.over h }
 
 new_then : (made : ℕ) (b c : List GenRow) → AreNew made b → AreLater made b c → AreNew made c
 new_then made [] c new y = y
@@ -49,8 +49,8 @@ later-then made (r ∷ rs) [] c x y = absurd x
 later-then made (r ∷ rs) (s ∷ ss) [] x y = absurd y
 later-then made (r ∷ rs) (s ∷ ss) (t ∷ ts) x y = (one_then r s t x.0 y.0, later-then made rs ss ts x.1 y.1)
 
--- other statuses, of which none brings a generation back to life
-later-statused : (made : ℕ) (f : GenRow → RowStatus) → ((row : GenRow) → is_live row.status ≡ false → is_live (f row) ≡ false) → (rows : List GenRow)
+-- other statuses, of live generations alone
+later-statused : (made : ℕ) (f : GenRow → RowStatus) → ((row : GenRow) → is_live row.status ≡ false → f row ≡ row.status) → (rows : List GenRow)
     → AreLater made rows (with_statuses f rows)
 later-statused made f stays [] = tt
 later-statused made f stays (row ∷ rows) = (record { same = refl; over = stays row }, later-statused made f stays rows)
@@ -145,18 +145,26 @@ found-earlier made number row (r ∷ rs) (s ∷ ss) x low at = by (nat_eq number
         let there = rest here in
         record { row = there.row; at = (λ i. cond ((place ∙ isnt) i) (Some r) (row_in number rs)) ∙ there.at; so = there.so }
 
--- no change of the machine's brings a generation back to life
-removed_over : (status : RowStatus) → is_live status ≡ false → is_live (removed_status status) ≡ false
-removed_over Warming h = refl
-removed_over Active h = refl
+-- no change of the machine's is of a generation that is over
+removed_over : (status : RowStatus) → is_live status ≡ false → removed_status status ≡ status
+removed_over Warming h = absurd (false≢true (sym h))
+removed_over Active h = absurd (false≢true (sym h))
 removed_over Draining h = refl
 removed_over Dropped h = refl
 
-chosen_over : (b : Bool) (status other : RowStatus) → is_live status ≡ false → is_live other ≡ false → is_live (cond b other status) ≡ false
-chosen_over true status other h over = over
-chosen_over false status other h over = h
+chosen_over : (b : Bool) (status other : RowStatus) → other ≡ status → cond b other status ≡ status
+chosen_over true status other same = same
+chosen_over false status other same = refl
 
-promoted_over : (succeeded ready : Bool) (status : RowStatus) → is_live status ≡ false → is_live (status_by succeeded ready status) ≡ false
+replaced_over : (b : Bool) (status : RowStatus) → is_live status ≡ false → cond (b && is_warming status) Dropped status ≡ status
+replaced_over b Warming h = absurd (false≢true (sym h))
+replaced_over b Active h = absurd (false≢true (sym h))
+replaced_over true Draining h = refl
+replaced_over false Draining h = refl
+replaced_over true Dropped h = refl
+replaced_over false Dropped h = refl
+
+promoted_over : (succeeded ready : Bool) (status : RowStatus) → is_live status ≡ false → status_by succeeded ready status ≡ status
 promoted_over succeeded ready Warming h = absurd (false≢true (sym h))
 promoted_over succeeded ready Active h = absurd (false≢true (sym h))
 promoted_over succeeded ready Draining h = refl
@@ -169,7 +177,7 @@ later-promoted made succeeded ready rows =
 
 later-ended : (made : ℕ) (kind : Kind) (name : List ℕ) (rows : List GenRow) → AreLater made rows (with_statuses (ended_status kind name) rows)
 later-ended made kind name rows =
-    later-statused made (ended_status kind name) (λ row h. chosen_over (is_row_of kind name row) row.status (removed_status row.status) h (removed_over row.status h)) rows
+    later-statused made (ended_status kind name) (λ row h. chosen_over (is_row_of kind name row) row.status (removed_status row.status) (removed_over row.status h)) rows
 
 -- a resource that has come to its end
 pub end-later : (made : ℕ) (kind : Kind) (name : List ℕ) (world : World) → AreLater made world.rows (with_end kind name (forget_version kind name world)).rows
@@ -193,7 +201,7 @@ module _ (made : ℕ) (kind : Kind) (item : ItemParts) where
   new_grows : (body : Body) (world : World) → made ≤ world.made → Grows made world (with_content (add_row kind item) body world)
   new_grows (Good content) world low = record {
     rows = later-then made world.rows (with_statuses (replaced_status kind item.name) world.rows) (rows_with_new kind world.made item.name content world.rows)
-        (later-statused made (replaced_status kind item.name) (λ row h. chosen_over (is_row_of kind item.name row && is_warming row.status) row.status Dropped h refl) world.rows)
+        (later-statused made (replaced_status kind item.name) (λ row h. replaced_over (is_row_of kind item.name row) row.status h) world.rows)
         (later-more made (with_statuses (replaced_status kind item.name) world.rows) (new_row kind world.made item.name content) (omega arith));
     drawn = omega arith;
   }
@@ -238,12 +246,12 @@ items_grow made kind (one ∷ judged) world low =
 
 removals_grow : (kind : Kind) (response : ResponseParts) (world : World) → Grows world.made world (with_removals kind response world)
 removals_grow Cds response world = record {
-  rows = later-statused world.made (status_left Cds response) (λ row h. chosen_over (kind_same row.kind Cds && is_removed response row.name) row.status (removed_status row.status) h (removed_over row.status h)) world.rows;
+  rows = later-statused world.made (status_left Cds response) (λ row h. chosen_over (kind_same row.kind Cds && is_removed response row.name) row.status (removed_status row.status) (removed_over row.status h)) world.rows;
   drawn = omega arith;
 }
 removals_grow Eds response world = grows_as world.made world (with_removals Eds response world) (omega arith) refl refl
 removals_grow Lds response world = record {
-  rows = later-statused world.made (status_left Lds response) (λ row h. chosen_over (kind_same row.kind Lds && is_removed response row.name) row.status (removed_status row.status) h (removed_over row.status h)) world.rows;
+  rows = later-statused world.made (status_left Lds response) (λ row h. chosen_over (kind_same row.kind Lds && is_removed response row.name) row.status (removed_status row.status) (removed_over row.status h)) world.rows;
   drawn = omega arith;
 }
 removals_grow Rds response world = grows_as world.made world (with_removals Rds response world) (omega arith) refl refl

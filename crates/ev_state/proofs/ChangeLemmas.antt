@@ -198,7 +198,7 @@ module _ (before after : List GenRow) (made drawn : ℕ) (first : IsTable (recor
 
         was_live : (row other : GenRow) → IsLater row other → is_live other.status ≡ true → (b : Bool) → is_live row.status ≡ b → is_live row.status ≡ true
         was_live row other is live true h = h
-        was_live row other is live false h = absurd (false≢true (sym (is.over h) ∙ live))
+        was_live row other is live false h = absurd (false≢true (sym (ap is_live (is.over h) ∙ h) ∙ live))
 
         held_by : (other : GenRow) → IsAt after other → first_watcher name other ≡ true → list_any (depends_on name) before ≡ true
         held_by other at passes =

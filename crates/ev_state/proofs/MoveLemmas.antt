@@ -32,7 +32,8 @@ use Rattle.ev_managers.specs.Retired.{AreRetired, AreDrained}
 use Rattle.ev_managers.proofs.RetiredLemmas.{none-retired}
 use Rattle.ev_subscription.specs.declared.changes.NameChange.{NameChange}
 use Rattle.ev_state.specs.Ages.{AreLater}
-use Rattle.ev_state.specs.Moves.{HaveRetired, IsChange}
+use Rattle.ev_state.specs.Moves.{IsChange}
+use Rattle.ev_state.specs.Retirements.{HaveRetired}
 use Rattle.ev_state.proofs.AgeLemmas.{later-kind, later-promoted, found-later}
 use Rattle.ev_state.proofs.ChangeLemmas.{names-begun, names-ended}
 
@@ -70,7 +71,8 @@ stays_over made before after later number over = by (row_in number before) refl 
     by None at over = absurd (false≢true over)
     by (Some row) at over =
         let f = found-later made number row before after later at in
-        ap is_over f.at ∙ ap not (f.so.over (not_true (is_live row.status) over))
+        let ended = not_true (is_live row.status) over in
+        ap is_over f.at ∙ ap not (ap is_live (f.so.over ended) ∙ ended)
 
 -- what retired in one step and in the next
 then_retired : (number : ℕ) (a b c : List GenRow) → (is_over (row_in number a) ≡ true → is_over (row_in number b) ≡ true) → (is_over (row_in number b) ≡ true → is_over (row_in number c) ≡ true)

@@ -3,7 +3,6 @@ use Rattle.std.proofs.Common.{◌≡◌, ℕ, Bool, true, false, not, ◌||◌, 
 use Rattle.std.specs.List.{All, list_any}
 use Rattle.std.proofs.lemmas.Bool.{false≢true}
 use Rattle.ev_types.specs.declared.hosts.Host.{Host}
-use Rattle.ev_types.specs.declared.events.Answer.{Answer}
 use Rattle.ev_types.specs.declared.events.Answer.TheVariants.{Ignored}
 use Rattle.ev_types.specs.declared.rows.GenRow.{GenRow}
 use Rattle.ev_types.specs.declared.rows.KeptVersion.{KeptVersion}
@@ -29,9 +28,11 @@ use Rattle.ev_model_laws.specs.VersionsKept.{AreKeptOnce}
 use Rattle.ev_subscription.specs.Subscriptions.{SubscriptionParts, StandsFor as HasVersions, kept_of}
 use Rattle.ev_targets.specs.Targets.{TargetsParts, StandsFor as HasTargets}
 use Rattle.ev_state.specs.declared.state.State.{State}
+use Rattle.ev_state.specs.declared.stepped.Stepped.{Stepped}
 use Rattle.ev_state.specs.Ages.{AreLater}
 use Rattle.ev_state.specs.States.{Follows, Steps}
 use Rattle.ev_state.proofs.AgeLemmas.{later-same, end-later}
+use Rattle.ev_state.proofs.MoveLemmas.{none-have}
 use Rattle.ev_state.proofs.RestLemmas.{SameRest, rest_boots}
 
 -- the managers alone have changed
@@ -79,8 +80,14 @@ targets_follow s targets world after follows boots stand held versions phase kep
 }
 
 -- nothing is done
-pub ignores : (s : State) (world : World) → AreKept s.managers → Follows s world world → Steps s Ignored (world, Ignored)
-ignores s world kept follows = record { kept = kept; follows = follows; answer = refl }
+pub ignores : (s : State) (told : Stepped) (world : World) → told ≡ record { answer = Ignored; retired = record { clusters = []; listeners = [] } }
+    → AreKept s.managers → Follows s world world → Steps s told world (world, Ignored)
+ignores s told world is kept follows = record {
+  kept = kept;
+  follows = follows;
+  answer = ap (λ (t : Stepped). t.answer) is;
+  retired = none-have told.retired world world (ap (λ (t : Stepped). t.retired) is) refl;
+}
 
 none_by : {X : Type 0} (p : X → Bool) (xs : List X) → list_any p xs ≡ false → filter p xs ≡ []
 none_by p [] none = refl
@@ -98,19 +105,19 @@ some_by p (x ∷ xs) some none = by (p x) some none (some_by p xs)
     by true h none rest = cc
     by false h none rest = rest h none
 
-led_by : (s : State) (a : Answer) (host : Host) (healthy : Bool) (rows : List GenRow) (world : World) → (rows ≡ [] → ⊥)
-    → Steps s a (moved world (with_results host healthy rows world)) → Steps s a (health_of host healthy rows world)
+led_by : (s : State) (a : Stepped) (host : Host) (healthy : Bool) (rows : List GenRow) (world : World) → (rows ≡ [] → ⊥)
+    → Steps s a world (moved world (with_results host healthy rows world)) → Steps s a world (health_of host healthy rows world)
 led_by s a host healthy [] world some steps = absurd (some refl)
 led_by s a host healthy (row ∷ rows) world some steps = steps
 
-kept_by : (s : State) (a : Answer) (host : Host) (healthy : Bool) (rows : List GenRow) (world : World) → rows ≡ []
-    → Steps s a (world, Ignored) → Steps s a (health_of host healthy rows world)
+kept_by : (s : State) (a : Stepped) (host : Host) (healthy : Bool) (rows : List GenRow) (world : World) → rows ≡ []
+    → Steps s a world (world, Ignored) → Steps s a world (health_of host healthy rows world)
 kept_by s a host healthy [] world none steps = steps
 kept_by s a host healthy (row ∷ rows) world none steps = absurd (cc)
 
 -- a health result that is for a generation
-pub health_led : (s : State) (a : Answer) (host : Host) (healthy : Bool) (p : GenRow → Bool) (world : World) → list_any p world.rows ≡ true
-    → Steps s a (moved world (with_results host healthy (filter p world.rows) world)) → Steps s a (health_of host healthy (filter p world.rows) world)
+pub health_led : (s : State) (a : Stepped) (host : Host) (healthy : Bool) (p : GenRow → Bool) (world : World) → list_any p world.rows ≡ true
+    → Steps s a world (moved world (with_results host healthy (filter p world.rows) world)) → Steps s a world (health_of host healthy (filter p world.rows) world)
 health_led s a host healthy p world some steps = led_by s a host healthy (filter p world.rows) world (some_by p world.rows some) steps
 
 append_nil : {X : Type 0} (xs : List X) → xs ++ [] ≡ xs
@@ -118,15 +125,16 @@ append_nil [] = refl
 append_nil (x ∷ xs) = ap (λ ys. x ∷ ys) (append_nil xs)
 
 -- one that is for none
-pub health_ignored : (s : State) (m : Managers) (host : Host) (healthy : Bool) (p : GenRow → Bool) (world : World) → AreKept m
+pub health_ignored : (s : State) (m : Managers) (told : Stepped) (host : Host) (healthy : Bool) (p : GenRow → Bool) (world : World) → AreKept m
     → Follows s world world → list_any p world.rows ≡ false → StandFor m (with_results host healthy (filter p world.rows) world)
-    → Steps (record s { managers = m }) Ignored (health_of host healthy (filter p world.rows) world)
-health_ignored s m host healthy p world kept follows none stand =
+    → told ≡ record { answer = Ignored; retired = record { clusters = []; listeners = [] } }
+    → Steps (record s { managers = m }) told world (health_of host healthy (filter p world.rows) world)
+health_ignored s m told host healthy p world kept follows none stand is =
     let gone : filter p world.rows ≡ [] = none_by p world.rows none in
     let same : with_results host healthy (filter p world.rows) world ≡ world =
     (λ i. with_results host healthy (gone i) world) ∙ (λ i. record world { results = append_nil world.results i }) in
-    kept_by (record s { managers = m }) Ignored host healthy (filter p world.rows) world gone
-    (ignores (record s { managers = m }) world kept
+    kept_by (record s { managers = m }) told host healthy (filter p world.rows) world gone
+    (ignores (record s { managers = m }) told world is kept
     (managers_follow s m world world follows (subst (λ (w : World). StandFor m w) same stand) refl refl refl
     (record { pictures = refl; held = refl; opened = refl; expired = refl; first_clusters = refl; first_listeners = refl; late_clusters = refl; late_listeners = refl; phase = refl }) refl))
 

@@ -26,7 +26,7 @@ use Rattle.ev_subscription.specs.Subscriptions.{SubscriptionParts, StandsFor as 
 use Rattle.ev_targets.specs.Targets.{TargetsParts, StandsFor as HasTargets}
 use Rattle.ev_state.specs.declared.state.State.{State}
 use Rattle.ev_state.specs.Ages.{AreLater}
-use Rattle.ev_state.specs.Moves.{HaveRetired}
+use Rattle.ev_state.specs.Retirements.{HaveRetired}
 use Rattle.ev_state.specs.States.{Follows}
 use Rattle.ev_state.proofs.AgeLemmas.{response-later}
 use Rattle.ev_state.proofs.MoveLemmas.{told-have}

@@ -4,10 +4,10 @@ use Rattle.std.specs.List.{AllByRecursion}
 use Rattle.ev_types.specs.Statuses.{is_live}
 use Rattle.ev_types.specs.declared.rows.GenRow.{GenRow}
 
--- it is the same generation, but for its status, and it isn't live where it wasn't so before
+-- it is the same generation, but for its status, and it is as it was where it wasn't live before
 pub record IsLater (before after : GenRow) : Type 0 where
   pub same : after ≡ record before { status = after.status }
-  pub over : is_live before.status ≡ false → is_live after.status ≡ false
+  pub over : is_live before.status ≡ false → after.status ≡ before.status
 
 -- the second rows are the first ones, later, and behind them new ones, with numbers behind this one
 abbrev pub AreLater : ℕ → List GenRow → List GenRow → Type 0

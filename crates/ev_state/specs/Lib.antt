@@ -3,3 +3,4 @@ pub mod Ages
 pub mod Known
 pub mod States
 pub mod Moves
+pub mod Retirements

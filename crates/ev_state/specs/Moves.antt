@@ -1,33 +1,26 @@
 -- What an event changed of generations and of what is asked for.
 use Rattle.std.specs.Prelude.{◌≡◌, ℕ, List}
-use Rattle.ev_types.specs.declared.contents.Kind.TheVariants.{Cds, Eds, Lds, Rds}
+use Rattle.ev_types.specs.declared.contents.Kind.TheVariants.{Eds, Rds}
 use Rattle.ev_model.specs.World.{World}
 use Rattle.ev_model.specs.Watching.{watched_of}
 use Rattle.ev_model.specs.Requests.{other_than, has_left_clusters}
-use Rattle.ev_warming.specs.Due.{is_among}
-use Rattle.ev_warming.specs.Changes.{has_retired}
-use Rattle.ev_warming.specs.Worlds.{rows_of_kind}
-use Rattle.ev_managers.specs.declared.retired.Retired.{Retired}
 use Rattle.ev_subscription.specs.declared.changes.NameChange.{NameChange}
 use Rattle.ev_state.specs.declared.moves.Moves.{Moves}
 use Rattle.ev_state.specs.declared.state.State.{State}
+use Rattle.ev_state.specs.Retirements.{HaveRetired}
 use Rattle.ev_state.specs.States.{Follows}
-
--- these generations retired between the worlds, and no others
-pub record HaveRetired (retired : Retired) (before world : World) : Type 0 where
-  pub clusters : (number : ℕ) → is_among retired.clusters number ≡ has_retired number (rows_of_kind Cds before.rows) (rows_of_kind Cds world.rows)
-  pub listeners : (number : ℕ) → is_among retired.listeners number ≡ has_retired number (rows_of_kind Lds before.rows) (rows_of_kind Lds world.rows)
 
 -- the names that stand among the second ones alone, and among the first ones alone
 pub record IsChange (change : NameChange) (before after : List (List ℕ)) : Type 0 where
   pub begun : change.begun ≡ other_than before after
   pub ended : change.ended ≡ other_than after before
 
--- the names that began and ceased to be watched between these worlds, and whether the first phase was left
+-- the names that began and ceased to be watched between these worlds, whether the first phase was left, and which generations retired
 pub record AreMoves (moves : Moves) (before after : World) : Type 0 where
   pub endpoints : IsChange moves.endpoints (watched_of before Eds) (watched_of after Eds)
   pub routes : IsChange moves.routes (watched_of before Rds) (watched_of after Rds)
   pub left : moves.left ≡ has_left_clusters before after
+  pub retired : HaveRetired moves.retired before after
 
 -- an event that led from the first world is over, and these are its moves
 pub record IsOver (s : State) (told : Moves) (before after : World) : Type 0 where

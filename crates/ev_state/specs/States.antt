@@ -13,7 +13,9 @@ use Rattle.ev_managers.specs.Managers.{AreKept, StandFor}
 use Rattle.ev_subscription.specs.Subscriptions.{StandsFor as HasVersions}
 use Rattle.ev_targets.specs.Targets.{StandsFor as HasTargets}
 use Rattle.ev_state.specs.declared.state.State.{State}
+use Rattle.ev_state.specs.declared.stepped.Stepped.{Stepped}
 use Rattle.ev_state.specs.Ages.{AreLater}
+use Rattle.ev_state.specs.Retirements.{HaveRetired}
 
 -- each part has what the world has of it
 pub record StandsFor (s : State) (world : World) : Type 0 where
@@ -41,8 +43,10 @@ pub record IsAt (s : State) (world : World) : Type 0 where
   pub follows : Follows s world world
   pub whole : AllByRecursion (λ (row : GenRow). is_by_name row.kind ≡ false) world.rows
 
--- the state is at the world that the machine's step leads to, but for which generations it has, and the answer is the machine's
-pub record Steps (s : State) (given : Answer) (stepped : World × Answer) : Type 0 where
+-- the state is at the world that the machine's step leads to, but for which generations it has; the answer is the machine's, and what
+-- is told of retirements is so
+pub record Steps (s : State) (told : Stepped) (before : World) (stepped : World × Answer) : Type 0 where
   pub kept : AreKept s.managers
   pub follows : Follows s stepped.0 stepped.0
-  pub answer : given ≡ stepped.1
+  pub answer : told.answer ≡ stepped.1
+  pub retired : HaveRetired told.retired before stepped.0

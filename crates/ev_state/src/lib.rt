@@ -8,6 +8,8 @@ mod settle;
 mod signals;
 mod state;
 mod step;
+mod stepped;
 mod stream;
 
 pub use state::State;
+pub use stepped::Stepped;

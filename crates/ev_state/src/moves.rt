@@ -9,7 +9,8 @@ ghost use Rattle.ev_warming.specs.Worlds.{IsSound, rows_of_kind};
 ghost use Rattle.ev_managers.specs.Managers.{AreKept, StandFor};
 ghost use Rattle.ev_state.specs.Ages.{AreLater};
 ghost use Rattle.ev_state.specs.States.{Follows};
-ghost use Rattle.ev_state.specs.Moves.{HaveRetired, IsChange, IsOver};
+ghost use Rattle.ev_state.specs.Moves.{IsChange, IsOver};
+ghost use Rattle.ev_state.specs.Retirements.{HaveRetired};
 
 use crate::state::State;
 use ev_generations::Steps;
@@ -19,13 +20,14 @@ use ev_types::Gen;
 use std::alloc::{AllocError, Global};
 use std::sync::ledger::Ledger;
 
-/// What an event changed of what is asked for: the names of endpoints and of routes that began and ceased to be watched, and
-/// whether the first phase was left.
+/// What an event changed: the names of endpoints and of routes that began and ceased to be watched, whether the first phase was
+/// left, and which generations retired.
 #[derive(Drop)]
 pub(crate) struct Moves {
     pub(crate) endpoints: NameChange,
     pub(crate) routes: NameChange,
     pub(crate) left: bool,
+    pub(crate) retired: Retired,
 }
 
 impl State {
@@ -55,6 +57,7 @@ impl State {
             endpoints,
             routes,
             left,
+            retired,
         })
     }
 

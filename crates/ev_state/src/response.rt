@@ -1,5 +1,6 @@
 ghost use Rattle.std.specs.Prelude.{◌≡◌, ◌+◌, ◌^◌, ◌<◌, Some, IsSome, length, IfOk, OnOk};
 ghost use Rattle.ev_types.specs.declared.contents.Kind.{Kind};
+ghost use Rattle.ev_types.specs.declared.events.Answer.TheVariants.{Replied};
 ghost use Rattle.ev_model.specs.World.{World};
 ghost use Rattle.ev_model.specs.Live.{lives_of};
 ghost use Rattle.ev_model.specs.Verdicts.{verdicts_of};
@@ -9,15 +10,17 @@ ghost use Rattle.ev_model.specs.Step.{respond, responded, answered};
 ghost use Rattle.ev_managers.specs.Managers.{AreKept};
 ghost use Rattle.ev_subscription.specs.Subscriptions.{StandsFor as HasVersions};
 ghost use Rattle.ev_state.specs.States.{Follows, IsAt, Steps as AreSteps};
-ghost use Rattle.ev_state.specs.Moves.{HaveRetired, IsOver};
+ghost use Rattle.ev_state.specs.Moves.{IsOver};
+ghost use Rattle.ev_state.specs.Retirements.{HaveRetired};
 
 use crate::known::Before;
 use crate::moves::Moves;
 use crate::state::State;
+use crate::stepped::Stepped;
 use ev_generations::Steps;
 use ev_managers::Retired;
 use ev_subscription::reply_of;
-use ev_types::{Answer, Kind, Request, Response, Seq, Verdict};
+use ev_types::{Answer, Kind, Response, Seq, Verdict};
 use ev_verdicts::{Mentions, verdicts_by_mentions};
 use std::alloc::{AllocError, Global};
 use std::sync::ledger::Ledger;
@@ -29,15 +32,15 @@ impl State {
         alloc: Global,
         response: &Response,
         steps: &mut Steps<L>,
-    ) -> Result<Answer, AllocError>
+    ) -> Result<Stepped, AllocError>
         ghost here: { World }
         requires at { IsAt self.old here }
         requires room { here.made + length response.now.items < 2 ^ 32 }
-        ensures { IfOk result (λ answer. AreSteps self.new answer (respond response.now here)) }
+        ensures { IfOk result (λ stepped. AreSteps self.new stepped here (respond response.now here)) }
     {
         match response.kind {
             Some(kind) if self.subscription.is_open() => self.answer(alloc, kind, response, steps),
-            _ => Ok(Answer::Ignored),
+            _ => Ok(Stepped::ignored(alloc)),
         }
     }
 
@@ -48,18 +51,18 @@ impl State {
         kind: Kind,
         response: &Response,
         steps: &mut Steps<L>,
-    ) -> Result<Answer, AllocError>
+    ) -> Result<Stepped, AllocError>
         ghost here: { World }
         requires at { IsAt self.old here }
         requires typed { response.now.kind ≡ Some kind }
         requires room { here.made + length response.now.items < 2 ^ 32 }
-        ensures { IfOk result (λ answer. AreSteps self.new answer (answered kind response.now (verdicts_of (lives_of here) here.versions response.now) here)) }
+        ensures { IfOk result (λ stepped. AreSteps self.new stepped here (answered kind response.now (verdicts_of (lives_of here) here.versions response.now) here)) }
     {
         let mentions = Mentions::of(alloc, response)?;
         let verdicts = self.judge(alloc, &mentions)?;
         let moves = self.take(alloc, kind, verdicts.as_slice(), &mentions, steps)?;
-        let requests = self.reply(alloc, kind, response, verdicts.as_slice(), moves)?;
-        Ok(Answer::Replied { requests, verdicts })
+        let stepped = self.reply(alloc, kind, response, verdicts, moves)?;
+        Ok(stepped)
     }
 
     // The verdicts on the resources of a response that wasn't taken yet.
@@ -99,22 +102,23 @@ impl State {
         Ok(moves)
     }
 
-    // The requests that answer a response: its reply, and what its changes ask for.
+    // The answer to a response: its reply and what its changes ask for, and the verdicts.
     fn reply(
         &self,
         alloc: Global,
         kind: Kind,
         response: &Response,
-        verdicts: &[Verdict],
+        verdicts: Seq<Verdict>,
         moves: Moves,
-    ) -> Result<Seq<Request>, AllocError>
-        requires one_each { length verdicts.now ≡ length response.now.items }
-        ensures { IfOk result (λ requests. (world : World) (before after : Watched) → HasVersions self.now.subscription world
+    ) -> Result<Stepped, AllocError>
+        requires one_each { length verdicts ≡ length response.now.items }
+        ensures retired { IfOk result (λ stepped. stepped.retired ≡ moves.retired) }
+        ensures answer { IfOk result (λ stepped. (world : World) (before after : Watched) → HasVersions self.now.subscription world
             → moves.endpoints.begun ≡ other_than before.endpoints after.endpoints → moves.endpoints.ended ≡ other_than after.endpoints before.endpoints
             → moves.routes.begun ≡ other_than before.routes after.routes → moves.routes.ended ≡ other_than after.routes before.routes
-            → requests ≡ requests_by world.stream before after moves.left world.versions (Some (reply_of kind response.now verdicts.now))) }
+            → stepped.answer ≡ Replied (requests_by world.stream before after moves.left world.versions (Some (reply_of kind response.now verdicts))) verdicts) }
     {
-        let reply = reply_of(alloc, kind, response, verdicts)?;
+        let reply = reply_of(alloc, kind, response, verdicts.as_slice())?;
         let requests = self.subscription.requests_after(
             alloc,
             Some(reply),
@@ -122,7 +126,10 @@ impl State {
             moves.routes,
             moves.left,
         )?;
-        Ok(requests)
+        Ok(Stepped {
+            answer: Answer::Replied { requests, verdicts },
+            retired: moves.retired,
+        })
     }
 
     // What a response does to each part, by the verdicts on its resources. Answers which generations retired.

@@ -4,9 +4,10 @@ ghost use Rattle.ev_model.specs.World.{World};
 ghost use Rattle.ev_model.specs.Signals.{health, fetch_timeout, clusters_timeout, listeners_timeout, name_timeout, ttl_expired, moved};
 ghost use Rattle.ev_managers.specs.Managers.{AreKept};
 ghost use Rattle.ev_state.specs.States.{Follows, Steps as AreSteps};
-ghost use Rattle.ev_state.specs.Moves.{HaveRetired};
+ghost use Rattle.ev_state.specs.Retirements.{HaveRetired};
 
 use crate::state::State;
+use crate::stepped::Stepped;
 use ev_generations::Steps;
 use ev_managers::Retired;
 use ev_types::{Answer, Arrival, Host, Kind, Name};
@@ -21,16 +22,19 @@ impl State {
         alloc: Global,
         retired: Retired,
         steps: &mut Steps<L>,
-    ) -> Result<Answer, AllocError>
+    ) -> Result<Stepped, AllocError>
         requires kept { AreKept self.old.managers }
-        ensures { IfOk result (λ answer. (before world : World) → Follows self.old before world → world.made ≡ before.made → HaveRetired retired before world → AreSteps self.new answer (moved before world)) }
+        ensures { IfOk result (λ stepped. (before world : World) → Follows self.old before world → world.made ≡ before.made → HaveRetired retired before world → AreSteps self.new stepped before (moved before world)) }
     {
         let made = self.managers.clusters.made();
         let moves = self.tidy(alloc, made, retired, steps)?;
         let requests = self
             .subscription
             .requests_after(alloc, None, moves.endpoints, moves.routes, moves.left)?;
-        Ok(Answer::Moved { requests })
+        Ok(Stepped {
+            answer: Answer::Moved { requests },
+            retired: moves.retired,
+        })
     }
 
     /// A health result of a cluster's host; where it is for no generation, nothing is done.
@@ -41,15 +45,15 @@ impl State {
         host: &Host,
         healthy: bool,
         steps: &mut Steps<L>,
-    ) -> Result<Answer, AllocError>
+    ) -> Result<Stepped, AllocError>
         requires kept { AreKept self.old.managers }
-        ensures { IfOk result (λ answer. (world : World) → Follows self.old world world → AreSteps self.new answer (health cluster.now host.now healthy world)) }
+        ensures { IfOk result (λ stepped. (world : World) → Follows self.old world world → AreSteps self.new stepped world (health cluster.now host.now healthy world)) }
     {
         if !self.managers.health(alloc, cluster, host, healthy, steps)? {
-            return Ok(Answer::Ignored);
+            return Ok(Stepped::ignored(alloc));
         }
-        let answer = self.moved(alloc, Retired::none(alloc), steps)?;
-        Ok(answer)
+        let stepped = self.moved(alloc, Retired::none(alloc), steps)?;
+        Ok(stepped)
     }
 
     /// The fetch timeout of clusters; where a response of them came or they are late already, nothing is done.
@@ -57,15 +61,15 @@ impl State {
         &mut self,
         alloc: Global,
         steps: &mut Steps<L>,
-    ) -> Result<Answer, AllocError>
+    ) -> Result<Stepped, AllocError>
         requires kept { AreKept self.old.managers }
-        ensures { IfOk result (λ answer. (world : World) → Follows self.old world world → AreSteps self.new answer (clusters_timeout world)) }
+        ensures { IfOk result (λ stepped. (world : World) → Follows self.old world world → AreSteps self.new stepped world (clusters_timeout world)) }
     {
         if !self.targets.clusters_timeout() {
-            return Ok(Answer::Ignored);
+            return Ok(Stepped::ignored(alloc));
         }
-        let answer = self.moved(alloc, Retired::none(alloc), steps)?;
-        Ok(answer)
+        let stepped = self.moved(alloc, Retired::none(alloc), steps)?;
+        Ok(stepped)
     }
 
     /// The fetch timeout of listeners; the same, and nothing is done also while the first clusters are awaited.
@@ -73,15 +77,15 @@ impl State {
         &mut self,
         alloc: Global,
         steps: &mut Steps<L>,
-    ) -> Result<Answer, AllocError>
+    ) -> Result<Stepped, AllocError>
         requires kept { AreKept self.old.managers }
-        ensures { IfOk result (λ answer. (world : World) → Follows self.old world world → AreSteps self.new answer (listeners_timeout world)) }
+        ensures { IfOk result (λ stepped. (world : World) → Follows self.old world world → AreSteps self.new stepped world (listeners_timeout world)) }
     {
         if !self.targets.listeners_timeout() {
-            return Ok(Answer::Ignored);
+            return Ok(Stepped::ignored(alloc));
         }
-        let answer = self.moved(alloc, Retired::none(alloc), steps)?;
-        Ok(answer)
+        let stepped = self.moved(alloc, Retired::none(alloc), steps)?;
+        Ok(stepped)
     }
 
     /// The fetch timeout of a name of endpoints; where no generation waits for it within a limit, nothing is done.
@@ -90,17 +94,17 @@ impl State {
         alloc: Global,
         name: &Name,
         steps: &mut Steps<L>,
-    ) -> Result<Answer, AllocError>
+    ) -> Result<Stepped, AllocError>
         requires kept { AreKept self.old.managers }
-        ensures { IfOk result (λ answer. (world : World) → Follows self.old world world → AreSteps self.new answer (name_timeout Eds name.now world)) }
+        ensures { IfOk result (λ stepped. (world : World) → Follows self.old world world → AreSteps self.new stepped world (name_timeout Eds name.now world)) }
     {
         if !self.managers.clusters.timeout_due(name) {
-            return Ok(Answer::Ignored);
+            return Ok(Stepped::ignored(alloc));
         }
         self.managers
             .arrive_endpoints(alloc, name, &Arrival::TimedOut, steps)?;
-        let answer = self.moved(alloc, Retired::none(alloc), steps)?;
-        Ok(answer)
+        let stepped = self.moved(alloc, Retired::none(alloc), steps)?;
+        Ok(stepped)
     }
 
     /// The fetch timeout of a name of routes; where no generation waits for it within a limit, nothing is done.
@@ -109,17 +113,17 @@ impl State {
         alloc: Global,
         name: &Name,
         steps: &mut Steps<L>,
-    ) -> Result<Answer, AllocError>
+    ) -> Result<Stepped, AllocError>
         requires kept { AreKept self.old.managers }
-        ensures { IfOk result (λ answer. (world : World) → Follows self.old world world → AreSteps self.new answer (name_timeout Rds name.now world)) }
+        ensures { IfOk result (λ stepped. (world : World) → Follows self.old world world → AreSteps self.new stepped world (name_timeout Rds name.now world)) }
     {
         if !self.managers.listeners.timeout_due(name) {
-            return Ok(Answer::Ignored);
+            return Ok(Stepped::ignored(alloc));
         }
         self.managers
             .arrive_routes(alloc, name, &Arrival::TimedOut, steps)?;
-        let answer = self.moved(alloc, Retired::none(alloc), steps)?;
-        Ok(answer)
+        let stepped = self.moved(alloc, Retired::none(alloc), steps)?;
+        Ok(stepped)
     }
 
     /// The end of a time to live; where the resource's life isn't bounded, nothing is done.
@@ -129,16 +133,16 @@ impl State {
         kind: Kind,
         name: &Name,
         steps: &mut Steps<L>,
-    ) -> Result<Answer, AllocError>
+    ) -> Result<Stepped, AllocError>
         requires kept { AreKept self.old.managers }
-        ensures { IfOk result (λ answer. (world : World) → Follows self.old world world → AreSteps self.new answer (ttl_expired kind name.now world)) }
+        ensures { IfOk result (λ stepped. (world : World) → Follows self.old world world → AreSteps self.new stepped world (ttl_expired kind name.now world)) }
     {
         if !self.subscription.is_bounded(kind, name.as_str()) {
-            return Ok(Answer::Ignored);
+            return Ok(Stepped::ignored(alloc));
         }
         self.subscription.forget(kind, name.as_str());
         let retired = self.managers.end(alloc, kind, name, steps)?;
-        let answer = self.moved(alloc, retired, steps)?;
-        Ok(answer)
+        let stepped = self.moved(alloc, retired, steps)?;
+        Ok(stepped)
     }
 }

@@ -1,4 +1,4 @@
-ghost use Rattle.std.specs.Prelude.{◌≡◌, ◌+◌, ◌^◌, ◌<◌, length, IsTrue, IfOk};
+ghost use Rattle.std.specs.Prelude.{◌≡◌, ◌+◌, ◌^◌, ◌<◌, length, IsTrue, IfOk, OnOk};
 ghost use Rattle.ev_types.specs.Events.{MayMake};
 ghost use Rattle.ev_types.specs.Scripts.{items_in};
 ghost use Rattle.ev_model.specs.World.{World};
@@ -7,37 +7,40 @@ ghost use Rattle.ev_state.specs.Built.{is_built};
 ghost use Rattle.ev_model.specs.Signals.{fetch_timeout};
 ghost use Rattle.ev_types.specs.declared.journals.Format.{Format};
 ghost use Rattle.ev_managers.specs.Managers.{AreKept};
+ghost use Rattle.ev_state.specs.Retirements.{HaveRetired};
 ghost use Rattle.ev_state.specs.States.{Follows, IsAt, Steps as AreSteps};
 
 use crate::state::State;
+use crate::stepped::Stepped;
 use ev_generations::Steps;
-use ev_types::{Actor, Answer, Event, FetchTimeout, Format, Kind};
+use ev_types::{Actor, Event, FetchTimeout, Format, Kind};
 use std::alloc::{AllocError, Global};
 use std::marker::Brand;
 use std::sync::ledger::{Blank, Ledger};
 
 impl State {
-    /// What an event does, and its answer: one step of the machine, by the rules of either format. After want of memory nothing is
-    /// promised of the state.
+    /// What an event does, its answer, and which generations it retired: one step of the machine, by the rules of either format. After
+    /// want of memory nothing is promised of the state.
     pub fn step(
         &mut self,
         alloc: Global,
         format: Format,
         actor: Actor,
         event: &Event,
-    ) -> Result<Answer, AllocError>
+    ) -> Result<Stepped, AllocError>
         ghost here: { World }
         requires at { IsAt self.old here }
         requires allowed { MayMake (length self.old.held) actor event.now }
         requires built { IsTrue (is_built event.now) }
         requires room { here.made + items_in event.now < 2 ^ 32 }
-        ensures at { IfOk result (λ answer. IsAt self.new (machine_step format here actor event.now).0) }
-        ensures answer { IfOk result (λ answer. answer ≡ (machine_step format here actor event.now).1) }
+        ensures at { OnOk result (IsAt self.new (machine_step format here actor event.now).0) }
+        ensures answer { IfOk result (λ stepped. stepped.answer ≡ (machine_step format here actor event.now).1) }
+        ensures retired { IfOk result (λ stepped. HaveRetired stepped.retired here (machine_step format here actor event.now).0) }
     {
         // Both formats have the same rules for the events that are built.
         let _ = format;
-        let answer = self.counted::<Brand>(Blank::new(1), alloc, actor, event)?;
-        Ok(answer)
+        let stepped = self.counted::<Brand>(Blank::new(1), alloc, actor, event)?;
+        Ok(stepped)
     }
 
     // The same, with a ledger by which look-ups are counted.
@@ -47,7 +50,7 @@ impl State {
         alloc: Global,
         actor: Actor,
         event: &Event,
-    ) -> Result<Answer, AllocError>
+    ) -> Result<Stepped, AllocError>
         ghost here: { World }
         requires name { blank.name ≡ L.name }
         requires parts { blank.parts ≡ L.parts }
@@ -56,7 +59,7 @@ impl State {
         requires allowed { MayMake (length self.old.held) actor event.now }
         requires built { IsTrue (is_built event.now) }
         requires room { here.made + items_in event.now < 2 ^ 32 }
-        ensures { (format : Format) → IfOk result (λ answer. AreSteps self.new answer (machine_step format here actor event.now)) }
+        ensures { (format : Format) → IfOk result (λ stepped. AreSteps self.new stepped here (machine_step format here actor event.now)) }
     {
         let mut steps = Steps::<L>::new(blank);
         match (actor, event) {
@@ -86,16 +89,16 @@ impl State {
         alloc: Global,
         timeout: &FetchTimeout,
         steps: &mut Steps<L>,
-    ) -> Result<Answer, AllocError>
+    ) -> Result<Stepped, AllocError>
         requires kept { AreKept self.old.managers }
-        ensures { IfOk result (λ answer. (world : World) → Follows self.old world world → AreSteps self.new answer (fetch_timeout timeout.now.kind timeout.now.name world)) }
+        ensures { IfOk result (λ stepped. (world : World) → Follows self.old world world → AreSteps self.new stepped world (fetch_timeout timeout.now.kind timeout.now.name world)) }
     {
         match (timeout.kind, &timeout.name) {
             (Kind::Cds, _) => self.clusters_timeout(alloc, steps),
             (Kind::Lds, _) => self.listeners_timeout(alloc, steps),
             (Kind::Eds, Some(name)) => self.endpoints_timeout(alloc, name, steps),
             (Kind::Rds, Some(name)) => self.routes_timeout(alloc, name, steps),
-            (Kind::Eds | Kind::Rds, None) => Ok(Answer::Ignored),
+            (Kind::Eds | Kind::Rds, None) => Ok(Stepped::ignored(alloc)),
         }
     }
 }

@@ -7,6 +7,7 @@ ghost use Rattle.ev_managers.specs.Managers.{AreKept};
 ghost use Rattle.ev_state.specs.States.{Follows, StandsFor, Steps as AreSteps};
 
 use crate::state::State;
+use crate::stepped::Stepped;
 use ev_generations::Steps;
 use ev_managers::Retired;
 use ev_types::{Answer, Phase, Request, Seq};
@@ -19,18 +20,21 @@ impl State {
         &mut self,
         alloc: Global,
         steps: &mut Steps<L>,
-    ) -> Result<Answer, AllocError>
+    ) -> Result<Stepped, AllocError>
         requires kept { AreKept self.old.managers }
-        ensures { IfOk result (λ answer. (world : World) → Follows self.old world world → AreSteps self.new answer (connect world)) }
+        ensures { IfOk result (λ stepped. (world : World) → Follows self.old world world → AreSteps self.new stepped world (connect world)) }
     {
         if self.subscription.is_open() {
-            return Ok(Answer::Ignored);
+            return Ok(Stepped::ignored(alloc));
         }
         let requests = self.asked_at_first(alloc)?;
         self.subscription.set_stream(true);
         let made = self.managers.clusters.made();
-        let _ = self.tidy(alloc, made, Retired::none(alloc), steps)?;
-        Ok(Answer::Moved { requests })
+        let moves = self.tidy(alloc, made, Retired::none(alloc), steps)?;
+        Ok(Stepped {
+            answer: Answer::Moved { requests },
+            retired: moves.retired,
+        })
     }
 
     // What is asked for as a stream opens. It goes over all generations, for the names that they depend on.
@@ -62,16 +66,19 @@ impl State {
         &mut self,
         alloc: Global,
         steps: &mut Steps<L>,
-    ) -> Result<Answer, AllocError>
+    ) -> Result<Stepped, AllocError>
         requires kept { AreKept self.old.managers }
-        ensures { IfOk result (λ answer. (world : World) → Follows self.old world world → AreSteps self.new answer (disconnect world)) }
+        ensures { IfOk result (λ stepped. (world : World) → Follows self.old world world → AreSteps self.new stepped world (disconnect world)) }
     {
         if !self.subscription.is_open() {
-            return Ok(Answer::Ignored);
+            return Ok(Stepped::ignored(alloc));
         }
         self.subscription.set_stream(false);
         let made = self.managers.clusters.made();
-        let _ = self.tidy(alloc, made, Retired::none(alloc), steps)?;
-        Ok(Answer::Done)
+        let moves = self.tidy(alloc, made, Retired::none(alloc), steps)?;
+        Ok(Stepped {
+            answer: Answer::Done,
+            retired: moves.retired,
+        })
     }
 }

@@ -1,7 +1,6 @@
 use Rattle.std.proofs.Common.{◌≡◌, ◌+◌, ◌<◌, List, length, Some, ap, sym, subst, ◌∙◌}
 use Rattle.ev_types.specs.Items.{ResponseParts}
 use Rattle.ev_types.specs.declared.contents.Kind.{Kind}
-use Rattle.ev_types.specs.declared.contents.Request.{Request}
 use Rattle.ev_types.specs.declared.events.Verdict.{Verdict}
 use Rattle.ev_types.specs.declared.events.Answer.TheVariants.{Replied}
 use Rattle.ev_model.specs.World.{World}
@@ -11,7 +10,10 @@ use Rattle.ev_model.specs.Step.{responded, answered}
 use Rattle.ev_model.specs.Requests.{Watched, all_watched, other_than, requests_by, requests_of, reply_of}
 use Rattle.ev_managers.specs.Managers.{AreKept}
 use Rattle.ev_subscription.specs.Subscriptions.{StandsFor as HasVersions}
+use Rattle.ev_managers.specs.declared.retired.Retired.{Retired}
 use Rattle.ev_state.specs.declared.state.State.{State}
+use Rattle.ev_state.specs.declared.stepped.Stepped.{Stepped}
+use Rattle.ev_state.specs.Retirements.{HaveRetired}
 use Rattle.ev_state.specs.declared.moves.Moves.{Moves}
 use Rattle.ev_state.specs.Moves.{IsOver}
 use Rattle.ev_state.specs.States.{Steps}
@@ -39,37 +41,42 @@ take-requires g c κs within =
 
 pub reply-requires : goal.reply-requires
 reply-requires g c = record {
-  one_each = ap length c.as_slice-2.ensures.elements ∙ c.in_ok-verdicts.ensures.one_each ∙ ap (λ (r : ResponseParts). length r.items) c.in_ok-mentions.ensures;
+  one_each = c.in_ok-verdicts.ensures.one_each ∙ ap (λ (r : ResponseParts). length r.items) c.in_ok-mentions.ensures;
 }
 
-replies : (s : State) (requests : List Request) (verdicts given given2 : List Verdict) (kind : Kind) (mentioned response : ResponseParts) (moves : Moves) (here : World)
+replies : (s : State) (told : Stepped) (verdicts given : List Verdict) (kind : Kind) (mentioned response : ResponseParts) (moves : Moves) (here : World)
     → AreKept s.managers
-    → mentioned ≡ response → given ≡ verdicts → given2 ≡ verdicts → given ≡ verdicts_of (lives_of here) here.versions response
+    → mentioned ≡ response → given ≡ verdicts → given ≡ verdicts_of (lives_of here) here.versions response
     → IsOver s moves here (responded kind mentioned given here)
+    → told.retired ≡ moves.retired
     → ((world : World) (before after : Watched) → HasVersions s.subscription world
     → moves.endpoints.begun ≡ other_than before.endpoints after.endpoints → moves.endpoints.ended ≡ other_than after.endpoints before.endpoints
     → moves.routes.begun ≡ other_than before.routes after.routes → moves.routes.ended ≡ other_than after.routes before.routes
-    → requests ≡ requests_by world.stream before after moves.left world.versions (Some (reply_of kind response given2)))
-    → Steps s (Replied requests verdicts) (answered kind response (verdicts_of (lives_of here) here.versions response) here)
-replies s requests verdicts given given2 kind mentioned response moves here kept same are are2 judged over asked =
+    → told.answer ≡ Replied (requests_by world.stream before after moves.left world.versions (Some (reply_of kind response verdicts))) verdicts)
+    → Steps s told here (answered kind response (verdicts_of (lives_of here) here.versions response) here)
+replies s told verdicts given kind mentioned response moves here kept same are judged over retired answers =
     let after : World = responded kind mentioned given here in
-    let told : reply_of kind response given2 ≡ reply_of kind mentioned given = (λ i. reply_of kind (sym same i) ((are2 ∙ sym are) i)) in
-    let sent : requests ≡ requests_of here after (Some (reply_of kind mentioned given)) =
-    asked after (all_watched here) (all_watched after) over.follows.stands.subscription
-    over.moves.endpoints.begun over.moves.endpoints.ended over.moves.routes.begun over.moves.routes.ended
-    ∙ (λ i. requests_by after.stream (all_watched here) (all_watched after) (over.moves.left i) after.versions (Some (told i))) in
-    let base : Steps s (Replied requests verdicts) (answered kind mentioned given here) =
-    record { kept = kept; follows = over.follows; answer = λ i. Replied (sent i) (sym are i) } in
-    subst (λ (vs : List Verdict). Steps s (Replied requests verdicts) (answered kind response vs here)) judged
-    (subst (λ (r : ResponseParts). Steps s (Replied requests verdicts) (answered kind r given here)) same base)
+    let replied : reply_of kind response verdicts ≡ reply_of kind mentioned given = (λ i. reply_of kind (sym same i) (sym are i)) in
+    let sent : requests_by after.stream (all_watched here) (all_watched after) moves.left after.versions (Some (reply_of kind response verdicts)) ≡ requests_of here after (Some (reply_of kind mentioned given)) =
+    (λ i. requests_by after.stream (all_watched here) (all_watched after) (over.moves.left i) after.versions (Some (replied i))) in
+    let base : Steps s told here (answered kind mentioned given here) = record {
+      kept = kept;
+      follows = over.follows;
+      answer = answers after (all_watched here) (all_watched after) over.follows.stands.subscription
+          over.moves.endpoints.begun over.moves.endpoints.ended over.moves.routes.begun over.moves.routes.ended
+          ∙ (λ i. Replied (sent i) (sym are i));
+      retired = subst (λ (r : Retired). HaveRetired r here after) (sym retired) over.moves.retired;
+    } in
+    subst (λ (vs : List Verdict). Steps s told here (answered kind response vs here)) judged
+    (subst (λ (r : ResponseParts). Steps s told here (answered kind r given here)) same base)
 
 pub returns : goal.returns
 returns g c =
     let typed = ap (λ (r : ResponseParts). r.kind) c.in_ok-mentions.ensures ∙ c.requires.1.1.0 in
-    replies c.take.new.self c.in_ok-requests.requests c.in_ok-verdicts.verdicts c.as_slice.result.now c.as_slice-2.result.now c.args.kind c.in_ok-mentions.mentions c.args.response.now
+    replies c.take.new.self c.in_ok-stepped.stepped c.in_ok-verdicts.verdicts c.as_slice.result.now c.args.kind c.in_ok-mentions.mentions c.args.response.now
     c.in_ok-moves.moves g.here
-    c.in_ok-moves.ensures.kept c.in_ok-mentions.ensures c.as_slice.ensures.elements c.as_slice-2.ensures.elements
+    c.in_ok-moves.ensures.kept c.in_ok-mentions.ensures c.as_slice.ensures.elements
     (c.as_slice.ensures.elements ∙ c.in_ok-verdicts.ensures.judged c.args.kind g.here c.requires.1.0 typed
     ∙ ap (verdicts_of (lives_of g.here) g.here.versions) c.in_ok-mentions.ensures)
     c.in_ok-moves.ensures.over
-    c.in_ok-requests.ensures
+    c.in_ok-stepped.ensures.retired c.in_ok-stepped.ensures.answer

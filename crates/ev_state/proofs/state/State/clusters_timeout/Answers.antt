@@ -17,9 +17,9 @@ returns g c = λ world follows.
     let after : World = record world { late_clusters = true } in
     let boots : HasTargets c.clusters_timeout.new.self after =
     subst (λ (b : Bool). HasTargets c.clusters_timeout.new.self (cond b after world)) c.if-not-clusters_timeout.false (c.clusters_timeout.ensures.stands world booted) in
-    where_false c.moved.new.self c.in_ok-answer.answer (is_some world.first_clusters || world.late_clusters) (world, Ignored) (moved world after)
+    where_false c.moved.new.self c.in_ok-stepped.stepped world (is_some world.first_clusters || world.late_clusters) (world, Ignored) (moved world after)
     (not_true (is_some world.first_clusters || world.late_clusters) (sym (c.clusters_timeout.ensures.heard world booted) ∙ c.if-not-clusters_timeout.false))
-    (c.in_ok-answer.ensures world after
+    (c.in_ok-stepped.ensures world after
     (targets_follow c.args.self.now c.clusters_timeout.new.self world after follows boots
     (see_the_same c.args.self.now.managers world after (record { rows = refl; made = refl; arrivals = refl; results = refl }) follows.stands.managers)
     (record { node = had.node; stream = had.stream; versions = had.versions; kept_once = had.kept_once })

@@ -9,12 +9,13 @@ use Rattle.ev_state.proofs.state.State.connect.Goals as goal
 pub returns : goal.returns
 returns g c = λ world follows.
     let closed = sym follows.stands.subscription.stream ∙ sym c.is_open.ensures ∙ c.if-is_open.false in
-    let over = c.in_ok-tidy.ensures.over world (record world { stream = true })
+    let over = c.in_ok-moves.ensures.over world (record world { stream = true })
     (stream_follows c.args.self.now c.set_stream.new.self true world follows (c.set_stream.ensures.stands world follows.stands.subscription))
     (c.made-made.ensures ∙ follows.stands.managers.clusters.made) (none-have c.none.result world (record world { stream = true }) c.none.ensures refl) in
-    where_false c.tidy.new.self (Moved c.in_ok-requests.requests) world.stream (world, Ignored) (tidy (record world { stream = true }), Moved (connect_requests world)) closed
+    where_false c.tidy.new.self (record { answer = Moved c.in_ok-requests.requests; retired = c.in_ok-moves.moves.retired }) world world.stream (world, Ignored) (tidy (record world { stream = true }), Moved (connect_requests world)) closed
     (record {
-      kept = c.in_ok-tidy.ensures.kept;
+      kept = c.in_ok-moves.ensures.kept;
       follows = over.follows;
       answer = ap Moved (c.in_ok-requests.ensures world follows.stands);
+      retired = over.moves.retired;
     })

@@ -8,8 +8,8 @@ use Rattle.ev_state.proofs.state.State.disconnect.Goals as goal
 pub returns : goal.returns
 returns g c = λ world follows.
     let open_now = sym follows.stands.subscription.stream ∙ sym c.is_open.ensures ∙ c.if-not-is_open.false in
-    let over = c.in_ok-tidy.ensures.over world (record world { stream = false })
+    let over = c.in_ok-moves.ensures.over world (record world { stream = false })
     (stream_follows c.args.self.now c.set_stream.new.self false world follows (c.set_stream.ensures.stands world follows.stands.subscription))
     (c.made-made.ensures ∙ follows.stands.managers.clusters.made) (none-have c.none.result world (record world { stream = false }) c.none.ensures refl) in
-    where_true c.tidy.new.self Done world.stream (tidy (record world { stream = false }), Done) (world, Ignored) open_now
-    (record { kept = c.in_ok-tidy.ensures.kept; follows = over.follows; answer = refl })
+    where_true c.tidy.new.self (record { answer = Done; retired = c.in_ok-moves.moves.retired }) world world.stream (tidy (record world { stream = false }), Done) (world, Ignored) open_now
+    (record { kept = c.in_ok-moves.ensures.kept; follows = over.follows; answer = refl; retired = over.moves.retired })

@@ -5,8 +5,8 @@ use Rattle.ev_types.specs.declared.rows.Arrival.TheVariants.{TimedOut}
 use Rattle.ev_model.specs.World.{World}
 use Rattle.ev_model.specs.Rows.{arrived}
 use Rattle.ev_model.specs.Signals.{is_awaited, moved}
-use Rattle.ev_state.proofs.SignalLemmas.{managers_follow, due_is_watched}
-use Rattle.ev_state.proofs.StepLemmas.{where_true}
+use Rattle.ev_state.proofs.SignalLemmas.{managers_follow, due_is_watched, ignores}
+use Rattle.ev_state.proofs.StepLemmas.{where_true, where_false}
 use Rattle.ev_state.proofs.MoveLemmas.{none-have}
 use Rattle.ev_state.proofs.state.State.endpoints_timeout.Goals as goal
 
@@ -14,12 +14,19 @@ pub arrive_endpoints-requires-clause-watched : goal.arrive_endpoints-requires-cl
 arrive_endpoints-requires-clause-watched g c =
     due_is_watched c.args.self.now.managers.clusters.state c.args.name.now (sym c.timeout_due.ensures.rows ∙ c.if-not-timeout_due.false)
 
+pub returns-then-not-timeout_due : goal.returns-then-not-timeout_due
+returns-then-not-timeout_due g c = λ world follows.
+    where_false c.args.self.now c.ignored.result world (is_awaited world.arrivals world.rows Eds c.args.name.now)
+    (moved world (record world { arrivals = world.arrivals ++ arrived Eds TimedOut c.args.name.now ∷ [] })) (world, Ignored)
+    (sym (c.timeout_due.ensures.world world follows.stands.managers.clusters) ∙ c.if-not-timeout_due.true)
+    (ignores c.args.self.now c.ignored.result world c.ignored.ensures c.requires.kept follows)
+
 pub returns : goal.returns
 returns g c = λ world follows.
     let after : World = record world { arrivals = world.arrivals ++ arrived Eds TimedOut c.args.name.now ∷ [] } in
-    where_true c.moved.new.self c.in_ok-answer.answer (is_awaited world.arrivals world.rows Eds c.args.name.now) (moved world after) (world, Ignored)
+    where_true c.moved.new.self c.in_ok-stepped.stepped world (is_awaited world.arrivals world.rows Eds c.args.name.now) (moved world after) (world, Ignored)
     (sym (c.timeout_due.ensures.world world follows.stands.managers.clusters) ∙ c.if-not-timeout_due.false)
-    (c.in_ok-answer.ensures world after
+    (c.in_ok-stepped.ensures world after
     (managers_follow c.args.self.now c.arrive_endpoints.new.self world after follows (c.in_ok-arrive_endpoints.ensures.stands world follows.stands.managers) refl refl refl
     (record { pictures = refl; held = refl; opened = refl; expired = refl; first_clusters = refl; first_listeners = refl; late_clusters = refl; late_listeners = refl; phase = refl }) refl)
     refl (none-have c.none.result world after c.none.ensures refl))

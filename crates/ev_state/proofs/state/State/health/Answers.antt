@@ -7,17 +7,17 @@ use Rattle.ev_state.proofs.state.State.health.Goals as goal
 
 pub returns-then-not-branch : goal.returns-then-not-branch
 returns-then-not-branch g c = λ world follows.
-    health_ignored c.args.self.now c.health.new.self c.args.host.now c.args.healthy (is_meant world.arrivals c.args.cluster.now c.args.host.now) world
+    health_ignored c.args.self.now c.health.new.self c.ignored.result c.args.host.now c.args.healthy (is_meant world.arrivals c.args.cluster.now c.args.host.now) world
     c.in_ok-health.ensures.kept follows
     (sym (c.in_ok-health.ensures.ignored world follows.stands.managers) ∙ c.if-not-branch.true)
-    (c.in_ok-health.ensures.stands world follows.stands.managers)
+    (c.in_ok-health.ensures.stands world follows.stands.managers) c.ignored.ensures
 
 pub returns : goal.returns
 returns g c = λ world follows.
     let after : World = with_results c.args.host.now c.args.healthy (rows_meant world.arrivals c.args.cluster.now c.args.host.now world.rows) world in
-    health_led c.moved.new.self c.in_ok-answer.answer c.args.host.now c.args.healthy (is_meant world.arrivals c.args.cluster.now c.args.host.now) world
+    health_led c.moved.new.self c.in_ok-stepped.stepped c.args.host.now c.args.healthy (is_meant world.arrivals c.args.cluster.now c.args.host.now) world
     (sym (c.in_ok-health.ensures.ignored world follows.stands.managers) ∙ c.if-not-branch.false)
-    (c.in_ok-answer.ensures world after
+    (c.in_ok-stepped.ensures world after
     (managers_follow c.args.self.now c.health.new.self world after follows (c.in_ok-health.ensures.stands world follows.stands.managers) refl refl refl
     (record { pictures = refl; held = refl; opened = refl; expired = refl; first_clusters = refl; first_listeners = refl; late_clusters = refl; late_listeners = refl; phase = refl }) refl)
     refl (none-have c.none.result world after c.none.ensures refl))

@@ -15,4 +15,5 @@ returns g c = λ before world follows drawn have.
       answer = ap Moved (c.in_ok-requests.ensures after (all_watched before) (all_watched after) over.follows.stands.subscription
           over.moves.endpoints.begun over.moves.endpoints.ended over.moves.routes.begun over.moves.routes.ended
           ∙ (λ i. requests_by after.stream (all_watched before) (all_watched after) (over.moves.left i) after.versions None));
+      retired = over.moves.retired;
     }

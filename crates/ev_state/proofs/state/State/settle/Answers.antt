@@ -7,6 +7,7 @@ use Rattle.ev_types.specs.declared.events.Answer.TheVariants.{Settled}
 use Rattle.ev_warming.specs.Frames.{seen-sound}
 use Rattle.ev_managers.proofs.FrameLemmas.{see_the_same}
 use Rattle.ev_state.proofs.AgeLemmas.{later-same}
+use Rattle.ev_state.proofs.MoveLemmas.{none-have}
 use Rattle.ev_state.proofs.state.State.settle.Goals as goal
 
 pub returns : goal.returns
@@ -32,5 +33,6 @@ returns c = λ world follows.
         opened = ap (left_open world.expired c.args.worker) follows.opened;
         expired = follows.expired;
       };
+      retired = none-have c.none.result world after c.none.ensures refl;
       answer = ap (λ (cs : List ℕ). Settled cs 0) c.new.ensures.empty ∙ (λ i. Settled (closed_by world.expired c.args.worker (sym follows.opened i)) (sym version i));
     }

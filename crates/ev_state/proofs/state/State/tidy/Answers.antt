@@ -62,6 +62,7 @@ returns-clause-over g c = λ before world follows drawn have.
       moves = record {
         endpoints = endpoints;
         routes = routes;
+        retired = record { clusters = told.clusters; listeners = told.listeners };
         left = c.advance-left.ensures.left ∙ (λ i. is_clusters ((booted.phase ∙ follows.phase) i) && not (is_clusters (moved.phase i)));
       };
     }

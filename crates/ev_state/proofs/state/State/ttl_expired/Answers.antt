@@ -18,8 +18,8 @@ returns g c = λ world follows.
     let after : World = with_end c.args.kind c.args.name.now forgotten in
     let stand = see_the_same m world forgotten (record { rows = refl; made = refl; arrivals = refl; results = refl }) follows.stands.managers in
     let stand_after = c.in_ok-retired.ensures.stands forgotten stand (bounded_is_watched m c.args.kind c.args.name.now world c.requires.kept follows.stands.managers follows.heard bounded) in
-    where_true c.moved.new.self c.in_ok-answer.answer (is_bounded world.versions c.args.kind c.args.name.now) (moved world after) (world, Ignored) bounded
-    (c.in_ok-answer.ensures world after
+    where_true c.moved.new.self c.in_ok-stepped.stepped world (is_bounded world.versions c.args.kind c.args.name.now) (moved world after) (world, Ignored) bounded
+    (c.in_ok-stepped.ensures world after
     (ended_follows c.args.self.now c.end.new.self c.forget.new.self c.args.kind c.args.name.now world follows
     stand_after
     (subst (λ (n : List ℕ). HasVersions c.forget.new.self (forget_version c.args.kind n world)) c.as_str-2.ensures.bytes (c.forget.ensures.stands world follows.stands.subscription)))
