@@ -162,6 +162,7 @@ impl Clusters {
         requires forgotten { self.old.stale ≡ [] }
         requires over { is_over (row_in number self.old.state.table.rows) ≡ true }
         ensures kept { AreKept self.new }
+        ensures done { self.new.stale ≡ [] }
         ensures row { row_in number self.old.state.table.rows ≡ Some result }
         ensures rows { self.new.state.table.rows ≡ without_row number self.old.state.table.rows }
         // Whatever world they stood for, they stand for that world without the generation.

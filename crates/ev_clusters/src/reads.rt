@@ -1,5 +1,6 @@
 ghost use Rattle.std.specs.Prelude.{◌≡◌, ◌||◌, not, map, filter, IfOk};
 ghost use Rattle.std.specs.List.{list_any};
+ghost use Rattle.std.specs.Option.{option_copied};
 ghost use Rattle.ev_types.specs.Kinds.{kind_same};
 ghost use Rattle.ev_types.specs.declared.contents.Kind.TheVariants.{Cds, Eds};
 ghost use Rattle.ev_types.specs.declared.rows.Live.{Live};
@@ -9,6 +10,7 @@ ghost use Rattle.ev_model.specs.Phase.{has_come};
 ghost use Rattle.ev_model.specs.Picture.{served_clusters};
 ghost use Rattle.ev_model.specs.Signals.{is_awaited};
 ghost use Rattle.ev_model.specs.Watching.{is_watched, watched_of};
+ghost use Rattle.ev_generations.specs.Tables.{row_in};
 ghost use Rattle.ev_warming.specs.Indexes.{depends_on, serves, warms};
 ghost use Rattle.ev_warming.specs.Newest.{newest_in};
 ghost use Rattle.ev_warming.specs.Reads.{live_rows, names_watched, is_timeout_due, clusters_in};
@@ -16,12 +18,19 @@ ghost use Rattle.ev_warming.specs.Worlds.{StandsFor};
 
 use crate::Clusters;
 use ev_model::ServedCluster;
-use ev_types::{Name, Seq, TryCopy};
+use ev_types::{Gen, GenRow, Name, Seq, TryCopy};
 use ev_verdicts::LiveRow;
 use std::alloc::{AllocError, Global};
 
 impl Clusters {
     ghost use Rattle.ev_clusters.specs.Clusters.{AreKept};
+
+    /// The cluster of this number, live or not. It costs one look-up, which nothing counts.
+    pub fn get(&self, number: Gen) -> Option<&GenRow>
+        ensures { option_copied result ≡ row_in number self.now.state.table.rows }
+    {
+        self.manager.state.table.get(number)
+    }
 
     /// The newest live cluster of a name. It costs a look-up of the name, and one of the cluster where one is live.
     pub fn newest(&self, name: &str) -> Option<LiveRow<'_>>

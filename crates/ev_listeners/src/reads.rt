@@ -1,5 +1,6 @@
 ghost use Rattle.std.specs.Prelude.{◌≡◌, ◌||◌, not, map, filter, IfOk};
 ghost use Rattle.std.specs.List.{list_any};
+ghost use Rattle.std.specs.Option.{option_copied};
 ghost use Rattle.ev_types.specs.Kinds.{kind_same};
 ghost use Rattle.ev_types.specs.declared.contents.Kind.TheVariants.{Lds, Rds};
 ghost use Rattle.ev_types.specs.declared.rows.Live.{Live};
@@ -9,18 +10,26 @@ ghost use Rattle.ev_model.specs.Phase.{has_come};
 ghost use Rattle.ev_model.specs.Picture.{served_listeners};
 ghost use Rattle.ev_model.specs.Signals.{is_awaited};
 ghost use Rattle.ev_model.specs.Watching.{is_watched, watched_of};
+ghost use Rattle.ev_generations.specs.Tables.{row_in};
 ghost use Rattle.ev_warming.specs.Indexes.{depends_on, serves, warms};
 ghost use Rattle.ev_warming.specs.Newest.{newest_in};
 ghost use Rattle.ev_warming.specs.Reads.{live_rows, names_watched, is_timeout_due, listeners_in};
 
 use crate::Listeners;
 use ev_model::ServedListener;
-use ev_types::{Name, Seq, TryCopy};
+use ev_types::{Gen, GenRow, Name, Seq, TryCopy};
 use ev_verdicts::LiveRow;
 use std::alloc::{AllocError, Global};
 
 impl Listeners {
     ghost use Rattle.ev_listeners.specs.Listeners.{AreKept, StandsFor};
+
+    /// The listener of this number, live or not. It costs one look-up, which nothing counts.
+    pub fn get(&self, number: Gen) -> Option<&GenRow>
+        ensures { option_copied result ≡ row_in number self.now.state.table.rows }
+    {
+        self.manager.state.table.get(number)
+    }
 
     /// Whether a live listener depends on a name of routes.
     pub fn is_watched(&self, name: &str) -> bool

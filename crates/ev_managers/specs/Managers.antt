@@ -1,5 +1,5 @@
 -- Both managers, and the worlds that they stand for.
-use Rattle.std.specs.Prelude.{⊤, ℕ, Bool, false, List}
+use Rattle.std.specs.Prelude.{◌≡◌, [], ⊤, ℕ, Bool, false, List}
 use Rattle.std.specs.List.{list_any}
 use Rattle.ev_types.specs.Items.{ItemParts}
 use Rattle.ev_types.specs.declared.contents.Kind.{Kind}
@@ -17,6 +17,11 @@ use Rattle.ev_managers.specs.declared.managers.Managers.{Managers}
 pub record AreKept (m : Managers) : Type 0 where
   pub clusters : AreClusters m.clusters
   pub listeners : AreListeners m.listeners
+
+-- all is forgotten that nobody needs: the next forgetting has nothing to look at
+pub record AreForgotten (m : Managers) : Type 0 where
+  pub clusters : m.clusters.stale ≡ []
+  pub listeners : m.listeners.stale ≡ []
 
 -- each has what the world has of it
 pub record StandFor (m : Managers) (world : World) : Type 0 where

@@ -1,11 +1,14 @@
-ghost use Rattle.std.specs.Prelude.{◌≡◌, ℕ, List, IfOk, OnOk};
+ghost use Rattle.std.specs.Prelude.{true, ◌≡◌, ℕ, List, IfOk, OnOk};
 ghost use Rattle.ev_model.specs.World.{World, opening};
 ghost use Rattle.ev_model.specs.Tidy.{promoted, without_unwatched, without_old_results};
+ghost use Rattle.ev_generations.specs.Tables.{row_in, without_row};
+ghost use Rattle.ev_warming.specs.Changes.{is_over};
 
 use crate::retired::{Retired, put_all};
 use ev_clusters::Clusters;
 use ev_generations::Steps;
 use ev_listeners::Listeners;
+use ev_types::Gen;
 use std::alloc::{AllocError, Global};
 use std::sync::ledger::Ledger;
 
@@ -18,7 +21,7 @@ pub struct Managers {
 }
 
 impl Managers {
-    ghost use Rattle.ev_managers.specs.Managers.{AreKept, StandFor};
+    ghost use Rattle.ev_managers.specs.Managers.{AreForgotten, AreKept, StandFor};
     ghost use Rattle.ev_managers.specs.Retired.{AreDrained};
 
     /// No generation, and nothing known. It takes no memory.
@@ -59,9 +62,34 @@ impl Managers {
     ) -> Result<(), AllocError>
         requires kept { AreKept self.old }
         ensures kept { OnOk result (AreKept self.new) }
+        ensures done { OnOk result (AreForgotten self.new) }
         ensures stands { OnOk result ((world : World) → StandFor self.old world → StandFor self.new (without_old_results (without_unwatched world))) }
     {
         self.clusters.forget(alloc, steps)?;
         self.listeners.forget(alloc, steps)
+    }
+
+    /// Takes out a cluster that drains or was dropped, once all is forgotten that nobody needs. It takes no memory.
+    pub fn remove_cluster(&mut self, number: Gen)
+        requires kept { AreKept self.old }
+        requires forgotten { AreForgotten self.old }
+        requires over { is_over (row_in number self.old.clusters.state.table.rows) ≡ true }
+        ensures kept { AreKept self.new }
+        ensures forgotten { AreForgotten self.new }
+        ensures stands { (world : World) → StandFor self.old world → StandFor self.new (record world { rows = without_row number world.rows }) }
+    {
+        self.clusters.remove(number);
+    }
+
+    /// Takes out a listener that drains or was dropped, once all is forgotten that nobody needs. It takes no memory.
+    pub fn remove_listener(&mut self, number: Gen)
+        requires kept { AreKept self.old }
+        requires forgotten { AreForgotten self.old }
+        requires over { is_over (row_in number self.old.listeners.state.table.rows) ≡ true }
+        ensures kept { AreKept self.new }
+        ensures forgotten { AreForgotten self.new }
+        ensures stands { (world : World) → StandFor self.old world → StandFor self.new (record world { rows = without_row number world.rows }) }
+    {
+        self.listeners.remove(number);
     }
 }
