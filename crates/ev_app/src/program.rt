@@ -9,6 +9,7 @@ use ev_io::{ScriptFault, Sink, Source, write_all};
 use ev_journal::render_journal;
 use ev_types::{Format, Script, Text};
 use std::alloc::{AllocError, Global};
+use std::mem::drop;
 
 /// How a call of the program ends.
 #[derive(Clone, Copy, Debug, PartialEq, Eq)]
@@ -101,5 +102,7 @@ fn replay_text(alloc: Global, script: &Script) -> Result<Vec<u8>, AllocError>
     ensures { IfOk result (λ text. IsReplayText script.now text.items) }
 {
     let registry = replay(alloc, script)?;
-    render_journal(alloc, Format::Two, script.workers, registry.journal())
+    let text = render_journal(alloc, Format::Two, script.workers, registry.journal());
+    drop(registry);
+    text
 }

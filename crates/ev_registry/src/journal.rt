@@ -220,6 +220,6 @@ fn step_after(
     ensures at { OnOk result (IsAt state.new (machine_step format here actor event.now).0) }
     ensures answer { IfOk result (λ answer. answer ≡ (machine_step format here actor event.now).1) }
 {
-    let answer = state.step(alloc, format, actor, event)?;
-    Ok(answer)
+    let stepped = state.step(alloc, format, actor, event)?;
+    Ok(stepped.answer)
 }

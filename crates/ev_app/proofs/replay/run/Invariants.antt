@@ -4,7 +4,7 @@ use Rattle.ev_types.specs.declared.journals.Format.TheVariants.{Two}
 use Rattle.ev_types.specs.Scripts.{items_of}
 use Rattle.ev_registry.specs.Registries.{world_now}
 use Rattle.ev_model.specs.Operations.{operation_of, line_operation, last_settle}
-use Rattle.ev_app.proofs.replay.replay.Given as goal
+use Rattle.ev_app.proofs.replay.run.Given as goal
 
 abbrev pub invariant-loop-line : goal.invariant-loop-line
 invariant-loop-line l = record {

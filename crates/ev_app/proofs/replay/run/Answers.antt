@@ -10,7 +10,7 @@ use Rattle.ev_types.specs.declared.events.Entry.{Entry}
 use Rattle.ev_types.specs.declared.events.Line.{Line}
 use Rattle.ev_model.specs.Operations.{Operation, operation_of, line_operation, last_settle}
 use Rattle.ev_state.specs.Built.{is_built}
-use Rattle.ev_app.proofs.replay.replay.Goals as goal
+use Rattle.ev_app.proofs.replay.run.Goals as goal
 
 -- the line at a place is one that the registry takes
 built_at : (lines items : List Line) (k : ℕ) (line : Line) → All (λ (l : Line). IsTrue (is_built l.event)) lines → items ≡ lines → k < length items
@@ -20,7 +20,7 @@ built_at lines items k line built same within is =
 
 pub apply-requires-clause-built : goal.apply-requires-clause-built
 apply-requires-clause-built c =
-    built_at c.args.script.now.lines c.as_slice-line-items.result.now c.loop-line.line-index c.line-item.result c.requires.built
+    built_at c.args.script.now.lines c.as_slice-line-items.result.now c.loop-line.line-index c.line-item.result c.requires.taken.built
     (c.as_slice-line-items.ensures.elements ∙ ap (λ (s : ScriptParts). s.lines) c.script.view_is) c.loop-line-test.true c.line-item.is
 
 -- one more worker has settled
