@@ -1,3 +1,4 @@
 pub mod Closing
 pub mod Holders
 pub mod Lines
+pub mod Retiring

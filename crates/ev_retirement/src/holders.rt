@@ -15,17 +15,19 @@ ghost use Rattle.ev_model.specs.Runs.{world_after};
 ghost use Rattle.ev_model.specs.declared.pictures.Picture.{Picture};
 ghost use Rattle.ev_worker.specs.Batches.{entries_of};
 ghost use Rattle.ev_worker.specs.Workers.{AreAnswered, IsToldBy};
+ghost use Rattle.ev_retirement.specs.Retiring.{noted};
 ghost use Rattle.ev_retirement.specs.Holders.{AreNumbered, StandsFor, timed_out, timeout_answer, with_expired, with_retired, without_generation, without_generations};
 
 use crate::closing::{close_all, numbers_closing};
 use crate::in_use::InUse;
 use crate::lines::take_lines;
+use crate::retiring::is_dropped;
 use ev_drain::Drain;
 use ev_ledger::Ledger;
 use ev_model::Shown;
 use ev_pictures::Pictures;
 use ev_snapshot::Snapshot;
-use ev_types::{Format, Gen, Kind, Name, Seq};
+use ev_types::{Format, Gen, GenRow, Kind, Name, Seq};
 use ev_worker::{Batch, Settled};
 use std::alloc::{AllocError, Global};
 use std::marker::Model;
@@ -97,6 +99,21 @@ impl Holders {
         ensures err { OnErr result (self.new ≡ self.old) }
     {
         self.drain.retire(alloc, kind, number, name, dropped)
+    }
+
+    /// Notes a generation that drains or was dropped; one that was noted before stays as it is. Out of memory, all stays as it was.
+    #[tactic(auto, using(crate::proofs::RetireLemmas::noted_same))]
+    pub fn note(&mut self, alloc: Global, row: &GenRow) -> Result<(), AllocError>
+        requires over { is_live row.now.status ≡ false }
+        ensures noted { OnOk result (self.new ≡ record self.old { drain = noted self.old.drain row.now }) }
+        ensures err { OnErr result (self.new ≡ self.old) }
+    {
+        if self.has_retired(row.number) {
+            return Ok(());
+        }
+        let dropped = is_dropped(row.status);
+        self.drain
+            .retire(alloc, row.kind, row.number, &row.name, dropped)
     }
 
     /// The numbers of the generations that nothing holds any more, from the least, by a journal's format. Of each generation

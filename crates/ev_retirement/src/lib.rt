@@ -5,9 +5,11 @@ mod closing;
 mod holders;
 mod in_use;
 mod lines;
+mod retiring;
 
 pub use holders::Holders;
 pub use lines::answer_of;
+pub use retiring::retirements_stand;
 
 #[cfg(test)]
 mod tests;

@@ -7,11 +7,18 @@ use Rattle.std.proofs.lemmas.Bool.{true≢false, false≢true, or_parts}
 use Rattle.std.proofs.lemmas.Bool.Decides.{nat_tests}
 use Rattle.ev_types.specs.Statuses.{is_live}
 use Rattle.ev_types.specs.declared.rows.GenRow.{GenRow}
+use Rattle.ev_types.specs.declared.rows.RowStatus.{RowStatus}
+use Rattle.ev_types.specs.declared.rows.RowStatus.TheVariants.{Warming, Active, Draining, Dropped}
 use Rattle.ev_model.specs.Sorted.{put_by, sorted_by}
 use Rattle.ev_model.specs.Picture.{has_number}
+use Rattle.ev_model.specs.World.{World, OpenMember}
+use Rattle.ev_model.specs.declared.pictures.Shown.{Shown}
+use Rattle.ev_pictures.specs.Pictures.{StandsFor as HasPictures}
+use Rattle.ev_ledger.specs.Members.{StandsFor as HasOpened}
 use Rattle.ev_generations.specs.Tables.{is_number, row_in}
-use Rattle.ev_drain.specs.Retired.{Retired, comes_before, has_row, is_numbered, is_retired, retired_in, retired_of, StandsFor}
-use Rattle.ev_scratch.specs.Retiring.{AreNumbered, is_over, noted, noted_where, noted_all, HaveRetired}
+use Rattle.ev_drain.specs.Retired.{Retired, comes_before, has_row, is_numbered, is_retired, newly_retired, retired_in, retired_of, retired_status, StandsFor}
+use Rattle.ev_retirement.specs.Holders.{HoldersParts, AreNumbered, StandsFor as Stand}
+use Rattle.ev_retirement.specs.Retiring.{is_dropped, is_over, noted, noted_where, noted_all, HaveCeased, HoldTheSame}
 
 clash : (n a b : ℕ) → is_le (nat_cmp a b) ≡ false → (a == n) ≡ true → (b == n) ≡ true → ⊥
 clash n a b order at also = grind (arith, nat_tests)
@@ -316,10 +323,10 @@ all_ascending : (rows : List GenRow) (numbers : List ℕ) (drain : List Retired)
 all_ascending rows [] drain up = up
 all_ascending rows (m ∷ numbers) drain up = all_ascending rows numbers (noted_where drain (row_in m rows)) (where_ascending drain (row_in m rows) up)
 
-pub rows_stand : (drain : List Retired) (numbers expired : List ℕ) (before after : List GenRow)
+rows_stand : (drain : List Retired) (numbers expired : List ℕ) (before after : List GenRow)
     → StandsFor drain before expired → AreNumbered before → AreNumbered after
     → ((number : ℕ) → has_number number expired ≡ true → has_row drain number ≡ true)
-    → HaveRetired numbers before after
+    → HaveCeased numbers before after
     → StandsFor (noted_all after numbers drain) after expired
 rows_stand drain numbers expired before after stands apart also marks retired =
     same_lists (noted_all after numbers drain) (retired_of expired after)
@@ -365,3 +372,55 @@ rows_stand drain numbers expired before after stands apart also marks retired =
         live_or_over false live =
             ap (λ b. or_else (cond (not b) (Some (retired_in expired row)) None) (cond (is_over is_now && not (not b)) (noted_of is_now) None)) live
             ∙ sym (ap (found_in expired) (sym has_it ∙ retired.stays n row had_it live) ∙ ap (λ b. cond (not b) (Some (retired_in expired row)) None) live)
+
+marked_there : (drain : List Retired) (expired : List ℕ) → AllByRecursion (λ n. has_row drain n ≡ true) expired → (n : ℕ) → has_number n expired ≡ true → has_row drain n ≡ true
+marked_there drain [] all n is = absurd (false≢true is)
+marked_there drain (m ∷ expired) all n is = by (m == n) refl is (marked_there drain expired all.1 n)
+  where
+    by : (t : Bool) → (m == n) ≡ t → (t || has_number n expired) ≡ true → (has_number n expired ≡ true → has_row drain n ≡ true) → has_row drain n ≡ true
+    by true at is rest = subst (λ k. has_row drain k ≡ true) (same_of m n at) all.0
+    by false at is rest = rest is
+
+still_there : (rows : List GenRow) (numbers : List ℕ) (drain : List Retired) (n : ℕ) → has_row drain n ≡ true → has_row (noted_all rows numbers drain) n ≡ true
+still_there rows numbers drain n there =
+    has_found n (noted_all rows numbers drain) ∙ ap is_some (all_find n rows numbers drain)
+    ∙ by (find (is_numbered n) drain) (cond (has_number n numbers) (noted_of (row_in n rows)) None) (sym (has_found n drain) ∙ there)
+  where
+    by : (found other : Option Retired) → is_some found ≡ true → is_some (or_else found other) ≡ true
+    by None other there = absurd (false≢true there)
+    by (Some row) other there = refl
+
+still_marked : (rows : List GenRow) (numbers : List ℕ) (drain : List Retired) (expired : List ℕ) → AllByRecursion (λ n. has_row drain n ≡ true) expired
+    → AllByRecursion (λ n. has_row (noted_all rows numbers drain) n ≡ true) expired
+still_marked rows numbers drain [] all = tt
+still_marked rows numbers drain (n ∷ expired) all = (still_there rows numbers drain n all.0, still_marked rows numbers drain expired all.1)
+
+-- what holds generations, once those that ceased to be live are noted
+pub retirements_stand : (holders : HoldersParts) (numbers : List ℕ) (before after : World)
+    → Stand holders before → AreNumbered before.rows → AreNumbered after.rows → HoldTheSame before after → HaveCeased numbers before.rows after.rows
+    → Stand (record holders { drain = noted_all after.rows numbers holders.drain }) after
+retirements_stand holders numbers before after stands apart also same ceased =
+    let drain : List Retired = noted_all after.rows numbers holders.drain in
+    let had = stands.pictures in
+    record {
+      pictures = subst (λ (ps : List Shown). HasPictures holders.pictures (record after { pictures = ps })) (sym same.pictures)
+          (subst (λ (versions : List ℕ). HasPictures holders.pictures (record after { pictures = before.pictures; held = versions })) (sym same.held)
+          (record { published = had.published; last = had.last; held = had.held; known = had.known }));
+      opened = subst (λ (members : List OpenMember). HasOpened holders.ledger members) (sym same.opened) stands.opened;
+      retired = subst (λ es. StandsFor drain after.rows es) (sym same.expired)
+          (rows_stand holders.drain numbers before.expired before.rows after.rows stands.retired apart also (marked_there holders.drain before.expired stands.marked) ceased);
+      marked = subst (λ es. AllByRecursion (λ n. has_row drain n ≡ true) es) (sym same.expired) (still_marked after.rows numbers holders.drain before.expired stands.marked);
+    }
+
+-- a row that is over, as a new one of the drain
+pub noted_same : (row : GenRow) (dropped : Bool) → is_live row.status ≡ false → dropped ≡ is_dropped row.status
+    → newly_retired row.kind row.number row.name dropped ≡ retired_in [] row
+noted_same row dropped over is =
+    ap (newly_retired row.kind row.number row.name) is
+    ∙ ap (λ (status : RowStatus). record { kind = row.kind; number = row.number; name = row.name; status = status; expired = false }) (by row.status over)
+  where
+    by : (status : RowStatus) → is_live status ≡ false → retired_status (is_dropped status) ≡ status
+    by Warming h = absurd (true≢false h)
+    by Active h = absurd (true≢false h)
+    by Draining h = refl
+    by Dropped h = refl
