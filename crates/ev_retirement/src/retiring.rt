@@ -5,7 +5,6 @@ use ev_types::RowStatus;
 
 /// Where exactly the generations of some numbers ceased to be live between two worlds, which hold the same, what holds generations
 /// stands for the second one once these are noted, one after another.
-#[tactic(auto, using(crate::proofs::RetireLemmas::retirements_stand))]
 pub fn retirements_stand()
     ensures { RetirementsStand }
 {}
