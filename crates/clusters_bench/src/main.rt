@@ -1,12 +1,13 @@
 //! Warms clusters one by one, for bench/clusters to measure. Its arguments are numbers: how many clusters a response brings, each of
 //! which waits for the endpoints of a name of its own, and of how many of them the endpoints come, each time followed by a promotion
-//! and a forgetting. It prints how many clusters came to serve.
+//! and a forgetting. It prints how many clusters came to serve, and what is told of all of them.
 #![tactic(auto)]
 
 ghost use Rattle.std.specs.Prelude.{◌≡◌, length, OnOk};
 ghost use Rattle.ev_clusters.specs.Clusters.{AreKept};
 
 mod responses;
+mod survey;
 
 use anyhow::{Result, anyhow};
 use ev_clusters::Clusters;
@@ -16,13 +17,22 @@ use std::alloc::Global;
 use std::marker::Brand;
 use std::rt::Env;
 use std::sync::ledger::{Blank, Ledger};
+use survey::{Counts, survey};
 
 fn main(rt: HostRuntime) -> Result<()> {
     let mut words = std::env::args(&rt)?.skip(1);
     let size = number(words.next());
     let arrivals = number(words.next());
-    let served = measured(rt.alloc(), size, arrivals)?;
+    let (served, survey) = measured(rt.alloc(), size, arrivals)?;
     println!(rt; "{served} of {size} serve")?;
+    let Counts {
+        live,
+        shown,
+        copied,
+        goes,
+    } = survey;
+    println!(rt; "{live} are live, {shown} are shown, {copied} are live in a copy")?;
+    println!(rt; "the first goes: {goes}")?;
     Ok(())
 }
 
@@ -34,13 +44,18 @@ fn number(word: Option<String>) -> u16 {
     }
 }
 
-// How many of so many clusters come to serve as the endpoints of so many come.
-fn measured(alloc: Global, size: u16, arrivals: u16) -> Result<u32> {
+// How many of so many clusters come to serve as the endpoints of so many come, and what the manager tells of all of them then.
+fn measured(alloc: Global, size: u16, arrivals: u16) -> Result<(u32, Counts)> {
     warm_all::<Brand>(alloc, Blank::new(1), size, arrivals)
 }
 
 // The same, with a counter of look-ups.
-fn warm_all<L: Ledger>(alloc: Global, blank: Blank, size: u16, arrivals: u16) -> Result<u32>
+fn warm_all<L: Ledger>(
+    alloc: Global,
+    blank: Blank,
+    size: u16,
+    arrivals: u16,
+) -> Result<(u32, Counts)>
     requires name { blank.name ≡ L.name }
     requires parts { blank.parts ≡ L.parts }
     requires one { L.parts ≡ 1 }
@@ -54,7 +69,8 @@ fn warm_all<L: Ledger>(alloc: Global, blank: Blank, size: u16, arrivals: u16) ->
             served = served.saturating_add(1);
         }
     }
-    Ok(served)
+    let survey = survey(alloc, &mut clusters, &mut steps)?;
+    Ok((served, survey))
 }
 
 // A response brings so many clusters.

@@ -43,6 +43,11 @@ pub(crate) fn service(alloc: Global, place: u16) -> Result<Name> {
     named(alloc, format!(in alloc; "endpoints-{place}")?.as_str())
 }
 
+/// The name of the cluster at this place.
+pub(crate) fn cluster_name(alloc: Global, place: u16) -> Result<Name> {
+    named(alloc, format!(in alloc; "cluster-{place}")?.as_str())
+}
+
 /// Endpoints of one host.
 pub(crate) fn endpoints(alloc: Global) -> Result<Arrival> {
     let host = Host {
