@@ -1,15 +1,17 @@
 //! Takes listeners in, asks for those that hold an address, and warms them one by one, for bench/listeners to measure. Its arguments
 //! are numbers: how many listeners a response brings, each of which has an address of its own and waits for the routes of a name of its
 //! own; of how many of them the address is asked; and of how many the routes come, each time followed by a promotion and a
-//! forgetting. It prints how many hold an address that was asked, and how many came to serve.
+//! forgetting. It prints how many hold an address that was asked, how many came to serve, and whether the first goes.
 #![tactic(auto)]
 
 ghost use Rattle.std.specs.Prelude.{◌≡◌, length, OnOk};
 ghost use Rattle.ev_listeners.specs.Listeners.{AreKept};
 
+mod endings;
 mod responses;
 
 use anyhow::{Result, anyhow};
+use endings::end_first;
 use ev_generations::Steps;
 use ev_listeners::Listeners;
 use responses::{address, news, response, routes, routes_name};
@@ -26,6 +28,15 @@ struct Plan {
     arrivals: u16,
 }
 
+/// What a run tells: at how many addresses a listener was found, how many came to serve, and whether the first one goes once its
+/// time to live has ended.
+#[derive(Clone, Copy)]
+struct Told {
+    held: u32,
+    served: u32,
+    goes: bool,
+}
+
 fn main(rt: HostRuntime) -> Result<()> {
     let mut words = std::env::args(&rt)?.skip(1);
     let plan = Plan {
@@ -33,8 +44,10 @@ fn main(rt: HostRuntime) -> Result<()> {
         asks: number(words.next()),
         arrivals: number(words.next()),
     };
-    let (held, served) = measured(rt.alloc(), plan)?;
+    let told = measured(rt.alloc(), plan)?;
+    let Told { held, served, goes } = told;
     println!(rt; "{held} hold an address, {served} serve")?;
+    println!(rt; "the first goes: {goes}")?;
     Ok(())
 }
 
@@ -46,13 +59,13 @@ fn number(word: Option<String>) -> u16 {
     }
 }
 
-// How many listeners hold an address that is asked, and how many come to serve.
-fn measured(alloc: Global, plan: Plan) -> Result<(u32, u32)> {
+// What a run by this plan tells.
+fn measured(alloc: Global, plan: Plan) -> Result<Told> {
     run::<Brand>(alloc, Blank::new(1), plan)
 }
 
 // The same, with a counter of look-ups.
-fn run<L: Ledger>(alloc: Global, blank: Blank, plan: Plan) -> Result<(u32, u32)>
+fn run<L: Ledger>(alloc: Global, blank: Blank, plan: Plan) -> Result<Told>
     requires name { blank.name ≡ L.name }
     requires parts { blank.parts ≡ L.parts }
     requires one { L.parts ≡ 1 }
@@ -62,7 +75,8 @@ fn run<L: Ledger>(alloc: Global, blank: Blank, plan: Plan) -> Result<(u32, u32)>
     take_all(alloc, &mut listeners, plan.size, &mut steps)?;
     let held = ask_all(alloc, &listeners, plan.asks)?;
     let served = warm_all(alloc, &mut listeners, plan.arrivals, &mut steps)?;
-    Ok((held, served))
+    let goes = end_first(alloc, &mut listeners, &mut steps)?;
+    Ok(Told { held, served, goes })
 }
 
 // A response brings so many listeners.
@@ -106,6 +120,7 @@ fn warm_all<L: Ledger>(
     steps: &mut Steps<L>,
 ) -> Result<u32>
     requires { AreKept listeners.old }
+    ensures { OnOk result (AreKept listeners.new) }
 {
     let mut served = 0u32;
     for place in 0..arrivals {

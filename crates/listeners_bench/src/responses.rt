@@ -37,6 +37,11 @@ pub(crate) fn news(alloc: Global, size: u16) -> Result<Seq<Verdict>, AllocError>
     Ok(verdicts)
 }
 
+/// The name of the listener at this place.
+pub(crate) fn listener_name(alloc: Global, place: u16) -> Result<Name> {
+    named(alloc, format!(in alloc; "listener-{place}")?.as_str())
+}
+
 /// The name of the routes of the listener at this place.
 pub(crate) fn routes_name(alloc: Global, place: u16) -> Result<Name> {
     named(alloc, format!(in alloc; "routes-{place}")?.as_str())
