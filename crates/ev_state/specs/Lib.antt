@@ -1,4 +1,4 @@
-pub mod Built
+pub mod Managed
 pub mod Ages
 pub mod Known
 pub mod States

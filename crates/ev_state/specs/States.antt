@@ -1,15 +1,17 @@
 -- What the managers, the subscription and the targets know together, and at which worlds they are.
-use Rattle.std.specs.Prelude.{◌≡◌, true, false, [], ◌∷◌, All}
+use Rattle.std.specs.Prelude.{◌≡◌, ℕ, true, false, not, ◌&&◌, List, All, filter}
 use Rattle.std.specs.List.{AllByRecursion}
+use Rattle.ev_types.specs.Statuses.{is_live}
 use Rattle.ev_types.specs.declared.events.Answer.{Answer}
 use Rattle.ev_types.specs.declared.rows.GenRow.{GenRow}
 use Rattle.ev_types.specs.declared.rows.KeptVersion.{KeptVersion}
-use Rattle.ev_model.specs.World.{World, nothing_shown}
+use Rattle.ev_model.specs.World.{World}
 use Rattle.ev_model.specs.Live.{lives_of}
 use Rattle.ev_model.specs.Tidy.{is_version_due}
 use Rattle.ev_model.specs.Watching.{is_by_name}
+use Rattle.ev_generations.specs.Tables.{is_number}
 use Rattle.ev_warming.specs.Worlds.{IsSound}
-use Rattle.ev_managers.specs.Managers.{AreKept, StandFor}
+use Rattle.ev_managers.specs.Managers.{AreForgotten, AreKept, StandFor}
 use Rattle.ev_subscription.specs.Subscriptions.{StandsFor as HasVersions}
 use Rattle.ev_targets.specs.Targets.{StandsFor as HasTargets}
 use Rattle.ev_state.specs.declared.state.State.{State}
@@ -24,22 +26,18 @@ pub record StandsFor (s : State) (world : World) : Type 0 where
   pub targets : HasTargets s.targets world
 
 -- An event leads from one world to another: each part has what the other has of it, and each generation of the first stays in its
--- place. A version of endpoints or routes is kept only of a name that the first one watches. The phase is still that of the first, no
--- worker did anything, and nothing was published.
+-- place. A version of endpoints or routes is kept only of a name that the first one watches. The phase is still that of the first.
 pub record Follows (s : State) (before world : World) : Type 0 where
   pub stands : StandsFor s world
   pub sound : IsSound before
   pub later : AreLater before.made before.rows world.rows
   pub heard : All (λ (kept : KeptVersion). is_version_due (lives_of before) kept ≡ true) world.versions
   pub phase : world.phase ≡ before.phase
-  pub held : s.held ≡ world.held
-  pub pictures : world.pictures ≡ nothing_shown ∷ []
-  pub opened : world.opened ≡ []
-  pub expired : world.expired ≡ []
 
 -- between two events
 pub record IsAt (s : State) (world : World) : Type 0 where
   pub kept : AreKept s.managers
+  pub forgotten : AreForgotten s.managers
   pub follows : Follows s world world
   pub whole : AllByRecursion (λ (row : GenRow). is_by_name row.kind ≡ false) world.rows
 
@@ -47,6 +45,28 @@ pub record IsAt (s : State) (world : World) : Type 0 where
 -- is told of retirements is so
 pub record Steps (s : State) (told : Stepped) (before : World) (stepped : World × Answer) : Type 0 where
   pub kept : AreKept s.managers
+  pub forgotten : AreForgotten s.managers
   pub follows : Follows s stepped.0 stepped.0
+  pub later : AreLater before.made before.rows stepped.0.rows
   pub answer : told.answer ≡ stepped.1
   pub retired : HaveRetired told.retired before stepped.0
+
+-- the worlds differ at most in what was published, which picture each worker holds, which connections are open, and which drain
+-- timeouts came
+pub record SameManaged (before after : World) : Type 0 where
+  pub rows : after.rows ≡ before.rows
+  pub made : after.made ≡ before.made
+  pub arrivals : after.arrivals ≡ before.arrivals
+  pub results : after.results ≡ before.results
+  pub versions : after.versions ≡ before.versions
+  pub stream : after.stream ≡ before.stream
+  pub first_clusters : after.first_clusters ≡ before.first_clusters
+  pub first_listeners : after.first_listeners ≡ before.first_listeners
+  pub late_clusters : after.late_clusters ≡ before.late_clusters
+  pub late_listeners : after.late_listeners ≡ before.late_listeners
+  pub phase : after.phase ≡ before.phase
+  pub node : after.node ≡ before.node
+
+-- these rows without that of this number, where it drains or was dropped
+abbrev pub without_over : ℕ → List GenRow → List GenRow
+without_over number rows = filter (λ (row : GenRow). not (is_number number row && not (is_live row.status))) rows
