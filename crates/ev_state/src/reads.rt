@@ -1,15 +1,17 @@
-ghost use Rattle.std.specs.Prelude.{◌≡◌, option_copied, IfOk};
+ghost use Rattle.std.specs.Prelude.{◌≡◌, if◌then◌else◌, [], option_copied, IfOk};
 ghost use Rattle.ev_model.specs.World.{World};
-ghost use Rattle.ev_model.specs.Picture.{shown_of};
+ghost use Rattle.ev_model.specs.Phase.{is_serving};
+ghost use Rattle.ev_model.specs.Picture.{served_listeners, shown_of};
 ghost use Rattle.ev_generations.specs.Tables.{row_in};
+ghost use Rattle.ev_managers.specs.Managers.{AreKept};
 
 use crate::state::State;
-use ev_model::Shown;
+use ev_model::{ServedListener, Shown};
 use ev_types::{Gen, GenRow, Phase, Seq};
 use std::alloc::{AllocError, Global};
 
 impl State {
-    ghost use Rattle.ev_state.specs.States.{IsAt};
+    ghost use Rattle.ev_state.specs.States.{IsAt, StandsFor};
 
     /// How many numbers were drawn for generations.
     pub fn made(&self) -> u32
@@ -35,13 +37,21 @@ impl State {
         ensures { IfOk result (λ shown. shown ≡ shown_of here) }
     {
         let clusters = self.managers.clusters.shown(alloc)?;
-        let listeners = match self.targets.phase() {
-            Phase::Serving => self.managers.listeners.shown(alloc)?,
-            Phase::Clusters | Phase::Listeners => Seq::new(alloc),
-        };
+        let listeners = self.listeners_shown(alloc)?;
         Ok(Shown {
             clusters,
             listeners,
         })
+    }
+
+    // The listeners that workers may serve now: none before listeners serve.
+    fn listeners_shown(&self, alloc: Global) -> Result<Seq<ServedListener>, AllocError>
+        requires kept { AreKept self.now.managers }
+        ensures { IfOk result (λ listeners. (world : World) → StandsFor self.now world → listeners ≡ (if is_serving world.phase then served_listeners world.arrivals world.rows else [])) }
+    {
+        match self.targets.phase() {
+            Phase::Serving => self.managers.listeners.shown(alloc),
+            Phase::Clusters | Phase::Listeners => Ok(Seq::new(alloc)),
+        }
     }
 }
