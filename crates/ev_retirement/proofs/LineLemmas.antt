@@ -115,7 +115,7 @@ pub accept_stands : (ask : Ask) (worker : ℕ) (holders : HoldersParts) (ledger 
     → StandsFor (record holders { ledger = ledger }) (accept ask worker world).0
 accept_stands ask worker holders ledger world stands has =
     let opens : (accepted (picture_held world worker) ask worker world.opened).opened
-            ≡ accept_leaves worker ask.conn (by_accept (accepted_as (picture_held world worker) ask (is_open world.opened worker ask.conn))) world.opened =
+    ≡ accept_leaves worker ask.conn (by_accept (accepted_as (picture_held world worker) ask (is_open world.opened worker ask.conn))) world.opened =
     accept_opens (picture_held world worker) ask worker world.opened in
     opened_stands holders ledger (accepted (picture_held world worker) ask worker world.opened).opened world stands (has ∙ ap in_order (sym opens))
 

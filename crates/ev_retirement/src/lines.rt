@@ -46,12 +46,7 @@ fn take_line(ledger: &mut Ledger, worker: u32, line: &BatchLine) -> Result<(), A
 }
 
 /// How the machine answers a worker's accept, by the snapshot that the worker holds and by its connections that are open.
-pub(crate) fn answer_accept(
-    pictures: &Pictures,
-    ledger: &Ledger,
-    worker: u32,
-    ask: &Ask,
-) -> Outcome
+pub(crate) fn answer_accept(pictures: &Pictures, ledger: &Ledger, worker: u32, ask: &Ask) -> Outcome
     requires known { worker < length pictures.now.held }
     ensures { (world : World) → HasPictures pictures.now world → HasOpened ledger.now world.opened → result ≡ by_accept (accepted_as (picture_held world worker) ask.now (is_open world.opened worker ask.now.conn)) }
 {

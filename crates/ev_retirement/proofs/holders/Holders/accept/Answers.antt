@@ -14,5 +14,5 @@ returns-clause-world c =
     let here : StandsFor _ world = subst (λ (h : HoldersParts). StandsFor h world) (sym c.self.view_is) stands in
     accept_stands c.args.ask.now c.args.worker _ c.take_accept.new.ledger world here
     (taken world.opened here.opened
-    ∙ ap (λ (o : Outcome). in_order (accept_leaves c.args.worker c.args.ask.now.conn o world.opened)) (c.answer_accept.ensures world here.pictures here.opened)))
+    ∙ ap (λ (o : Outcome). in_order (accept_leaves c.args.worker c.args.ask.now.conn o world.opened)) (c.answer_accept-outcome.ensures world here.pictures here.opened)))
     c.take_accept.ensures.opened
