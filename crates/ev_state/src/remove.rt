@@ -20,10 +20,9 @@ impl State {
     /// What follows an event by itself, where the event was of no manager: what is due serves, what nobody needs is forgotten, and
     /// the phase moves on. Answers which generations that retired. After want of memory nothing is promised of the state.
     pub fn tidy_up(&mut self, alloc: Global) -> Result<Retired, AllocError>
-        ghost here: { World }
-        requires at { IsAt self.old here }
-        ensures at { OnOk result (IsAt self.new (tidy here)) }
-        ensures ceased { IfOk result (λ retired. HaveCeased retired here (tidy here)) }
+        requires kept { AreKept self.old.managers }
+        ensures at { OnOk result ((world : World) → IsAt self.old world → IsAt self.new (tidy world)) }
+        ensures ceased { IfOk result (λ retired. (world : World) → IsAt self.old world → HaveCeased retired world (tidy world)) }
     {
         let moves = self.tidy_counted::<Brand>(Blank::new(1), alloc)?;
         Ok(moves.retired)
@@ -48,9 +47,11 @@ impl State {
     /// Takes out the generation of this number, where it drains or was dropped; where none has the number, or it is live, nothing is
     /// done. It takes no memory.
     pub fn remove(&mut self, number: Gen)
-        ghost here: { World }
-        requires at { IsAt self.old here }
-        ensures at { IsAt self.new (record here { rows = without_over number here.rows }) }
+        requires kept { AreKept self.old.managers }
+        requires forgotten { AreForgotten self.old.managers }
+        ensures kept { AreKept self.new.managers }
+        ensures forgotten { AreForgotten self.new.managers }
+        ensures at { (world : World) → IsAt self.old world → IsAt self.new (record world { rows = without_over number world.rows }) }
     {
         if has_ended(self.managers.clusters.get(number)) {
             self.managers.remove_cluster(number);
