@@ -1,0 +1,6 @@
+//! The proxy: what its managers know and what holds generations. Each event is one step of the flat machine.
+#![tactic(auto)]
+
+mod proxy;
+
+pub use proxy::Proxy;
