@@ -136,9 +136,8 @@ told_behind parts now given worker closed picture view same told =
     subst (λ (p : JournalParts). IsToldBy worker.number closed picture (world_behind worker p)) view
     (subst (λ (es : List Entry). IsToldBy worker.number closed picture (behind_of parts es worker)) same told)
 
--- in the world after entries there are as many workers as the journal's
-pub known_after : (format : Format) (workers number : ℕ) (node : List ℕ) (here : World) (entries : List Entry)
-    → here ≡ world_after format (opening workers node) entries → number < workers → number < length here.held
-known_after format workers number node here entries is below =
-    subst (λ (w : World). number < length w.held) (sym is)
-    (subst (λ n. number < n) (sym (held_now (record { format = format; workers = workers; node = node; journal = entries }) [])) below)
+-- in the world after more entries there are as many workers as the journal's
+pub known_after : (parts : JournalParts) (number : ℕ) (here : World) (entries : List Entry)
+    → here ≡ world_after parts.format (world_now parts) entries → number < parts.workers → number < length here.held
+known_after parts number here entries is below =
+    subst (λ (w : World). number < length w.held) (sym is) (subst (λ n. number < n) (sym (held_now parts entries)) below)
