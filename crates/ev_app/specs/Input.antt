@@ -1,14 +1,13 @@
 -- What is taken of the input, and what it is.
-use Rattle.std.specs.Prelude.{◌≡◌, ℕ, ◌+◌, ◌≤◌, ◌⊎◌, false, IsTrue, ⊤, List, length, Option, Some, Result, Ok, Err}
+use Rattle.std.specs.Prelude.{◌≡◌, ℕ, ◌+◌, ◌≤◌, false, IsTrue, ⊤, List, length, Option, Some, Result, Ok, Err}
 use Rattle.std.specs.Io.KnownBytes.{IsAtEnd}
 use Rattle.ev_io.specs.declared.limits.TheConstants.{MAX_INPUT_BYTES}
 use Rattle.ev_io.specs.declared.faults.ScriptFault.{ScriptFault}
 use Rattle.ev_io.specs.declared.faults.ScriptFault.TheVariants.{Bad, Read, OutOfMemory}
 use Rattle.ev_io.specs.Outside.{Takes}
 use Rattle.ev_types.specs.Scripts.{ScriptParts}
-use Rattle.ev_script.specs.Faults.{Input, IsFaultOf, HasNoFault}
+use Rattle.ev_script.specs.Faults.{Input, IsFaultOf, HasNoFault, plain_lines}
 use Rattle.ev_script.specs.Script.{script_of}
-use Rattle.ev_app.specs.BuiltLines.{built_lines}
 
 -- these bytes were taken, at most one more than an input may have: a script's, to the end of the source where it gave that
 pub record TakesInput (before after : Option (List ℕ)) (input : Input) : Type 0 where
@@ -20,29 +19,17 @@ pub record TakesInput (before after : Option (List ℕ)) (input : Input) : Type 
 -- the bytes to the end of the input are this script, which has no fault
 pub record IsInput (input : Input) (script : ScriptParts) : Type 0 where
   pub ended : IsTrue input.ended
-  pub sound : HasNoFault built_lines input
+  pub sound : HasNoFault plain_lines input
   pub reads : script_of false input.bytes ≡ Some script
-
--- a script with `auto` isn't built yet, and is told as kind 6 at line 1
-pub record IsAutomatic (input : Input) (line kind : ℕ) : Type 0 where
-  pub script : ScriptParts
-  pub is : IsInput input script
-  pub auto : IsTrue script.auto
-  pub at_first : line ≡ 1
-  pub told : kind ≡ 6
-
--- the input's first fault, or what is told of a script with `auto`
-abbrev pub IsRefused : Input → ℕ → ℕ → Type 0
-IsRefused input line kind = IsFaultOf built_lines input line kind ⊎ IsAutomatic input line kind
 
 -- a read failed before the end of the input and before a fault of the bytes taken
 pub record IsCutOff (input : Input) : Type 0 where
   pub goes_on : ¬ (IsTrue input.ended)
-  pub sound : HasNoFault built_lines input
+  pub sound : HasNoFault plain_lines input
 
 -- what an answer about the input means
 abbrev pub IsInputAnswer : Input → Result ScriptParts ScriptFault → Type 0
 IsInputAnswer input (Ok script) = IsInput input script
-IsInputAnswer input (Err (Bad line kind)) = IsRefused input line kind
+IsInputAnswer input (Err (Bad line kind)) = IsFaultOf plain_lines input line kind
 IsInputAnswer input (Err Read) = IsCutOff input
 IsInputAnswer input (Err OutOfMemory) = ⊤

@@ -1,4 +1,3 @@
-pub mod BuiltLines
 pub mod Input
 pub mod Replay
 pub mod Status

@@ -5,10 +5,8 @@ use Rattle.ev_io.specs.Outside.{Rose, AppendsPrefix}
 use Rattle.ev_app.specs.declared.program.Status.{Status}
 use Rattle.ev_app.specs.declared.program.Status.TheVariants.{Done, Usage, BadScript, ReadFault, WriteFault, OutOfMemory}
 use Rattle.ev_types.specs.Scripts.{ScriptParts}
-use Rattle.ev_script.specs.Faults.{Input, HasNoFault}
-use Rattle.ev_script.specs.Script.{script_of}
-use Rattle.ev_app.specs.BuiltLines.{built_lines}
-use Rattle.ev_app.specs.Input.{TakesInput, IsInput, IsRefused, IsCutOff}
+use Rattle.ev_script.specs.Faults.{Input, IsFaultOf, HasNoFault, plain_lines}
+use Rattle.ev_app.specs.Input.{TakesInput, IsInput, IsCutOff}
 use Rattle.ev_app.specs.Replay.{IsReplayText}
 
 -- the one argument that is a form
@@ -79,7 +77,7 @@ pub record Replays (outside : Outside) : Type 0 where
 pub record Refuses (outside : Outside) (line kind : ℕ) : Type 0 where
   pub input : Input
   pub takes : TakesInput outside.left_before outside.left_after input
-  pub fault : IsRefused input line kind
+  pub fault : IsFaultOf plain_lines input line kind
   pub reads : ReadsWell outside
   pub written : WritesNothing outside
 
@@ -105,12 +103,11 @@ pub record LacksMemory (outside : Outside) : Type 0 where
   pub reads : ReadsWell outside
   pub written : WritesNothing outside
 
--- the source tells a script without fault, with no `auto`, and neither count of faults rose
+-- the source tells a script without fault, and neither count of faults rose
 pub record IsHonest (outside : Outside) : Type 0 where
   pub bytes : List ℕ
   pub told : outside.left_before ≡ Some bytes
-  pub sound : HasNoFault built_lines record { bytes = bytes; ended = true; audit = false }
-  pub by_hand : (script : ScriptParts) → script_of false bytes ≡ Some script → script.auto ≡ false
+  pub sound : HasNoFault plain_lines record { bytes = bytes; ended = true; audit = false }
   pub no_read_fault : ¬ Rose outside.reads_before outside.reads_after
   pub no_write_fault : ¬ Rose outside.writes_before outside.writes_after
 

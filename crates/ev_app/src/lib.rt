@@ -1,7 +1,6 @@
 //! The program: from the words of its command line and the bytes of its input to the bytes of its output.
 #![tactic(auto)]
 
-mod built_lines;
 mod input;
 mod program;
 mod replay;

@@ -1,15 +1,11 @@
-ghost use Rattle.std.specs.Prelude.{◌≡◌, ◌≢◌, ◌↔◌, ◌⊎◌, IsTrue, IfOk};
-ghost use Rattle.ev_app.specs.BuiltLines.{IsTaken};
-ghost use Rattle.ev_app.specs.Replay.{IsReplayText};
+ghost use Rattle.std.specs.Prelude.{◌≡◌, ◌≢◌, ◌↔◌, ◌⊎◌, IsTrue};
 ghost use Rattle.ev_app.specs.Status.{outside_of, replay_arguments, IsHonest, CountsOn, Ends};
 
 use crate::input::read_input;
-use crate::replay::replay;
+use crate::replay::replay_text;
 use ev_io::{ScriptFault, Sink, Source, write_all};
-use ev_journal::render_journal;
-use ev_types::{Format, Script, Text};
-use std::alloc::{AllocError, Global};
-use std::mem::drop;
+use ev_types::Text;
+use std::alloc::Global;
 
 /// How a call of the program ends.
 #[derive(Clone, Copy, Debug, PartialEq, Eq)]
@@ -50,9 +46,9 @@ impl Status {
 /// thread and writes its journal, in format 2; other arguments are `Usage`.
 ///
 /// `BadScript` tells the first fault of the bytes taken, those at the end of the input only where the source gave its
-/// end. An event that isn't built yet makes its line one of kind 6, and a script with `auto` is told as kind 6 at line 1.
-/// A read that failed is told only where the bytes taken have no fault. Out of memory, nothing is written. An answer
-/// without a fault of the source leaves the source's count of faults as it was, and so it is of the sink.
+/// end. A read that failed is told only where the bytes taken have no fault. Out of memory, nothing is written. An answer
+/// without a fault of the source leaves the source's count of faults as it was, and so it is of the sink. The journal whose
+/// text is written, in full or cut off by a write that failed, has the laws of runs.
 pub fn run_program<S: Source, K: Sink>(
     alloc: Global,
     arguments: &[Text],
@@ -94,15 +90,4 @@ fn is_replay(arguments: &[Text]) -> bool
         [argument] => argument.as_str() == "replay",
         _ => false,
     }
-}
-
-// The text of the journal of a script's replay.
-fn replay_text(alloc: Global, script: &Script) -> Result<Vec<u8>, AllocError>
-    requires { IsTaken script.now }
-    ensures { IfOk result (λ text. IsReplayText script.now text.items) }
-{
-    let registry = replay(alloc, script)?;
-    let text = render_journal(alloc, Format::Two, script.workers, registry.journal());
-    drop(registry);
-    text
 }

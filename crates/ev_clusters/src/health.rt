@@ -27,6 +27,7 @@ impl Clusters {
     ) -> Result<bool, AllocError>
         requires kept { AreKept self.old }
         ensures kept { OnOk result (AreKept self.new) }
+        ensures stale { OnOk result (self.new.stale ≡ self.old.stale) }
         ensures table { OnOk result (self.new.state.table ≡ self.old.state.table) }
         ensures meant { IfOk result (λ meant. meant ≡ list_any (is_meant_in self.old.state.watches cluster.now host.now) self.old.state.table.rows) }
         ensures results { OnOk result (NotesEach self.old.state.results self.new.state.results (numbers_meant self.old.state.watches cluster.now host.now self.old.state.table.rows) host.now healthy) }

@@ -15,7 +15,7 @@ use std::alloc::{AllocError, Global};
 use std::sync::ledger::Ledger;
 
 impl Managers {
-    ghost use Rattle.ev_managers.specs.Managers.{AreKept, StandFor, is_watched_in};
+    ghost use Rattle.ev_managers.specs.Managers.{AreForgotten, AreKept, StandFor, is_watched_in};
     ghost use Rattle.ev_managers.specs.Retired.{AreRetired};
 
     /// Whether a live generation depends on this name of endpoints or of routes.
@@ -197,6 +197,8 @@ impl Managers {
     ) -> Result<bool, AllocError>
         requires kept { AreKept self.old }
         ensures kept { OnOk result (AreKept self.new) }
+        // Nothing becomes such that nobody needs it.
+        ensures forgotten { OnOk result (AreForgotten self.old → AreForgotten self.new) }
         ensures stands { OnOk result ((world : World) → StandFor self.old world → StandFor self.new (with_results host.now healthy (rows_meant world.arrivals cluster.now host.now world.rows) world)) }
         ensures ignored { IfOk result (λ meant. (world : World) → StandFor self.old world → meant ≡ list_any (is_meant world.arrivals cluster.now host.now) world.rows) }
     {

@@ -1,8 +1,8 @@
 -- Pictures and the world that they stand for.
-use Rattle.std.proofs.Common.{◌≡◌, ℕ, zero, suc, ◌<◌, ◌+◌, ◌||◌, ◌==◌, Bool, true, false, cond, List, [], ◌∷◌, ◌++◌, map, length, replicate, slice_set, Some, None, refl, sym, ap, ◌∙◌, subst, arith}
+use Rattle.std.proofs.Common.{◌≡◌, ℕ, zero, suc, ◌<◌, ◌+◌, ◌||◌, ◌==◌, Bool, true, false, cond, List, [], ◌∷◌, ◌++◌, map, length, replicate, slice_index_or, slice_set, Some, None, refl, sym, ap, ◌∙◌, subst, arith}
 use Rattle.std.specs.List.{list_any, flat_map, AllByRecursion}
 use Rattle.std.proofs.lemmas.Grind.{common_steps}
-use Rattle.std.proofs.lemmas.List.{get_or_append_left, map-set, replicate-append-replicate}
+use Rattle.std.proofs.lemmas.List.{get_or-map, get_or_append_left, length-map, map-set, replicate-append-replicate}
 use Rattle.std.proofs.Math.Seq.{get_or-append_seam}
 use Rattle.std.proofs.lemmas.List.Folds.{list_any-append}
 use Rattle.ev_types.specs.declared.events.Answer.{Answer}
@@ -11,7 +11,7 @@ use Rattle.ev_model.specs.declared.pictures.Picture.{Picture}
 use Rattle.ev_model.specs.declared.pictures.Shown.{Shown}
 use Rattle.ev_model.specs.World.{World, last_version, nothing_shown, opening}
 use Rattle.ev_model.specs.Picture.{has_number, is_shown, numbers_shown, shown_of, shown_same}
-use Rattle.ev_model.specs.Dead.{last_picture, numbers_in_use, picture_at, shown_at, shown_in_use}
+use Rattle.ev_model.specs.Dead.{last_picture, numbers_in_use, picture_at, picture_held, shown_at, shown_in_use}
 use Rattle.ev_model.specs.Publishing.{publish}
 use Rattle.ev_pictures.specs.Pictures.{PicturesParts, StandsFor, first_picture, is_shown_by, is_shown_in, next_version, published_answer, settled_on, with_settled, with_shown}
 
@@ -136,6 +136,13 @@ settle_stands worker pictures world stands =
           ∙ sym (map-set (picture_at world) world.held worker (last_version world));
       known = known_set (λ version. version < length world.pictures) world.held worker (last_version world) some stands.known;
     }
+
+-- the picture that a worker holds
+pub held_stands : (worker : ℕ) (pictures : PicturesParts) (world : World) (other : Picture) → StandsFor pictures world → worker < length pictures.held
+    → slice_index_or pictures.held worker other ≡ picture_held world worker
+held_stands worker pictures world other stands below =
+    let below : worker < length world.held = subst (λ n. worker < n) (ap length stands.held ∙ length-map world.held (picture_at world)) below in
+    ap (λ ps. slice_index_or ps worker other) stands.held ∙ get_or-map (picture_at world) world.held worker 0 other below
 
 -- what is shown by the pictures in use
 shown_by_all : (number : ℕ) (shown : List Shown) → has_number number (flat_map numbers_shown shown) ≡ list_any (is_shown number) shown

@@ -3,13 +3,14 @@ ghost use Rattle.std.specs.Arc.{arc_value};
 ghost use Rattle.std.specs.List.{list_any};
 ghost use Rattle.ev_model.specs.World.{World, opening};
 ghost use Rattle.ev_model.specs.Picture.{has_number, shown_of};
-ghost use Rattle.ev_model.specs.Dead.{numbers_in_use};
+ghost use Rattle.ev_model.specs.Choice.{choice_of};
+ghost use Rattle.ev_model.specs.Dead.{numbers_in_use, picture_held};
 ghost use Rattle.ev_model.specs.Publishing.{publish};
 ghost use Rattle.ev_pictures.specs.Pictures.{StandsFor, first_picture, is_shown_by, is_shown_in, next_version, published_answer, settled_on, with_shown, with_settled};
 
-use ev_model::{Picture, Shown};
+use ev_model::{Choice, Picture, Shown};
 use ev_snapshot::Snapshot;
-use ev_types::{Gen, Seq};
+use ev_types::{Ask, Gen, Seq};
 use std::alloc::{AllocError, Global};
 use std::marker::Model;
 use std::sync::Arc;
@@ -93,6 +94,15 @@ impl Pictures {
         };
         self.held[worker as usize] = kept;
         Ok(given)
+    }
+
+    /// Where a connection of a worker goes, by the snapshot that the worker holds here: for an event that is made once more out of
+    /// a journal, since a worker at work asks its own. It takes no memory.
+    pub fn choose(&self, worker: u32, ask: &Ask) -> Choice
+        requires known { worker < length self.now.held }
+        ensures choice { (world : World) → StandsFor self.now world → result ≡ choice_of (picture_held world worker) ask.now }
+    {
+        self.held[worker as usize].choose(ask)
     }
 
     /// Whether a picture in use shows the generation of this number: one that a worker holds, or the last. It looks two numbers

@@ -1,10 +1,15 @@
 -- What the managers know and what holds generations, together, and at which worlds they are.
-use Rattle.std.specs.Prelude.{Bool, true, false}
+use Rattle.std.specs.Prelude.{ℕ, Bool, true, false, if◌then◌else◌, List, [], ◌∷◌, Option, None, Some}
+use Rattle.ev_types.specs.Statuses.{is_live}
 use Rattle.ev_types.specs.declared.events.Event.{Event}
 use Rattle.ev_types.specs.declared.events.Event.TheVariants.{Connect, Disconnect, Response, Health, FetchTimeout, DrainTimeout, TtlExpired, Publish, Reap, Accept, Close, Settle}
+use Rattle.ev_types.specs.declared.rows.GenRow.{GenRow}
 use Rattle.ev_model.specs.World.{World}
-use Rattle.ev_state.specs.States.{IsAt as ManagesAt}
+use Rattle.ev_generations.specs.Tables.{row_in}
+use Rattle.ev_drain.specs.Retired.{Retired}
+use Rattle.ev_state.specs.States.{IsAt as ManagesAt, without_over}
 use Rattle.ev_retirement.specs.Holders.{StandsFor as HoldsFor}
+use Rattle.ev_retirement.specs.Retiring.{noted}
 use Rattle.ev_proxy.specs.declared.proxy.Proxy.{Proxy}
 
 -- between two events: what the managers know, and what holds generations, is that of the world
@@ -26,3 +31,18 @@ is_working Reap = false
 is_working (Accept ask) = true
 is_working (Close connection) = true
 is_working Settle = true
+
+-- the drain once a row that was found is noted, where it drains or was dropped
+abbrev pub noted_over : List Retired → Option GenRow → List Retired
+noted_over drain None = drain
+noted_over drain (Some row) = if is_live row.status then drain else noted drain row
+
+-- the drain once the rows of these numbers are noted so, one after another
+abbrev pub noted_each : List GenRow → List ℕ → List Retired → List Retired
+noted_each rows [] drain = drain
+noted_each rows (number ∷ numbers) drain = noted_each rows numbers (noted_over drain (row_in number rows))
+
+-- these rows without those of these numbers that drain or were dropped
+abbrev pub without_each : List ℕ → List GenRow → List GenRow
+without_each [] rows = rows
+without_each (number ∷ numbers) rows = without_each numbers (without_over number rows)

@@ -1,6 +1,8 @@
 //! The proxy: what its managers know and what holds generations. Each event is one step of the flat machine.
 #![tactic(auto)]
 
+mod noting;
 mod proxy;
+mod steps;
 
 pub use proxy::Proxy;

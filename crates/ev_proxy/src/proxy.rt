@@ -36,8 +36,9 @@ impl Proxy {
     pub fn new(alloc: Global, workers: u32, node: &Text) -> Result<Proxy, AllocError>
         ensures { IfOk result (λ p. IsAt p (opening workers node.now)) }
     {
-        let _ = (alloc, workers, node);
-        Err(AllocError)
+        let holders = Holders::new(alloc, workers)?;
+        let state = State::new(alloc, node)?;
+        Ok(Proxy { state, holders })
     }
 
     /// What an event of the main side does, and its answer: one step of the machine, by the rules of a journal's format.
@@ -54,8 +55,18 @@ impl Proxy {
         ensures at { OnOk result ((actor : Actor) → IsAt self.new (machine_step format here actor event.now).0) }
         ensures answer { IfOk result (λ answer. (actor : Actor) → answer ≡ (machine_step format here actor event.now).1) }
     {
-        let _ = (alloc, format, event);
-        Err(AllocError)
+        match event {
+            Event::Connect
+            | Event::Disconnect
+            | Event::Response(_)
+            | Event::Health { .. }
+            | Event::FetchTimeout(_)
+            | Event::TtlExpired { .. } => self.manage(alloc, event),
+            Event::DrainTimeout(listener) => self.drain_timeout(alloc, listener),
+            Event::Publish => self.publish(alloc),
+            Event::Reap => self.reap(alloc, format),
+            Event::Accept(_) | Event::Close(_) | Event::Settle => unreachable!(),
+        }
     }
 
     /// What an event of a worker does, which is made once more out of a journal.
@@ -66,8 +77,18 @@ impl Proxy {
         requires known { worker < length here.held }
         ensures at { OnOk result ((format : Format) → IsAt self.new (machine_step format here (by_worker worker) event.now).0) }
     {
-        let _ = (alloc, worker, event);
-        Err(AllocError)
+        match event {
+            Event::Accept(ask) => self.holders.accept(worker, ask),
+            Event::Close(conn) => {
+                self.holders.close(worker, *conn);
+                Ok(())
+            }
+            Event::Settle => {
+                let _ = self.holders.settle(alloc, worker)?;
+                Ok(())
+            }
+            _ => unreachable!(),
+        }
     }
 
     /// Takes over what a worker did since it settled. The world is then the one after these entries.
@@ -76,8 +97,7 @@ impl Proxy {
         requires at { IsAt self.old here }
         ensures at { OnOk result ((format : Format) (picture : Picture) → AreAnswered format batch.now.worker here batch.now.lines → IsAt self.new (world_after format here (entries_of batch.now.worker picture batch.now.lines))) }
     {
-        let _ = batch;
-        Err(AllocError)
+        self.holders.take_batch(batch)
     }
 
     /// A worker settles: it takes over the last snapshot, and its connections on listeners whose drain timeout came are closed.
@@ -89,15 +109,14 @@ impl Proxy {
         ensures answer { IfOk result (λ settled. (settle worker here).1 ≡ settled_answer settled.closed settled.version) }
         ensures told { IfOk result (λ settled. IsToldBy worker settled.closed (arc_value settled.snapshot) here) }
     {
-        let _ = (alloc, worker);
-        Err(AllocError)
+        self.holders.settle(alloc, worker)
     }
 
     /// The last snapshot. It takes no memory; it is refused where 2^63 - 1 owners hold it already.
     pub fn snapshot(&self) -> Result<Arc<Snapshot>, AllocError>
         ensures { IfOk result (λ snapshot. (world : World) → IsAt self.now world → arc_value snapshot ≡ last_picture world) }
     {
-        Err(AllocError)
+        self.holders.snapshot()
     }
 
     /// How many numbers were drawn for generations.

@@ -1,4 +1,4 @@
--- At most one number is drawn for each resource, nothing is published by an event that is built, and workers stay.
+-- At most one number is drawn for each resource.
 use Rattle.std.proofs.Common.{◌≡◌, ℕ, ◌+◌, ◌≤◌, Bool, true, false, cond, List, [], ◌∷◌, ◌++◌, length, refl, sym, subst, ◌∙◌, arith}
 use Rattle.ev_types.specs.Items.{ItemParts, ResponseParts}
 use Rattle.ev_types.specs.Scripts.{items_in}
@@ -8,10 +8,8 @@ use Rattle.ev_types.specs.declared.contents.Content.{Content}
 use Rattle.ev_types.specs.declared.contents.Body.{Body}
 use Rattle.ev_types.specs.declared.contents.Body.TheVariants.{Good, Bad, Beat}
 use Rattle.ev_types.specs.declared.events.Actor.{Actor}
-use Rattle.ev_types.specs.declared.events.Actor.TheVariants.{Stream, Health as health_checker, Timer, Main, Worker}
 use Rattle.ev_types.specs.declared.events.Entry.{Entry}
 use Rattle.ev_types.specs.declared.events.Event.{Event}
-use Rattle.ev_types.specs.declared.events.Event.TheVariants.{Connect, Disconnect, Response, Health, FetchTimeout, DrainTimeout, TtlExpired, Publish, Reap, Accept, Close, Settle}
 use Rattle.ev_types.specs.declared.events.Verdict.{Verdict}
 use Rattle.ev_types.specs.declared.events.Verdict.TheVariants.{New, Same, Kept, Unasked, Renewed, Refused}
 use Rattle.ev_types.specs.declared.journals.Format.{Format}
@@ -23,11 +21,8 @@ use Rattle.ev_model.specs.Rows.{with_content, add_row, keep_version, keep_value,
 use Rattle.ev_model.specs.Signals.{with_end, forget_version}
 use Rattle.ev_model.specs.Runs.{world_after}
 use Rattle.ev_model.specs.Step.{step}
-use Rattle.ev_model.proofs.RunLemmas.{world_after-more, length-held}
+use Rattle.ev_model.proofs.RunLemmas.{world_after-more}
 use Rattle.ev_model_laws.proofs.EventLemmas.{step-leads}
-use Rattle.ev_model_laws.proofs.SeenLemmas.{same_seen}
-use Rattle.ev_state.specs.Built.{is_built}
-use Rattle.ev_registry.specs.Registries.{HaveStepped}
 
 content_made : (change : Content → World → World) (body : Body) (world : World)
     → ((content : Content) → (change content world).made ≤ world.made + 1)
@@ -119,37 +114,3 @@ pub entry_made : (format : Format) (world : World) (entries : List Entry) (entry
 entry_made format world entries entry =
     subst (λ (w : World). w.made ≤ (world_after format world entries).made + items_in entry.event) (sym (world_after-more format world entries entry))
     (step_made format (world_after format world entries) entry.actor entry.event)
-
--- events change no number of workers
-pub held_after : (format : Format) (world : World) (entries : List Entry) → length (world_after format world entries).held ≡ length world.held
-held_after format world [] = refl
-held_after format world (entry ∷ entries) =
-    held_after format (step format world entry.actor entry.event).0 entries ∙ length-held format world entry.actor entry.event
-
--- an event that is built publishes nothing
-step_pictures : (format : Format) (world : World) (actor : Actor) (event : Event) → is_built event ≡ true
-    → (step format world actor event).0.pictures ≡ world.pictures
-step_pictures format world actor Connect built = (same_seen format world actor Connect refl).pictures
-step_pictures format world actor Disconnect built = (same_seen format world actor Disconnect refl).pictures
-step_pictures format world actor (Response response) built = (same_seen format world actor (Response response) refl).pictures
-step_pictures format world actor (Health cluster host healthy) built = (same_seen format world actor (Health cluster host healthy) refl).pictures
-step_pictures format world actor (FetchTimeout timeout) built = (same_seen format world actor (FetchTimeout timeout) refl).pictures
-step_pictures format world actor (DrainTimeout listener) built = (same_seen format world actor (DrainTimeout listener) refl).pictures
-step_pictures format world actor (TtlExpired kind name) built = (same_seen format world actor (TtlExpired kind name) refl).pictures
-step_pictures format world actor Publish built = cc
-step_pictures format world actor Reap built = cc
-step_pictures format world actor (Accept ask) built = cc
-step_pictures format world actor (Close connection) built = cc
-step_pictures format world (Worker worker) Settle built = refl
-step_pictures format world Stream Settle built = refl
-step_pictures format world health_checker Settle built = refl
-step_pictures format world Timer Settle built = refl
-step_pictures format world Main Settle built = refl
-
--- so the pictures after a journal of such events are those before it
-pub pictures_after : (format : Format) (workers : ℕ) (world : World) (entries : List Entry) → HaveStepped format workers world entries
-    → (world_after format world entries).pictures ≡ world.pictures
-pictures_after format workers world [] had = refl
-pictures_after format workers world (entry ∷ entries) had =
-    pictures_after format workers (step format world entry.actor entry.event).0 entries had.1
-    ∙ step_pictures format world entry.actor entry.event had.0.built

@@ -1,31 +1,48 @@
--- A registry's journal grows by steps, and what is known is made anew out of it.
-use Rattle.std.proofs.Common.{◌≡◌, ℕ, zero, suc, ◌+◌, ◌<◌, ◌≤◌, true, false, ◌∙◌, ap, List, [], ◌∷◌, ◌++◌, length, take, get_or, refl, sym, subst, arith}
-use Rattle.std.specs.List.{AllByRecursion}
-use Rattle.std.proofs.lemmas.List.{length-replicate}
-use Rattle.ev_types.specs.Events.{MayMake}
-use Rattle.ev_types.specs.declared.events.Actor.{Actor}
+-- A registry's journal grows by entries of one step each, and what is known is made anew out of it.
+use Rattle.std.proofs.Common.{◌≡◌, ℕ, zero, suc, ◌+◌, ◌<◌, ◌≤◌, true, false, ap, List, [], ◌∷◌, ◌++◌, length, take, get_or, refl, sym, subst, arith}
+use Rattle.std.proofs.lemmas.Bool.{both_ways}
+use Rattle.ev_types.specs.Events.{IsMainSide, MayMake}
 use Rattle.ev_types.specs.Scripts.{items_in}
+use Rattle.ev_types.specs.declared.events.Actor.{Actor}
 use Rattle.ev_types.specs.declared.events.Answer.{Answer}
 use Rattle.ev_types.specs.declared.events.Entry.{Entry}
 use Rattle.ev_types.specs.declared.events.Event.{Event}
-use Rattle.ev_types.specs.declared.events.Event.TheVariants.{Connect, Disconnect, Response, Health, FetchTimeout, DrainTimeout, TtlExpired, Publish, Reap, Accept, Close, Settle}
 use Rattle.ev_types.specs.declared.journals.Format.{Format}
 use Rattle.ev_model.specs.World.{World, opening}
-use Rattle.ev_model.specs.Runs.{world_after, is_batched, IsRun}
+use Rattle.ev_model.specs.Runs.{world_after, is_batched, GoesOnWith, IsRun, IsUnbroken, RunsFrom}
 use Rattle.ev_model.specs.Step.{step}
-use Rattle.ev_model.proofs.RunLemmas.{world_after-more, RunsFrom-more, IsUnbroken-more}
-use Rattle.ev_state.specs.Built.{is_built}
-use Rattle.ev_state.specs.declared.state.State.{State}
-use Rattle.ev_state.specs.States.{IsAt}
-use Rattle.ev_registry.proofs.NumberLemmas.{held_after, entry_made}
-use Rattle.ev_registry.specs.Registries.{RegistryParts, world_now, MayStep, HaveStepped, StandsFor}
+use Rattle.ev_model.proofs.RunLemmas.{world_after-more}
+use Rattle.ev_actors.specs.Journals.{JournalParts, with_entries, world_now}
+use Rattle.ev_actors.proofs.WorldLemmas.{after_append}
+use Rattle.ev_proxy.specs.Proxies.{IsAt}
+use Rattle.ev_proxy.specs.declared.proxy.Proxy.{Proxy}
+use Rattle.ev_registry.proofs.EventLemmas.{main_works, working_alone}
+use Rattle.ev_registry.proofs.NumberLemmas.{entry_made}
+use Rattle.ev_registry.specs.Registries.{MayStep, HaveStepped, StandsFor}
 
--- one step more
-pub stepped_more : (format : Format) (workers : ℕ) (world : World) (entries : List Entry) (entry : Entry) → HaveStepped format workers world entries
-    → MayStep workers (world_after format world entries) entry → HaveStepped format workers world (entries ++ entry ∷ [])
-stepped_more format workers world [] entry had may = (may, tt)
-stepped_more format workers world (first ∷ entries) entry had may =
-    (had.0, stepped_more format workers (step format world first.actor first.event).0 entries entry had.1 may)
+-- a run, and one that goes on from the world behind it
+pub runs_append : (format : Format) (workers : ℕ) (world : World) (entries more : List Entry) → RunsFrom format workers world entries
+    → RunsFrom format workers (world_after format world entries) more → RunsFrom format workers world (entries ++ more)
+runs_append format workers world [] more run rest = rest
+runs_append format workers world (entry ∷ entries) more run rest =
+    (run.0, run.1, runs_append format workers (step format world entry.actor entry.event).0 entries more run.2 rest)
+
+-- steps, and more from the world behind them
+pub stepped_append : (format : Format) (workers : ℕ) (world : World) (entries more : List Entry) → HaveStepped format workers world entries
+    → HaveStepped format workers (world_after format world entries) more → HaveStepped format workers world (entries ++ more)
+stepped_append format workers world [] more had rest = rest
+stepped_append format workers world (entry ∷ entries) more had rest =
+    (had.0, stepped_append format workers (step format world entry.actor entry.event).0 entries more had.1 rest)
+
+goes_on_append : (actor : Actor) (entries more : List Entry) → GoesOnWith actor entries → GoesOnWith actor (entries ++ more)
+goes_on_append actor [] more goes = absurd goes
+goes_on_append actor (entry ∷ entries) more goes = goes
+
+-- batches that are whole, and more that are
+pub unbroken_append : (entries more : List Entry) → IsUnbroken entries → IsUnbroken more → IsUnbroken (entries ++ more)
+unbroken_append [] more whole rest = rest
+unbroken_append (entry ∷ entries) more whole rest =
+    (λ h. goes_on_append entry.actor entries more (whole.0 h), unbroken_append entries more whole.1 rest)
 
 -- the step at a place
 pub stepped_at : (format : Format) (workers : ℕ) (world : World) (entries : List Entry) (k : ℕ) (d : Entry) → HaveStepped format workers world entries
@@ -35,97 +52,70 @@ stepped_at format workers world (entry ∷ entries) zero d had below = had.0
 stepped_at format workers world (entry ∷ entries) (suc k) d had below =
     stepped_at format workers (step format world entry.actor entry.event).0 entries k d had.1 (omega arith)
 
--- an event that is built is no accept or close
-pub built_alone : (event : Event) → is_built event ≡ true → is_batched event ≡ false
-built_alone Connect built = refl
-built_alone Disconnect built = refl
-built_alone (Response response) built = refl
-built_alone (Health cluster host healthy) built = refl
-built_alone (FetchTimeout timeout) built = refl
-built_alone (DrainTimeout listener) built = refl
-built_alone (TtlExpired kind name) built = refl
-built_alone Publish built = refl
-built_alone Reap built = refl
-built_alone (Accept ask) built = cc
-built_alone (Close connection) built = cc
-built_alone Settle built = refl
-
-pub all_alone : (format : Format) (workers : ℕ) (world : World) (entries : List Entry) → HaveStepped format workers world entries
-    → AllByRecursion (λ (entry : Entry). is_batched entry.event ≡ false) entries
-all_alone format workers world [] had = tt
-all_alone format workers world (entry ∷ entries) had =
-    (built_alone entry.event had.0.built, all_alone format workers (step format world entry.actor entry.event).0 entries had.1)
-
--- the workers are those that the machine began with
-pub may_make : (format : Format) (workers : ℕ) (node : List ℕ) (entries : List Entry) (state : State) (actor : Actor) (event : Event)
-    → IsAt state (world_after format (opening workers node) entries) → MayMake workers actor event → MayMake (length state.held) actor event
-may_make format workers node entries state actor event at may =
-    let count : length state.held ≡ workers = ap length at.follows.held ∙ held_after format (opening workers node) entries ∙ length-replicate workers 0 in
-    subst (λ n. MayMake n actor event) (sym count) may
-
 -- nothing was done yet
-pub begins : (format : Format) (workers : ℕ) (node other : List ℕ) (state : State) (items : List Entry) → items ≡ [] → other ≡ node → IsAt state (opening workers node)
-    → StandsFor false state (record { format = format; workers = workers; node = other; journal = items })
-begins format workers node other state items none same at =
-    subst (λ (js : List Entry). StandsFor false state (record { format = format; workers = workers; node = other; journal = js })) (sym none)
-    (subst (λ (n : List ℕ). StandsFor false state (record { format = format; workers = workers; node = n; journal = [] })) (sym same)
+pub begins : (format : Format) (workers : ℕ) (node other : List ℕ) (proxy : Proxy) (items : List Entry) → items ≡ [] → other ≡ node → IsAt proxy (opening workers node)
+    → StandsFor false proxy (record { format = format; workers = workers; node = other; journal = items })
+begins format workers node other proxy items none same at =
+    subst (λ (js : List Entry). StandsFor false proxy (record { format = format; workers = workers; node = other; journal = js })) (sym none)
+    (subst (λ (n : List ℕ). StandsFor false proxy (record { format = format; workers = workers; node = n; journal = [] })) (sym same)
     (record { run = record { answers = tt; batches = tt }; stepped = tt; at = λ here. at }))
 
 -- what is known was lost
-pub loses : (state : State) (registry : RegistryParts) → IsRun registry.format registry.workers registry.node registry.journal
-    → HaveStepped registry.format registry.workers (opening registry.workers registry.node) registry.journal
-    → StandsFor true state registry
-loses state registry run stepped = record { run = run; stepped = stepped; at = λ here. absurd (cc here) }
+pub loses : (proxy : Proxy) (parts : JournalParts) → IsRun parts.format parts.workers parts.node parts.journal
+    → HaveStepped parts.format parts.workers (opening parts.workers parts.node) parts.journal
+    → StandsFor true proxy parts
+loses proxy parts run stepped = record { run = run; stepped = stepped; at = λ here. absurd (cc here) }
 
--- one step more
-pub goes_on : (state : State) (registry : RegistryParts) (entry : Entry) → IsRun registry.format registry.workers registry.node registry.journal
-    → HaveStepped registry.format registry.workers (opening registry.workers registry.node) registry.journal
-    → MayStep registry.workers (world_now registry) entry
-    → entry.answer ≡ (step registry.format (world_now registry) entry.actor entry.event).1
-    → IsAt state (step registry.format (world_now registry) entry.actor entry.event).0
-    → StandsFor false state (record registry { journal = registry.journal ++ entry ∷ [] })
-goes_on state registry entry run stepped may answered at =
-    let begun : World = opening registry.workers registry.node in
+-- more entries behind, at whose world what is known is
+pub goes_on : (proxy : Proxy) (parts : JournalParts) (more : List Entry) → IsRun parts.format parts.workers parts.node parts.journal
+    → HaveStepped parts.format parts.workers (opening parts.workers parts.node) parts.journal
+    → RunsFrom parts.format parts.workers (world_now parts) more → IsUnbroken more → HaveStepped parts.format parts.workers (world_now parts) more
+    → IsAt proxy (world_after parts.format (world_now parts) more)
+    → StandsFor false proxy (with_entries more parts)
+goes_on proxy parts more run stepped runs whole steps at =
+    let begun : World = opening parts.workers parts.node in
     record {
       run = record {
-        answers = RunsFrom-more registry.format registry.workers begun registry.journal entry run.answers may.allowed answered;
-        batches = IsUnbroken-more registry.journal entry (all_alone registry.format registry.workers begun registry.journal stepped) (built_alone entry.event may.built);
+        answers = runs_append parts.format parts.workers begun parts.journal more run.answers runs;
+        batches = unbroken_append parts.journal more run.batches whole;
       };
-      stepped = stepped_more registry.format registry.workers begun registry.journal entry stepped may;
-      at = λ here. subst (IsAt state) (sym (world_after-more registry.format begun registry.journal entry)) at;
+      stepped = stepped_append parts.format parts.workers begun parts.journal more stepped steps;
+      at = λ here. subst (IsAt proxy) (sym (after_append parts.format begun parts.journal more)) at;
     }
 
--- an event that was made on what is known, and its entry
-pub enters : (state : State) (registry now : RegistryParts) (given pushed : List Entry) (entry : Entry) (actor : Actor) (at step_number : ℕ) (event : Event) (answer : Answer)
-    → IsRun registry.format registry.workers registry.node registry.journal
-    → HaveStepped registry.format registry.workers (opening registry.workers registry.node) registry.journal
-    → registry ≡ now → given ≡ registry.journal → pushed ≡ registry.journal ++ entry ∷ []
-    → entry ≡ record { actor = actor; at = at; step = step_number; event = event; answer = answer }
-    → MayMake now.workers actor event → is_built event ≡ true → (world_now now).made + items_in event ≤ 4294967295
-    → answer ≡ (step registry.format (world_after registry.format (opening registry.workers registry.node) given) actor event).1
-    → IsAt state (step registry.format (world_after registry.format (opening registry.workers registry.node) given) actor event).0
-    → StandsFor false state (record registry { journal = pushed })
-enters state registry now given pushed entry actor at step_number event answer run stepped view same pushes is allowed built room answered led =
-    let here : List Entry → World = λ entries. world_after registry.format (opening registry.workers registry.node) entries in
-    let made : Entry = record { actor = actor; at = at; step = step_number; event = event; answer = answer } in
-    let enough : (world_now registry).made + items_in event ≤ 4294967295 =
-    subst (λ (r : RegistryParts). (world_now r).made + items_in event ≤ 4294967295) (sym view) room in
-    let may : MayStep registry.workers (world_now registry) made =
-    record { allowed = subst (λ (r : RegistryParts). MayMake r.workers actor event) (sym view) allowed; built = built; room = omega (arith, enough) } in
-    let whole : StandsFor false state (record registry { journal = registry.journal ++ made ∷ [] }) =
-    goes_on state registry made run stepped may
-    (subst (λ (es : List Entry). answer ≡ (step registry.format (here es) actor event).1) same answered)
-    (subst (λ (es : List Entry). IsAt state (step registry.format (here es) actor event).0) same led) in
-    subst (λ (es : List Entry). StandsFor false state (record registry { journal = es })) (sym pushes)
-    (subst (λ (e : Entry). StandsFor false state (record registry { journal = registry.journal ++ e ∷ [] })) (sym is) whole)
+-- an event of the main side that was made on what is known, and its entry
+pub enters : (proxy : Proxy) (parts now : JournalParts) (given pushed : List Entry) (entry : Entry) (actor : Actor) (at n : ℕ) (event : Event) (answer : Answer)
+    → IsRun parts.format parts.workers parts.node parts.journal
+    → HaveStepped parts.format parts.workers (opening parts.workers parts.node) parts.journal
+    → parts ≡ now → given ≡ parts.journal → pushed ≡ parts.journal ++ entry ∷ []
+    → entry ≡ record { actor = actor; at = at; step = n; event = event; answer = answer }
+    → IsMainSide actor → MayMake now.workers actor event → (world_now now).made + items_in event ≤ 4294967295
+    → answer ≡ (step parts.format (world_after parts.format (opening parts.workers parts.node) given) actor event).1
+    → IsAt proxy (step parts.format (world_after parts.format (opening parts.workers parts.node) given) actor event).0
+    → StandsFor false proxy (record parts { journal = pushed })
+enters proxy parts now given pushed entry actor at n event answer run stepped view same pushes is main allowed room answered led =
+    let here : List Entry → World = λ entries. world_after parts.format (opening parts.workers parts.node) entries in
+    let made : Entry = record { actor = actor; at = at; step = n; event = event; answer = answer } in
+    let enough : (world_now parts).made + items_in event ≤ 4294967295 =
+    subst (λ (p : JournalParts). (world_now p).made + items_in event ≤ 4294967295) (sym view) room in
+    let may : MayMake parts.workers actor event = subst (λ (p : JournalParts). MayMake p.workers actor event) (sym view) allowed in
+    let alone : is_batched event ≡ false = working_alone event (main_works parts.workers actor event main may) in
+    let whole : StandsFor false proxy (with_entries (made ∷ []) parts) =
+    goes_on proxy parts (made ∷ []) run stepped
+    (may, subst (λ (es : List Entry). answer ≡ (step parts.format (here es) actor event).1) same answered, tt)
+    (λ h. absurd (both_ways (is_batched event) alone h), tt)
+    (record { allowed = may; room = omega (arith, enough) }, tt)
+    (subst (λ (es : List Entry). IsAt proxy (step parts.format (here es) actor event).0) same led) in
+    subst (λ (es : List Entry). StandsFor false proxy (record parts { journal = es })) (sym pushes)
+    (subst (λ (e : Entry). StandsFor false proxy (record parts { journal = parts.journal ++ e ∷ [] })) (sym is) whole)
 
 -- it drew at most one number for each of its resources
-pub draws : (registry now : RegistryParts) (pushed : List Entry) (entry : Entry) (event : Event) → registry ≡ now → pushed ≡ registry.journal ++ entry ∷ []
+pub draws : (parts now : JournalParts) (pushed : List Entry) (entry : Entry) (event : Event) → parts ≡ now → pushed ≡ parts.journal ++ entry ∷ []
     → items_in entry.event ≡ items_in event
-    → (world_after registry.format (opening registry.workers registry.node) pushed).made ≤ (world_now now).made + items_in event
-draws registry now pushed entry event view pushes same =
-    let begun : World = opening registry.workers registry.node in
-    subst (λ (es : List Entry). (world_after registry.format begun es).made ≤ (world_now now).made + items_in event) (sym pushes)
-    (subst (λ (r : RegistryParts). (world_after registry.format begun (registry.journal ++ entry ∷ [])).made ≤ (world_now r).made + items_in event) view
-    (subst (λ n. (world_after registry.format begun (registry.journal ++ entry ∷ [])).made ≤ (world_now registry).made + n) same
-    (entry_made registry.format begun registry.journal entry)))
+    → (world_after parts.format (opening parts.workers parts.node) pushed).made ≤ (world_now now).made + items_in event
+draws parts now pushed entry event view pushes same =
+    let begun : World = opening parts.workers parts.node in
+    subst (λ (es : List Entry). (world_after parts.format begun es).made ≤ (world_now now).made + items_in event) (sym pushes)
+    (subst (λ (p : JournalParts). (world_after parts.format begun (parts.journal ++ entry ∷ [])).made ≤ (world_now p).made + items_in event) view
+    (subst (λ n. (world_after parts.format begun (parts.journal ++ entry ∷ [])).made ≤ (world_now parts).made + n) same
+    (entry_made parts.format begun parts.journal entry)))

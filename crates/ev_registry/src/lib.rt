@@ -1,6 +1,8 @@
-//! The registry: what is known, and the journal of what was done. Each call is one step of the flat machine.
+//! The registry: what is known, and the journal of what was done. Each entry is one step of the flat machine.
 #![tactic(auto)]
 
+mod batches;
 mod journal;
+mod steps;
 
 pub use journal::Registry;

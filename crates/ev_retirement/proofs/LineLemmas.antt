@@ -12,7 +12,7 @@ use Rattle.ev_model.specs.Choice.{choice_of}
 use Rattle.ev_model.specs.Dead.{picture_held}
 use Rattle.ev_model.specs.Step.{step}
 use Rattle.ev_model.specs.Runs.{world_after}
-use Rattle.ev_model.specs.Connections.{accepted, cluster_numbered, host_at, host_in, is_open, members_of}
+use Rattle.ev_model.specs.Connections.{accept, accepted, close, closed, cluster_numbered, host_at, host_in, is_open, members_of}
 use Rattle.ev_model.specs.declared.pictures.Picture.{Picture}
 use Rattle.ev_model.specs.declared.pictures.ServedCluster.{ServedCluster}
 use Rattle.ev_model.specs.declared.pictures.Choice.{Choice}
@@ -23,6 +23,7 @@ use Rattle.ev_worker.specs.Batches.{accepted_as, entries_of}
 use Rattle.ev_worker.specs.Members.{chosen_on, on_of}
 use Rattle.ev_worker.specs.Workers.{AreAnswered, IsAnswer}
 use Rattle.ev_worker.specs.declared.lines.Outcome.{Outcome}
+use Rattle.ev_worker.specs.declared.lines.Outcome.TheVariants.{Accepted as by_accept}
 use Rattle.ev_worker.specs.declared.lines.BatchLine.{BatchLine}
 use Rattle.ev_retirement.specs.Holders.{HoldersParts, StandsFor}
 use Rattle.ev_retirement.specs.Lines.{accept_leaves, event_leaves, lines_leave, opened_on}
@@ -97,6 +98,31 @@ event_stands format worker holders ledger world (TtlExpired kind name) outcome s
 event_stands format worker holders ledger world Publish outcome stands is has = absurd is
 event_stands format worker holders ledger world Reap outcome stands is has = absurd is
 event_stands format worker holders ledger world Settle outcome stands is has = absurd is
+
+-- a world with other connections
+opened_stands : (holders : HoldersParts) (ledger opened : List OpenMember) (world : World) → StandsFor holders world → HasOpened ledger opened
+    → StandsFor (record holders { ledger = ledger }) (record world { opened = opened })
+opened_stands holders ledger opened world stands has = record {
+  pictures = record { published = stands.pictures.published; last = stands.pictures.last; held = stands.pictures.held; known = stands.pictures.known };
+  opened = has;
+  retired = stands.retired;
+  marked = stands.marked;
+}
+
+-- an accept that is made once more, by how the machine answers it
+pub accept_stands : (ask : Ask) (worker : ℕ) (holders : HoldersParts) (ledger : List OpenMember) (world : World) → StandsFor holders world
+    → HasOpened ledger (accept_leaves worker ask.conn (by_accept (accepted_as (picture_held world worker) ask (is_open world.opened worker ask.conn))) world.opened)
+    → StandsFor (record holders { ledger = ledger }) (accept ask worker world).0
+accept_stands ask worker holders ledger world stands has =
+    let opens : (accepted (picture_held world worker) ask worker world.opened).opened
+    ≡ accept_leaves worker ask.conn (by_accept (accepted_as (picture_held world worker) ask (is_open world.opened worker ask.conn))) world.opened =
+    accept_opens (picture_held world worker) ask worker world.opened in
+    opened_stands holders ledger (accepted (picture_held world worker) ask worker world.opened).opened world stands (has ∙ ap in_order (sym opens))
+
+-- a close that is made once more
+pub close_stands : (connection worker : ℕ) (holders : HoldersParts) (ledger : List OpenMember) (world : World) → StandsFor holders world
+    → HasOpened ledger (closed connection worker world.opened).opened → StandsFor (record holders { ledger = ledger }) (close connection worker world).0
+close_stands connection worker holders ledger world stands has = opened_stands holders ledger (closed connection worker world.opened).opened world stands has
 
 -- a whole batch
 pub lines_stand : (format : Format) (worker : ℕ) (picture : Picture) (lines : List BatchLine) (holders : HoldersParts) (ledger : List OpenMember) (world : World)

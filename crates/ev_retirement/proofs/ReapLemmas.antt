@@ -122,12 +122,18 @@ all_so : (P Q : GenRow → Type 0) → ((z : GenRow) → P z → Q z) → (rows 
 all_so P Q so [] all = tt
 all_so P Q so (row ∷ rows) all = (so row all.0, all_so P Q so rows all.1)
 
-pub all_taken : (format : Format) (world : World) → AreNumbered world.rows → without_generations (dead_numbers format world) world ≡ without_dead format world
-all_taken format world apart =
+-- a row's number is among the dead ones exactly where the row is dead
+pub dead_own : (format : Format) (world : World) → AreNumbered world.rows
+    → AllByRecursion (λ (z : GenRow). has_number z.number (dead_numbers format world) ≡ is_dead format world z) world.rows
+dead_own format world apart =
     let dead : GenRow → Bool = is_dead format world in
     let numbers : List ℕ = dead_numbers format world in
-    ap (λ (rows : List GenRow). record world { rows = rows; expired = filter (λ n. not (has_number n numbers)) world.expired })
-    (same_left numbers dead world.rows
-    (all_so (λ (z : GenRow). among dead world.rows z.number ≡ dead z) (λ (z : GenRow). has_number z.number numbers ≡ dead z)
+    all_so (λ (z : GenRow). among dead world.rows z.number ≡ dead z) (λ (z : GenRow). has_number z.number numbers ≡ dead z)
     (λ z is. any_sorted nat_le (λ n. n == z.number) (map (λ (r : GenRow). r.number) (filter dead world.rows)) ∙ any_mapped (filter dead world.rows) z.number ∙ is)
-    world.rows (own dead world.rows apart)))
+    world.rows (own dead world.rows apart)
+
+pub all_taken : (format : Format) (world : World) → AreNumbered world.rows → without_generations (dead_numbers format world) world ≡ without_dead format world
+all_taken format world apart =
+    let numbers : List ℕ = dead_numbers format world in
+    ap (λ (rows : List GenRow). record world { rows = rows; expired = filter (λ n. not (has_number n numbers)) world.expired })
+    (same_left numbers (is_dead format world) world.rows (dead_own format world apart))

@@ -15,7 +15,7 @@ use Rattle.ev_model.specs.World.{World, OpenMember}
 use Rattle.ev_model.specs.declared.pictures.Shown.{Shown}
 use Rattle.ev_pictures.specs.Pictures.{StandsFor as HasPictures}
 use Rattle.ev_ledger.specs.Members.{StandsFor as HasOpened}
-use Rattle.ev_generations.specs.Tables.{is_number, row_in}
+use Rattle.ev_generations.specs.Tables.{row_in}
 use Rattle.ev_drain.specs.Retired.{Retired, comes_before, has_row, is_numbered, is_retired, newly_retired, retired_in, retired_of, retired_status, StandsFor}
 use Rattle.ev_retirement.specs.Holders.{HoldersParts, AreNumbered, StandsFor as Stand}
 use Rattle.ev_retirement.specs.Retiring.{is_dropped, is_over, noted, noted_where, noted_all, HaveCeased, HoldTheSame}

@@ -7,7 +7,7 @@ ghost use Rattle.ev_model.specs.World.{World, opening};
 ghost use Rattle.ev_model.specs.Picture.{shown_of};
 ghost use Rattle.ev_model.specs.Publishing.{publish, dead_numbers, without_dead};
 ghost use Rattle.ev_model.specs.Signals.{drain_timeout};
-ghost use Rattle.ev_model.specs.Connections.{settle};
+ghost use Rattle.ev_model.specs.Connections.{accept, close, settle};
 ghost use Rattle.ev_pictures.specs.Pictures.{published_answer};
 ghost use Rattle.ev_drain.specs.Retired.{has_row};
 ghost use Rattle.ev_types.specs.declared.journals.Format.{Format};
@@ -20,14 +20,14 @@ ghost use Rattle.ev_retirement.specs.Holders.{AreNumbered, StandsFor, timed_out,
 
 use crate::closing::{close_all, numbers_closing};
 use crate::in_use::InUse;
-use crate::lines::take_lines;
+use crate::lines::{answer_accept, take_accept, take_lines};
 use crate::retiring::is_dropped;
 use ev_drain::Drain;
 use ev_ledger::Ledger;
 use ev_model::Shown;
 use ev_pictures::Pictures;
 use ev_snapshot::Snapshot;
-use ev_types::{Format, Gen, GenRow, Kind, Name, Seq};
+use ev_types::{Ask, Format, Gen, GenRow, Kind, Name, Seq};
 use ev_worker::{Batch, Settled};
 use std::alloc::{AllocError, Global};
 use std::marker::Model;
@@ -180,6 +180,25 @@ impl Holders {
         ensures world { OnOk result ((format : Format) (world : World) (picture : Picture) → StandsFor self.old world → AreAnswered format batch.now.worker world batch.now.lines → StandsFor self.new (world_after format world (entries_of batch.now.worker picture batch.now.lines))) }
     {
         take_lines(&mut self.ledger, batch.worker(), batch.lines())
+    }
+
+    /// A worker accepts a connection, by the snapshot that it holds here: for an event that is made once more out of a journal.
+    /// Where it has one of this number open, nothing is done. Out of memory, all stays as it was.
+    pub fn accept(&mut self, worker: u32, ask: &Ask) -> Result<(), AllocError>
+        requires known { worker < length self.old.pictures.held }
+        ensures world { OnOk result ((world : World) → StandsFor self.old world → StandsFor self.new (accept ask.now worker world).0) }
+        ensures err { OnErr result (self.new ≡ self.old) }
+    {
+        let outcome = answer_accept(&self.pictures, &self.ledger, worker, ask);
+        take_accept(&mut self.ledger, worker, ask.conn, &outcome)
+    }
+
+    /// A worker closes a connection: for an event that is made once more out of a journal. Where it isn't open there, nothing is
+    /// done. It takes no memory.
+    pub fn close(&mut self, worker: u32, conn: u64)
+        ensures world { (world : World) → StandsFor self.old world → StandsFor self.new (close conn worker world).0 }
+    {
+        self.ledger.close(worker, conn);
     }
 
     /// Whether a generation was retired, and not removed since.

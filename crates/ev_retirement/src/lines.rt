@@ -1,15 +1,19 @@
-ghost use Rattle.std.specs.Prelude.{◌≡◌, List, IfOk, OnOk};
-ghost use Rattle.ev_model.specs.World.{OpenMember};
-ghost use Rattle.ev_model.specs.Connections.{answer_of, served_by};
+ghost use Rattle.std.specs.Prelude.{◌≡◌, ◌<◌, length, List, IfOk, OnOk, OnErr};
+ghost use Rattle.ev_model.specs.World.{OpenMember, World};
+ghost use Rattle.ev_model.specs.Connections.{answer_of, is_open, served_by};
+ghost use Rattle.ev_model.specs.Dead.{picture_held};
+ghost use Rattle.ev_pictures.specs.Pictures.{StandsFor as HasPictures};
 ghost use Rattle.ev_snapshot.specs.Chosen.{host_of};
 ghost use Rattle.ev_ledger.specs.Members.{StandsFor as HasOpened};
-ghost use Rattle.ev_worker.specs.Batches.{outcome_answer, accepted_answer, closed_answer};
+ghost use Rattle.ev_worker.specs.Batches.{outcome_answer, accepted_answer, accepted_as, closed_answer};
+ghost use Rattle.ev_worker.specs.declared.lines.Outcome.TheVariants.{Accepted as by_accept};
 ghost use Rattle.ev_retirement.specs.Lines.{accept_leaves, event_leaves, lines_leave, opened_on};
 
 use ev_ledger::Ledger;
 use ev_model::Choice;
+use ev_pictures::Pictures;
 use ev_snapshot::Snapshot;
-use ev_types::{Answer, Event, Gen, TryCopy};
+use ev_types::{Answer, Ask, Event, Gen, TryCopy};
 use ev_worker::{Accepted, BatchLine, Closed, Outcome, on_of};
 use std::alloc::{AllocError, Global};
 
@@ -41,14 +45,26 @@ fn take_line(ledger: &mut Ledger, worker: u32, line: &BatchLine) -> Result<(), A
     }
 }
 
-// Opens what an accept opened.
-fn take_accept(
+/// How the machine answers a worker's accept, by the snapshot that the worker holds and by its connections that are open.
+pub(crate) fn answer_accept(pictures: &Pictures, ledger: &Ledger, worker: u32, ask: &Ask) -> Outcome
+    requires known { worker < length pictures.now.held }
+    ensures { (world : World) → HasPictures pictures.now world → HasOpened ledger.now world.opened → result ≡ by_accept (accepted_as (picture_held world worker) ask.now (is_open world.opened worker ask.now.conn)) }
+{
+    if ledger.is_open(worker, ask.conn) {
+        return Outcome::Accepted(Accepted::InUse);
+    }
+    Outcome::Accepted(Accepted::Chosen(pictures.choose(worker, ask)))
+}
+
+/// Opens what an accept opened. Out of memory, all stays as it was.
+pub(crate) fn take_accept(
     ledger: &mut Ledger,
     worker: u32,
     conn: u64,
     outcome: &Outcome,
 ) -> Result<(), AllocError>
-    ensures { OnOk result ((opened : List OpenMember) → HasOpened ledger.old opened → HasOpened ledger.new (accept_leaves worker conn outcome.now opened)) }
+    ensures opened { OnOk result ((opened : List OpenMember) → HasOpened ledger.old opened → HasOpened ledger.new (accept_leaves worker conn outcome.now opened)) }
+    ensures err { OnErr result (ledger.new ≡ ledger.old) }
 {
     match outcome {
         Outcome::Accepted(accepted) => open_on(ledger, worker, conn, on_of(accepted)),
@@ -63,7 +79,8 @@ fn open_on(
     conn: u64,
     on: Option<(Gen, Option<Gen>)>,
 ) -> Result<(), AllocError>
-    ensures { OnOk result ((opened : List OpenMember) → HasOpened ledger.old opened → HasOpened ledger.new (opened_on worker conn on opened)) }
+    ensures opened { OnOk result ((opened : List OpenMember) → HasOpened ledger.old opened → HasOpened ledger.new (opened_on worker conn on opened)) }
+    ensures err { OnErr result (ledger.new ≡ ledger.old) }
 {
     let Some(on) = on else {
         return Ok(());

@@ -11,3 +11,7 @@ pub mod StepLemmas
 pub mod RestLemmas
 pub mod TakeLemmas
 pub mod SignalLemmas
+pub mod FindLemmas
+pub mod CeaseLemmas
+pub mod GoneLemmas
+pub mod FrameLemmas

@@ -38,11 +38,11 @@ use Rattle.ev_state.proofs.AgeLemmas.{later-kind, later-promoted, found-later}
 use Rattle.ev_state.proofs.ChangeLemmas.{names-begun, names-ended}
 
 -- the managers' rows are the world's
-clusters_are : (m : Managers) (world : World) → AreKept m → StandFor m world → m.clusters.state.table.rows ≡ rows_of_kind Cds world.rows
-clusters_are m world kept stand = stand.clusters.rows ∙ ap (λ k. rows_of_kind k world.rows) kept.clusters.clusters
+pub clusters-are : (m : Managers) (world : World) → AreKept m → StandFor m world → m.clusters.state.table.rows ≡ rows_of_kind Cds world.rows
+clusters-are m world kept stand = stand.clusters.rows ∙ ap (λ k. rows_of_kind k world.rows) kept.clusters.clusters
 
-listeners_are : (m : Managers) (world : World) → AreKept m → StandFor m world → m.listeners.state.table.rows ≡ rows_of_kind Lds world.rows
-listeners_are m world kept stand = stand.listeners.part.rows ∙ ap (λ k. rows_of_kind k world.rows) kept.listeners.listeners
+pub listeners-are : (m : Managers) (world : World) → AreKept m → StandFor m world → m.listeners.state.table.rows ≡ rows_of_kind Lds world.rows
+listeners-are m world kept stand = stand.listeners.part.rows ∙ ap (λ k. rows_of_kind k world.rows) kept.listeners.listeners
 
 -- none retired where the rows are the same
 pub none-have : (retired : Retired) (before world : World) → retired ≡ record { clusters = []; listeners = [] } → world.rows ≡ before.rows → HaveRetired retired before world
@@ -55,8 +55,8 @@ none-have retired before world none same = record {
 pub told-have : (retired : Retired) (m after : Managers) (before world : World) → AreKept m → AreKept after → StandFor m before → StandFor after world
     → AreRetired retired m after → HaveRetired retired before world
 told-have retired m after before world kept kept_after stand stand_after are = record {
-  clusters = λ n. are.clusters n ∙ (λ i. has_retired n (clusters_are m before kept stand i) (clusters_are after world kept_after stand_after i));
-  listeners = λ n. are.listeners n ∙ (λ i. has_retired n (listeners_are m before kept stand i) (listeners_are after world kept_after stand_after i));
+  clusters = λ n. are.clusters n ∙ (λ i. has_retired n (clusters-are m before kept stand i) (clusters-are after world kept_after stand_after i));
+  listeners = λ n. are.listeners n ∙ (λ i. has_retired n (listeners-are m before kept stand i) (listeners-are after world kept_after stand_after i));
 }
 
 -- a generation that is over stays so
@@ -122,9 +122,9 @@ pub promoted-have : (retired more : Retired) (m after : Managers) (before world 
     → AreDrained retired more m after → AreLater before.made before.rows world.rows → HaveRetired retired before world → HaveRetired more before (promoted world)
 promoted-have retired more m after before world kept kept_after stand stand_after drained later have = record {
   clusters = promoted_more Cds retired.clusters more.clusters before.made m.clusters.state.table.rows after.clusters.state.table.rows before world later
-      (clusters_are m world kept stand) (clusters_are after (promoted world) kept_after stand_after) have.clusters drained.clusters;
+      (clusters-are m world kept stand) (clusters-are after (promoted world) kept_after stand_after) have.clusters drained.clusters;
   listeners = promoted_more Lds retired.listeners more.listeners before.made m.listeners.state.table.rows after.listeners.state.table.rows before world later
-      (listeners_are m world kept stand) (listeners_are after (promoted world) kept_after stand_after) have.listeners drained.listeners;
+      (listeners-are m world kept stand) (listeners-are after (promoted world) kept_after stand_after) have.listeners drained.listeners;
 }
 
 -- the rows of a kind are a table

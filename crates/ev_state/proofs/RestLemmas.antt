@@ -18,10 +18,6 @@ use Rattle.ev_targets.specs.Targets.{TargetsParts, StandsFor as HasTargets}
 
 -- the rest of the worlds is the same
 pub record SameRest (before after : World) : Type 0 where
-  pub pictures : after.pictures ≡ before.pictures
-  pub held : after.held ≡ before.held
-  pub opened : after.opened ≡ before.opened
-  pub expired : after.expired ≡ before.expired
   pub first_clusters : after.first_clusters ≡ before.first_clusters
   pub first_listeners : after.first_listeners ≡ before.first_listeners
   pub late_clusters : after.late_clusters ≡ before.late_clusters
@@ -29,14 +25,10 @@ pub record SameRest (before after : World) : Type 0 where
   pub phase : after.phase ≡ before.phase
 
 rest_itself : (world : World) → SameRest world world
-rest_itself world = record { pictures = refl; held = refl; opened = refl; expired = refl; first_clusters = refl; first_listeners = refl; late_clusters = refl; late_listeners = refl; phase = refl }
+rest_itself world = record { first_clusters = refl; first_listeners = refl; late_clusters = refl; late_listeners = refl; phase = refl }
 
 rest_then : (a b c : World) → SameRest a b → SameRest b c → SameRest a c
 rest_then a b c p q = record {
-  pictures = q.pictures ∙ p.pictures;
-  held = q.held ∙ p.held;
-  opened = q.opened ∙ p.opened;
-  expired = q.expired ∙ p.expired;
   first_clusters = q.first_clusters ∙ p.first_clusters;
   first_listeners = q.first_listeners ∙ p.first_listeners;
   late_clusters = q.late_clusters ∙ p.late_clusters;
@@ -57,24 +49,24 @@ told_rest false more world same = rest_itself world
 refused_rest : (kind : Kind) (name : List ℕ) (world : World) → SameRest world (refuse kind name world)
 refused_rest Cds name world = rest_itself world
 refused_rest Eds name world = told_rest (is_watched (lives_of world) Eds name) _ world
-    (record { pictures = refl; held = refl; opened = refl; expired = refl; first_clusters = refl; first_listeners = refl; late_clusters = refl; late_listeners = refl; phase = refl })
+    (record { first_clusters = refl; first_listeners = refl; late_clusters = refl; late_listeners = refl; phase = refl })
 refused_rest Lds name world = rest_itself world
 refused_rest Rds name world = told_rest (is_watched (lives_of world) Rds name) _ world
-    (record { pictures = refl; held = refl; opened = refl; expired = refl; first_clusters = refl; first_listeners = refl; late_clusters = refl; late_listeners = refl; phase = refl })
+    (record { first_clusters = refl; first_listeners = refl; late_clusters = refl; late_listeners = refl; phase = refl })
 
 item_rest : (kind : Kind) (verdict : Verdict) (item : ItemParts) (world : World) → SameRest world (add_item kind verdict item world)
 item_rest kind New item world = content_rest (add_row kind item)
-    (λ content world. record { pictures = refl; held = refl; opened = refl; expired = refl; first_clusters = refl; first_listeners = refl; late_clusters = refl; late_listeners = refl; phase = refl })
+    (λ content world. record { first_clusters = refl; first_listeners = refl; late_clusters = refl; late_listeners = refl; phase = refl })
     item.body world
 item_rest kind Same item world = content_rest (λ content. keep_version kind item)
-    (λ content world. record { pictures = refl; held = refl; opened = refl; expired = refl; first_clusters = refl; first_listeners = refl; late_clusters = refl; late_listeners = refl; phase = refl })
+    (λ content world. record { first_clusters = refl; first_listeners = refl; late_clusters = refl; late_listeners = refl; phase = refl })
     item.body world
 item_rest kind Kept item world = content_rest (keep_value kind item)
-    (λ content world. record { pictures = refl; held = refl; opened = refl; expired = refl; first_clusters = refl; first_listeners = refl; late_clusters = refl; late_listeners = refl; phase = refl })
+    (λ content world. record { first_clusters = refl; first_listeners = refl; late_clusters = refl; late_listeners = refl; phase = refl })
     item.body world
 item_rest kind Unasked item world = rest_itself world
 item_rest kind Renewed item world =
-    record { pictures = refl; held = refl; opened = refl; expired = refl; first_clusters = refl; first_listeners = refl; late_clusters = refl; late_listeners = refl; phase = refl }
+    record { first_clusters = refl; first_listeners = refl; late_clusters = refl; late_listeners = refl; phase = refl }
 item_rest kind (Refused rule) item world = refused_rest kind item.name world
 
 items_rest : (kind : Kind) (judged : List (Verdict × ItemParts)) (world : World)
@@ -84,10 +76,10 @@ items_rest kind (one ∷ judged) world =
     rest_then world (add_item kind one.0 one.1 world) _ (item_rest kind one.0 one.1 world) (items_rest kind judged (add_item kind one.0 one.1 world))
 
 removals_rest : (kind : Kind) (response : ResponseParts) (world : World) → SameRest world (with_removals kind response world)
-removals_rest Cds response world = record { pictures = refl; held = refl; opened = refl; expired = refl; first_clusters = refl; first_listeners = refl; late_clusters = refl; late_listeners = refl; phase = refl }
-removals_rest Eds response world = record { pictures = refl; held = refl; opened = refl; expired = refl; first_clusters = refl; first_listeners = refl; late_clusters = refl; late_listeners = refl; phase = refl }
-removals_rest Lds response world = record { pictures = refl; held = refl; opened = refl; expired = refl; first_clusters = refl; first_listeners = refl; late_clusters = refl; late_listeners = refl; phase = refl }
-removals_rest Rds response world = record { pictures = refl; held = refl; opened = refl; expired = refl; first_clusters = refl; first_listeners = refl; late_clusters = refl; late_listeners = refl; phase = refl }
+removals_rest Cds response world = record { first_clusters = refl; first_listeners = refl; late_clusters = refl; late_listeners = refl; phase = refl }
+removals_rest Eds response world = record { first_clusters = refl; first_listeners = refl; late_clusters = refl; late_listeners = refl; phase = refl }
+removals_rest Lds response world = record { first_clusters = refl; first_listeners = refl; late_clusters = refl; late_listeners = refl; phase = refl }
+removals_rest Rds response world = record { first_clusters = refl; first_listeners = refl; late_clusters = refl; late_listeners = refl; phase = refl }
 
 pub response_rest : (kind : Kind) (response : ResponseParts) (verdicts : List Verdict) (world : World)
     → SameRest world (add_items kind verdicts response.items (with_removals kind response world))
@@ -110,14 +102,10 @@ pub record FirstLeaves (world after : World) : Type 0 where
   pub versions : after.versions ≡ world.versions
   pub node : after.node ≡ world.node
   pub stream : after.stream ≡ world.stream
-  pub pictures : after.pictures ≡ world.pictures
-  pub held : after.held ≡ world.held
-  pub opened : after.opened ≡ world.opened
-  pub expired : after.expired ≡ world.expired
   pub phase : after.phase ≡ world.phase
 
 pub first_leaves : (kind : Kind) (names : List (List ℕ)) (world : World) → FirstLeaves world (with_first kind names world)
-first_leaves Cds names world = record { seen = record { rows = refl; made = refl; arrivals = refl; results = refl }; versions = refl; node = refl; stream = refl; pictures = refl; held = refl; opened = refl; expired = refl; phase = refl }
-first_leaves Eds names world = record { seen = record { rows = refl; made = refl; arrivals = refl; results = refl }; versions = refl; node = refl; stream = refl; pictures = refl; held = refl; opened = refl; expired = refl; phase = refl }
-first_leaves Lds names world = record { seen = record { rows = refl; made = refl; arrivals = refl; results = refl }; versions = refl; node = refl; stream = refl; pictures = refl; held = refl; opened = refl; expired = refl; phase = refl }
-first_leaves Rds names world = record { seen = record { rows = refl; made = refl; arrivals = refl; results = refl }; versions = refl; node = refl; stream = refl; pictures = refl; held = refl; opened = refl; expired = refl; phase = refl }
+first_leaves Cds names world = record { seen = record { rows = refl; made = refl; arrivals = refl; results = refl }; versions = refl; node = refl; stream = refl; phase = refl }
+first_leaves Eds names world = record { seen = record { rows = refl; made = refl; arrivals = refl; results = refl }; versions = refl; node = refl; stream = refl; phase = refl }
+first_leaves Lds names world = record { seen = record { rows = refl; made = refl; arrivals = refl; results = refl }; versions = refl; node = refl; stream = refl; phase = refl }
+first_leaves Rds names world = record { seen = record { rows = refl; made = refl; arrivals = refl; results = refl }; versions = refl; node = refl; stream = refl; phase = refl }

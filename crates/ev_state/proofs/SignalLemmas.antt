@@ -23,7 +23,7 @@ use Rattle.ev_warming.specs.Indexes.{depends_on, waits_limited}
 use Rattle.ev_warming.specs.declared.state.State.{State as Part}
 use Rattle.ev_warming.specs.Reads.{is_timeout_due}
 use Rattle.ev_managers.specs.declared.managers.Managers.{Managers}
-use Rattle.ev_managers.specs.Managers.{AreKept, StandFor, is_watched_in}
+use Rattle.ev_managers.specs.Managers.{AreForgotten, AreKept, StandFor, is_watched_in}
 use Rattle.ev_model_laws.specs.VersionsKept.{AreKeptOnce}
 use Rattle.ev_subscription.specs.Subscriptions.{SubscriptionParts, StandsFor as HasVersions, kept_of}
 use Rattle.ev_targets.specs.Targets.{TargetsParts, StandsFor as HasTargets}
@@ -56,35 +56,28 @@ managers_follow s m world after follows stand node stream versions rest rows =
       later = subst (AreLater world.made world.rows) (sym rows) (later-same world.made world.rows);
       heard = subst (λ (vs : List KeptVersion). All (IsDue (lives_of world)) vs) (sym versions) follows.heard;
       phase = rest.phase;
-      held = follows.held ∙ sym rest.held;
-      pictures = rest.pictures ∙ follows.pictures;
-      opened = rest.opened ∙ follows.opened;
-      expired = rest.expired ∙ follows.expired;
     }
 
 -- the targets alone have changed
 pub targets_follow : (s : State) (targets : TargetsParts) (world after : World) → Follows s world world → HasTargets targets after
     → StandFor s.managers after → HasVersions s.subscription after → after.versions ≡ world.versions
-    → after.phase ≡ world.phase → after.held ≡ world.held → after.pictures ≡ world.pictures → after.opened ≡ world.opened → after.expired ≡ world.expired
-    → after.rows ≡ world.rows → Follows (record s { targets = targets }) world after
-targets_follow s targets world after follows boots stand held versions phase kept pictures opened expired rows = record {
+    → after.phase ≡ world.phase → after.rows ≡ world.rows → Follows (record s { targets = targets }) world after
+targets_follow s targets world after follows boots stand held versions phase rows = record {
   stands = record { managers = stand; subscription = held; targets = boots };
   sound = follows.sound;
   later = subst (AreLater world.made world.rows) (sym rows) (later-same world.made world.rows);
   heard = subst (λ (vs : List KeptVersion). All (IsDue (lives_of world)) vs) (sym versions) follows.heard;
   phase = phase;
-  held = follows.held ∙ sym kept;
-  pictures = pictures ∙ follows.pictures;
-  opened = opened ∙ follows.opened;
-  expired = expired ∙ follows.expired;
 }
 
 -- nothing is done
 pub ignores : (s : State) (told : Stepped) (world : World) → told ≡ record { answer = Ignored; retired = record { clusters = []; listeners = [] } }
-    → AreKept s.managers → Follows s world world → Steps s told world (world, Ignored)
-ignores s told world is kept follows = record {
+    → AreKept s.managers → AreForgotten s.managers → Follows s world world → Steps s told world (world, Ignored)
+ignores s told world is kept forgotten follows = record {
   kept = kept;
+  forgotten = forgotten;
   follows = follows;
+  later = later-same world.made world.rows;
   answer = ap (λ (t : Stepped). t.answer) is;
   retired = none-have told.retired world world (ap (λ (t : Stepped). t.retired) is) refl;
 }
@@ -125,18 +118,18 @@ append_nil [] = refl
 append_nil (x ∷ xs) = ap (λ ys. x ∷ ys) (append_nil xs)
 
 -- one that is for none
-pub health_ignored : (s : State) (m : Managers) (told : Stepped) (host : Host) (healthy : Bool) (p : GenRow → Bool) (world : World) → AreKept m
+pub health_ignored : (s : State) (m : Managers) (told : Stepped) (host : Host) (healthy : Bool) (p : GenRow → Bool) (world : World) → AreKept m → AreForgotten m
     → Follows s world world → list_any p world.rows ≡ false → StandFor m (with_results host healthy (filter p world.rows) world)
     → told ≡ record { answer = Ignored; retired = record { clusters = []; listeners = [] } }
     → Steps (record s { managers = m }) told world (health_of host healthy (filter p world.rows) world)
-health_ignored s m told host healthy p world kept follows none stand is =
+health_ignored s m told host healthy p world kept forgotten follows none stand is =
     let gone : filter p world.rows ≡ [] = none_by p world.rows none in
     let same : with_results host healthy (filter p world.rows) world ≡ world =
     (λ i. with_results host healthy (gone i) world) ∙ (λ i. record world { results = append_nil world.results i }) in
     kept_by (record s { managers = m }) told host healthy (filter p world.rows) world gone
-    (ignores (record s { managers = m }) told world is kept
+    (ignores (record s { managers = m }) told world is kept forgotten
     (managers_follow s m world world follows (subst (λ (w : World). StandFor m w) same stand) refl refl refl
-    (record { pictures = refl; held = refl; opened = refl; expired = refl; first_clusters = refl; first_listeners = refl; late_clusters = refl; late_listeners = refl; phase = refl }) refl))
+    (record { first_clusters = refl; first_listeners = refl; late_clusters = refl; late_listeners = refl; phase = refl }) refl))
 
 both_first : (a b : Bool) → (a && b) ≡ true → a ≡ true
 both_first true b h = refl
@@ -164,61 +157,45 @@ ended_follows s m subscription Cds name world follows stand held = record {
   stands = record {
     managers = stand;
     subscription = record { node = held.node; stream = held.stream; versions = held.versions; kept_once = held.kept_once };
-    targets = rest_boots s.targets world (with_end Cds name (forget_version Cds name world)) (record { pictures = refl; held = refl; opened = refl; expired = refl; first_clusters = refl; first_listeners = refl; late_clusters = refl; late_listeners = refl; phase = refl }) follows.stands.targets;
+    targets = rest_boots s.targets world (with_end Cds name (forget_version Cds name world)) (record { first_clusters = refl; first_listeners = refl; late_clusters = refl; late_listeners = refl; phase = refl }) follows.stands.targets;
   };
   sound = follows.sound;
   later = end-later world.made Cds name world;
   heard = All-filter (λ (kept : KeptVersion). not (is_version_of Cds name kept)) (IsDue (lives_of world)) world.versions follows.heard;
   phase = refl;
-  held = follows.held;
-  pictures = follows.pictures;
-  opened = follows.opened;
-  expired = follows.expired;
 }
 ended_follows s m subscription Eds name world follows stand held = record {
   stands = record {
     managers = stand;
     subscription = record { node = held.node; stream = held.stream; versions = held.versions; kept_once = held.kept_once };
-    targets = rest_boots s.targets world (with_end Eds name (forget_version Eds name world)) (record { pictures = refl; held = refl; opened = refl; expired = refl; first_clusters = refl; first_listeners = refl; late_clusters = refl; late_listeners = refl; phase = refl }) follows.stands.targets;
+    targets = rest_boots s.targets world (with_end Eds name (forget_version Eds name world)) (record { first_clusters = refl; first_listeners = refl; late_clusters = refl; late_listeners = refl; phase = refl }) follows.stands.targets;
   };
   sound = follows.sound;
   later = end-later world.made Eds name world;
   heard = All-filter (λ (kept : KeptVersion). not (is_version_of Eds name kept)) (IsDue (lives_of world)) world.versions follows.heard;
   phase = refl;
-  held = follows.held;
-  pictures = follows.pictures;
-  opened = follows.opened;
-  expired = follows.expired;
 }
 ended_follows s m subscription Lds name world follows stand held = record {
   stands = record {
     managers = stand;
     subscription = record { node = held.node; stream = held.stream; versions = held.versions; kept_once = held.kept_once };
-    targets = rest_boots s.targets world (with_end Lds name (forget_version Lds name world)) (record { pictures = refl; held = refl; opened = refl; expired = refl; first_clusters = refl; first_listeners = refl; late_clusters = refl; late_listeners = refl; phase = refl }) follows.stands.targets;
+    targets = rest_boots s.targets world (with_end Lds name (forget_version Lds name world)) (record { first_clusters = refl; first_listeners = refl; late_clusters = refl; late_listeners = refl; phase = refl }) follows.stands.targets;
   };
   sound = follows.sound;
   later = end-later world.made Lds name world;
   heard = All-filter (λ (kept : KeptVersion). not (is_version_of Lds name kept)) (IsDue (lives_of world)) world.versions follows.heard;
   phase = refl;
-  held = follows.held;
-  pictures = follows.pictures;
-  opened = follows.opened;
-  expired = follows.expired;
 }
 ended_follows s m subscription Rds name world follows stand held = record {
   stands = record {
     managers = stand;
     subscription = record { node = held.node; stream = held.stream; versions = held.versions; kept_once = held.kept_once };
-    targets = rest_boots s.targets world (with_end Rds name (forget_version Rds name world)) (record { pictures = refl; held = refl; opened = refl; expired = refl; first_clusters = refl; first_listeners = refl; late_clusters = refl; late_listeners = refl; phase = refl }) follows.stands.targets;
+    targets = rest_boots s.targets world (with_end Rds name (forget_version Rds name world)) (record { first_clusters = refl; first_listeners = refl; late_clusters = refl; late_listeners = refl; phase = refl }) follows.stands.targets;
   };
   sound = follows.sound;
   later = end-later world.made Rds name world;
   heard = All-filter (λ (kept : KeptVersion). not (is_version_of Rds name kept)) (IsDue (lives_of world)) world.versions follows.heard;
   phase = refl;
-  held = follows.held;
-  pictures = follows.pictures;
-  opened = follows.opened;
-  expired = follows.expired;
 }
 
 -- it draws no number

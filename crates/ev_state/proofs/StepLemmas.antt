@@ -29,8 +29,4 @@ stream_follows s subscription open_now world follows held =
       later = follows.later;
       heard = follows.heard;
       phase = refl;
-      held = follows.held;
-      pictures = follows.pictures;
-      opened = follows.opened;
-      expired = follows.expired;
     }

@@ -77,10 +77,6 @@ taken s m subscription targets kind response verdicts world follows of are stand
           (subst (λ (vs : List Verdict). All (IsDue (lives_of world)) (add_items kind vs response.items (with_removals kind response world)).versions) (sym judged)
           (response_due kind response (lives_of world) world.versions world follows.heard));
       phase = first.phase ∙ rest.phase;
-      held = follows.held ∙ sym (first.held ∙ rest.held);
-      pictures = first.pictures ∙ rest.pictures ∙ follows.pictures;
-      opened = first.opened ∙ rest.opened ∙ follows.opened;
-      expired = first.expired ∙ rest.expired ∙ follows.expired;
     }
 
 -- and what retired is told of that world

@@ -23,6 +23,7 @@ use Rattle.ev_model.specs.Watching.{is_by_name, is_watched}
 use Rattle.ev_model.specs.Rows.{with_statuses, with_removals, status_left, replaced_status, new_row, add_row, keep_version, keep_value, with_content, refuse, add_item, add_items, made_names, with_first}
 use Rattle.ev_model.specs.Signals.{with_end, forget_version, ended_status}
 use Rattle.ev_model.specs.Step.{step}
+use Rattle.ev_model.specs.Tidy.{promoted_status, tidy}
 use Rattle.ev_model_laws.proofs.CameLemmas.{by_name_not}
 use Rattle.ev_model_laws.proofs.EventLemmas.{step-leads}
 use Rattle.ev_model_laws.proofs.VerdictLemmas.{fits, judged_by, verdict_fits}
@@ -39,11 +40,11 @@ more_whole : (rows : List GenRow) (row : GenRow) → AreWhole rows → is_by_nam
 more_whole [] row whole isnt = (isnt, tt)
 more_whole (first ∷ rows) row whole isnt = (whole.0, more_whole rows row whole.1 isnt)
 
-left_whole : (test : GenRow → Bool) (rows : List GenRow) → AreWhole rows → AreWhole (filter test rows)
-left_whole test [] whole = tt
-left_whole test (row ∷ rows) whole =
+pub left-whole : (test : GenRow → Bool) (rows : List GenRow) → AreWhole rows → AreWhole (filter test rows)
+left-whole test [] whole = tt
+left-whole test (row ∷ rows) whole =
     cond_both (test row) (row ∷ filter test rows) (filter test rows) AreWhole
-    (λ stays. (whole.0, left_whole test rows whole.1)) (λ goes. left_whole test rows whole.1)
+    (λ stays. (whole.0, left-whole test rows whole.1)) (λ goes. left-whole test rows whole.1)
 
 removals_whole : (kind : Kind) (response : ResponseParts) (world : World) → AreWhole world.rows → AreWhole (with_removals kind response world).rows
 removals_whole Cds response world whole = statuses_whole (status_left Cds response) world.rows whole
@@ -130,8 +131,12 @@ step-whole format world actor event whole =
       ended = λ kind name is bounded. statuses_whole _ _ (end_whole kind name (forget_version kind name world) whole);
       unchanged = λ is. whole;
       published = λ is. whole;
-      reaped = λ is. left_whole (λ (row : GenRow). not (is_dead format world row)) world.rows whole;
+      reaped = λ is. left-whole (λ (row : GenRow). not (is_dead format world row)) world.rows whole;
       accepted = λ ask worker is by. whole;
       closed = λ connection worker is by. whole;
       settled = λ worker is by. whole;
     })
+
+-- what follows an event by itself keeps it
+pub tidy-whole : (world : World) → AreWhole world.rows → AreWhole (tidy world).rows
+tidy-whole world whole = statuses_whole (promoted_status world.arrivals world.results world.rows) world.rows whole

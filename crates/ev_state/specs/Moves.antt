@@ -7,6 +7,7 @@ use Rattle.ev_model.specs.Requests.{other_than, has_left_clusters}
 use Rattle.ev_subscription.specs.declared.changes.NameChange.{NameChange}
 use Rattle.ev_state.specs.declared.moves.Moves.{Moves}
 use Rattle.ev_state.specs.declared.state.State.{State}
+use Rattle.ev_state.specs.Ages.{AreLater}
 use Rattle.ev_state.specs.Retirements.{HaveRetired}
 use Rattle.ev_state.specs.States.{Follows}
 
@@ -25,4 +26,5 @@ pub record AreMoves (moves : Moves) (before after : World) : Type 0 where
 -- an event that led from the first world is over, and these are its moves
 pub record IsOver (s : State) (told : Moves) (before after : World) : Type 0 where
   pub follows : Follows s after after
+  pub later : AreLater before.made before.rows after.rows
   pub moves : AreMoves told before after

@@ -3,8 +3,9 @@
 
 mod known;
 mod moves;
+mod reads;
+mod remove;
 mod response;
-mod settle;
 mod signals;
 mod state;
 mod step;

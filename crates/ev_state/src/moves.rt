@@ -6,7 +6,7 @@ ghost use Rattle.ev_model.specs.Watching.{watched_of};
 ghost use Rattle.ev_warming.specs.Due.{is_among};
 ghost use Rattle.ev_warming.specs.Changes.{has_retired};
 ghost use Rattle.ev_warming.specs.Worlds.{IsSound, rows_of_kind};
-ghost use Rattle.ev_managers.specs.Managers.{AreKept, StandFor};
+ghost use Rattle.ev_managers.specs.Managers.{AreForgotten, AreKept, StandFor};
 ghost use Rattle.ev_state.specs.Ages.{AreLater};
 ghost use Rattle.ev_state.specs.States.{Follows};
 ghost use Rattle.ev_state.specs.Moves.{IsChange, IsOver};
@@ -42,6 +42,7 @@ impl State {
     ) -> Result<Moves, AllocError>
         requires kept { AreKept self.old.managers }
         ensures kept { OnOk result (AreKept self.new.managers) }
+        ensures forgotten { OnOk result (AreForgotten self.new.managers) }
         ensures over { IfOk result (λ moves. (before world : World) → Follows self.old before world → made ≡ before.made → HaveRetired retired before world → IsOver self.new moves before (tidy world)) }
     {
         self.managers.promote(alloc, &mut retired, steps)?;

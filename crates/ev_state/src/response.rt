@@ -7,7 +7,7 @@ ghost use Rattle.ev_model.specs.Verdicts.{verdicts_of};
 ghost use Rattle.ev_model.specs.Rows.{with_removals, add_items, made_names, with_first};
 ghost use Rattle.ev_model.specs.Requests.{Watched, other_than, requests_by, reply_of};
 ghost use Rattle.ev_model.specs.Step.{respond, responded, answered};
-ghost use Rattle.ev_managers.specs.Managers.{AreKept};
+ghost use Rattle.ev_managers.specs.Managers.{AreForgotten, AreKept};
 ghost use Rattle.ev_subscription.specs.Subscriptions.{StandsFor as HasVersions};
 ghost use Rattle.ev_state.specs.States.{Follows, IsAt, Steps as AreSteps};
 ghost use Rattle.ev_state.specs.Moves.{IsOver};
@@ -94,6 +94,7 @@ impl State {
         requires one_each { length verdicts.now ≡ length mentions.now.items }
         requires judged { verdicts.now ≡ verdicts_of (lives_of here) here.versions mentions.now }
         ensures kept { OnOk result (AreKept self.new.managers) }
+        ensures forgotten { OnOk result (AreForgotten self.new.managers) }
         ensures over { IfOk result (λ moves. IsOver self.new moves here (responded kind mentions.now verdicts.now here)) }
     {
         let made = self.managers.clusters.made();

@@ -2,7 +2,7 @@ ghost use Rattle.std.specs.Prelude.{◌≡◌, IfOk, OnOk};
 ghost use Rattle.ev_types.specs.declared.contents.Kind.TheVariants.{Eds, Rds};
 ghost use Rattle.ev_model.specs.World.{World};
 ghost use Rattle.ev_model.specs.Signals.{health, fetch_timeout, clusters_timeout, listeners_timeout, name_timeout, ttl_expired, moved};
-ghost use Rattle.ev_managers.specs.Managers.{AreKept};
+ghost use Rattle.ev_managers.specs.Managers.{AreForgotten, AreKept};
 ghost use Rattle.ev_state.specs.States.{Follows, Steps as AreSteps};
 ghost use Rattle.ev_state.specs.Retirements.{HaveRetired};
 
@@ -47,6 +47,7 @@ impl State {
         steps: &mut Steps<L>,
     ) -> Result<Stepped, AllocError>
         requires kept { AreKept self.old.managers }
+        requires forgotten { AreForgotten self.old.managers }
         ensures { IfOk result (λ stepped. (world : World) → Follows self.old world world → AreSteps self.new stepped world (health cluster.now host.now healthy world)) }
     {
         if !self.managers.health(alloc, cluster, host, healthy, steps)? {
@@ -63,6 +64,7 @@ impl State {
         steps: &mut Steps<L>,
     ) -> Result<Stepped, AllocError>
         requires kept { AreKept self.old.managers }
+        requires forgotten { AreForgotten self.old.managers }
         ensures { IfOk result (λ stepped. (world : World) → Follows self.old world world → AreSteps self.new stepped world (clusters_timeout world)) }
     {
         if !self.targets.clusters_timeout() {
@@ -79,6 +81,7 @@ impl State {
         steps: &mut Steps<L>,
     ) -> Result<Stepped, AllocError>
         requires kept { AreKept self.old.managers }
+        requires forgotten { AreForgotten self.old.managers }
         ensures { IfOk result (λ stepped. (world : World) → Follows self.old world world → AreSteps self.new stepped world (listeners_timeout world)) }
     {
         if !self.targets.listeners_timeout() {
@@ -96,6 +99,7 @@ impl State {
         steps: &mut Steps<L>,
     ) -> Result<Stepped, AllocError>
         requires kept { AreKept self.old.managers }
+        requires forgotten { AreForgotten self.old.managers }
         ensures { IfOk result (λ stepped. (world : World) → Follows self.old world world → AreSteps self.new stepped world (name_timeout Eds name.now world)) }
     {
         if !self.managers.clusters.timeout_due(name) {
@@ -115,6 +119,7 @@ impl State {
         steps: &mut Steps<L>,
     ) -> Result<Stepped, AllocError>
         requires kept { AreKept self.old.managers }
+        requires forgotten { AreForgotten self.old.managers }
         ensures { IfOk result (λ stepped. (world : World) → Follows self.old world world → AreSteps self.new stepped world (name_timeout Rds name.now world)) }
     {
         if !self.managers.listeners.timeout_due(name) {
@@ -135,6 +140,7 @@ impl State {
         steps: &mut Steps<L>,
     ) -> Result<Stepped, AllocError>
         requires kept { AreKept self.old.managers }
+        requires forgotten { AreForgotten self.old.managers }
         ensures { IfOk result (λ stepped. (world : World) → Follows self.old world world → AreSteps self.new stepped world (ttl_expired kind name.now world)) }
     {
         if !self.subscription.is_bounded(kind, name.as_str()) {

@@ -3,7 +3,7 @@ ghost use Rattle.ev_model.specs.Phase.{is_clusters};
 ghost use Rattle.ev_model.specs.World.{World};
 ghost use Rattle.ev_model.specs.Requests.{connect_requests};
 ghost use Rattle.ev_model.specs.Step.{connect, disconnect};
-ghost use Rattle.ev_managers.specs.Managers.{AreKept};
+ghost use Rattle.ev_managers.specs.Managers.{AreForgotten, AreKept};
 ghost use Rattle.ev_state.specs.States.{Follows, StandsFor, Steps as AreSteps};
 
 use crate::state::State;
@@ -22,6 +22,7 @@ impl State {
         steps: &mut Steps<L>,
     ) -> Result<Stepped, AllocError>
         requires kept { AreKept self.old.managers }
+        requires forgotten { AreForgotten self.old.managers }
         ensures { IfOk result (λ stepped. (world : World) → Follows self.old world world → AreSteps self.new stepped world (connect world)) }
     {
         if self.subscription.is_open() {
@@ -68,6 +69,7 @@ impl State {
         steps: &mut Steps<L>,
     ) -> Result<Stepped, AllocError>
         requires kept { AreKept self.old.managers }
+        requires forgotten { AreForgotten self.old.managers }
         ensures { IfOk result (λ stepped. (world : World) → Follows self.old world world → AreSteps self.new stepped world (disconnect world)) }
     {
         if !self.subscription.is_open() {

@@ -1,7 +1,8 @@
 ghost use Rattle.std.specs.Prelude.{◌≡◌, IsTrue};
 ghost use Rattle.ev_types.specs.Scripts.{items_in};
-ghost use Rattle.ev_registry.specs.Registries.{world_now};
+ghost use Rattle.ev_actors.specs.Journals.{world_now};
 
+use ev_actors::Journaled;
 use ev_journal::render_journal;
 use ev_model_laws::{acknowledges_exactly, has_a_replay, has_one_replay, replay_holds_operations};
 use ev_registry::Registry;
@@ -118,13 +119,21 @@ fn takes_two_clusters(alloc: Global, registry: &mut Registry, event: &Event) -> 
     let _ = registry.apply(Actor::Stream, 2, 0, &Event::Connect)?;
     if registry.apply(Actor::Stream, 3, 0, event).is_err() {
         let same = has_lines(alloc, registry, &[BEGUN, CONNECTED])?;
-        if !same || registry.latest() != 0 {
+        if !same || !shows_first(registry) {
             return Ok(false);
         }
         let _ = registry.apply(Actor::Stream, 3, 0, event)?;
     }
     let entered = has_lines(alloc, registry, &[BEGUN, CONNECTED, MADE])?;
-    Ok(entered && registry.latest() == 0)
+    Ok(entered && registry.snapshot()?.version() == 0)
+}
+
+// Whether the last picture is the first one, where it is known: what was lost is made anew with the next event alone.
+fn shows_first(registry: &Registry) -> bool {
+    match registry.snapshot() {
+        Ok(snapshot) => snapshot.version() == 0,
+        Err(_) => true,
+    }
 }
 
 // Whether the event is a response of two resources.

@@ -31,6 +31,7 @@ impl Manager {
         requires kept { IsKept self.old }
         ensures kept { OnOk result (IsKept self.new) }
         ensures kind { OnOk result (self.new.state.kind ≡ self.old.state.kind) }
+        ensures stale { OnOk result (self.new.stale ≡ self.old.stale) }
         ensures table { OnOk result (self.new.state.table ≡ self.old.state.table) }
         ensures meant { IfOk result (λ meant. meant ≡ list_any (is_meant_in self.old.state.watches name.now host.now) self.old.state.table.rows) }
         ensures results { OnOk result (NotesEach self.old.state.results self.new.state.results (numbers_meant self.old.state.watches name.now host.now self.old.state.table.rows) host.now healthy) }

@@ -64,6 +64,13 @@ impl Worker {
         (BATCH_LIMIT - self.batch.lines().len()) as u32
     }
 
+    /// The snapshot that it serves from.
+    pub fn snapshot(&self) -> &Snapshot
+        ensures { result.now ≡ self.now.picture }
+    {
+        &*self.snapshot
+    }
+
     /// The version of the picture that it serves from. It takes no memory.
     pub fn version(&self) -> u64
         ensures { result ≡ self.now.picture.version }

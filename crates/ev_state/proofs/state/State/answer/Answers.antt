@@ -8,7 +8,7 @@ use Rattle.ev_model.specs.Live.{lives_of}
 use Rattle.ev_model.specs.Verdicts.{verdicts_of}
 use Rattle.ev_model.specs.Step.{responded, answered}
 use Rattle.ev_model.specs.Requests.{Watched, all_watched, other_than, requests_by, requests_of, reply_of}
-use Rattle.ev_managers.specs.Managers.{AreKept}
+use Rattle.ev_managers.specs.Managers.{AreForgotten, AreKept}
 use Rattle.ev_subscription.specs.Subscriptions.{StandsFor as HasVersions}
 use Rattle.ev_managers.specs.declared.retired.Retired.{Retired}
 use Rattle.ev_state.specs.declared.state.State.{State}
@@ -45,7 +45,7 @@ reply-requires g c = record {
 }
 
 replies : (s : State) (told : Stepped) (verdicts given : List Verdict) (kind : Kind) (mentioned response : ResponseParts) (moves : Moves) (here : World)
-    → AreKept s.managers
+    → AreKept s.managers → AreForgotten s.managers
     → mentioned ≡ response → given ≡ verdicts → given ≡ verdicts_of (lives_of here) here.versions response
     → IsOver s moves here (responded kind mentioned given here)
     → told.retired ≡ moves.retired
@@ -54,14 +54,16 @@ replies : (s : State) (told : Stepped) (verdicts given : List Verdict) (kind : K
     → moves.routes.begun ≡ other_than before.routes after.routes → moves.routes.ended ≡ other_than after.routes before.routes
     → told.answer ≡ Replied (requests_by world.stream before after moves.left world.versions (Some (reply_of kind response verdicts))) verdicts)
     → Steps s told here (answered kind response (verdicts_of (lives_of here) here.versions response) here)
-replies s told verdicts given kind mentioned response moves here kept same are judged over retired answers =
+replies s told verdicts given kind mentioned response moves here kept forgotten same are judged over retired answers =
     let after : World = responded kind mentioned given here in
     let replied : reply_of kind response verdicts ≡ reply_of kind mentioned given = (λ i. reply_of kind (sym same i) (sym are i)) in
     let sent : requests_by after.stream (all_watched here) (all_watched after) moves.left after.versions (Some (reply_of kind response verdicts)) ≡ requests_of here after (Some (reply_of kind mentioned given)) =
     (λ i. requests_by after.stream (all_watched here) (all_watched after) (over.moves.left i) after.versions (Some (replied i))) in
     let base : Steps s told here (answered kind mentioned given here) = record {
       kept = kept;
+      forgotten = forgotten;
       follows = over.follows;
+      later = over.later;
       answer = answers after (all_watched here) (all_watched after) over.follows.stands.subscription
           over.moves.endpoints.begun over.moves.endpoints.ended over.moves.routes.begun over.moves.routes.ended
           ∙ (λ i. Replied (sent i) (sym are i));
@@ -75,7 +77,7 @@ returns g c =
     let typed = ap (λ (r : ResponseParts). r.kind) c.in_ok-mentions.ensures ∙ c.requires.1.1.0 in
     replies c.take.new.self c.in_ok-stepped.stepped c.in_ok-verdicts.verdicts c.as_slice.result.now c.args.kind c.in_ok-mentions.mentions c.args.response.now
     c.in_ok-moves.moves g.here
-    c.in_ok-moves.ensures.kept c.in_ok-mentions.ensures c.as_slice.ensures.elements
+    c.in_ok-moves.ensures.kept c.in_ok-moves.ensures.forgotten c.in_ok-mentions.ensures c.as_slice.ensures.elements
     (c.as_slice.ensures.elements ∙ c.in_ok-verdicts.ensures.judged c.args.kind g.here c.requires.1.0 typed
     ∙ ap (verdicts_of (lives_of g.here) g.here.versions) c.in_ok-mentions.ensures)
     c.in_ok-moves.ensures.over

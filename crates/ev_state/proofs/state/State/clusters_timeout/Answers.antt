@@ -23,5 +23,5 @@ returns g c = λ world follows.
     (targets_follow c.args.self.now c.clusters_timeout.new.self world after follows boots
     (see_the_same c.args.self.now.managers world after (record { rows = refl; made = refl; arrivals = refl; results = refl }) follows.stands.managers)
     (record { node = had.node; stream = had.stream; versions = had.versions; kept_once = had.kept_once })
-    refl refl refl refl refl refl refl)
+    refl refl refl)
     refl (none-have c.none.result world after c.none.ensures refl))

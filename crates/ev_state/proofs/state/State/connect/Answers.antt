@@ -15,7 +15,9 @@ returns g c = λ world follows.
     where_false c.tidy.new.self (record { answer = Moved c.in_ok-requests.requests; retired = c.in_ok-moves.moves.retired }) world world.stream (world, Ignored) (tidy (record world { stream = true }), Moved (connect_requests world)) closed
     (record {
       kept = c.in_ok-moves.ensures.kept;
+      forgotten = c.in_ok-moves.ensures.forgotten;
       follows = over.follows;
+      later = over.later;
       answer = ap Moved (c.in_ok-requests.ensures world follows.stands);
       retired = over.moves.retired;
     })

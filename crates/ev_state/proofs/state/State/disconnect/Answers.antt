@@ -12,4 +12,4 @@ returns g c = λ world follows.
     (stream_follows c.args.self.now c.set_stream.new.self false world follows (c.set_stream.ensures.stands world follows.stands.subscription))
     (c.made-made.ensures ∙ follows.stands.managers.clusters.made) (none-have c.none.result world (record world { stream = false }) c.none.ensures refl) in
     where_true c.tidy.new.self (record { answer = Done; retired = c.in_ok-moves.moves.retired }) world world.stream (tidy (record world { stream = false }), Done) (world, Ignored) open_now
-    (record { kept = c.in_ok-moves.ensures.kept; follows = over.follows; answer = refl; retired = over.moves.retired })
+    (record { kept = c.in_ok-moves.ensures.kept; forgotten = c.in_ok-moves.ensures.forgotten; follows = over.follows; later = over.later; answer = refl; retired = over.moves.retired })

@@ -8,7 +8,7 @@ use Rattle.ev_state.proofs.state.State.health.Goals as goal
 pub returns-then-not-branch : goal.returns-then-not-branch
 returns-then-not-branch g c = λ world follows.
     health_ignored c.args.self.now c.health.new.self c.ignored.result c.args.host.now c.args.healthy (is_meant world.arrivals c.args.cluster.now c.args.host.now) world
-    c.in_ok-health.ensures.kept follows
+    c.in_ok-health.ensures.kept (c.in_ok-health.ensures.forgotten c.requires.forgotten) follows
     (sym (c.in_ok-health.ensures.ignored world follows.stands.managers) ∙ c.if-not-branch.true)
     (c.in_ok-health.ensures.stands world follows.stands.managers) c.ignored.ensures
 
@@ -19,5 +19,5 @@ returns g c = λ world follows.
     (sym (c.in_ok-health.ensures.ignored world follows.stands.managers) ∙ c.if-not-branch.false)
     (c.in_ok-stepped.ensures world after
     (managers_follow c.args.self.now c.health.new.self world after follows (c.in_ok-health.ensures.stands world follows.stands.managers) refl refl refl
-    (record { pictures = refl; held = refl; opened = refl; expired = refl; first_clusters = refl; first_listeners = refl; late_clusters = refl; late_listeners = refl; phase = refl }) refl)
+    (record { first_clusters = refl; first_listeners = refl; late_clusters = refl; late_listeners = refl; phase = refl }) refl)
     refl (none-have c.none.result world after c.none.ensures refl))

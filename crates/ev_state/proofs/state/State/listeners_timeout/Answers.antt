@@ -21,8 +21,8 @@ returns-then-not-listeners_timeout g c = λ world follows.
     let state : State = record c.args.self.now { targets = c.listeners_timeout.new.self } in
     where_true state c.ignored.result world (is_clusters world.phase || (is_some world.first_listeners || world.late_listeners)) (world, Ignored) (moved world after)
     (not_false (is_clusters world.phase || (is_some world.first_listeners || world.late_listeners)) (sym (c.listeners_timeout.ensures.heard world booted) ∙ c.if-not-listeners_timeout.true))
-    (ignores state c.ignored.result world c.ignored.ensures c.requires.kept
-    (targets_follow c.args.self.now c.listeners_timeout.new.self world world follows boots follows.stands.managers follows.stands.subscription refl refl refl refl refl refl refl))
+    (ignores state c.ignored.result world c.ignored.ensures c.requires.kept c.requires.forgotten
+    (targets_follow c.args.self.now c.listeners_timeout.new.self world world follows boots follows.stands.managers follows.stands.subscription refl refl refl))
 
 pub returns : goal.returns
 returns g c = λ world follows.
@@ -37,5 +37,5 @@ returns g c = λ world follows.
     (targets_follow c.args.self.now c.listeners_timeout.new.self world after follows boots
     (see_the_same c.args.self.now.managers world after (record { rows = refl; made = refl; arrivals = refl; results = refl }) follows.stands.managers)
     (record { node = had.node; stream = had.stream; versions = had.versions; kept_once = had.kept_once })
-    refl refl refl refl refl refl refl)
+    refl refl refl)
     refl (none-have c.none.result world after c.none.ensures refl))

@@ -11,7 +11,9 @@ returns g c = λ before world follows drawn have.
     let after : World = tidy world in
     record {
       kept = c.in_ok-moves.ensures.kept;
+      forgotten = c.in_ok-moves.ensures.forgotten;
       follows = over.follows;
+      later = over.later;
       answer = ap Moved (c.in_ok-requests.ensures after (all_watched before) (all_watched after) over.follows.stands.subscription
           over.moves.endpoints.begun over.moves.endpoints.ended over.moves.routes.begun over.moves.routes.ended
           ∙ (λ i. requests_by after.stream (all_watched before) (all_watched after) (over.moves.left i) after.versions None));

@@ -19,7 +19,7 @@ returns-then-not-timeout_due g c = λ world follows.
     where_false c.args.self.now c.ignored.result world (is_awaited world.arrivals world.rows Rds c.args.name.now)
     (moved world (record world { arrivals = world.arrivals ++ arrived Rds TimedOut c.args.name.now ∷ [] })) (world, Ignored)
     (sym (c.timeout_due.ensures.world world follows.stands.managers.listeners) ∙ c.if-not-timeout_due.true)
-    (ignores c.args.self.now c.ignored.result world c.ignored.ensures c.requires.kept follows)
+    (ignores c.args.self.now c.ignored.result world c.ignored.ensures c.requires.kept c.requires.forgotten follows)
 
 pub returns : goal.returns
 returns g c = λ world follows.
@@ -28,5 +28,5 @@ returns g c = λ world follows.
     (sym (c.timeout_due.ensures.world world follows.stands.managers.listeners) ∙ c.if-not-timeout_due.false)
     (c.in_ok-stepped.ensures world after
     (managers_follow c.args.self.now c.arrive_routes.new.self world after follows (c.in_ok-arrive_routes.ensures.stands world follows.stands.managers) refl refl refl
-    (record { pictures = refl; held = refl; opened = refl; expired = refl; first_clusters = refl; first_listeners = refl; late_clusters = refl; late_listeners = refl; phase = refl }) refl)
+    (record { first_clusters = refl; first_listeners = refl; late_clusters = refl; late_listeners = refl; phase = refl }) refl)
     refl (none-have c.none.result world after c.none.ensures refl))

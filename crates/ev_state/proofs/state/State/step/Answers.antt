@@ -1,13 +1,17 @@
+use Rattle.ev_state.proofs.CeaseLemmas.{have-ceased}
 use Rattle.ev_state.proofs.WholeLemmas.{step-whole}
 use Rattle.ev_state.proofs.state.State.step.Goals as goal
 
 pub returns-clause-at : goal.returns-clause-at
-returns-clause-at g c =
-    let led = c.in_ok-stepped.ensures c.args.format in
-    record { kept = led.kept; follows = led.follows; whole = step-whole c.args.format g.here c.args.actor c.args.event.now c.requires.0.whole }
+returns-clause-at g c = λ format actor.
+    let led = c.in_ok-stepped.ensures format actor in
+    record { kept = led.kept; forgotten = led.forgotten; follows = led.follows; whole = step-whole format g.here actor c.args.event.now c.requires.0.whole }
 
 pub returns-clause-answer : goal.returns-clause-answer
-returns-clause-answer g c = (c.in_ok-stepped.ensures c.args.format).answer
+returns-clause-answer g c = λ format actor. (c.in_ok-stepped.ensures format actor).answer
 
-pub returns-clause-retired : goal.returns-clause-retired
-returns-clause-retired g c = (c.in_ok-stepped.ensures c.args.format).retired
+pub returns-clause-ceased : goal.returns-clause-ceased
+returns-clause-ceased g c = λ format actor.
+    let led = c.in_ok-stepped.ensures format actor in
+    have-ceased c.in_ok-stepped.stepped.retired g.here _ c.requires.0.follows.sound led.follows.sound led.later
+    (step-whole format g.here actor c.args.event.now c.requires.0.whole) led.retired

@@ -54,11 +54,8 @@ returns-clause-over g c = λ before world follows drawn have.
         later = later-same world.made w1.rows;
         heard = filter_passes (is_version_due (lives_of w1)) world.versions;
         phase = refl;
-        held = follows.held;
-        pictures = follows.pictures;
-        opened = follows.opened;
-        expired = follows.expired;
       };
+      later = later;
       moves = record {
         endpoints = endpoints;
         routes = routes;

@@ -1,0 +1,16 @@
+-- The journal of a replay has the laws.
+use Rattle.std.proofs.Common.{◌≡◌, List, sym}
+use Rattle.std.proofs.lemmas.Result.{IfOk-weaker}
+use Rattle.ev_types.specs.declared.journals.Format.TheVariants.{Two}
+use Rattle.ev_journal.specs.Rendering.{rendering_of}
+use Rattle.ev_app.specs.Replay.{IsReplayText}
+use Rattle.ev_app.proofs.ReplayLemmas.{text_of}
+use Rattle.ev_app.proofs.replay.replay_text.Goals as goal
+
+pub returns : goal.returns
+returns c =
+    IfOk-weaker c.render_journal-text.result
+    (λ text. text.items ≡ rendering_of Two c.script.inside.workers c.journal.result.now)
+    (λ text. IsReplayText c.args.script.now text.items)
+    (λ text rendered. text_of c.args.script.now c.in_ok-registry.registry text.items c.runs_have_the_laws.ensures c.in_ok-registry.ensures c.journal.ensures.run rendered)
+    c.render_journal-text.ensures

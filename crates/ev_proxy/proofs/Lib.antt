@@ -1,0 +1,3 @@
+pub mod NotingLemmas
+pub mod ReapingLemmas
+pub mod WorldLemmas

@@ -1,0 +1,119 @@
+-- The generations that an event retired are noted, and what holds generations then stands for the world behind it.
+use Rattle.std.proofs.Common.{◌≡◌, ℕ, Bool, true, false, not, ◌&&◌, ◌||◌, ◌==◌, cond, nat_eq, List, [], ◌∷◌, ◌++◌, Option, None, Some, refl, sym, ap, subst, ◌∙◌, arith}
+use Rattle.std.specs.Cmp.{first_so}
+use Rattle.std.specs.List.{list_any, IsDistinct, AllByRecursion}
+use Rattle.std.proofs.lemmas.Bool.{true≢false, false≢true}
+use Rattle.std.proofs.lemmas.Bool.Decides.{nat_tests}
+use Rattle.std.proofs.lemmas.List.Folds.{list_any-append}
+use Rattle.std.proofs.lemmas.Map.Keys.{IsDistinct-head, IsDistinct-tail}
+use Rattle.ev_types.specs.Statuses.{is_live}
+use Rattle.ev_types.specs.declared.rows.GenRow.{GenRow}
+use Rattle.ev_model.specs.World.{World}
+use Rattle.ev_model.specs.Picture.{has_number}
+use Rattle.ev_generations.specs.Tables.{numbers_of, row_in}
+use Rattle.ev_warming.specs.Due.{is_among}
+use Rattle.ev_warming.specs.Changes.{is_over}
+use Rattle.ev_drain.specs.Retired.{Retired as Row}
+use Rattle.ev_managers.specs.declared.retired.Retired.{Retired}
+use Rattle.ev_state.specs.States.{IsAt as ManagesAt}
+use Rattle.ev_state.specs.Retirements.{HaveCeased}
+use Rattle.ev_retirement.specs.Holders.{AreNumbered, HoldersParts, StandsFor as HoldsFor}
+use Rattle.ev_retirement.specs.Retiring.{HaveCeased as CeaseBetween, HoldTheSame, is_over as over_there, noted, noted_all, noted_where}
+use Rattle.ev_retirement.proofs.RetireLemmas.{retirements_stand}
+use Rattle.ev_proxy.specs.Proxies.{noted_each, noted_over}
+
+turned : (a b : ℕ) → (a == b) ≡ nat_eq b a
+turned a b = grind (arith, nat_tests)
+
+own : (a : ℕ) → nat_eq a a ≡ true
+own a = grind (arith, nat_tests)
+
+-- no two rows have one number
+none_of : (number : ℕ) (rows : List GenRow) → AllByRecursion (λ y. nat_eq number y ≡ false) (numbers_of rows) → list_any (λ (other : GenRow). other.number == number) rows ≡ false
+none_of number [] all = refl
+none_of number (row ∷ rows) all =
+    ap (λ b. b || list_any (λ (other : GenRow). other.number == number) rows) (turned row.number number ∙ all.0) ∙ none_of number rows all.1
+
+pub numbered : (rows : List GenRow) → IsDistinct nat_eq (numbers_of rows) → AreNumbered rows
+numbered [] apart = tt
+numbered (row ∷ rows) apart =
+    (none_of row.number rows (IsDistinct-head nat_eq row.number (numbers_of rows) apart), numbered rows (IsDistinct-tail nat_eq row.number (numbers_of rows) apart))
+
+-- so it is at every world between two events
+pub at-numbered : (s : _) (world : World) → ManagesAt s world → AreNumbered world.rows
+at-numbered s world at = numbered world.rows at.follows.sound.table.apart
+
+-- a number among others
+among : (numbers : List ℕ) (number : ℕ) → has_number number numbers ≡ is_among numbers number
+among [] number = refl
+among (n ∷ numbers) number = λ i. turned n number i || among numbers number i
+
+over_same : (found : Option GenRow) → is_over found ≡ over_there found
+over_same None = refl
+over_same (Some row) = refl
+
+-- what is told of both kinds, as numbers
+pub ceased_all : (retired : Retired) (before after : World) → HaveCeased retired before after
+    → CeaseBetween (retired.clusters ++ retired.listeners) before.rows after.rows
+ceased_all retired before after ceased = record {
+  told = λ number.
+      list_any-append (λ n. n == number) retired.clusters retired.listeners
+      ∙ (λ i. among retired.clusters number i || among retired.listeners number i)
+      ∙ ceased.told number
+      ∙ (λ i. over_same (row_in number after.rows) i && not (over_same (row_in number before.rows) i));
+  stays = ceased.stays;
+}
+
+-- where each of these numbers is of a row that is over, all are noted
+abbrev AreOver : List GenRow → List ℕ → Type 0
+AreOver rows numbers = AllByRecursion (λ number. over_there (row_in number rows) ≡ true) numbers
+
+noted_found : (drain : List Row) (found : Option GenRow) → over_there found ≡ true → noted_over drain found ≡ noted_where drain found
+noted_found drain None over = refl
+noted_found drain (Some row) over = by (is_live row.status) over
+  where
+    by : (live : Bool) → not live ≡ true → cond live drain (noted drain row) ≡ noted drain row
+    by true over = absurd (false≢true over)
+    by false over = refl
+
+each_noted : (rows : List GenRow) (numbers : List ℕ) (drain : List Row) → AreOver rows numbers → noted_each rows numbers drain ≡ noted_all rows numbers drain
+each_noted rows [] drain over = refl
+each_noted rows (number ∷ numbers) drain over =
+    ap (noted_each rows numbers) (noted_found drain (row_in number rows) over.0) ∙ each_noted rows numbers (noted_where drain (row_in number rows)) over.1
+
+-- one after another
+pub each_more : (rows : List GenRow) (numbers : List ℕ) (number : ℕ) (drain : List Row)
+    → noted_over (noted_each rows numbers drain) (row_in number rows) ≡ noted_each rows (numbers ++ number ∷ []) drain
+each_more rows [] number drain = refl
+each_more rows (n ∷ numbers) number drain = each_more rows numbers number (noted_over drain (row_in n rows))
+
+each_then : (rows : List GenRow) (numbers others : List ℕ) (drain : List Row)
+    → noted_each rows others (noted_each rows numbers drain) ≡ noted_each rows (numbers ++ others) drain
+each_then rows [] others drain = refl
+each_then rows (n ∷ numbers) others drain = each_then rows numbers others (noted_over drain (row_in n rows))
+
+-- what is so of each number among these
+all_among : (P : ℕ → Type 0) (numbers : List ℕ) → ((n : ℕ) → has_number n numbers ≡ true → P n) → AllByRecursion P numbers
+all_among P [] so = tt
+all_among P (n ∷ numbers) so =
+    (so n (ap (λ b. b || has_number n numbers) (turned n n ∙ own n)),
+    all_among P numbers (λ m is. so m (or_later (n == m) is)))
+  where
+    or_later : (a : Bool) {b : Bool} → b ≡ true → (a || b) ≡ true
+    or_later true is = refl
+    or_later false is = is
+
+-- what holds generations, once both kinds are noted, stands for the world behind the event
+pub noted_stand : (holders : HoldersParts) (drain : List Row) (retired : Retired) (before after : World)
+    → HoldsFor holders before → AreNumbered before.rows → AreNumbered after.rows → HoldTheSame before after → HaveCeased retired before after
+    → drain ≡ noted_each after.rows retired.listeners (noted_each after.rows retired.clusters holders.drain)
+    → HoldsFor (record holders { drain = drain }) after
+noted_stand holders drain retired before after stands apart also same ceased is =
+    let numbers : List ℕ = retired.clusters ++ retired.listeners in
+    let all = ceased_all retired before after ceased in
+    let over : AreOver after.rows numbers =
+    all_among (λ n. over_there (row_in n after.rows) ≡ true) numbers
+    (λ n there. first_so (over_there (row_in n after.rows)) (not (over_there (row_in n before.rows))) (sym (all.told n) ∙ there)) in
+    subst (λ (d : List Row). HoldsFor (record holders { drain = d }) after)
+    (sym (is ∙ each_then after.rows retired.clusters retired.listeners holders.drain ∙ each_noted after.rows numbers holders.drain over))
+    (retirements_stand holders numbers before after stands apart also same all)

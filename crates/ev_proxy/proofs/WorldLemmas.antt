@@ -1,0 +1,170 @@
+-- What events leave of a world: publications and workers leave what the managers know, and the managers leave what workers hold.
+use Rattle.std.proofs.Common.{◌≡◌, ℕ, ◌<◌, Bool, true, false, cond, List, [], ◌∷◌, ◌++◌, length, map, refl, sym, ap, subst, ◌∙◌}
+use Rattle.std.proofs.lemmas.List.{append-nil, length-map}
+use Rattle.ev_types.specs.declared.events.Actor.{Actor}
+use Rattle.ev_types.specs.declared.events.Actor.TheVariants.{Worker as by_worker}
+use Rattle.ev_types.specs.declared.events.Answer.{Answer}
+use Rattle.ev_types.specs.declared.events.Answer.TheVariants.{Ignored, Unchanged, Version}
+use Rattle.ev_types.specs.declared.events.Event.{Event}
+use Rattle.ev_types.specs.declared.events.Event.TheVariants.{Connect, Disconnect, Response, Health, FetchTimeout, DrainTimeout, TtlExpired, Publish, Reap, Accept, Close, Settle}
+use Rattle.ev_types.specs.declared.journals.Format.{Format}
+use Rattle.ev_types.specs.declared.rows.GenRow.{GenRow}
+use Rattle.ev_model.specs.World.{World, OpenMember, last_version}
+use Rattle.ev_model.specs.declared.pictures.Picture.{Picture}
+use Rattle.ev_model.specs.declared.pictures.Shown.{Shown}
+use Rattle.ev_model.specs.Dead.{shown_at}
+use Rattle.ev_model.specs.Picture.{shown_of, shown_same}
+use Rattle.ev_model.specs.Publishing.{publish, without_dead}
+use Rattle.ev_model.specs.Runs.{world_after}
+use Rattle.ev_model.specs.Signals.{drain_timeout, expire, unexpired}
+use Rattle.ev_model.specs.Step.{step}
+use Rattle.ev_model.specs.Tidy.{tidy}
+use Rattle.ev_model_laws.proofs.KeepLemmas.{is_moving, is_for_managers}
+use Rattle.ev_model_laws.proofs.SeenLemmas.{same_seen, same_expired}
+use Rattle.ev_worker.specs.Batches.{entries_of}
+use Rattle.ev_worker.specs.Workers.{AreAnswered, IsAnswer}
+use Rattle.ev_worker.specs.declared.lines.Outcome.{Outcome}
+use Rattle.ev_worker.specs.declared.lines.BatchLine.{BatchLine}
+use Rattle.ev_state.specs.Managed.{is_managed}
+use Rattle.ev_state.specs.States.{SameManaged}
+use Rattle.ev_retirement.specs.Holders.{HoldersParts, StandsFor as HoldsFor, with_expired}
+use Rattle.ev_retirement.specs.Retiring.{HoldTheSame}
+use Rattle.ev_proxy.specs.Proxies.{is_working}
+
+-- the managers' part is the same
+pub itself : (world : World) → SameManaged world world
+itself world = record {
+  rows = refl; made = refl; arrivals = refl; results = refl; versions = refl; stream = refl; first_clusters = refl; first_listeners = refl;
+  late_clusters = refl; late_listeners = refl; phase = refl; node = refl;
+}
+
+pub same_but : (world : World) (pictures : List Shown) (held : List ℕ) (opened : List OpenMember) (expired : List ℕ)
+    → SameManaged world (record world { pictures = pictures; held = held; opened = opened; expired = expired })
+same_but world pictures held opened expired = record {
+  rows = refl; made = refl; arrivals = refl; results = refl; versions = refl; stream = refl; first_clusters = refl; first_listeners = refl;
+  late_clusters = refl; late_listeners = refl; phase = refl; node = refl;
+}
+
+then_same : (a b c : World) → SameManaged a b → SameManaged b c → SameManaged a c
+then_same a b c p q = record {
+  rows = q.rows ∙ p.rows;
+  made = q.made ∙ p.made;
+  arrivals = q.arrivals ∙ p.arrivals;
+  results = q.results ∙ p.results;
+  versions = q.versions ∙ p.versions;
+  stream = q.stream ∙ p.stream;
+  first_clusters = q.first_clusters ∙ p.first_clusters;
+  first_listeners = q.first_listeners ∙ p.first_listeners;
+  late_clusters = q.late_clusters ∙ p.late_clusters;
+  late_listeners = q.late_listeners ∙ p.late_listeners;
+  phase = q.phase ∙ p.phase;
+  node = q.node ∙ p.node;
+}
+
+-- a publication
+pub publish_same : (world : World) → SameManaged world (publish world).0
+publish_same world = by (shown_same (shown_of world) (shown_at world (last_version world)))
+  where
+    by : (t : Bool) → SameManaged world (cond t (world, Unchanged) (record world { pictures = world.pictures ++ shown_of world ∷ [] }, Version (length world.pictures))).0
+    by true = itself world
+    by false = same_but world (world.pictures ++ shown_of world ∷ []) world.held world.opened world.expired
+
+-- a reaping, once its rows are gone
+pub reaped_same : (format : Format) (world : World) (rows : List GenRow) → rows ≡ (without_dead format world).rows
+    → SameManaged (record world { rows = rows }) (without_dead format world)
+reaped_same format world rows is = record {
+  rows = sym is; made = refl; arrivals = refl; results = refl; versions = refl; stream = refl; first_clusters = refl; first_listeners = refl;
+  late_clusters = refl; late_listeners = refl; phase = refl; node = refl;
+}
+
+-- an event of a worker
+pub worked_same : (format : Format) (world : World) (worker : ℕ) (event : Event) → is_working event ≡ true
+    → SameManaged world (step format world (by_worker worker) event).0
+worked_same format world worker Connect is = cc
+worked_same format world worker Disconnect is = cc
+worked_same format world worker (Response response) is = cc
+worked_same format world worker (Health cluster host healthy) is = cc
+worked_same format world worker (FetchTimeout timeout) is = cc
+worked_same format world worker (DrainTimeout listener) is = cc
+worked_same format world worker (TtlExpired kind name) is = cc
+worked_same format world worker Publish is = cc
+worked_same format world worker Reap is = cc
+worked_same format world worker (Accept ask) is = same_but world world.pictures world.held _ world.expired
+worked_same format world worker (Close connection) is = same_but world world.pictures world.held _ world.expired
+worked_same format world worker Settle is = same_but world world.pictures _ _ world.expired
+
+-- what is answered is of a worker
+answered_working : (worker : ℕ) (world : World) (event : Event) (outcome : Outcome) → IsAnswer worker world event outcome → is_working event ≡ true
+answered_working worker world (Accept ask) outcome is = refl
+answered_working worker world (Close connection) outcome is = refl
+answered_working worker world Connect outcome is = absurd is
+answered_working worker world Disconnect outcome is = absurd is
+answered_working worker world (Response response) outcome is = absurd is
+answered_working worker world (Health cluster host healthy) outcome is = absurd is
+answered_working worker world (FetchTimeout timeout) outcome is = absurd is
+answered_working worker world (DrainTimeout listener) outcome is = absurd is
+answered_working worker world (TtlExpired kind name) outcome is = absurd is
+answered_working worker world Publish outcome is = absurd is
+answered_working worker world Reap outcome is = absurd is
+answered_working worker world Settle outcome is = absurd is
+
+-- a batch
+pub batch_same : (format : Format) (worker : ℕ) (picture : Picture) (lines : List BatchLine) (world : World) → AreAnswered format worker world lines
+    → SameManaged world (world_after format world (entries_of worker picture lines))
+batch_same format worker picture [] world all = itself world
+batch_same format worker picture (line ∷ lines) world all =
+    let next : World = (step format world (by_worker worker) line.event).0 in
+    then_same world next _ (worked_same format world worker line.event (answered_working worker world line.event line.outcome all.0))
+    (batch_same format worker picture lines next all.1)
+
+-- a drain timeout for which no generation waits
+pub left_alone : (numbers : List ℕ) (world : World) → (expire numbers world).1 ≡ Ignored → record world { expired = world.expired ++ numbers } ≡ world
+left_alone [] world is = λ i. record world { expired = append-nil world.expired i }
+left_alone (number ∷ numbers) world is = cc
+
+pub no_timeout : (name : List ℕ) (world : World) → (drain_timeout name world).1 ≡ Ignored → with_expired name world ≡ world
+no_timeout name world is = left_alone (unexpired world.expired name world.rows) world is
+
+-- an event of the managers
+managed_moving : (event : Event) → is_managed event ≡ true → is_moving event ≡ true
+managed_moving Connect is = refl
+managed_moving Disconnect is = refl
+managed_moving (Response response) is = refl
+managed_moving (Health cluster host healthy) is = refl
+managed_moving (FetchTimeout timeout) is = refl
+managed_moving (DrainTimeout listener) is = cc
+managed_moving (TtlExpired kind name) is = refl
+managed_moving Publish is = cc
+managed_moving Reap is = cc
+managed_moving (Accept ask) is = cc
+managed_moving (Close connection) is = cc
+managed_moving Settle is = cc
+
+managed_for : (event : Event) → is_managed event ≡ true → is_for_managers event ≡ true
+managed_for Connect is = refl
+managed_for Disconnect is = refl
+managed_for (Response response) is = refl
+managed_for (Health cluster host healthy) is = refl
+managed_for (FetchTimeout timeout) is = refl
+managed_for (DrainTimeout listener) is = cc
+managed_for (TtlExpired kind name) is = refl
+managed_for Publish is = cc
+managed_for Reap is = cc
+managed_for (Accept ask) is = cc
+managed_for (Close connection) is = cc
+managed_for Settle is = cc
+
+pub managed_same : (format : Format) (world : World) (actor : Actor) (event : Event) → is_managed event ≡ true
+    → HoldTheSame world (step format world actor event).0
+managed_same format world actor event is =
+    let seen = same_seen format world actor event (managed_for event is) in
+    record { pictures = seen.pictures; held = seen.held; opened = seen.opened; expired = same_expired format world actor event (managed_moving event is) }
+
+-- tidying
+pub tidy_same : (world : World) → HoldTheSame world (tidy world)
+tidy_same world = record { pictures = refl; held = refl; opened = refl; expired = refl }
+
+-- a worker that the world has is known
+pub known_there : (holders : HoldersParts) (world : World) (worker : ℕ) → HoldsFor holders world → worker < length world.held → worker < length holders.pictures.held
+known_there holders world worker stands known =
+    subst (λ n. worker < n) (sym (ap length stands.pictures.held ∙ length-map world.held _)) known

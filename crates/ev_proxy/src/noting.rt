@@ -1,0 +1,54 @@
+ghost use Rattle.std.specs.Prelude.{◌≡◌, OnOk};
+ghost use Rattle.std.specs.Option.{option_copied};
+ghost use Rattle.ev_model.specs.World.{World};
+ghost use Rattle.ev_managers.specs.Managers.{AreForgotten, AreKept};
+ghost use Rattle.ev_state.specs.States.{IsAt as ManagesAt};
+ghost use Rattle.ev_proxy.specs.Proxies.{noted_each, noted_over, without_each};
+
+use ev_retirement::Holders;
+use ev_state::State;
+use ev_types::{Gen, GenRow};
+use std::alloc::{AllocError, Global};
+
+/// Notes the generations of these numbers that drain or were dropped.
+pub(crate) fn note_each(
+    alloc: Global,
+    holders: &mut Holders,
+    state: &State,
+    numbers: &[Gen],
+) -> Result<(), AllocError>
+    ensures { OnOk result ((world : World) → ManagesAt state.now world → holders.new ≡ record holders.old { drain = noted_each world.rows numbers.now holders.old.drain }) }
+{
+    for number in numbers {
+        note_row(alloc, holders, state.row(*number))?;
+    }
+    Ok(())
+}
+
+// Notes a generation that was found, where it drains or was dropped.
+fn note_row(
+    alloc: Global,
+    holders: &mut Holders,
+    row: Option<&GenRow>,
+) -> Result<(), AllocError>
+    ensures { OnOk result (holders.new ≡ record holders.old { drain = noted_over holders.old.drain (option_copied row) }) }
+{
+    let Some(row) = row else {
+        return Ok(());
+    };
+    if row.status.is_live() {
+        return Ok(());
+    }
+    holders.note(alloc, row)
+}
+
+/// Takes out the generations of these numbers that drain or were dropped. It takes no memory.
+pub(crate) fn remove_each(state: &mut State, numbers: &[Gen])
+    requires kept { AreKept state.old.managers }
+    requires forgotten { AreForgotten state.old.managers }
+    ensures { (world : World) → ManagesAt state.old world → ManagesAt state.new (record world { rows = without_each numbers.now world.rows }) }
+{
+    for number in numbers {
+        state.remove(*number);
+    }
+}

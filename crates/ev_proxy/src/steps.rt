@@ -1,0 +1,92 @@
+ghost use Rattle.std.specs.Prelude.{◌≡◌, ◌<◌, ◌+◌, ◌^◌, IsTrue, IfOk, OnOk};
+ghost use Rattle.ev_types.specs.Scripts.{items_in};
+ghost use Rattle.ev_types.specs.declared.events.Actor.{Actor};
+ghost use Rattle.ev_types.specs.declared.journals.Format.{Format};
+ghost use Rattle.ev_model.specs.World.{World};
+ghost use Rattle.ev_model.specs.Publishing.{publish, reap};
+ghost use Rattle.ev_model.specs.Signals.{drain_timeout};
+ghost use Rattle.ev_model.specs.Step.{step as machine_step};
+ghost use Rattle.ev_state.specs.Managed.{is_managed};
+ghost use Rattle.ev_proxy.specs.Proxies.{IsAt};
+
+use crate::Proxy;
+use crate::noting::{note_each, remove_each};
+use ev_types::{Answer, Event, Format, Name, Seq};
+use std::alloc::{AllocError, Global};
+
+impl Proxy {
+    /// What an event of the stream, the health checker or a timer does, but a drain timeout. The generations that it retired are noted
+    /// among those that drain.
+    pub(crate) fn manage(&mut self, alloc: Global, event: &Event) -> Result<Answer, AllocError>
+        ghost here: { World }
+        requires at { IsAt self.old here }
+        requires managed { IsTrue (is_managed event.now) }
+        requires room { here.made + items_in event.now < 2 ^ 32 }
+        ensures at { OnOk result ((format : Format) (actor : Actor) → IsAt self.new (machine_step format here actor event.now).0) }
+        ensures answer { IfOk result (λ answer. (format : Format) (actor : Actor) → answer ≡ (machine_step format here actor event.now).1) }
+    {
+        let stepped = self.state.step(alloc, event)?;
+        let clusters = stepped.retired.clusters.as_slice();
+        note_each(alloc, &mut self.holders, &self.state, clusters)?;
+        let listeners = stepped.retired.listeners.as_slice();
+        note_each(alloc, &mut self.holders, &self.state, listeners)?;
+        Ok(stepped.answer)
+    }
+
+    /// The drain timeout of a listener's old generations; where there is none for which it hadn't come, nothing is done.
+    pub(crate) fn drain_timeout(
+        &mut self,
+        alloc: Global,
+        listener: &Name,
+    ) -> Result<Answer, AllocError>
+        ghost here: { World }
+        requires at { IsAt self.old here }
+        ensures at { OnOk result (IsAt self.new (drain_timeout listener.now here).0) }
+        ensures answer { IfOk result (λ answer. answer ≡ (drain_timeout listener.now here).1) }
+    {
+        if !self.holders.drain_timeout(listener) {
+            return Ok(Answer::Ignored);
+        }
+        let retired = self.state.tidy_up(alloc)?;
+        note_each(
+            alloc,
+            &mut self.holders,
+            &self.state,
+            retired.clusters.as_slice(),
+        )?;
+        note_each(
+            alloc,
+            &mut self.holders,
+            &self.state,
+            retired.listeners.as_slice(),
+        )?;
+        Ok(Answer::Done)
+    }
+
+    /// What workers may serve now is published, where it isn't what the last picture shows.
+    pub(crate) fn publish(&mut self, alloc: Global) -> Result<Answer, AllocError>
+        ghost here: { World }
+        requires at { IsAt self.old here }
+        ensures at { OnOk result (IsAt self.new (publish here).0) }
+        ensures answer { IfOk result (λ answer. answer ≡ (publish here).1) }
+    {
+        let shown = self.state.shown(alloc)?;
+        match self.holders.publish(alloc, shown)? {
+            Some(version) => Ok(Answer::Version(version)),
+            None => Ok(Answer::Unchanged),
+        }
+    }
+
+    /// All generations that nothing holds any more are named, and go.
+    pub(crate) fn reap(&mut self, alloc: Global, format: Format) -> Result<Answer, AllocError>
+        ghost here: { World }
+        requires at { IsAt self.old here }
+        ensures at { OnOk result (IsAt self.new (reap format here).0) }
+        ensures answer { IfOk result (λ answer. answer ≡ (reap format here).1) }
+    {
+        let dead = self.holders.dead(alloc, format)?;
+        remove_each(&mut self.state, dead.as_slice());
+        self.holders.remove_all(dead.as_slice());
+        Ok(Answer::Reaped(Seq::from_vec(dead)))
+    }
+}

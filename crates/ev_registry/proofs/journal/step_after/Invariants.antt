@@ -1,4 +1,0 @@
-use Rattle.ev_registry.proofs.journal.step_after.Given as goal
-
-abbrev pub ghost-step : goal.ghost-step
-ghost-step g a = g.here

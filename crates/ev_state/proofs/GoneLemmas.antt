@@ -1,0 +1,150 @@
+-- A generation that is over goes: which rows are left, and that the live ones stay.
+use Rattle.std.proofs.Common.{◌≡◌, ◌∙◌, ℕ, Bool, true, false, cond, not, ◌&&◌, nat_eq, List, [], ◌∷◌, None, Some, filter, map, refl, sym, ap, subst}
+use Rattle.std.specs.List.{All, IsDistinct}
+use Rattle.std.proofs.lemmas.Bool.{false≢true}
+use Rattle.std.proofs.lemmas.Map.Keys.{IsDistinct-tail}
+use Rattle.ev_types.specs.Statuses.{is_live}
+use Rattle.ev_types.specs.declared.contents.Kind.{Kind}
+use Rattle.ev_types.specs.declared.contents.Kind.TheVariants.{Cds, Lds}
+use Rattle.ev_types.specs.declared.rows.GenRow.{GenRow}
+use Rattle.ev_types.specs.declared.rows.KeptVersion.{KeptVersion}
+use Rattle.ev_types.specs.declared.rows.Live.{Live}
+use Rattle.ev_model.specs.World.{World}
+use Rattle.ev_model.specs.Live.{live_of, lives_of}
+use Rattle.ev_generations.specs.Tables.{is_number, row_in, numbers_of, without_row}
+use Rattle.ev_generations.proofs.TableLemmas.{without_row-absent}
+use Rattle.ev_warming.specs.Changes.{is_over}
+use Rattle.ev_warming.specs.Worlds.{rows_of_kind}
+use Rattle.ev_warming.proofs.ForgottenLemmas.{found-of_kind}
+use Rattle.ev_managers.specs.declared.managers.Managers.{Managers}
+use Rattle.ev_managers.specs.Managers.{AreForgotten, AreKept, StandFor}
+use Rattle.ev_state.specs.declared.state.State.{State}
+use Rattle.ev_state.specs.States.{IsAt, without_over}
+use Rattle.ev_state.proofs.AgeLemmas.{later-same}
+use Rattle.ev_state.proofs.FindLemmas.{none-behind, found-only, whole-found, over-found, live-found, listener-found}
+use Rattle.ev_state.proofs.HeardLemmas.{IsDue}
+use Rattle.ev_state.proofs.MoveLemmas.{clusters-are, listeners-are}
+use Rattle.ev_state.proofs.RestLemmas.{rest_boots}
+use Rattle.ev_state.proofs.WholeLemmas.{AreWhole, left-whole}
+
+-- no row has the number
+absent_stay : (n : ℕ) (rows : List GenRow) → row_in n rows ≡ None → without_over n rows ≡ rows
+absent_stay n [] none = refl
+absent_stay n (row ∷ rows) none = by (nat_eq n row.number) none (absent_stay n rows)
+  where
+    by : (b : Bool) → cond b (Some row) (row_in n rows) ≡ None → (row_in n rows ≡ None → without_over n rows ≡ rows)
+        → cond (not (b && not (is_live row.status))) (row ∷ without_over n rows) (without_over n rows) ≡ row ∷ rows
+    by true none rest = absurd (cc)
+    by false none rest = ap (λ (rs : List GenRow). row ∷ rs) (rest none)
+
+-- where the one of the number isn't over, all stay
+pub over-stays : (n : ℕ) (rows : List GenRow) → IsDistinct nat_eq (numbers_of rows) → is_over (row_in n rows) ≡ false → without_over n rows ≡ rows
+over-stays n [] apart isnt = refl
+over-stays n (row ∷ rows) apart isnt = by (nat_eq n row.number) refl isnt (over-stays n rows (IsDistinct-tail nat_eq row.number (numbers_of rows) apart))
+  where
+    by : (b : Bool) → nat_eq n row.number ≡ b → is_over (cond b (Some row) (row_in n rows)) ≡ false → (is_over (row_in n rows) ≡ false → without_over n rows ≡ rows)
+        → cond (not (b && not (is_live row.status))) (row ∷ without_over n rows) (without_over n rows) ≡ row ∷ rows
+    by true is isnt rest =
+        (λ i. cond (not (isnt i)) (row ∷ without_over n rows) (without_over n rows))
+        ∙ ap (λ (rs : List GenRow). row ∷ rs) (absent_stay n rows (none-behind n row rows apart is))
+    by false other isnt rest = ap (λ (rs : List GenRow). row ∷ rs) (rest isnt)
+
+-- where it is over, it alone goes
+pub over-goes : (n : ℕ) (rows : List GenRow) → IsDistinct nat_eq (numbers_of rows) → is_over (row_in n rows) ≡ true → without_over n rows ≡ without_row n rows
+over-goes n [] apart over = absurd (false≢true over)
+over-goes n (row ∷ rows) apart over = by (nat_eq n row.number) refl over (over-goes n rows (IsDistinct-tail nat_eq row.number (numbers_of rows) apart))
+  where
+    by : (b : Bool) → nat_eq n row.number ≡ b → is_over (cond b (Some row) (row_in n rows)) ≡ true → (is_over (row_in n rows) ≡ true → without_over n rows ≡ without_row n rows)
+        → cond (not (b && not (is_live row.status))) (row ∷ without_over n rows) (without_over n rows) ≡ cond (not b) (row ∷ without_row n rows) (without_row n rows)
+    by true is over rest =
+        let none : row_in n rows ≡ None = none-behind n row rows apart is in
+        (λ i. cond (not (over i)) (row ∷ without_over n rows) (without_over n rows)) ∙ absent_stay n rows none ∙ sym (without_row-absent n rows none)
+    by false other over rest = ap (λ (rs : List GenRow). row ∷ rs) (rest over)
+
+-- the live ones stay
+live_stay : (n : ℕ) (rows : List GenRow) → filter (λ (row : GenRow). is_live row.status) (without_over n rows) ≡ filter (λ (row : GenRow). is_live row.status) rows
+live_stay n [] = refl
+live_stay n (row ∷ rows) = by (nat_eq n row.number) (is_live row.status) refl (live_stay n rows)
+  where
+    lives : List GenRow → List GenRow
+    lives rs = filter (λ (r : GenRow). is_live r.status) rs
+
+    by : (b l : Bool) → is_live row.status ≡ l → lives (without_over n rows) ≡ lives rows
+        → lives (cond (not (b && not l)) (row ∷ without_over n rows) (without_over n rows)) ≡ cond l (row ∷ lives rows) (lives rows)
+    by true true is rest = (λ i. cond (is i) (row ∷ lives (without_over n rows)) (lives (without_over n rows))) ∙ ap (λ (rs : List GenRow). row ∷ rs) rest
+    by true false isnt rest = rest
+    by false true is rest = (λ i. cond (is i) (row ∷ lives (without_over n rows)) (lives (without_over n rows))) ∙ ap (λ (rs : List GenRow). row ∷ rs) rest
+    by false false isnt rest = (λ i. cond (isnt i) (row ∷ lives (without_over n rows)) (lives (without_over n rows))) ∙ rest
+
+-- behind a removal
+pub at-removed : (s : State) (m : Managers) (n : ℕ) (world : World) → IsAt s world → AreKept m → AreForgotten m
+    → StandFor m (record world { rows = without_over n world.rows }) → IsAt (record s { managers = m }) (record world { rows = without_over n world.rows })
+at-removed s m n world at kept forgotten stand =
+    let after : World = record world { rows = without_over n world.rows } in
+    let had = at.follows.stands.subscription in
+    record {
+      kept = kept;
+      forgotten = forgotten;
+      follows = record {
+        stands = record {
+          managers = stand;
+          subscription = record { node = had.node; stream = had.stream; versions = had.versions; kept_once = had.kept_once };
+          targets = rest_boots s.targets world after (record { first_clusters = refl; first_listeners = refl; late_clusters = refl; late_listeners = refl; phase = refl }) at.follows.stands.targets;
+        };
+        sound = stand.clusters.sound;
+        later = later-same world.made (without_over n world.rows);
+        heard = subst (λ (lives : List Live). All (IsDue lives) world.versions) (ap (map live_of) (sym (live_stay n world.rows))) at.follows.heard;
+        phase = refl;
+      };
+      whole = left-whole (λ (row : GenRow). not (is_number n row && not (is_live row.status))) world.rows at.whole;
+    }
+
+-- one that is over among those of its kind goes
+one_goes : (s : State) (m : Managers) (kind : Kind) (n : ℕ) (world : World) (rows : List GenRow) → IsAt s world → rows ≡ rows_of_kind kind world.rows
+    → is_over (row_in n rows) ≡ true → AreKept m → AreForgotten m → StandFor m (record world { rows = without_row n world.rows })
+    → IsAt (record s { managers = m }) (record world { rows = without_over n world.rows })
+one_goes s m kind n world rows at are over kept forgotten stand =
+    let apart = at.follows.sound.table.apart in
+    let ended : is_over (row_in n world.rows) ≡ true =
+    over-found kind (row_in n world.rows) (ap is_over (sym (found-only kind n world.rows apart)) ∙ (λ i. is_over (row_in n (sym are i))) ∙ over) in
+    at-removed s m n world at kept forgotten
+    (subst (λ (left : List GenRow). StandFor m (record world { rows = left })) (sym (over-goes n world.rows apart ended)) stand)
+
+pub cluster-goes : (s : State) (m : Managers) (n : ℕ) (world : World) → IsAt s world → is_over (row_in n s.managers.clusters.state.table.rows) ≡ true
+    → AreKept m → AreForgotten m → StandFor m (record world { rows = without_row n world.rows })
+    → IsAt (record s { managers = m }) (record world { rows = without_over n world.rows })
+cluster-goes s m n world at over =
+    one_goes s m Cds n world s.managers.clusters.state.table.rows at (clusters-are s.managers world at.kept at.follows.stands.managers) over
+
+pub listener-goes : (s : State) (m : Managers) (n : ℕ) (world : World) → IsAt s world → is_over (row_in n s.managers.listeners.state.table.rows) ≡ true
+    → AreKept m → AreForgotten m → StandFor m (record world { rows = without_row n world.rows })
+    → IsAt (record s { managers = m }) (record world { rows = without_over n world.rows })
+listener-goes s m n world at over =
+    one_goes s m Lds n world s.managers.listeners.state.table.rows at (listeners-are s.managers world at.kept at.follows.stands.managers) over
+
+-- where it is over in neither kind, nothing goes
+pub nothing-goes : (s : State) (n : ℕ) (world : World) → IsAt s world → is_over (row_in n s.managers.clusters.state.table.rows) ≡ false
+    → is_over (row_in n s.managers.listeners.state.table.rows) ≡ false → IsAt s (record world { rows = without_over n world.rows })
+nothing-goes s n world at clusters listeners =
+    let apart = at.follows.sound.table.apart in
+    let of_clusters = clusters-are s.managers world at.kept at.follows.stands.managers in
+    let of_listeners = listeners-are s.managers world at.kept at.follows.stands.managers in
+    let live : is_over (row_in n world.rows) ≡ false = live-found (row_in n world.rows) (whole-found n world.rows at.whole)
+    (ap is_over (sym (found-only Cds n world.rows apart)) ∙ (λ i. is_over (row_in n (sym of_clusters i))) ∙ clusters)
+    (ap is_over (sym (found-only Lds n world.rows apart)) ∙ (λ i. is_over (row_in n (sym of_listeners i))) ∙ listeners) in
+    subst (λ (left : List GenRow). IsAt s (record world { rows = left })) (sym (over-stays n world.rows apart live)) at
+
+-- a cluster that is found is the world's generation of its number
+pub cluster-row : (m : Managers) (n : ℕ) (row : GenRow) (world : World) → AreKept m → StandFor m world → row_in n m.clusters.state.table.rows ≡ Some row
+    → row_in n world.rows ≡ Some row
+cluster-row m n row world kept stand at =
+    found-of_kind Cds n row world.rows stand.clusters.sound.table.apart ((λ i. row_in n (sym (clusters-are m world kept stand) i)) ∙ at)
+
+-- and where none is found, it is a listener
+pub listener-row : (m : Managers) (n : ℕ) (world : World) → AreKept m → StandFor m world → AreWhole world.rows → row_in n m.clusters.state.table.rows ≡ None
+    → row_in n m.listeners.state.table.rows ≡ row_in n world.rows
+listener-row m n world kept stand whole none =
+    let apart = stand.clusters.sound.table.apart in
+    (λ i. row_in n (listeners-are m world kept stand i)) ∙ found-only Lds n world.rows apart
+    ∙ listener-found (row_in n world.rows) (whole-found n world.rows whole)
+    (sym (found-only Cds n world.rows apart) ∙ (λ i. row_in n (sym (clusters-are m world kept stand) i)) ∙ none)
