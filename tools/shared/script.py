@@ -4,7 +4,7 @@ A second implementation of the fault search that docs/FORMATS.md describes, for 
 """
 import difflib
 
-from . import journal, not_built_yet
+from . import journal
 from .fields import MAX_NAME, MAX_U32, size
 from .json_text import NotJson, read_tree
 from .resources import KINDS, read_message
@@ -314,11 +314,3 @@ def journal_hints(text):
     if not text.strip():
         return ['an empty line: take it out']
     return ['a journal is read byte by byte: copy it as it was written, not through jq or an editor']
-
-
-def not_built(reading):
-    """(line, words) for each line of a good script that today's program does not take yet."""
-    found = [(1, words) for words in not_built_yet.header(reading)]
-    for line in reading.lines:
-        found += [(line.at, words) for words in not_built_yet.line(line.op)]
-    return found

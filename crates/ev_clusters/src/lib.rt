@@ -30,8 +30,8 @@ use std::alloc::{AllocError, Global};
 use std::marker::Model;
 use std::sync::ledger::Ledger;
 
-/// The generations of clusters, with all that they wait for. After want of memory nothing is promised of it: its holder goes
-/// on with a copy.
+/// The generations of clusters, with all that they wait for. After want of memory nothing is promised of it: its holder makes
+/// it anew, out of the journal.
 #[derive(Drop)]
 pub struct Clusters {
     manager: Manager,
