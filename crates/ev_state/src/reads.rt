@@ -50,7 +50,10 @@ impl State {
         ensures { IfOk result (λ listeners. (world : World) → StandsFor self.now world → listeners ≡ (if is_serving world.phase then served_listeners world.arrivals world.rows else [])) }
     {
         match self.targets.phase() {
-            Phase::Serving => self.managers.listeners.shown(alloc),
+            Phase::Serving => {
+                let listeners = self.managers.listeners.shown(alloc)?;
+                Ok(listeners)
+            }
             Phase::Clusters | Phase::Listeners => Ok(Seq::new(alloc)),
         }
     }

@@ -63,7 +63,7 @@ impl State {
 
 // Whether there is a generation, and it drains or was dropped.
 fn has_ended(row: Option<&GenRow>) -> bool
-    ensures { result ≡ is_over (option_copied row) }
+    ensures { result ≡ is_over (option_copied row.entry) }
 {
     match row {
         Some(row) => !row.status.is_live(),

@@ -10,8 +10,8 @@ returns c = λ workers. record {
   follows = record {
     stands = record {
       managers = c.in_ok-managers.ensures.stands workers c.args.node.now;
-      subscription = record { node = c.new.ensures.node ∙ c.in_ok-node.ensures.equal; stream = c.new.ensures.closed; versions = λ kind. c.new.ensures.empty kind; kept_once = keeps_versions.opens workers c.args.node.now };
-      targets = c.new-2.ensures workers c.args.node.now;
+      subscription = record { node = c.new-2.ensures.node ∙ c.in_ok-node.ensures.equal; stream = c.new-2.ensures.closed; versions = λ kind. c.new-2.ensures.empty kind; kept_once = keeps_versions.opens workers c.args.node.now };
+      targets = c.new-3.ensures workers c.args.node.now;
     };
     sound = (c.in_ok-managers.ensures.stands workers c.args.node.now).clusters.sound;
     later = tt;
