@@ -2,7 +2,6 @@
 use Rattle.std.proofs.Common.{◌≡◌, ◌∙◌, ℕ, Bool, true, false, cond, not, ◌&&◌, ◌||◌, List, Option, None, Some, refl, sym, ap}
 use Rattle.std.proofs.lemmas.Bool.{false≢true}
 use Rattle.ev_types.specs.Kinds.{kind_same}
-use Rattle.ev_types.specs.Statuses.{is_live}
 use Rattle.ev_types.specs.declared.contents.Kind.{Kind}
 use Rattle.ev_types.specs.declared.contents.Kind.TheVariants.{Cds, Eds, Lds, Rds}
 use Rattle.ev_types.specs.declared.rows.GenRow.{GenRow}
@@ -15,7 +14,7 @@ use Rattle.ev_managers.specs.declared.retired.Retired.{Retired}
 use Rattle.ev_state.specs.Ages.{AreLater}
 use Rattle.ev_state.specs.Retirements.{HaveRetired, HaveCeased}
 use Rattle.ev_state.proofs.AgeLemmas.{found-later}
-use Rattle.ev_state.proofs.FindLemmas.{only, found-only, IsWhole, whole-found}
+use Rattle.ev_state.proofs.FindLemmas.{only, found-only, whole-found}
 use Rattle.ev_state.proofs.WholeLemmas.{AreWhole}
 
 or_false : (b : Bool) → (b || false) ≡ b

@@ -7,10 +7,9 @@ use Rattle.ev_types.specs.Statuses.{is_live}
 use Rattle.ev_types.specs.declared.contents.Kind.{Kind}
 use Rattle.ev_types.specs.declared.contents.Kind.TheVariants.{Cds, Lds}
 use Rattle.ev_types.specs.declared.rows.GenRow.{GenRow}
-use Rattle.ev_types.specs.declared.rows.KeptVersion.{KeptVersion}
 use Rattle.ev_types.specs.declared.rows.Live.{Live}
 use Rattle.ev_model.specs.World.{World}
-use Rattle.ev_model.specs.Live.{live_of, lives_of}
+use Rattle.ev_model.specs.Live.{live_of}
 use Rattle.ev_generations.specs.Tables.{is_number, row_in, numbers_of, without_row}
 use Rattle.ev_generations.proofs.TableLemmas.{without_row-absent}
 use Rattle.ev_warming.specs.Changes.{is_over}
