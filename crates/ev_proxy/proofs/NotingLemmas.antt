@@ -95,9 +95,10 @@ each_then rows (n ∷ numbers) others drain = each_then rows numbers others (not
 -- what is so of each number among these
 all_among : (P : ℕ → Type 0) (numbers : List ℕ) → ((n : ℕ) → has_number n numbers ≡ true → P n) → AllByRecursion P numbers
 all_among P [] so = tt
-all_among P (n ∷ numbers) so =
-    (so n (ap (λ b. b || has_number n numbers) (turned n n ∙ own n)),
-    all_among P numbers (λ m is. so m (or_later (n == m) is)))
+all_among P (n ∷ numbers) so = (
+  so n (ap (λ b. b || has_number n numbers) (turned n n ∙ own n)),
+  all_among P numbers (λ m is. so m (or_later (n == m) is)),
+)
   where
     or_later : (a : Bool) {b : Bool} → b ≡ true → (a || b) ≡ true
     or_later true is = refl
@@ -117,3 +118,17 @@ noted_stand holders drain retired before after stands apart also same ceased is 
     subst (λ (d : List Row). HoldsFor (record holders { drain = d }) after)
     (sym (is ∙ each_then after.rows retired.clusters retired.listeners holders.drain ∙ each_noted after.rows numbers holders.drain over))
     (retirements_stand holders numbers before after stands apart also same all)
+
+-- the same, by what each noting leaves
+pub both_noted : (first second third : HoldersParts) (retired : Retired) (clusters listeners : List ℕ) (before after : World)
+    → clusters ≡ retired.clusters → listeners ≡ retired.listeners
+    → second ≡ record first { drain = noted_each after.rows clusters first.drain }
+    → third ≡ record second { drain = noted_each after.rows listeners second.drain }
+    → HoldsFor first before → AreNumbered before.rows → AreNumbered after.rows → HoldTheSame before after → HaveCeased retired before after
+    → HoldsFor third after
+both_noted first second third retired clusters listeners before after cs ls then last stands apart also same ceased =
+    subst (λ (h : HoldersParts). HoldsFor h after)
+    (sym (last
+    ∙ (λ i. record (then i) { drain = noted_each after.rows listeners (then i).drain })
+    ∙ (λ i. record first { drain = noted_each after.rows (ls i) (noted_each after.rows (cs i) first.drain) })))
+    (noted_stand first _ retired before after stands apart also same ceased refl)

@@ -34,15 +34,35 @@ use Rattle.ev_proxy.specs.Proxies.{is_working}
 -- the managers' part is the same
 pub itself : (world : World) → SameManaged world world
 itself world = record {
-  rows = refl; made = refl; arrivals = refl; results = refl; versions = refl; stream = refl; first_clusters = refl; first_listeners = refl;
-  late_clusters = refl; late_listeners = refl; phase = refl; node = refl;
+  rows = refl;
+  made = refl;
+  arrivals = refl;
+  results = refl;
+  versions = refl;
+  stream = refl;
+  first_clusters = refl;
+  first_listeners = refl;
+  late_clusters = refl;
+  late_listeners = refl;
+  phase = refl;
+  node = refl;
 }
 
 pub same_but : (world : World) (pictures : List Shown) (held : List ℕ) (opened : List OpenMember) (expired : List ℕ)
     → SameManaged world (record world { pictures = pictures; held = held; opened = opened; expired = expired })
 same_but world pictures held opened expired = record {
-  rows = refl; made = refl; arrivals = refl; results = refl; versions = refl; stream = refl; first_clusters = refl; first_listeners = refl;
-  late_clusters = refl; late_listeners = refl; phase = refl; node = refl;
+  rows = refl;
+  made = refl;
+  arrivals = refl;
+  results = refl;
+  versions = refl;
+  stream = refl;
+  first_clusters = refl;
+  first_listeners = refl;
+  late_clusters = refl;
+  late_listeners = refl;
+  phase = refl;
+  node = refl;
 }
 
 then_same : (a b c : World) → SameManaged a b → SameManaged b c → SameManaged a c
@@ -65,7 +85,10 @@ then_same a b c p q = record {
 pub publish_same : (world : World) → SameManaged world (publish world).0
 publish_same world = by (shown_same (shown_of world) (shown_at world (last_version world)))
   where
-    by : (t : Bool) → SameManaged world (cond t (world, Unchanged) (record world { pictures = world.pictures ++ shown_of world ∷ [] }, Version (length world.pictures))).0
+    led : Bool → World × Answer
+    led t = cond t (world, Unchanged) (record world { pictures = world.pictures ++ shown_of world ∷ [] }, Version (length world.pictures))
+
+    by : (t : Bool) → SameManaged world (led t).0
     by true = itself world
     by false = same_but world (world.pictures ++ shown_of world ∷ []) world.held world.opened world.expired
 
@@ -73,8 +96,18 @@ publish_same world = by (shown_same (shown_of world) (shown_at world (last_versi
 pub reaped_same : (format : Format) (world : World) (rows : List GenRow) → rows ≡ (without_dead format world).rows
     → SameManaged (record world { rows = rows }) (without_dead format world)
 reaped_same format world rows is = record {
-  rows = sym is; made = refl; arrivals = refl; results = refl; versions = refl; stream = refl; first_clusters = refl; first_listeners = refl;
-  late_clusters = refl; late_listeners = refl; phase = refl; node = refl;
+  rows = sym is;
+  made = refl;
+  arrivals = refl;
+  results = refl;
+  versions = refl;
+  stream = refl;
+  first_clusters = refl;
+  first_listeners = refl;
+  late_clusters = refl;
+  late_listeners = refl;
+  phase = refl;
+  node = refl;
 }
 
 -- an event of a worker

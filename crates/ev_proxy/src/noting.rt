@@ -1,5 +1,4 @@
-ghost use Rattle.std.specs.Prelude.{◌≡◌, OnOk};
-ghost use Rattle.std.specs.Option.{option_copied};
+ghost use Rattle.std.specs.Prelude.{◌≡◌, option_copied, OnOk};
 ghost use Rattle.ev_model.specs.World.{World};
 ghost use Rattle.ev_managers.specs.Managers.{AreForgotten, AreKept};
 ghost use Rattle.ev_state.specs.States.{IsAt as ManagesAt};
@@ -26,12 +25,8 @@ pub(crate) fn note_each(
 }
 
 // Notes a generation that was found, where it drains or was dropped.
-fn note_row(
-    alloc: Global,
-    holders: &mut Holders,
-    row: Option<&GenRow>,
-) -> Result<(), AllocError>
-    ensures { OnOk result (holders.new ≡ record holders.old { drain = noted_over holders.old.drain (option_copied row) }) }
+fn note_row(alloc: Global, holders: &mut Holders, row: Option<&GenRow>) -> Result<(), AllocError>
+    ensures { OnOk result (holders.new ≡ record holders.old { drain = noted_over holders.old.drain (option_copied row.entry) }) }
 {
     let Some(row) = row else {
         return Ok(());

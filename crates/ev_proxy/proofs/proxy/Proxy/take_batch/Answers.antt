@@ -1,0 +1,14 @@
+use Rattle.std.proofs.lemmas.Result.{IfOk-weaker}
+use Rattle.ev_state.proofs.FrameLemmas.{at-frame}
+use Rattle.ev_proxy.proofs.WorldLemmas.{batch_same}
+use Rattle.ev_proxy.proofs.proxy.Proxy.take_batch.Goals as goal
+
+pub returns : goal.returns
+returns g c = record {
+  at =
+      IfOk-weaker c.take_batch.result _ _
+      (λ v stands format picture answered. record {
+        managed = at-frame c.args.self.now.state g.here _ (batch_same format c.args.batch.now.worker picture c.args.batch.now.lines g.here answered) c.requires.managed;
+        held = stands format g.here picture c.requires.held answered;
+      }) c.take_batch.ensures.world;
+}
