@@ -1,9 +1,7 @@
 -- The journal of a replay has the laws.
 use Rattle.std.proofs.Common.{◌≡◌, ℕ, List, subst}
-use Rattle.std.specs.Prelude.{Vec}
 use Rattle.ev_types.specs.Scripts.{ScriptParts}
 use Rattle.ev_types.specs.declared.journals.Format.TheVariants.{Two}
-use Rattle.ev_types.specs.declared.events.Entry.{Entry}
 use Rattle.ev_model.specs.Laws.{Laws, RunsHaveLaws, Told}
 use Rattle.ev_model.specs.Runs.{IsRun}
 use Rattle.ev_journal.specs.Rendering.{rendering_of}
