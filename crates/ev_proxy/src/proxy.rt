@@ -36,7 +36,9 @@ impl Proxy {
     pub fn new(alloc: Global, workers: u32, node: &Text) -> Result<Proxy, AllocError>
         ensures { IfOk result (λ p. IsAt p (opening workers node.now)) }
     {
-        let _ = (alloc, workers, node);
+        let _ = alloc;
+        let _ = workers;
+        let _ = node;
         Err(AllocError)
     }
 
@@ -54,7 +56,9 @@ impl Proxy {
         ensures at { OnOk result ((actor : Actor) → IsAt self.new (machine_step format here actor event.now).0) }
         ensures answer { IfOk result (λ answer. (actor : Actor) → answer ≡ (machine_step format here actor event.now).1) }
     {
-        let _ = (alloc, format, event);
+        let _ = alloc;
+        let _ = format;
+        let _ = event;
         Err(AllocError)
     }
 
@@ -66,7 +70,9 @@ impl Proxy {
         requires known { worker < length here.held }
         ensures at { OnOk result ((format : Format) → IsAt self.new (machine_step format here (by_worker worker) event.now).0) }
     {
-        let _ = (alloc, worker, event);
+        let _ = alloc;
+        let _ = worker;
+        let _ = event;
         Err(AllocError)
     }
 
@@ -89,7 +95,8 @@ impl Proxy {
         ensures answer { IfOk result (λ settled. (settle worker here).1 ≡ settled_answer settled.closed settled.version) }
         ensures told { IfOk result (λ settled. IsToldBy worker settled.closed (arc_value settled.snapshot) here) }
     {
-        let _ = (alloc, worker);
+        let _ = alloc;
+        let _ = worker;
         Err(AllocError)
     }
 
