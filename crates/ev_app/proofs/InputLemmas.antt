@@ -1,5 +1,5 @@
 -- What the input is, by what the reader of scripts answers.
-use Rattle.std.proofs.Common.{◌≡◌, ℕ, Bool, true, false, cond, List, [], IsTrue, Option, None, Some, option_and_then, Vec, Result, Ok, Err, refl, sym, ap, subst, ◌∙◌, inl, inr, arith}
+use Rattle.std.proofs.Common.{◌≡◌, ℕ, true, false, List, [], IsTrue, Option, None, Some, Vec, Result, Ok, Err, refl, arith}
 use Rattle.std.specs.Io.KnownBytes.{IsAtEnd}
 use Rattle.std.specs.declared.alloc.Global.{Global}
 use Rattle.ev_io.specs.declared.faults.ScriptFault.{ScriptFault}

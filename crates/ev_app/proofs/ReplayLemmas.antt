@@ -1,9 +1,7 @@
 -- The journal of a replay has the laws.
 use Rattle.std.proofs.Common.{◌≡◌, ℕ, List, subst}
-use Rattle.std.specs.Prelude.{Vec}
 use Rattle.ev_types.specs.Scripts.{ScriptParts}
 use Rattle.ev_types.specs.declared.journals.Format.TheVariants.{Two}
-use Rattle.ev_types.specs.declared.events.Entry.{Entry}
 use Rattle.ev_model.specs.Laws.{Laws, RunsHaveLaws, Told}
 use Rattle.ev_model.specs.Runs.{IsRun}
 use Rattle.ev_journal.specs.Rendering.{rendering_of}
@@ -13,8 +11,9 @@ use Rattle.ev_app.specs.Replay.{IsReplayText}
 has_laws : (script : ScriptParts) (parts : JournalParts) → RunsHaveLaws → HasReplayed script parts → IsRun parts.format parts.workers parts.node parts.journal
     → Laws record { format = Two; workers = script.workers; node = script.node; journal = parts.journal }
 has_laws script parts laws done run =
-    let same : _≡_ {A = Told} record { format = parts.format; workers = parts.workers; node = parts.node; journal = parts.journal } record { format = Two; workers = script.workers; node = script.node; journal = parts.journal } =
-    λ i. record { format = done.format i; workers = done.workers i; node = done.node i; journal = parts.journal } in
+    let run_told : Told = record { format = parts.format; workers = parts.workers; node = parts.node; journal = parts.journal } in
+    let told : Told = record { format = Two; workers = script.workers; node = script.node; journal = parts.journal } in
+    let same : run_told ≡ told = λ i. record { format = done.format i; workers = done.workers i; node = done.node i; journal = parts.journal } in
     subst Laws same (laws parts.format parts.workers parts.node parts.journal run)
 
 -- so has the one whose text this is

@@ -1,5 +1,5 @@
 -- What a worker did and its settle go into the journal together.
-use Rattle.std.proofs.Common.{◌≡◌, ℕ, ◌+◌, ◌<◌, true, false, ap, List, [], ◌∷◌, ◌++◌, length, refl, sym, subst, ◌∙◌, arith}
+use Rattle.std.proofs.Common.{◌≡◌, ℕ, ◌<◌, false, ap, List, [], ◌∷◌, ◌++◌, length, refl, sym, subst, ◌∙◌, arith}
 use Rattle.std.proofs.lemmas.Bool.{both_ways}
 use Rattle.ev_types.specs.Events.{MayMake}
 use Rattle.ev_types.specs.Scripts.{items_in}
@@ -17,14 +17,14 @@ use Rattle.ev_model.specs.Step.{step}
 use Rattle.ev_model.specs.declared.pictures.Picture.{Picture}
 use Rattle.ev_model.proofs.RunLemmas.{world_after-more}
 use Rattle.ev_worker.specs.Batches.{entries_of}
-use Rattle.ev_worker.specs.Workers.{AreAnswered, IsToldBy, WorkerParts}
+use Rattle.ev_worker.specs.Workers.{IsToldBy, WorkerParts}
 use Rattle.ev_worker.specs.declared.lines.BatchLine.{BatchLine}
-use Rattle.ev_actors.specs.Journals.{JournalParts, WorksIn, entries_made, settle_made, with_entries, with_settled, world_behind, world_now}
+use Rattle.ev_actors.specs.Journals.{JournalParts, WorksIn, entries_made, settle_made, with_settled, world_behind, world_now}
 use Rattle.ev_actors.proofs.SettleLemmas.{held_now}
 use Rattle.ev_actors.proofs.WorldLemmas.{worker_draws}
 use Rattle.ev_proxy.specs.Proxies.{IsAt}
 use Rattle.ev_proxy.specs.declared.proxy.Proxy.{Proxy}
-use Rattle.ev_registry.proofs.EventLemmas.{IsWorkers, worker_works}
+use Rattle.ev_registry.proofs.EventLemmas.{worker_works}
 use Rattle.ev_registry.proofs.RunSteps.{goes_on, runs_append}
 use Rattle.ev_registry.specs.Registries.{MayStep, HaveStepped, StandsFor, settle_told}
 

@@ -1,5 +1,5 @@
 -- Who makes which events: the main side none of a worker, and a worker none that draws a number.
-use Rattle.std.proofs.Common.{◌≡◌, ℕ, ◌+◌, ◌<◌, true, false, List, [], ◌∷◌, ◌++◌, length, refl, sym, ap, subst, ◌∙◌, arith}
+use Rattle.std.proofs.Common.{◌≡◌, ℕ, ◌<◌, true, false, refl}
 use Rattle.ev_types.specs.Events.{IsMainSide, IsWorkerOf, MayMake}
 use Rattle.ev_types.specs.Scripts.{items_in}
 use Rattle.ev_types.specs.declared.events.Actor.{Actor}

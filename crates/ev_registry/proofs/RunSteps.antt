@@ -1,5 +1,5 @@
 -- A registry's journal grows by entries of one step each, and what is known is made anew out of it.
-use Rattle.std.proofs.Common.{◌≡◌, ℕ, zero, suc, ◌+◌, ◌<◌, ◌≤◌, true, false, ap, List, [], ◌∷◌, ◌++◌, length, take, get_or, refl, sym, subst, arith}
+use Rattle.std.proofs.Common.{◌≡◌, ℕ, zero, suc, ◌+◌, ◌<◌, ◌≤◌, true, false, List, [], ◌∷◌, ◌++◌, length, take, get_or, sym, subst, arith}
 use Rattle.std.proofs.lemmas.Bool.{both_ways}
 use Rattle.ev_types.specs.Events.{IsMainSide, MayMake}
 use Rattle.ev_types.specs.Scripts.{items_in}
@@ -11,7 +11,6 @@ use Rattle.ev_types.specs.declared.journals.Format.{Format}
 use Rattle.ev_model.specs.World.{World, opening}
 use Rattle.ev_model.specs.Runs.{world_after, is_batched, GoesOnWith, IsRun, IsUnbroken, RunsFrom}
 use Rattle.ev_model.specs.Step.{step}
-use Rattle.ev_model.proofs.RunLemmas.{world_after-more}
 use Rattle.ev_actors.specs.Journals.{JournalParts, with_entries, world_now}
 use Rattle.ev_actors.proofs.WorldLemmas.{after_append}
 use Rattle.ev_proxy.specs.Proxies.{IsAt}

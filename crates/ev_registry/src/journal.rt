@@ -128,16 +128,13 @@ impl Journaled for Registry {
             self.journal.as_slice(),
             worker,
         )?;
-        match enter_batch(&mut self.journal, self.alloc, worker, at, step, &settled) {
-            Ok(()) => {
-                self.is_lost = false;
-                Ok(settled)
-            }
-            Err(error) => {
-                drop(settled);
-                Err(error)
-            }
+        let entered = enter_batch(&mut self.journal, self.alloc, worker, at, step, &settled);
+        if let Err(error) = entered {
+            drop(settled);
+            return Err(error);
         }
+        self.is_lost = false;
+        Ok(settled)
     }
 
     // What was lost is made anew with the next event alone.

@@ -8,8 +8,7 @@ use Rattle.ev_registry.proofs.steps.make_after.Goals as goal
 pub work-requires : goal.work-requires
 work-requires g c =
     let own : IsWorkers c.args.workers c.in-Worker.worker c.args.event.now =
-    worker_works c.args.workers c.in-Worker.worker c.args.event.now (subst (λ (a : Actor). MayMake c.args.workers a c.args.event.now) c.in-Worker.is c.requires.1.1.0) in
-    (
+    worker_works c.args.workers c.in-Worker.worker c.args.event.now (subst (λ (a : Actor). MayMake c.args.workers a c.args.event.now) c.in-Worker.is c.requires.1.1.0) in (
       c.requires.1.0,
       (
         own.works,
