@@ -4,10 +4,9 @@
 ghost use Rattle.std.specs.Prelude.{◌≡◌, [], ◌∷◌, ◌++◌, nat_eq, ◌&&◌, ◌||◌, not, false, if◌then◌else◌, None, Some, IfOk, unwrap_or, is_some, OnOk, OnErr};
 ghost use Rattle.std.specs.List.{list_all};
 ghost use Rattle.ev_types.specs.Hosts.{HostRowParts};
-ghost use Rattle.ev_types.specs.SameHosts.{host_same};
+ghost use Rattle.ev_types.specs.SameHosts.{host_same, has_host};
 ghost use Rattle.ev_types.specs.declared.hosts.Host as declared;
 ghost use Rattle.indexmap.specs.IndexMap.{get};
-ghost use Rattle.ev_model.specs.Tidy.{has_host};
 ghost use Rattle.ev_endpoints.specs.Results.{result_in, results_of, Notes, Forgets, Trims};
 
 use ev_types::{Assignment, Gen, Host, HostRow, TryCopy};

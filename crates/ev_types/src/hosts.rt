@@ -112,9 +112,12 @@ impl Eq for HostRow {
     ghost laws = { decided host_row_same host_row_decides };
 }
 
+// The most rows of an assignment that are walked as fast as an index is asked.
+const WALKED_ROWS: usize = 16;
+
 /// The hosts of a cluster, in order, a repeated one too. There are fewer than `ROW_LIMIT`. Where single hosts are looked up in
 /// them, as for a health result, an index finds one without a walk over all; copies share it. Lists that are only read, as those
-/// of served clusters, have none.
+/// of served clusters, have none, and short lists neither.
 #[derive(Drop)]
 pub struct Assignment {
     rows: Seq<HostRow>,
@@ -146,11 +149,14 @@ impl Assignment {
         Assignment { rows, index: None }
     }
 
-    /// The assignment of these rows, with an index of their hosts.
+    /// The assignment of these rows, with an index of their hosts if there are more than a few.
     pub fn indexed(alloc: Global, rows: Seq<HostRow>) -> Result<Assignment, AllocError>
         requires { length rows < ROW_LIMIT }
         ensures rows { IfOk result (λ assignment. assignment ≡ rows) }
     {
+        if rows.len() <= WALKED_ROWS {
+            return Ok(Assignment::new(rows));
+        }
         let index = Shared::new(alloc, HostIndex::of(alloc, rows.as_slice())?)?;
         Ok(Assignment {
             rows,

@@ -1,6 +1,6 @@
 ghost use Rattle.std.specs.Prelude.{◌≡◌, [], unwrap_or};
 ghost use Rattle.std.specs.Option.{option_copied};
-ghost use Rattle.ev_model.specs.Tidy.{has_host};
+ghost use Rattle.ev_types.specs.SameHosts.{has_host};
 ghost use Rattle.ev_model.specs.Warming.{is_checked, rows_in};
 ghost use Rattle.ev_warming.specs.Watched.{watch_in};
 ghost use Rattle.ev_warming.specs.Ready.{assignment_in};
