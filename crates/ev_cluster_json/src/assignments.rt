@@ -23,7 +23,7 @@ pub fn read_assignment(alloc: Global, value: &Value) -> Result<Assignment, ReadE
     if let Some(rule) = tally.broken.least() {
         return Err(ReadError::Rule(rule));
     }
-    let assignment = make_assignment(tally.rows)?;
+    let assignment = make_assignment(alloc, tally.rows)?;
     Ok(assignment)
 }
 
@@ -33,12 +33,12 @@ pub fn assignment_rule_is_least()
     ensures { (tree : Data) → IsLeast (rules_of (assignment_broken tree)) (least_of (assignment_broken tree)) }
 {}
 
-/// The assignment of these rows, if there are few enough.
-pub fn make_assignment(rows: Vec<HostRow>) -> Result<Assignment, AllocError>
+/// The assignment of these rows, if there are few enough. Health results look hosts up in it, so it is indexed.
+pub fn make_assignment(alloc: Global, rows: Vec<HostRow>) -> Result<Assignment, AllocError>
     ensures { IfOk result (λ assignment. assignment ≡ rows.items) }
 {
     if rows.len() >= ROW_LIMIT {
         return Err(AllocError);
     }
-    Ok(Assignment::new(Seq::from_vec(rows)))
+    Assignment::indexed(alloc, Seq::from_vec(rows))
 }

@@ -64,7 +64,7 @@ fn make_discovery(
     ensures { IfOk result (λ d. d ≡ discovery_with in_cluster rows.items service.now limited) }
 {
     if in_cluster {
-        let rows = make_assignment(rows)?;
+        let rows = make_assignment(alloc, rows)?;
         return Ok(Some(Discovery::Static(rows)));
     }
     match make_name(alloc, service)? {

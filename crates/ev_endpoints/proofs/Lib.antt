@@ -1,2 +1,3 @@
 pub mod ResultLemmas
 pub mod CopyLemmas
+pub mod RoundLemmas

@@ -5,11 +5,10 @@ use Rattle.std.specs.Map.{lookup, set_value}
 use Rattle.std.proofs.lemmas.Bool.{eqb-true}
 use Rattle.std.proofs.lemmas.List.Folds.{list_any-append}
 use Rattle.std.proofs.lemmas.List.{take_more}
-use Rattle.ev_types.specs.SameHosts.{host_same}
+use Rattle.ev_types.specs.SameHosts.{host_same, has_host}
 use Rattle.ev_types.specs.Hosts.{HostRowParts}
 use Rattle.ev_types.specs.declared.hosts.Host.{Host}
-use Rattle.ev_model.specs.Tidy.{has_host}
-use Rattle.ev_endpoints.specs.Results.{ResultsKept, results_of, result_in, Notes, Trims}
+use Rattle.ev_endpoints.specs.Results.{ResultsKept, results_of, hosts_in, result_in, Notes, Trims}
 
 module _ {S : Type 0} where
   -- the result of a host in a map that may be there
@@ -34,6 +33,11 @@ module _ {S : Type 0} where
       by : (o : Option (HashMap Host Bool S)) → lookup (host_same h) (unwrap_or (option_map (λ (m : HashMap Host Bool S). m.entries) o) []) ≡ inner o h
       by None = refl
       by (Some m) = refl
+
+  -- so do the hosts of a number with their results
+  pub hosts_found : (es : List (ℕ × HashMap Host Bool S)) (n : ℕ) (o : Option (HashMap Host Bool S)) → lookup (nat_eq n) es ≡ o
+      → hosts_in (results_of es) n ≡ unwrap_or (option_map (λ (m : HashMap Host Bool S). m.entries) o) []
+  hosts_found es n o e = ap (λ r. unwrap_or r []) (lookup-results_of (nat_eq n) es ∙ ap (option_map (λ (m : HashMap Host Bool S). m.entries)) e)
 
   -- another map for one number
   module _ (es fs : List (ℕ × HashMap Host Bool S)) (number : ℕ) (u : Option (HashMap Host Bool S))

@@ -1,14 +1,13 @@
 //! Health results by generation and host, found without a walk.
 #![tactic(auto)]
 
-ghost use Rattle.std.specs.Prelude.{◌≡◌, [], ◌∷◌, ◌++◌, nat_eq, ◌&&◌, ◌||◌, not, false, if◌then◌else◌, None, Some, IfOk, unwrap_or, is_some, OnOk, OnErr};
+ghost use Rattle.std.specs.Prelude.{◌≡◌, [], ◌∷◌, ◌++◌, nat_eq, ◌&&◌, ◌||◌, not, false, if◌then◌else◌, None, Some, IfOk, unwrap_or, is_some, length, OnOk, OnErr};
 ghost use Rattle.std.specs.List.{list_all};
 ghost use Rattle.ev_types.specs.Hosts.{HostRowParts};
-ghost use Rattle.ev_types.specs.SameHosts.{host_same};
+ghost use Rattle.ev_types.specs.SameHosts.{host_same, has_host};
 ghost use Rattle.ev_types.specs.declared.hosts.Host as declared;
 ghost use Rattle.indexmap.specs.IndexMap.{get};
-ghost use Rattle.ev_model.specs.Tidy.{has_host};
-ghost use Rattle.ev_endpoints.specs.Results.{result_in, results_of, Notes, Forgets, Trims};
+ghost use Rattle.ev_endpoints.specs.Results.{hosts_in, result_in, results_of, Notes, Forgets, Trims};
 
 use ev_types::{Assignment, Gen, Host, HostRow, TryCopy};
 use indexmap::IndexMap;
@@ -79,10 +78,24 @@ impl Endpoints {
         }
     }
 
-    /// Whether each of these hosts has a result for the generation.
+    // How many hosts have a result for the generation.
+    fn count(&self, number: Gen) -> usize
+        ensures { result ≡ length (hosts_in self.now number) }
+    {
+        match self.results.get(&number.number()) {
+            Some(hosts) => hosts.len(),
+            None => 0,
+        }
+    }
+
+    /// Whether each of these hosts has a result for the generation. As long as it has fewer results than the index of the hosts
+    /// has hosts, no host is looked at.
     pub fn first_round_done(&self, number: Gen, rows: &Assignment) -> bool
         ensures { result ≡ list_all (λ (row : HostRowParts). is_some (result_in self.now number row.host)) rows.now }
     {
+        if self.count(number) < rows.count_indexed() {
+            return false;
+        }
         rows.rows()
             .iter()
             .all(|row| self.result(number, &row.host).is_some())

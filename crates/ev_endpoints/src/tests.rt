@@ -93,6 +93,38 @@ fn keeps(alloc: Global, kept: &mut Endpoints) -> Result<bool, Fail> {
     Ok(hears(alloc, kept)? && chooses(alloc, kept)? && copies(alloc, kept)? && loses(alloc, kept)?)
 }
 
+// Whether hosts of the ports 1 to 17, each of which stands twice in an assignment with an index, all have results.
+fn are_all_heard(alloc: Global, kept: &Endpoints) -> Result<bool, Fail> {
+    let mut rows = Seq::new(alloc);
+    for place in 0..34u16 {
+        rows.push(row(alloc, place / 2 + 1)?)?;
+    }
+    let rows = Assignment::indexed(alloc, rows)?;
+    Ok(kept.first_round_done(Gen::new(1), &rows))
+}
+
+// All but the last have results, then a host that isn't among them too, and then the last one.
+fn hears_many(alloc: Global, kept: &mut Endpoints) -> Result<bool, Fail> {
+    for port in 1..17u16 {
+        note(alloc, kept, port, true)?;
+    }
+    let early = are_all_heard(alloc, kept)?;
+    note(alloc, kept, 99, true)?;
+    let stranger = are_all_heard(alloc, kept)?;
+    note(alloc, kept, 17, false)?;
+    let done = are_all_heard(alloc, kept)?;
+    Ok(!early && !stranger && done)
+}
+
+#[test]
+fn a_round_of_many_hosts_waits_for_the_last(rt: HostRuntime) -> Result<(), Fail> {
+    let alloc = rt.alloc();
+    let mut kept = Endpoints::new(alloc);
+    let heard = hears_many(alloc, &mut kept);
+    assert_eq!(rt; heard?, true);
+    Ok(())
+}
+
 #[test]
 fn results_are_kept_by_generation_and_host(rt: HostRuntime) -> Result<(), Fail> {
     let alloc = rt.alloc();

@@ -7,7 +7,7 @@ use Rattle.std.specs.Str.{bytes_eq}
 use Rattle.std.proofs.lemmas.Bool.{both_ways, false≢true}
 use Rattle.ev_types.specs.Items.{ItemParts, ResponseParts}
 use Rattle.ev_types.specs.Kinds.{kind_same, kind_decides}
-use Rattle.ev_types.specs.SameHosts.{host_same}
+use Rattle.ev_types.specs.SameHosts.{host_same, has_host}
 use Rattle.ev_types.specs.Statuses.{is_warming, is_live}
 use Rattle.ev_types.specs.declared.contents.Kind.{Kind}
 use Rattle.ev_types.specs.declared.contents.Kind.TheVariants.{Cds, Eds, Lds, Rds}
@@ -29,7 +29,6 @@ use Rattle.ev_model.specs.Warming.{came_for, content_in, is_word, is_timeout, ha
 use Rattle.ev_model.specs.Watching.{is_watched}
 use Rattle.ev_model.specs.Rows.{removed_status, with_statuses, status_left, arrived, absent_names, with_removals, replaced_status, new_row, add_row, keep_version, keep_value, with_content, refuse, add_item, add_items}
 use Rattle.ev_model.specs.Signals.{ended_status, rows_ended, is_meant, rows_meant, result_for, with_results}
-use Rattle.ev_model.specs.Tidy.{has_host}
 use Rattle.ev_generations.specs.Tables.{row_in, numbers_of}
 use Rattle.ev_warming.specs.declared.state.State.{State}
 use Rattle.ev_warming.specs.Due.{is_among}

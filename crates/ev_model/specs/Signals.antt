@@ -2,6 +2,7 @@
 -- initial fetch timeouts) and draining of Envoy's documentation; the end of a time to live, of the xDS transport protocol.
 use Rattle.std.specs.Prelude.{ℕ, Bool, true, false, not, ◌&&◌, ◌||◌, if◌then◌else◌, List, [], ◌∷◌, ◌++◌, filter, map, Option, Some, None, is_some}
 use Rattle.std.specs.List.{list_any}
+use Rattle.ev_types.specs.SameHosts.{has_host}
 use Rattle.ev_types.specs.Statuses.{is_live}
 use Rattle.ev_types.specs.declared.hosts.Host.{Host}
 use Rattle.ev_types.specs.declared.contents.Kind.{Kind}
@@ -21,7 +22,7 @@ use Rattle.ev_model.specs.Warming.{is_checked, assignment_by, is_told_by, is_tim
 use Rattle.ev_model.specs.Phase.{is_clusters}
 use Rattle.ev_model.specs.Rows.{is_row_of, arrived, removed_status, with_statuses}
 use Rattle.ev_model.specs.Picture.{has_number}
-use Rattle.ev_model.specs.Tidy.{tidy, has_host}
+use Rattle.ev_model.specs.Tidy.{tidy}
 use Rattle.ev_model.specs.Requests.{requests_of}
 
 -- an event has led from this world to one that is tidied; its requests are sent

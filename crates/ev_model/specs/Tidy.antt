@@ -3,10 +3,8 @@
 -- one before it drains.
 use Rattle.std.specs.Prelude.{Bool, not, ◌&&◌, ◌||◌, ◌==◌, if◌then◌else◌, List, filter}
 use Rattle.std.specs.List.{list_any}
-use Rattle.ev_types.specs.Hosts.{HostRowParts}
-use Rattle.ev_types.specs.SameHosts.{host_same}
+use Rattle.ev_types.specs.SameHosts.{has_host}
 use Rattle.ev_types.specs.Statuses.{is_warming, is_live}
-use Rattle.ev_types.specs.declared.hosts.Host.{Host}
 use Rattle.ev_types.specs.declared.rows.RowStatus.{RowStatus}
 use Rattle.ev_types.specs.declared.rows.RowStatus.TheVariants.{Warming, Active, Draining, Dropped}
 use Rattle.ev_types.specs.declared.rows.GenRow.{GenRow}
@@ -62,10 +60,6 @@ without_unwatched world = record world {
   arrivals = arrivals_watched (lives_of world) world.arrivals;
   versions = filter (is_version_due (lives_of world)) world.versions;
 }
-
--- the host stands among these
-abbrev pub has_host : Host → List HostRowParts → Bool
-has_host host rows = list_any (λ (h : HostRowParts). host_same h.host host) rows
 
 -- the result is of one of these rows, a live one, and of a host that is in its assignment now
 abbrev pub is_result_due : List Arrived → List GenRow → HealthResult → Bool

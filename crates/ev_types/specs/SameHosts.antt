@@ -1,5 +1,6 @@
--- When hosts and their rows are equal.
-use Rattle.std.specs.Prelude.{Bool, ◌≡◌, ◌&&◌, ◌==◌, ◌++◌, List}
+-- When hosts and their rows are equal, and which hosts stand in rows.
+use Rattle.std.specs.Prelude.{ℕ, ◌≤◌, Bool, true, ◌≡◌, ◌&&◌, ◌==◌, ◌++◌, List, length}
+use Rattle.std.specs.List.{list_any}
 use Rattle.std.specs.Bool.{Decides}
 use Rattle.std.specs.Hash as fed
 use Rattle.std.specs.Str.{bytes_eq}
@@ -24,6 +25,18 @@ host_row_same a b = host_same a.host b.host && (a.weight == b.weight) && (a.prio
 -- the same rows in the same order
 abbrev pub rows_same : List HostRowParts → List HostRowParts → Bool
 rows_same a b = pointwise host_row_same a b
+
+-- the host stands among these
+abbrev pub has_host : Host → List HostRowParts → Bool
+has_host host rows = list_any (λ (h : HostRowParts). host_same h.host host) rows
+
+-- these are the hosts of the rows
+abbrev pub AreHostsOf : List HostRowParts → List Host → Type 0
+AreHostsOf rows hosts = (host : Host) → list_any (host_same host) hosts ≡ has_host host rows
+
+-- so many hosts, or more, are in each list that has all hosts of the rows
+abbrev pub NeedsHosts : List HostRowParts → ℕ → Type 0
+NeedsHosts rows count = (hosts : List Host) → ((host : Host) → has_host host rows ≡ true → list_any (host_same host) hosts ≡ true) → count ≤ length hosts
 
 pub host_decides : (a b : Host) → Decides (host_same a b) (a ≡ b)
 host_decides a b = decides_as (both_decide (bytes_decide a.address b.address) (numbers_decide a.port b.port))

@@ -1,6 +1,8 @@
 ghost use Rattle.std.specs.Prelude.{◌≡◌, IfOk};
+ghost use Rattle.ev_types.specs.SameHosts.{has_host};
 
-use crate::{Name, ROW_LIMIT, Seq, TryCopy};
+use crate::host_index::HostIndex;
+use crate::{Name, ROW_LIMIT, Seq, Shared, TryCopy};
 use std::alloc::{AllocError, Global};
 use std::hash::{Hash, Hasher};
 use std::marker::Model;
@@ -110,33 +112,56 @@ impl Eq for HostRow {
     ghost laws = { decided host_row_same host_row_decides };
 }
 
-/// The hosts of a cluster, in order, a repeated one too. There are fewer than `ROW_LIMIT`.
+// The most rows of an assignment that are walked as fast as an index is asked.
+const WALKED_ROWS: usize = 16;
+
+/// The hosts of a cluster, in order, a repeated one too. There are fewer than `ROW_LIMIT`. Where single hosts are looked up in
+/// them, as for a health result, an index finds one without a walk over all; copies share it. Lists that are only read, as those
+/// of served clusters, have none, and short lists neither.
 #[derive(Drop)]
 pub struct Assignment {
     rows: Seq<HostRow>,
+    index: Option<Shared<HostIndex>>,
 }
 
 impl Model for Assignment {
-    ghost use Rattle.std.specs.Prelude.{List, length, ◌<◌};
+    ghost use Rattle.std.specs.Prelude.{List, length, ◌<◌, IfSome};
     ghost use Rattle.ev_types.specs.Hosts.{HostRowParts};
+    ghost use Rattle.ev_types.specs.SameHosts.{AreHostsOf};
     ghost use Rattle.ev_types.specs.declared.limits.TheConstants.{ROW_LIMIT};
 
     ghost Value = { List HostRowParts };
 
     ghost view = { λ a. a.rows };
 
-    ghost invariant = { λ a. length a.rows < ROW_LIMIT };
+    ghost invariant = { λ a. (length a.rows < ROW_LIMIT) × IfSome a.index (AreHostsOf a.rows) };
 }
 
 impl Assignment {
     ghost use Rattle.std.specs.Prelude.{◌≡◌, ◌<◌, length};
+    ghost use Rattle.ev_types.specs.SameHosts.{NeedsHosts};
 
-    /// The assignment of these rows.
+    /// The assignment of these rows, without an index. It takes no memory.
     pub fn new(rows: Seq<HostRow>) -> Assignment
         requires { length rows < ROW_LIMIT }
         ensures rows { result ≡ rows }
     {
-        Assignment { rows }
+        Assignment { rows, index: None }
+    }
+
+    /// The assignment of these rows, with an index of their hosts if there are more than a few.
+    pub fn indexed(alloc: Global, rows: Seq<HostRow>) -> Result<Assignment, AllocError>
+        requires { length rows < ROW_LIMIT }
+        ensures rows { IfOk result (λ assignment. assignment ≡ rows) }
+    {
+        if rows.len() <= WALKED_ROWS {
+            return Ok(Assignment::new(rows));
+        }
+        let index = Shared::new(alloc, HostIndex::of(alloc, rows.as_slice())?)?;
+        Ok(Assignment {
+            rows,
+            index: Some(index),
+        })
     }
 
     /// Its rows in order.
@@ -146,12 +171,40 @@ impl Assignment {
     {
         self.rows.as_slice()
     }
+
+    /// Whether a host stands among its rows: by a look-up where there is an index, else by a walk.
+    pub fn has(&self, host: &Host) -> bool
+        ensures { result ≡ has_host host.now self.now }
+    {
+        match &self.index {
+            Some(index) => index.get().has(host),
+            None => has_host(self.rows.as_slice(), host),
+        }
+    }
+
+    /// How many different hosts the index has, or 0 where there is none. Fewer hosts can't be all that stand in the rows.
+    pub fn count_indexed(&self) -> usize
+        ensures { NeedsHosts self.now result }
+    {
+        match &self.index {
+            Some(index) => index.get().len(),
+            None => 0,
+        }
+    }
+}
+
+// Whether a host stands among these rows.
+fn has_host(rows: &[HostRow], host: &Host) -> bool
+    ensures { result ≡ has_host host.now rows.now }
+{
+    rows.iter().any(|row| row.host == *host)
 }
 
 impl TryCopy for Assignment {
     fn copy(&self, alloc: Global) -> Result<Assignment, AllocError> {
         Ok(Assignment {
             rows: self.rows.copy(alloc)?,
+            index: self.index.copy(alloc)?,
         })
     }
 }

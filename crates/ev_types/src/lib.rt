@@ -6,6 +6,7 @@ mod clusters;
 mod contents;
 mod copies;
 mod events;
+mod host_index;
 mod hosts;
 mod journals;
 mod limits;

@@ -5,11 +5,10 @@ use Rattle.std.proofs.lemmas.Bool.{eqb-true, ne_eqb}
 use Rattle.std.proofs.lemmas.List.Folds.{list_any_more}
 use Rattle.ev_types.specs.Hosts.{HostRowParts}
 use Rattle.ev_types.specs.Same.{bytes_decide}
-use Rattle.ev_types.specs.SameHosts.{host_same, host_decides}
+use Rattle.ev_types.specs.SameHosts.{host_same, host_decides, has_host}
 use Rattle.ev_types.specs.Statuses.{is_warming, is_live}
 use Rattle.ev_types.specs.declared.hosts.Host.{Host}
 use Rattle.ev_types.specs.declared.rows.GenRow.{GenRow}
-use Rattle.ev_model.specs.Tidy.{has_host}
 use Rattle.ev_model.specs.Warming.{is_checked}
 use Rattle.ev_endpoints.specs.Results.{ResultsKept, result_in, Forgets, Trims}
 use Rattle.ev_generations.specs.Tables.{row_in, numbers_of}

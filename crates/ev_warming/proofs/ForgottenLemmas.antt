@@ -7,7 +7,7 @@ use Rattle.std.proofs.lemmas.Map.Keys.{IsDistinct-head, IsDistinct-tail}
 use Rattle.ev_types.specs.Items.{content_kind}
 use Rattle.ev_types.specs.Kinds.{kind_same, kind_decides}
 use Rattle.ev_types.specs.Same.{bytes_decide}
-use Rattle.ev_types.specs.SameHosts.{host_same, host_decides}
+use Rattle.ev_types.specs.SameHosts.{host_same, host_decides, has_host}
 use Rattle.ev_types.specs.Statuses.{is_live}
 use Rattle.ev_types.specs.declared.contents.Kind.{Kind}
 use Rattle.ev_types.specs.declared.contents.Kind.TheVariants.{Cds, Eds, Lds, Rds}
@@ -25,7 +25,7 @@ use Rattle.ev_model.specs.World.{World, Arrived, HealthResult}
 use Rattle.ev_model.specs.Live.{live_of, lives_of}
 use Rattle.ev_model.specs.Watching.{Dependency, dependency_of, discovery_dependency, serve_dependency, is_dependency, is_watched, is_by_name}
 use Rattle.ev_model.specs.Warming.{came_for, content_in, is_word, is_timeout, is_told_by, is_timed_by, value_by, has_result, is_healthy, is_result_of, assignment_by}
-use Rattle.ev_model.specs.Tidy.{arrivals_watched, without_unwatched, has_host, is_result_due, without_old_results}
+use Rattle.ev_model.specs.Tidy.{arrivals_watched, without_unwatched, is_result_due, without_old_results}
 use Rattle.ev_endpoints.specs.Results.{ResultsKept, result_in}
 use Rattle.ev_generations.specs.Tables.{row_in, numbers_of}
 use Rattle.ev_generations.proofs.TableLemmas.{number-row_in}

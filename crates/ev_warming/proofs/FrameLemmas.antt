@@ -6,7 +6,7 @@ use Rattle.std.proofs.lemmas.Bool.{false_from_ne_true}
 use Rattle.std.proofs.lemmas.List.Elements.{filter-append}
 use Rattle.ev_types.specs.Items.{ItemParts, ResponseParts, content_kind}
 use Rattle.ev_types.specs.Kinds.{kind_same, kind_decides}
-use Rattle.ev_types.specs.SameHosts.{host_same}
+use Rattle.ev_types.specs.SameHosts.{host_same, has_host}
 use Rattle.ev_types.specs.declared.contents.Kind.{Kind}
 use Rattle.ev_types.specs.declared.contents.Kind.TheVariants.{Cds, Eds, Lds, Rds}
 use Rattle.ev_types.specs.declared.contents.Content.{Content}
@@ -28,7 +28,6 @@ use Rattle.ev_model.specs.Rows.{arrived, absent_names, status_left, with_statuse
 use Rattle.ev_model.specs.Signals.{ended_status, rows_ended, is_meant, rows_meant, result_for, with_results}
 use Rattle.ev_model.specs.Verdicts.{is_removed}
 use Rattle.ev_model.specs.Warming.{came_for, content_in, is_word, is_timeout, is_checked, assignment_by, has_result, is_result_of}
-use Rattle.ev_model.specs.Tidy.{has_host}
 use Rattle.ev_model.specs.Watching.{is_by_name, is_watched}
 use Rattle.ev_generations.specs.Tables.{is_number, row_in, numbers_of, without_row}
 use Rattle.ev_warming.specs.declared.state.State.{State}

@@ -10,7 +10,7 @@ use Rattle.std.proofs.lemmas.List.Folds.{list_any-append}
 use Rattle.ev_types.specs.Hosts.{HostRowParts}
 use Rattle.ev_types.specs.Items.{content_kind}
 use Rattle.ev_types.specs.Kinds.{kind_same}
-use Rattle.ev_types.specs.SameHosts.{host_same, host_decides}
+use Rattle.ev_types.specs.SameHosts.{host_same, host_decides, has_host}
 use Rattle.ev_types.specs.Statuses.{is_warming, is_active, is_live}
 use Rattle.ev_types.specs.declared.hosts.Host.{Host}
 use Rattle.ev_types.specs.declared.contents.Kind.{Kind}
@@ -21,7 +21,6 @@ use Rattle.ev_types.specs.declared.rows.GenRow.{GenRow}
 use Rattle.ev_model.specs.World.{World, HealthResult}
 use Rattle.ev_model.specs.Warming.{is_checked, assignment_by, is_result_of, has_result}
 use Rattle.ev_model.specs.Signals.{is_meant, rows_meant, result_for, with_results}
-use Rattle.ev_model.specs.Tidy.{has_host}
 use Rattle.ev_endpoints.specs.Results.{ResultsKept, result_in, Notes}
 use Rattle.ev_generations.specs.Tables.{row_in, numbers_of}
 use Rattle.ev_generations.proofs.TableLemmas.{number-row_in}

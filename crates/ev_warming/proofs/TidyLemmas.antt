@@ -7,6 +7,7 @@ use Rattle.std.proofs.lemmas.Bool.{eqb-true, and_parts, false_from_ne_true}
 use Rattle.std.proofs.lemmas.List.Folds.{list_any-append, find-append}
 use Rattle.ev_types.specs.Kinds.{kind_same}
 use Rattle.ev_types.specs.Same.{bytes_decide}
+use Rattle.ev_types.specs.SameHosts.{has_host}
 use Rattle.ev_types.specs.Statuses.{is_warming, is_active, is_live}
 use Rattle.ev_types.specs.declared.contents.Kind.{Kind}
 use Rattle.ev_types.specs.declared.contents.Content.{Content}
@@ -18,7 +19,7 @@ use Rattle.ev_types.specs.declared.rows.GenRow.{GenRow}
 use Rattle.ev_model.specs.World.{opening}
 use Rattle.ev_model.specs.Rows.{is_row_of, with_statuses, replaced_status, removed_status, new_row, rows_with_new}
 use Rattle.ev_model.specs.Signals.{ended_status, rows_ended, is_draining}
-use Rattle.ev_model.specs.Tidy.{has_host, status_by}
+use Rattle.ev_model.specs.Tidy.{status_by}
 use Rattle.ev_endpoints.specs.Results.{result_in}
 use Rattle.ev_generations.specs.Tables.{is_number, row_in, numbers_of}
 use Rattle.ev_generations.proofs.TableLemmas.{row_in-with_statuses}

@@ -2,13 +2,12 @@
 -- Source: cluster manager warming of Envoy's documentation: a checked cluster waits for a first result of each host.
 use Rattle.std.specs.Prelude.{◌≡◌, ℕ, Bool, false, ◌&&◌, if◌then◌else◌, List, Option, None, Some, option_and_then}
 use Rattle.std.specs.Str.{bytes_eq}
-use Rattle.ev_types.specs.SameHosts.{host_same}
+use Rattle.ev_types.specs.SameHosts.{host_same, has_host}
 use Rattle.ev_types.specs.Statuses.{is_live}
 use Rattle.ev_types.specs.declared.hosts.Host.{Host}
 use Rattle.ev_types.specs.declared.contents.Content.{Content}
 use Rattle.ev_types.specs.declared.rows.GenRow.{GenRow}
 use Rattle.ev_model.specs.Warming.{is_checked}
-use Rattle.ev_model.specs.Tidy.{has_host}
 use Rattle.ev_endpoints.specs.Results.{ResultsKept, result_in}
 use Rattle.ev_generations.specs.Tables.{row_in}
 use Rattle.ev_warming.specs.Due.{is_among}

@@ -1,13 +1,12 @@
 ghost use Rattle.std.specs.Prelude.{◌≡◌, [], unwrap_or};
 ghost use Rattle.std.specs.Option.{option_copied};
-ghost use Rattle.ev_model.specs.Tidy.{has_host};
 ghost use Rattle.ev_model.specs.Warming.{is_checked, rows_in};
 ghost use Rattle.ev_warming.specs.Watched.{watch_in};
 ghost use Rattle.ev_warming.specs.Ready.{assignment_in};
 ghost use Rattle.ev_warming.specs.Health.{takes_result};
 
 use crate::Watches;
-use ev_types::{Assignment, Content, Discovery, Host, HostRow, Name};
+use ev_types::{Assignment, Content, Discovery, Host, Name};
 
 /// Whether the hosts of a generation of this content are health checked.
 pub(crate) fn is_checked(content: &Content) -> bool
@@ -50,14 +49,7 @@ pub(crate) fn takes_result(watches: &Watches, host: &Host, content: &Content) ->
         return false;
     }
     match assignment(watches, content) {
-        Some(rows) => has_host(rows.rows(), host),
+        Some(rows) => rows.has(host),
         None => false,
     }
-}
-
-// Whether a host stands among these.
-fn has_host(rows: &[HostRow], host: &Host) -> bool
-    ensures { result ≡ has_host host.now rows.now }
-{
-    rows.iter().any(|row| row.host == *host)
 }

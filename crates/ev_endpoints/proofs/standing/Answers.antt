@@ -1,8 +1,7 @@
 use Rattle.std.proofs.Common.{◌≡◌, ◌∙◌, sym, ap, Some, None, cond, take, get_or}
 use Rattle.std.specs.Option.{option_copied}
 use Rattle.indexmap.specs.IndexMap.{get}
-use Rattle.ev_types.specs.SameHosts.{host_same, host_decides}
-use Rattle.ev_model.specs.Tidy.{has_host}
+use Rattle.ev_types.specs.SameHosts.{host_same, host_decides, has_host}
 use Rattle.ev_endpoints.proofs.ResultLemmas.{standing_kept, standing_skipped, has_host-more}
 use Rattle.ev_endpoints.proofs.standing.Goals as goal
 use Rattle.ev_endpoints.proofs.standing.Goals.{in-Some+in_ok-copy+in_ok-put, in_default}

@@ -1,8 +1,7 @@
 use Rattle.std.proofs.Common.{◌≡◌, take, cond, None}
 use Rattle.indexmap.specs.IndexMap.{get}
-use Rattle.ev_types.specs.SameHosts.{host_same}
+use Rattle.ev_types.specs.SameHosts.{host_same, has_host}
 use Rattle.ev_types.specs.declared.hosts.Host.{Host}
-use Rattle.ev_model.specs.Tidy.{has_host}
 use Rattle.ev_endpoints.proofs.standing.Given as goal
 
 abbrev pub invariant-loop-row : goal.invariant-loop-row

@@ -1,7 +1,7 @@
 use Rattle.std.proofs.Common.{◌≡◌, ◌∙◌, sym, ap, Some, None, cond, nat_eq, not, ◌&&◌, Option, Bool, true, false, refl}
 use Rattle.std.specs.Option.{option_copied}
+use Rattle.ev_types.specs.SameHosts.{has_host}
 use Rattle.ev_types.specs.declared.hosts.Host.{Host}
-use Rattle.ev_model.specs.Tidy.{has_host}
 use Rattle.ev_endpoints.specs.Results.{result_in, results_of}
 use Rattle.ev_endpoints.proofs.ResultLemmas.{found, inner, trims_by, trims_nothing}
 use Rattle.ev_endpoints.proofs.Endpoints.trim.Goals as goal
