@@ -7,8 +7,6 @@ mod groups;
 mod hosts;
 mod parts;
 mod tally;
-#[cfg(test)]
-mod tests;
 
 pub use assignments::{assignment_rule_is_least, read_assignment};
 pub use clusters::{cluster_rule_is_least, read_cluster};

@@ -4,4 +4,3 @@ pub mod Seating
 pub mod Turning
 pub mod Lending
 pub mod Gathering
-pub mod Returning

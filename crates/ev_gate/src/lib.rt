@@ -12,8 +12,6 @@ mod calls;
 mod gate;
 mod plays;
 mod stands;
-#[cfg(test)]
-mod tests;
 mod turns;
 mod view;
 

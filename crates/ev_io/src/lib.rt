@@ -20,8 +20,3 @@ pub use memory_sink::MemSink;
 pub use memory_source::MemSource;
 pub use outside::{Failed, Sink, Source, write_all};
 pub use standard::{StdSink, StdSource};
-
-#[cfg(test)]
-mod line_tests;
-#[cfg(test)]
-mod tests;

@@ -2,8 +2,6 @@
 #![tactic(auto)]
 
 mod answers;
-#[cfg(test)]
-mod tests;
 mod words;
 mod writing;
 

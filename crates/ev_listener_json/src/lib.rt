@@ -9,6 +9,3 @@ mod objects;
 
 pub use chains::inspect_chain;
 pub use listeners::{listener_rule_is_least, read_listener};
-
-#[cfg(test)]
-mod tests;

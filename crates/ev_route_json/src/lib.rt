@@ -19,6 +19,3 @@ pub use readers::{read_routes, read_target, table_rule_is_least, target_rule_is_
 pub use routes::{MAX_STATUS, MIN_STATUS};
 pub use tables::inspect_table;
 pub use targets::inspect_target;
-
-#[cfg(test)]
-mod tests;

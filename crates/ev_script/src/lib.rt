@@ -14,8 +14,6 @@ mod members;
 mod read_input;
 mod script;
 mod stream_lines;
-#[cfg(test)]
-mod tests;
 mod timer_lines;
 mod trees;
 mod worker_lines;

@@ -19,8 +19,6 @@ mod sources;
 mod span;
 mod spelling;
 mod tables;
-#[cfg(test)]
-mod tests;
 
 pub use addresses::{SocketAddress, socket_address};
 pub use broken::{BrokenRules, least_is_least};

@@ -6,8 +6,6 @@ mod kinds;
 mod outcome;
 mod requests;
 mod responses;
-#[cfg(test)]
-mod tests;
 
 pub use bodies::body_rule_is_least;
 pub use outcome::WireError;

@@ -1,12 +1,12 @@
-use crate::{WireError, body_rule_is_least, read_response, request_value, write_request};
+use crate::tables::{Reader, assert_told};
 use ev_types::{Body, Content, Kind, Name, Request, Response, Seq, Text};
+use ev_wire::{WireError, body_rule_is_least, read_response, request_value, write_request};
 use serde_json::Value;
 use std::alloc::{AllocError, Global};
 use std::process::Abort;
 use std::test::Fail;
 
-// A table of messages, each after what it reads as: `~` stands for `type.googleapis.com/envoy.config.`, and
-// `^` for a text of 512 bytes.
+// Messages, each after what it reads as.
 const MESSAGES: &str = r#"[
   ["cds 7: ", {"typeUrl":"~cluster.v3.Cluster","nonce":"7"}],
   ["cds 7: ", {"type_url":"~cluster.v3.Cluster","nonce":"7","resources":[],"removed_resources":[]}],
@@ -61,22 +61,10 @@ const MESSAGES: &str = r#"[
   ["rds 7: r@=routes r@=V3 ^x@=V2 r@=V6 r@=V19 ", {"typeUrl":"~route.v3.RouteConfiguration","nonce":"7","resources":[{"name":"r","resource":{"@type":"~route.v3.RouteConfiguration","name":"r","virtual_hosts":[{"name":"h","domains":["*"]}]}},{"name":"r","resource":{"@type":"~route.v3.RouteConfiguration","virtualHosts":[{}]}},{"name":"^x","resource":{"@type":"~route.v3.RouteConfiguration","name":"^x"}},{"name":"r","resource":{"@type":"~route.v3.RouteConfiguration","name":7,"virtualHosts":[{}]}},{"name":"r","resource":{"@type":"~route.v3.RouteConfiguration","name":"r","virtualHosts":[{}]}}]}]
 ]"#;
 
-// The text of a table, with its abbreviations written out.
-fn write_out(alloc: Global, table: &str) -> Result<String, AllocError> {
-    let mut text = String::new(alloc);
-    for c in table.chars() {
-        if c == '~' {
-            text.push_str("type.googleapis.com/envoy.config.")?;
-        } else if c == '^' {
-            for _ in 0..512 {
-                text.push('n')?;
-            }
-        } else {
-            text.push(c)?;
-        }
-    }
-    Ok(text)
-}
+// The row `one_refused_of_two`: the second of two clusters is refused, and stays in the message.
+const ONE_REFUSED_OF_TWO: &str = r#"[
+  ["cds 7: a@v1=cluster b@v1=V8 ", {"typeUrl":"~cluster.v3.Cluster","nonce":"7","resources":[{"name":"a","version":"v1","resource":{"@type":"~cluster.v3.Cluster","name":"a","type":"STATIC","loadAssignment":{"clusterName":"a","endpoints":[{"lbEndpoints":[{"endpoint":{"address":{"socketAddress":{"address":"10.0.0.1","portValue":80}}}}]}]}}},{"name":"b","version":"v1","resource":{"@type":"~cluster.v3.Cluster","name":"b","type":"EDS"}}]}]
+]"#;
 
 // The word of a kind in the table.
 fn kind_word(kind: Option<Kind>) -> &'static str {
@@ -124,40 +112,27 @@ fn describe(alloc: Global, response: &Response) -> Result<String, AllocError> {
 }
 
 // What a message reads as, in a line.
-fn tell(alloc: Global, message: &Value) -> Result<String, AllocError> {
+pub(crate) fn tell_message(alloc: Global, message: &Value) -> Result<String, Fail> {
     match read_response(alloc, message) {
-        Ok(response) => describe(alloc, &response),
-        Err(error) => format!(in alloc; "{error}"),
+        Ok(response) => {
+            let text = describe(alloc, &response);
+            drop(response);
+            Ok(text?)
+        }
+        Err(error) => Ok(format!(in alloc; "{error}")?),
     }
 }
 
 #[test]
 fn messages_read_as_told(rt: HostRuntime) -> Result<(), Fail> {
-    let alloc = rt.alloc();
-    let text = write_out(alloc, MESSAGES)?;
-    let table = Value::from_str(alloc, text.as_str())?;
-    let rows = table.as_array().ok_or("a table")?;
-    assert!(rt; rows.len() > 40);
-    for row in rows {
-        let row = row.as_array().ok_or("a row")?;
-        let want = row.first().ok_or("a text")?.as_str().ok_or("a text")?;
-        let message = row.get(1).ok_or("a message")?;
-        let got = tell(alloc, message)?;
-        assert_eq!(rt; got.as_str(), want, "{message}");
-    }
-    Ok(())
+    assert_told(&rt, rt.alloc(), Reader::Message, MESSAGES, 47)
 }
 
-/// The row `one_refused_of_two`: the second of two clusters is refused, and stays in the message.
 #[test]
 fn one_refused_of_two(rt: HostRuntime) -> Result<(), Fail> {
     let alloc = rt.alloc();
-    let json =
-        r#"{"typeUrl":"type.googleapis.com/envoy.config.cluster.v3.Cluster","nonce":"7","resources":[{"name":"a","version":"v1","resource":{"@type":"type.googleapis.com/envoy.config.cluster.v3.Cluster","name":"a","type":"STATIC","loadAssignment":{"clusterName":"a","endpoints":[{"lbEndpoints":[{"endpoint":{"address":{"socketAddress":{"address":"10.0.0.1","portValue":80}}}}]}]}}},{"name":"b","version":"v1","resource":{"@type":"type.googleapis.com/envoy.config.cluster.v3.Cluster","name":"b","type":"EDS"}}]}"#;
-    let message = Value::from_str(alloc, json)?;
-    let got = tell(alloc, &message)?;
     body_rule_is_least();
-    assert_eq!(rt; got.as_str(), "cds 7: a@v1=cluster b@v1=V8 ");
+    assert_told(&rt, alloc, Reader::Message, ONE_REFUSED_OF_TWO, 1)?;
     assert_eq!(rt;
         read_response(alloc, &Value::Null).err(),
         Some(WireError::NotResponse)
@@ -174,6 +149,61 @@ fn names(alloc: Global, texts: &[&str]) -> Result<Seq<Name>, Fail> {
     Ok(Seq::from_vec(names))
 }
 
+// A request with a kind alone.
+fn bare(alloc: Global, kind: Kind) -> Request {
+    Request {
+        kind,
+        node: None,
+        subscribe: Seq::new(alloc),
+        unsubscribe: Seq::new(alloc),
+        versions: Seq::new(alloc),
+        nonce: None,
+        error: None,
+    }
+}
+
+// A request that refuses.
+fn refusing(alloc: Global) -> Result<Request, Fail> {
+    let nonce = Text::new(alloc, "7")?;
+    let error = Text::new(alloc, "b: V8")?;
+    Ok(Request {
+        kind: Kind::Cds,
+        node: None,
+        subscribe: Seq::new(alloc),
+        unsubscribe: Seq::new(alloc),
+        versions: Seq::new(alloc),
+        nonce: Some(nonce),
+        error: Some(error),
+    })
+}
+
+// The versions of a first request, out of order.
+fn versions(alloc: Global) -> Result<Seq<(Name, Text)>, Fail> {
+    let mut versions = Vec::new(alloc);
+    versions.push((Name::new(alloc, "z")?, Text::new(alloc, "")?))?;
+    versions.push((Name::new(alloc, "B")?, Text::new(alloc, "2")?))?;
+    Ok(Seq::from_vec(versions))
+}
+
+// A request with all members, of which the nonce is empty.
+fn full(alloc: Global) -> Result<Request, Fail> {
+    let node = Text::new(alloc, "a\"\\\n\u{1}é/")?;
+    let nonce = Text::new(alloc, "")?;
+    let error = Text::new(alloc, "b: V8")?;
+    let subscribe = names(alloc, &["b", "a", "b"])?;
+    let unsubscribe = names(alloc, &["c"])?;
+    let versions = versions(alloc)?;
+    Ok(Request {
+        kind: Kind::Lds,
+        node: Some(node),
+        subscribe,
+        unsubscribe,
+        versions,
+        nonce: Some(nonce),
+        error: Some(error),
+    })
+}
+
 // Asserts the text of a request, and that its tree is that of the text.
 fn assert_written(
     rt: &impl Abort,
@@ -188,47 +218,32 @@ fn assert_written(
     Ok(())
 }
 
+// The same, of a request that is let go.
+fn assert_once(rt: &impl Abort, alloc: Global, request: Request, want: &str) -> Result<(), Fail> {
+    let told = assert_written(rt, alloc, &request, want);
+    drop(request);
+    told
+}
+
 #[test]
 fn requests_byte_for_byte(rt: HostRuntime) -> Result<(), Fail> {
     let alloc = rt.alloc();
-    let mut request = Request {
-        kind: Kind::Eds,
-        node: None,
-        subscribe: Seq::new(alloc),
-        unsubscribe: Seq::new(alloc),
-        versions: Seq::new(alloc),
-        nonce: None,
-        error: None,
-    };
-    assert_written(
+    assert_once(
         &rt,
         alloc,
-        &request,
+        bare(alloc, Kind::Eds),
         r#"{"typeUrl":"type.googleapis.com/envoy.config.endpoint.v3.ClusterLoadAssignment"}"#,
     )?;
-    request.kind = Kind::Cds;
-    request.nonce = Some(Text::new(alloc, "7")?);
-    request.error = Some(Text::new(alloc, "b: V8")?);
-    assert_written(
+    assert_once(
         &rt,
         alloc,
-        &request,
+        refusing(alloc)?,
         r#"{"errorDetail":{"code":13,"message":"b: V8"},"responseNonce":"7","typeUrl":"type.googleapis.com/envoy.config.cluster.v3.Cluster"}"#,
     )?;
-    request.kind = Kind::Lds;
-    request.node = Some(Text::new(alloc, "a\"\\\n\u{1}é/")?);
-    request.subscribe = names(alloc, &["b", "a", "b"])?;
-    request.unsubscribe = names(alloc, &["c"])?;
-    let mut versions = Vec::new(alloc);
-    versions.push((Name::new(alloc, "z")?, Text::new(alloc, "")?))?;
-    versions.push((Name::new(alloc, "B")?, Text::new(alloc, "2")?))?;
-    request.versions = Seq::from_vec(versions);
-    request.nonce = Some(Text::new(alloc, "")?);
-    assert_written(
+    assert_once(
         &rt,
         alloc,
-        &request,
+        full(alloc)?,
         r#"{"errorDetail":{"code":13,"message":"b: V8"},"initialResourceVersions":{"B":"2","z":""},"node":{"id":"a\"\\\n\u0001é/"},"resourceNamesSubscribe":["b","a","b"],"resourceNamesUnsubscribe":["c"],"typeUrl":"type.googleapis.com/envoy.config.listener.v3.Listener"}"#,
-    )?;
-    Ok(())
+    )
 }

@@ -1,4 +1,4 @@
-use super::{Failed, MemSink, MemSource, Sink, Source, StdSink, StdSource, write_all};
+use ev_io::{Failed, MemSink, MemSource, Sink, Source, StdSink, StdSource, write_all};
 use std::io;
 use std::io::{Read, Write};
 use std::test::Fail;

@@ -1,17 +1,9 @@
-use crate::{read_routes, read_target};
-use ev_tree::ReadError;
+use crate::tables::{Reader, assert_told};
+use ev_route_json::{read_routes, read_target};
 use ev_types::{Action, PathMatch, RouteTable, Target};
 use serde_json::Value;
 use std::alloc::{AllocError, Global};
 use std::test::Fail;
-
-// What a reader answers, as text: `ok`, or the rule.
-fn tell<T: Drop>(alloc: Global, read: Result<T, ReadError>) -> Result<String, AllocError> {
-    match read {
-        Ok(_) => String::from_str(alloc, "ok"),
-        Err(error) => format!(in alloc; "{error}"),
-    }
-}
 
 // The target as text.
 fn describe_target(alloc: Global, text: &mut String, target: &Target) -> Result<(), AllocError> {
@@ -81,10 +73,45 @@ fn around(alloc: Global, route: &str) -> Result<String, AllocError> {
     Ok(text)
 }
 
+// What a route configuration reads as: its content, or the rule that refuses it.
+pub(crate) fn tell_routes(alloc: Global, body: &Value) -> Result<String, Fail> {
+    match read_routes(alloc, body) {
+        Ok(table) => {
+            let text = describe(alloc, &table);
+            drop(table);
+            Ok(text?)
+        }
+        Err(error) => Ok(format!(in alloc; "{error}")?),
+    }
+}
+
+// The same of a route configuration with one host that has this route.
+pub(crate) fn tell_route(alloc: Global, route: &Value) -> Result<String, Fail> {
+    let text = around(alloc, route.to_string(alloc)?.as_str())?;
+    let body = Value::from_str(alloc, text.as_str())?;
+    let told = tell_routes(alloc, &body);
+    drop(body);
+    told
+}
+
+// What a target reads as.
+pub(crate) fn tell_target(alloc: Global, body: &Value) -> Result<String, Fail> {
+    match read_target(alloc, body) {
+        Ok(target) => {
+            let mut text = String::new(alloc);
+            let told = describe_target(alloc, &mut text, &target);
+            drop(target);
+            told?;
+            Ok(text)
+        }
+        Err(error) => Ok(format!(in alloc; "{error}")?),
+    }
+}
+
 const TABLES: &str = r#"[
-  ["ok", {}],
-  ["ok", {"name":"","virtual_hosts":[],"virtualHosts":null}],
-  ["ok", {"virtualHosts":[{"name":"a","domains":["*",""]}],"vhds":{},"validate_clusters":7}],
+  ["", {}],
+  ["", {"name":"","virtual_hosts":[],"virtualHosts":null}],
+  ["a * \n", {"virtualHosts":[{"name":"a","domains":["*",""]}],"vhds":{},"validate_clusters":7}],
   ["V6", {"name":1}],
   ["V6", {"virtual_hosts":{}}],
   ["V6", {"virtual_hosts":[null]}],
@@ -103,7 +130,7 @@ const TABLES: &str = r#"[
   ["V20", {"virtual_hosts":[{"name":"a","domains":["x","y","x"]}]}],
   ["V20", {"virtual_hosts":[{"name":"a","domains":["a.Com"]},{"name":"b","domains":["A.cOM"]}]}],
   ["V20", {"virtual_hosts":[{"name":"a","domains":["*"],"routes":[{}]},{"name":"b","domains":["*"]}]}],
-  ["ok", {"virtual_hosts":[{"name":"a","domains":["\u00e4"]},{"name":"a","domains":["\u00c4","A.b","*.b",".b"]}]}],
+  ["a ä\na Ä A.b *.b .b\n", {"virtual_hosts":[{"name":"a","domains":["\u00e4"]},{"name":"a","domains":["\u00c4","A.b","*.b",".b"]}]}],
   ["V21", {"virtual_hosts":[{"name":"a","domains":["*"],"routes":[{"redirect":{}}]}]}],
   ["V21", {"virtual_hosts":[{"name":"a","domains":["*"],"routes":[{"match":{"prefix":"/"}},{"match":{},"redirect":{}}]}]}],
   ["V22", {"virtual_hosts":[{"name":"a","domains":["*"],"routes":[{"match":{"prefix":"/"},"route":{"cluster":""}},{"match":{"prefix":"/"}}]}]}],
@@ -113,11 +140,11 @@ const TABLES: &str = r#"[
 ]"#;
 
 const ROUTES: &str = r#"[
-  ["ok", {"match":{"prefix":""},"redirect":{"host_redirect":7}}],
-  ["ok", {"match":{"path":""},"redirect":{},"direct_response":null}],
-  ["ok", {"match":{"path_separated_prefix":"/a","headers":[],"queryParameters":[],"grpc":null},"redirect":{}}],
-  ["ok", {"match":{"pathSeparatedPrefix":"a","caseSensitive":true},"directResponse":{"status":"200"}}],
-  ["ok", {"match":{"prefix":"/"},"direct_response":{"status":599}}],
+  ["h *; prefix  -> redirect\n", {"match":{"prefix":""},"redirect":{"host_redirect":7}}],
+  ["h *; path  -> redirect\n", {"match":{"path":""},"redirect":{},"direct_response":null}],
+  ["h *; separated /a -> redirect\n", {"match":{"path_separated_prefix":"/a","headers":[],"queryParameters":[],"grpc":null},"redirect":{}}],
+  ["h *; separated a -> 200\n", {"match":{"pathSeparatedPrefix":"a","caseSensitive":true},"directResponse":{"status":"200"}}],
+  ["h *; prefix / -> 599\n", {"match":{"prefix":"/"},"direct_response":{"status":599}}],
   ["V6", {"match":[],"redirect":{}}],
   ["V6", {"match":{"prefix":1},"redirect":{}}],
   ["V6", {"match":{"prefix":"/","path":{}},"redirect":{}}],
@@ -166,9 +193,9 @@ const ROUTES: &str = r#"[
 ]"#;
 
 const TARGETS: &str = r#"[
-  ["ok", {"cluster":"c","cluster_header":null,"stat_prefix":3}],
-  ["ok", {"weighted_clusters":{"clusters":[{"name":"a","weight":4294967294},{"name":"a","weight":"1"}],"total_weight":{}}}],
-  ["ok", {"weightedClusters":{"clusters":[{"name":"a","weight":0},{"name":"b","weight":1}]},"cluster":null}],
+  ["c", {"cluster":"c","cluster_header":null,"stat_prefix":3}],
+  ["a*4294967294 a*1 ", {"weighted_clusters":{"clusters":[{"name":"a","weight":4294967294},{"name":"a","weight":"1"}],"total_weight":{}}}],
+  ["a*0 b*1 ", {"weightedClusters":{"clusters":[{"name":"a","weight":0},{"name":"b","weight":1}]},"cluster":null}],
   ["V6", {"cluster":1}],
   ["V6", {"weighted_clusters":[]}],
   ["V6", {"weighted_clusters":{},"weightedClusters":{}}],
@@ -195,7 +222,8 @@ const TARGETS: &str = r#"[
 
 // A route configuration as control planes write them: retry policies, rewrites, rate limits, header
 // edits and the like are passed over.
-const BOOKSHOP: &str = r#"{
+const BOOKSHOP: &str = r#"[
+  ["shop shop.example.com *.Shop.example.com; path /checkout -> pay-v1*90 pay-v2*10 ; prefix /old/ -> redirect; separated /api -> api; prefix / -> 404\nrest *\n", {
   "@type": "type.googleapis.com/envoy.config.route.v3.RouteConfiguration",
   "name": "bookshop",
   "ignorePortInHostMatching": true,
@@ -236,72 +264,25 @@ const BOOKSHOP: &str = r#"{
     },
     {"name": "rest", "domains": ["*"]}
   ]
-}"#;
-
-// The cases of a table: what is to be told of a body, and the body.
-fn cases(alloc: Global, text: &str) -> Result<Vec<(String, Value)>, Fail> {
-    let mut cases = Vec::new(alloc);
-    if let Value::Array(pairs) = Value::from_str(alloc, text)? {
-        for pair in pairs.as_slice() {
-            if let (Some(Value::String(rule)), Some(body)) = (pair.get(0usize), pair.get(1usize)) {
-                cases.push((rule.clone()?, body.clone()?))?;
-            }
-        }
-    }
-    Ok(cases)
-}
+}]
+]"#;
 
 #[test]
 fn each_rule_of_a_table(rt: HostRuntime) -> Result<(), Fail> {
-    let alloc = rt.alloc();
-    let cases = cases(alloc, TABLES)?;
-    assert_eq!(rt; cases.len(), 28);
-    for (rule, body) in cases.as_slice() {
-        let answer = tell(alloc, read_routes(alloc, body))?;
-        assert_eq!(rt; answer.as_str(), rule.as_str(), "{body}");
-    }
-    Ok(())
+    assert_told(&rt, rt.alloc(), Reader::Routes, TABLES, 28)
 }
 
 #[test]
 fn each_rule_of_a_route(rt: HostRuntime) -> Result<(), Fail> {
-    let alloc = rt.alloc();
-    let cases = cases(alloc, ROUTES)?;
-    assert_eq!(rt; cases.len(), 50);
-    for (rule, route) in cases.as_slice() {
-        let body = around(alloc, route.to_string(alloc)?.as_str())?;
-        let body = Value::from_str(alloc, body.as_str())?;
-        let answer = tell(alloc, read_routes(alloc, &body))?;
-        assert_eq!(rt; answer.as_str(), rule.as_str(), "{route}");
-    }
-    Ok(())
+    assert_told(&rt, rt.alloc(), Reader::Route, ROUTES, 50)
 }
 
 #[test]
 fn each_rule_of_a_target(rt: HostRuntime) -> Result<(), Fail> {
-    let alloc = rt.alloc();
-    let cases = cases(alloc, TARGETS)?;
-    assert_eq!(rt; cases.len(), 25);
-    for (rule, body) in cases.as_slice() {
-        let answer = tell(alloc, read_target(alloc, body))?;
-        assert_eq!(rt; answer.as_str(), rule.as_str(), "{body}");
-    }
-    Ok(())
+    assert_told(&rt, rt.alloc(), Reader::Target, TARGETS, 25)
 }
 
 #[test]
 fn a_real_route_configuration(rt: HostRuntime) -> Result<(), Fail> {
-    let alloc = rt.alloc();
-    let value = Value::from_str(alloc, BOOKSHOP)?;
-    match read_routes(alloc, &value) {
-        Ok(table) => {
-            let text = describe(alloc, &table)?;
-            assert_eq!(rt;
-                text.as_str(),
-                "shop shop.example.com *.Shop.example.com; path /checkout -> pay-v1*90 pay-v2*10 ; prefix /old/ -> redirect; separated /api -> api; prefix / -> 404\nrest *\n"
-            );
-        }
-        Err(error) => assert!(rt; false, "{error}"),
-    }
-    Ok(())
+    assert_told(&rt, rt.alloc(), Reader::Routes, BOOKSHOP, 1)
 }

@@ -1,4 +1,4 @@
--- Passes that go out to threads, each within an actor, and come back. For tests.
+-- Passes that go out to threads, each within an actor, and come back.
 use Rattle.std.proofs.Common.{◌≡◌, ℕ, ◌+◌, ◌<◌, List, length, get_or, Option, Some}
 use Rattle.std.specs.Prelude.{slice_get, IsSomeAnd}
 use Rattle.atomic_table.specs.Seated.{TableId}

@@ -3,7 +3,7 @@ ghost use Rattle.std.specs.Prelude.{◌≡◌, ℕ, ◌%◌, ◌==◌, count_by,
 ghost use Rattle.ev_gate.specs.History.{mine_of};
 ghost use Rattle.ev_gate.specs.Words.{gate_id, pass_knows, IsPassOf, AreAll};
 
-use crate::{Gate, Pass, Stands};
+use ev_gate::{Gate, Pass, Stands};
 use std::alloc::{AllocError, Global};
 use std::sync::Wait;
 use std::test::Fail;

@@ -1,5 +1,5 @@
 use Rattle.ev_gate.specs.Words.{gate_id, IsPassOf}
-use Rattle.ev_gate.proofs.tests.add_evens.Given as goal
+use Rattle.device_tests.proofs.gates.add_evens.Given as goal
 
 abbrev pub invariant-loop-number : goal.invariant-loop-number
 invariant-loop-number g l = IsPassOf (gate_id l.gate) l.seat l.pass

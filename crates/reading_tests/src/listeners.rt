@@ -1,17 +1,9 @@
-use crate::read_listener;
-use ev_tree::ReadError;
+use crate::tables::{Reader, assert_told};
+use ev_listener_json::read_listener;
 use ev_types::{Listener, Serve, Target};
 use serde_json::Value;
 use std::alloc::{AllocError, Global};
 use std::test::Fail;
-
-// What the reader answers, as text: the content, or the rule.
-fn tell(alloc: Global, read: Result<Listener, ReadError>) -> Result<String, AllocError> {
-    match read {
-        Ok(listener) => describe(alloc, &listener),
-        Err(error) => format!(in alloc; "{error}"),
-    }
-}
 
 // The listener as text.
 fn describe(alloc: Global, listener: &Listener) -> Result<String, AllocError> {
@@ -45,6 +37,18 @@ fn describe_serve(alloc: Global, serve: &Serve) -> Result<String, AllocError> {
     }
 }
 
+// What a listener reads as: its content, or the rule that refuses it.
+pub(crate) fn tell_listener(alloc: Global, body: &Value) -> Result<String, Fail> {
+    match read_listener(alloc, body) {
+        Ok(listener) => {
+            let text = describe(alloc, &listener);
+            drop(listener);
+            Ok(text?)
+        }
+        Err(error) => Ok(format!(in alloc; "{error}")?),
+    }
+}
+
 // The start of a listener that is good: the members of a case come after its own, and take their place.
 const LISTENER: &str =
     r#"{"name":"in","address":{"socket_address":{"address":"10.1.0.1","port_value":8080}},"filter_chains":[{"filters":[{"typed_config":{"@type":"type.googleapis.com/envoy.extensions.filters.network.tcp_proxy.v3.TcpProxy","cluster":"c"}}]}],"#;
@@ -53,42 +57,40 @@ const LISTENER: &str =
 const MANAGER: &str =
     r#"{"name":"in","address":{"socket_address":{"address":"10.1.0.1","port_value":8080}},"filter_chains":[{"filters":[{"typed_config":{"@type":"type.googleapis.com/envoy.extensions.filters.network.http_connection_manager.v3.HttpConnectionManager","#;
 
-// What is told of each case of a table. The members of its body stand between the two texts.
-fn find_wrong_answers(
-    alloc: Global,
-    table: &str,
-    before: &str,
-    after: &str,
-) -> Result<String, Fail> {
-    let mut wrong = String::new(alloc);
-    if let Value::Array(pairs) = Value::from_str(alloc, table)? {
-        for pair in pairs.as_slice() {
-            if let (Some(Value::String(rule)), Some(case)) = (pair.get(0usize), pair.get(1usize)) {
-                let members = case.to_string(alloc)?;
-                let mut body = String::from_str(alloc, before)?;
-                body.push_str(members.as_str().trim_start_matches('{'))?;
-                body.push_str(after)?;
-                let answer = tell(
-                    alloc,
-                    read_listener(alloc, &Value::from_str(alloc, body.as_str())?),
-                )?;
-                let right = match rule.as_str() {
-                    "ok" => answer.as_str().contains(" serves "),
-                    rule => answer.as_str() == rule,
-                };
-                if !right {
-                    wrong.push_str(answer.as_str())?;
-                    wrong.push_str(members.as_str())?;
-                }
-            }
-        }
-    }
-    Ok(wrong)
+// The same of the listener whose text is that of a case between two texts.
+fn tell_between(alloc: Global, before: &str, case: &str, after: &str) -> Result<String, Fail> {
+    let text = format!(in alloc; "{before}{case}{after}")?;
+    let body = Value::from_str(alloc, text.as_str())?;
+    let told = tell_listener(alloc, &body);
+    drop(body);
+    told
+}
+
+// The same of a good listener with the members of a case.
+pub(crate) fn tell_members(alloc: Global, case: &Value) -> Result<String, Fail> {
+    let members = case.to_string(alloc)?;
+    tell_between(
+        alloc,
+        LISTENER,
+        members.as_str().trim_start_matches('{'),
+        "",
+    )
+}
+
+// The same of a listener with a connection manager of the members of a case.
+pub(crate) fn tell_manager(alloc: Global, case: &Value) -> Result<String, Fail> {
+    let members = case.to_string(alloc)?;
+    tell_between(
+        alloc,
+        MANAGER,
+        members.as_str().trim_start_matches('{'),
+        "}]}]}",
+    )
 }
 
 const LISTENERS: &str = r#"[
-  ["ok", {"stat_prefix":0}],
-  ["ok", {"name":"l","traffic_direction":"INBOUND","listener_filters":[{}],"access_log":{}}],
+  ["in at 10.1.0.1:8080 serves cluster c", {"stat_prefix":0}],
+  ["l at 10.1.0.1:8080 serves cluster c", {"name":"l","traffic_direction":"INBOUND","listener_filters":[{}],"access_log":{}}],
   ["V3", {"name":""}],
   ["V3", {"name":null,"filter_chains":{},"address":null}],
   ["V6", {"name":7}],
@@ -112,7 +114,7 @@ const LISTENERS: &str = r#"[
   ["V14", {"address":{"socketAddress":{"address":"a","portValue":65536}}}],
   ["V14", {"address":{"socketAddress":{"address":"a","portValue":"1","protocol":"UDP"}}}],
   ["V14", {"address":{"socketAddress":{"address":"a","portValue":1,"protocol":1}}}],
-  ["ok", {"address":{"socketAddress":{"address":"a","portValue":0,"protocol":"TCP"}}}],
+  ["in at a:0 serves cluster c", {"address":{"socketAddress":{"address":"a","portValue":0,"protocol":"TCP"}}}],
   ["V16", {"filter_chains":[]}],
   ["V16", {"filter_chains":null}],
   ["V16", {"filter_chains":[{},{}]}],
@@ -123,7 +125,7 @@ const LISTENERS: &str = r#"[
   ["V17", {"filter_chains":[{"filters":[{"name":"n"},{"typed_config":{"cluster":7}}]}]}],
   ["V17", {"filter_chains":[{"filters":[{"typed_config":{"@type":"type.googleapis.com/envoy.extensions.filters.network.rbac.v3.RBAC"}}]}]}],
   ["V17", {"filter_chains":[{"filters":[{"typed_config":{"@type":"type.googleapis.com/envoy.extensions.filters.network.tcp_proxy.v3.TcpProxy","cluster":"a"}},{"typed_config":{"@type":"type.googleapis.com/envoy.extensions.filters.network.tcp_proxy.v3.TcpProxy","cluster":""}}]}]}],
-  ["ok", {"filter_chains":[{"filters":[{"typed_config":{"@type":"x","cluster":7}},{"typed_config":null},{"typed_config":{"@type":"type.googleapis.com/envoy.extensions.filters.network.tcp_proxy.v3.TcpProxy","cluster":"a"}}]}]}],
+  ["in at 10.1.0.1:8080 serves cluster a", {"filter_chains":[{"filters":[{"typed_config":{"@type":"x","cluster":7}},{"typed_config":null},{"typed_config":{"@type":"type.googleapis.com/envoy.extensions.filters.network.tcp_proxy.v3.TcpProxy","cluster":"a"}}]}]}],
   ["V6", {"filter_chains":[{"filters":[{"typed_config":{"@type":"type.googleapis.com/envoy.extensions.filters.network.tcp_proxy.v3.TcpProxy","cluster":1}}]}]}],
   ["V22", {"filter_chains":[{"filters":[{"typed_config":{"@type":"type.googleapis.com/envoy.extensions.filters.network.tcp_proxy.v3.TcpProxy","stat_prefix":"s"}}]}]}],
   ["V22", {"filter_chains":[{"filters":[{"typed_config":{"@type":"type.googleapis.com/envoy.extensions.filters.network.tcp_proxy.v3.TcpProxy","cluster":"a","weighted_clusters":{}}}]}]}],
@@ -132,9 +134,9 @@ const LISTENERS: &str = r#"[
 ]"#;
 
 const MANAGERS: &str = r#"[
-  ["ok", {"rds":{"config_source":{"ads":{}},"route_config_name":"r"}}],
-  ["ok", {"rds":{"configSource":{"self":{},"initial_fetch_timeout":"0s"},"routeConfigName":"r"},"route_config":null,"scoped_routes":null}],
-  ["ok", {"route_config":{}}],
+  ["in at 10.1.0.1:8080 serves routes r, limited true", {"rds":{"config_source":{"ads":{}},"route_config_name":"r"}}],
+  ["in at 10.1.0.1:8080 serves routes r, limited false", {"rds":{"configSource":{"self":{},"initial_fetch_timeout":"0s"},"routeConfigName":"r"},"route_config":null,"scoped_routes":null}],
+  ["in at 10.1.0.1:8080 serves 0 hosts", {"route_config":{}}],
   ["V2", {"rds":{"config_source":{"ads":{}}}}],
   ["V2", {"rds":{"config_source":{"ads":{}},"route_config_name":""},"scoped_routes":1,"scopedRoutes":1}],
   ["V2", {"rds":{},"route_config":{}}],
@@ -210,35 +212,11 @@ const WHOLE: &str = r#"[
 
 #[test]
 fn each_rule_alone_and_beside_others(rt: HostRuntime) -> Result<(), Fail> {
-    let alloc = rt.alloc();
-    let wrong = find_wrong_answers(alloc, LISTENERS, LISTENER, "")?;
-    assert_eq!(rt; wrong.as_str(), "");
-    let wrong = find_wrong_answers(alloc, MANAGERS, MANAGER, "}]}]}")?;
-    assert_eq!(rt; wrong.as_str(), "");
-    let unlike = find_wrong_answers(alloc, r#"[["V18",{"route_config":{}}]]"#, MANAGER, "}]}]}")?;
-    assert_eq!(rt;
-        unlike.as_str(),
-        r#"in at 10.1.0.1:8080 serves 0 hosts{"route_config":{}}"#
-    );
-    Ok(())
+    assert_told(&rt, rt.alloc(), Reader::ListenerMembers, LISTENERS, 42)?;
+    assert_told(&rt, rt.alloc(), Reader::Manager, MANAGERS, 29)
 }
 
 #[test]
 fn whole_listeners(rt: HostRuntime) -> Result<(), Fail> {
-    let alloc = rt.alloc();
-    let mut count = 0u8;
-    if let Value::Array(pairs) = Value::from_str(alloc, WHOLE)? {
-        for pair in pairs.as_slice() {
-            if let (Some(Value::String(content)), Some(body)) = (
-                pair.get(0usize),
-                pair.get(1usize),
-            ) {
-                let answer = tell(alloc, read_listener(alloc, body))?;
-                assert_eq!(rt; answer.as_str(), content.as_str());
-                count = count.saturating_add(1);
-            }
-        }
-    }
-    assert_eq!(rt; count, 4);
-    Ok(())
+    assert_told(&rt, rt.alloc(), Reader::Listener, WHOLE, 4)
 }

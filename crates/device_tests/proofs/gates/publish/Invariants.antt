@@ -1,5 +1,5 @@
 use Rattle.ev_gate.specs.Words.{gate_id, IsPassOf}
-use Rattle.ev_gate.proofs.tests.publish.Given as goal
+use Rattle.device_tests.proofs.gates.publish.Given as goal
 
 abbrev pub invariant-loop-time : goal.invariant-loop-time
 invariant-loop-time g l = IsPassOf (gate_id l.gate) l.seat l.pass

@@ -1,0 +1,11 @@
+//! Tests of devices and lines, of scripts, and of gates whose seats stand in threads. It has no code but tests.
+#![tactic(auto)]
+
+#[cfg(test)]
+mod devices;
+#[cfg(test)]
+mod gates;
+#[cfg(test)]
+mod lines;
+#[cfg(test)]
+mod scripts;

@@ -1,0 +1,156 @@
+use crate::tables::{Reader, assert_told};
+use ev_cluster_json::{read_assignment, read_cluster};
+use ev_types::{Assignment, Cluster, Discovery};
+use serde_json::Value;
+use std::alloc::{AllocError, Global};
+use std::test::Fail;
+
+// Clusters, each after what it reads as: each rule alone, beside a lower and a higher one, and the fields that aren't looked at.
+const CLUSTERS: &str = r#"[
+  ["V8", {"name":"a","type":"EDS"}],
+  ["V6", {"name":"a","type":"EDS","edsClusterConfig":{},"eds_cluster_config":{}}],
+  ["V10", {"name":"a","type":"EDS","edsClusterConfig":{}}],
+  ["V3", {}],
+  ["a static, checked false", {"name":"a"}],
+  ["V7", {"name":"a","type":"STRICT_DNS"}],
+  ["V6", {"name":"a","type":9}],
+  ["V7", {"name":"a","clusterType":{}}],
+  ["V9", {"name":"a","type":0,"eds_cluster_config":{"edsConfig":{"ads":{}}}}],
+  ["V10", {"name":"a","type":"EDS","edsClusterConfig":{"edsConfig":{"ads":{},"initialFetchTimeout":"-1s"}}}],
+  ["V11", {"name":"a","connectTimeout":"0s"}],
+  ["V12", {"name":"a","loadAssignment":{"endpoints":[{"lbEndpoints":[{}]}]}}],
+  ["V13", {"name":"a","loadAssignment":{"endpoints":[{"priority":129}]}}],
+  ["V8", {"name":"a","type":"EDS","connectTimeout":"0s"}],
+  ["V6", {"name":"a","type":"EDS","connectTimeout":"1"}],
+  ["V2", {"name":"a","edsClusterConfig":{"serviceName":"^x"}}],
+  ["V2", {"name":"","edsClusterConfig":{"serviceName":"^x"},"connectTimeout":"0s"}],
+  ["V3", {"name":"","type":7,"healthChecks":{}}],
+  ["V6", {"name":5,"type":"STRICT_DNS"}],
+  ["V7", {"name":"a","type":1,"edsClusterConfig":{},"connectTimeout":"-1s"}],
+  ["V9", {"name":"a","eds_cluster_config":{},"connectTimeout":"-1s","loadAssignment":{"endpoints":[{"priority":200}]}}],
+  ["V11", {"name":"a","connectTimeout":"0s","loadAssignment":{"endpoints":[{"lbEndpoints":[{}],"priority":200}]}}],
+  ["V12", {"name":"a","loadAssignment":{"endpoints":[{"priority":200},{"lbEndpoints":[{}]}]}}],
+  ["V6", {"name":"a","loadAssignment":{"endpoints":[{"priority":200},{"lbEndpoints":[null]}]}}],
+  ["a by a, limited true, checked false", {"name":"a","type":"EDS","edsClusterConfig":{"edsConfig":{"ads":{}}},"loadAssignment":7}],
+  ["a static, checked false", {"name":"a","type":null,"loadAssignment":null,"edsClusterConfig":null,"healthChecks":null}],
+  ["V6", {"name":"a","loadAssignment":7}],
+  ["V6", {"name":"a","edsClusterConfig":{"edsConfig":"ads"}}]
+]"#;
+
+// The same of assignments: `address:port*weight@priority` of each host, with `+` where it is usable and `-` where it isn't.
+const ASSIGNMENTS: &str = r#"[
+  ["a:1*1@0- ", {"endpoints":[{"lbEndpoints":[{%,"healthStatus":"UNHEALTHY"}]}]}],
+  ["a:1*1@128- a:1*1@128- ", {"clusterName":"","endpoints":[{"lb_endpoints":[{%,"healthStatus":"UNHEALTHY"},{%,"healthStatus":"UNHEALTHY"}],"priority":"128"}]}],
+  ["", {}],
+  ["V6", {"clusterName":7}],
+  ["V6", {"endpoints":{}}],
+  ["V6", {"endpoints":[null]}],
+  ["V6", {"endpoints":[{"lbEndpoints":[{%,"healthStatus":"UNHEALTHY"}],"lb_endpoints":[{%,"healthStatus":"UNHEALTHY"}]}]}],
+  ["V6", {"endpoints":[{"lbEndpoints":[{"endpoint":[]}]}]}],
+  ["V12", {"endpoints":[{"lbEndpoints":[{"endpoint":{"address":{"pipe":{"path":"/x"}}}}]}]}],
+  ["V12", {"endpoints":[{"lbEndpoints":[{"endpointName":"x"}]}]}],
+  ["V13", {"endpoints":[{"lbEndpoints":[{%,"loadBalancingWeight":0}]}]}],
+  ["V13", {"endpoints":[{"lbEndpoints":[{%,"load_balancing_weight":"4294967295"},{%,"healthStatus":"UNHEALTHY"}]}]}],
+  ["a:1*4294967295@0+ a:1*1@0- ", {"endpoints":[{"lbEndpoints":[{%,"load_balancing_weight":"4294967295"}]},{"lbEndpoints":[{%,"healthStatus":"UNHEALTHY"}]}]}],
+  ["V12", {"endpoints":[{"lbEndpoints":[{%,"load_balancing_weight":"4294967295"},{%,"healthStatus":"UNHEALTHY"}]},{"lbEndpoints":[{}]}]}],
+  ["V6", {"endpoints":[{"lbEndpoints":[{%,"loadBalancingWeight":0},{}]},{"lbEndpoints":[{"healthStatus":"SICK"}]}]}]
+]"#;
+
+// Clusters as control planes write them; the profile passes over most of their fields.
+const CLUSTERS_OF_CONTROL_PLANES: &str = r#"[
+  ["outbound|9080||reviews.default.svc.cluster.local by outbound|9080||reviews.default.svc.cluster.local, limited false, checked true", {"@type":"type.googleapis.com/envoy.config.cluster.v3.Cluster",
+            "name":"outbound|9080||reviews.default.svc.cluster.local","type":"EDS",
+            "edsClusterConfig":{"edsConfig":{"ads":{},"initialFetchTimeout":"0s","resourceApiVersion":"V3"},
+            "serviceName":"outbound|9080||reviews.default.svc.cluster.local"},"connectTimeout":"10s",
+            "lbPolicy":"LEAST_REQUEST","circuitBreakers":{"thresholds":[{"maxConnections":4294967295}]},
+            "healthChecks":[{"timeout":"5s","interval":"10s","httpHealthCheck":{"path":"/healthz"}}],
+            "typedExtensionProtocolOptions":{"envoy.extensions.upstreams.http.v3.HttpProtocolOptions":{"@type":"x"}},
+            "outlierDetection":{"consecutive5xx":5},"transportSocket":{"name":"tls"},
+            "commonLbConfig":{"localityWeightedLbConfig":{}},"metadata":{"filterMetadata":{"istio":{}}}}],
+  ["b by b, limited true, checked false", {"name":"b","type":3,"edsClusterConfig":{"edsConfig":{"self":{}}}}]
+]"#;
+
+// The same of an assignment.
+const AN_ASSIGNMENT: &str = r#"[
+  ["10.244.0.9:9080*3@0- 10.244.0.9:9080*1@0+ ::1:0*1@1+ ", {"clusterName":"reviews","policy":{"overprovisioningFactor":140},"endpoints":[
+            {"locality":{"region":"r","zone":"z"},"loadBalancingWeight":2,"lbEndpoints":[
+            {"endpoint":{"address":{"socketAddress":{"address":"10.244.0.9","portValue":9080,"protocol":"TCP"}},
+            "hostname":"x","healthCheckConfig":{"portValue":1}},"healthStatus":"DRAINING","loadBalancingWeight":3,"metadata":{}},
+            {"endpoint":{"address":{"socketAddress":{"address":"10.244.0.9","portValue":9080}}},"healthStatus":5}]},
+            {"priority":1,"lbEndpoints":[
+            {"endpoint":{"address":{"socketAddress":{"address":"::1","portValue":0}}}}]}]}]
+]"#;
+
+// A cluster in words: its name, how it comes by its hosts, and whether they are checked.
+fn describe_cluster(alloc: Global, cluster: &Cluster) -> Result<String, AllocError> {
+    let (name, checked) = (cluster.name.as_str(), cluster.checked);
+    match &cluster.discovery {
+        Discovery::Static(_) => format!(in alloc; "{name} static, checked {checked}"),
+        Discovery::Eds { service, limited } => {
+            let (service, limited) = (service.as_str(), *limited);
+            format!(in alloc; "{name} by {service}, limited {limited}, checked {checked}")
+        }
+    }
+}
+
+// What a cluster reads as: its content, or the rule that refuses it.
+pub(crate) fn tell_cluster(alloc: Global, body: &Value) -> Result<String, Fail> {
+    match read_cluster(alloc, body) {
+        Ok(cluster) => {
+            let text = describe_cluster(alloc, &cluster);
+            drop(cluster);
+            Ok(text?)
+        }
+        Err(error) => Ok(format!(in alloc; "{error}")?),
+    }
+}
+
+// The hosts of an assignment.
+fn describe_assignment(alloc: Global, assignment: &Assignment) -> Result<String, AllocError> {
+    let mut text = String::new(alloc);
+    for row in assignment.rows() {
+        let (address, port) = (row.host.address.as_str(), row.host.port);
+        let sign = if row.usable { "+" } else { "-" };
+        let told = format!(in alloc; "{address}:{port}*{}@{}{sign} ", row.weight, row.priority)?;
+        text.push_str(told.as_str())?;
+    }
+    Ok(text)
+}
+
+// What an assignment reads as: its hosts, or the rule that refuses it.
+pub(crate) fn tell_assignment(alloc: Global, body: &Value) -> Result<String, Fail> {
+    match read_assignment(alloc, body) {
+        Ok(assignment) => {
+            let text = describe_assignment(alloc, &assignment);
+            drop(assignment);
+            Ok(text?)
+        }
+        Err(error) => Ok(format!(in alloc; "{error}")?),
+    }
+}
+
+#[test]
+fn rules_of_clusters(rt: HostRuntime) -> Result<(), Fail> {
+    assert_told(&rt, rt.alloc(), Reader::Cluster, CLUSTERS, 28)
+}
+
+#[test]
+fn rules_of_assignments(rt: HostRuntime) -> Result<(), Fail> {
+    assert_told(&rt, rt.alloc(), Reader::Assignment, ASSIGNMENTS, 15)
+}
+
+#[test]
+fn clusters_of_control_planes(rt: HostRuntime) -> Result<(), Fail> {
+    assert_told(
+        &rt,
+        rt.alloc(),
+        Reader::Cluster,
+        CLUSTERS_OF_CONTROL_PLANES,
+        2,
+    )
+}
+
+#[test]
+fn an_assignment_of_a_control_plane(rt: HostRuntime) -> Result<(), Fail> {
+    assert_told(&rt, rt.alloc(), Reader::Assignment, AN_ASSIGNMENT, 1)
+}

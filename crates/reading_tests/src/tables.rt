@@ -1,0 +1,100 @@
+use crate::clusters::{tell_assignment, tell_cluster};
+use crate::fields::{tell_address, tell_duration, tell_number, tell_source};
+use crate::listeners::{tell_listener, tell_manager, tell_members};
+use crate::messages::tell_message;
+use crate::routes::{tell_route, tell_routes, tell_target};
+use serde_json::Value;
+use std::alloc::{AllocError, Global};
+use std::process::Abort;
+use std::test::Fail;
+
+/// What the bodies of a table are read as.
+#[derive(Clone, Copy)]
+pub(crate) enum Reader {
+    Number,
+    Duration,
+    Address,
+    Source,
+    Cluster,
+    Assignment,
+    Routes,
+    Route,
+    Target,
+    Listener,
+    ListenerMembers,
+    Manager,
+    Message,
+}
+
+// What a body reads as, in words.
+fn tell(alloc: Global, reader: Reader, body: &Value) -> Result<String, Fail> {
+    match reader {
+        Reader::Number => tell_number(alloc, body),
+        Reader::Duration => tell_duration(alloc, body),
+        Reader::Address => tell_address(alloc, body),
+        Reader::Source => tell_source(alloc, body),
+        Reader::Cluster => tell_cluster(alloc, body),
+        Reader::Assignment => tell_assignment(alloc, body),
+        Reader::Routes => tell_routes(alloc, body),
+        Reader::Route => tell_route(alloc, body),
+        Reader::Target => tell_target(alloc, body),
+        Reader::Listener => tell_listener(alloc, body),
+        Reader::ListenerMembers => tell_members(alloc, body),
+        Reader::Manager => tell_manager(alloc, body),
+        Reader::Message => tell_message(alloc, body),
+    }
+}
+
+// The text of a table, with its abbreviations written out: `~` stands for `type.googleapis.com/envoy.config.`, `^` for a text
+// of 512 bytes, and `%` for the endpoint of a host.
+fn write_out(alloc: Global, table: &str) -> Result<String, AllocError> {
+    let long = "n".repeat(alloc, 512)?;
+    let text = table.replace(alloc, "~", "type.googleapis.com/envoy.config.")?;
+    let text = text.as_str().replace(alloc, "^", long.as_str())?;
+    text.as_str().replace(
+        alloc,
+        "%",
+        r#""endpoint":{"address":{"socketAddress":{"address":"a","portValue":1}}}"#,
+    )
+}
+
+/// Asserts that a table has so many rows, each a text and a body, and that each body reads as its text tells.
+pub(crate) fn assert_told(
+    rt: &impl Abort,
+    alloc: Global,
+    reader: Reader,
+    table: &str,
+    count: usize,
+) -> Result<(), Fail> {
+    let text = write_out(alloc, table)?;
+    let table = Value::from_str(alloc, text.as_str())?;
+    let walked = walk(rt, alloc, reader, &table, count);
+    drop(table);
+    walked
+}
+
+// The same of a table as a tree.
+fn walk(
+    rt: &impl Abort,
+    alloc: Global,
+    reader: Reader,
+    table: &Value,
+    count: usize,
+) -> Result<(), Fail> {
+    let rows = table.as_array().ok_or("a table")?;
+    assert_eq!(rt; rows.len(), count);
+    for row in rows {
+        assert_row(rt, alloc, reader, row)?;
+    }
+    Ok(())
+}
+
+// Asserts that the body of a row reads as its text tells.
+fn assert_row(rt: &impl Abort, alloc: Global, reader: Reader, row: &Value) -> Result<(), Fail> {
+    let row = row.as_array().ok_or("a row")?;
+    let want = row.first().ok_or("a text")?.as_str().ok_or("a text")?;
+    let body = row.get(1).ok_or("a body")?;
+    let got = tell(alloc, reader, body)?;
+    assert_eq!(rt; got.as_str(), want, "{body}");
+    Ok(())
+}
