@@ -15,6 +15,7 @@ use ev_generations::Steps;
 use responses::{endpoints, news, response, service};
 use std::alloc::Global;
 use std::marker::Brand;
+use std::mem::drop;
 use std::rt::Env;
 use std::sync::ledger::{Blank, Ledger};
 use survey::{Counts, survey};
@@ -46,11 +47,11 @@ fn number(word: Option<String>) -> u16 {
 
 // How many of so many clusters come to serve as the endpoints of so many come, and what the manager tells of all of them then.
 fn measured(alloc: Global, size: u16, arrivals: u16) -> Result<(u32, Counts)> {
-    warm_all::<Brand>(alloc, Blank::new(1), size, arrivals)
+    run::<Brand>(alloc, Blank::new(1), size, arrivals)
 }
 
 // The same, with a counter of look-ups.
-fn warm_all<L: Ledger>(
+fn run<L: Ledger>(
     alloc: Global,
     blank: Blank,
     size: u16,
@@ -62,15 +63,45 @@ fn warm_all<L: Ledger>(
 {
     let mut steps = Steps::<L>::new(blank);
     let mut clusters = Clusters::new(alloc);
-    take_all(alloc, &mut clusters, size, &mut steps)?;
+    let told = go(alloc, &mut clusters, size, arrivals, &mut steps);
+    drop(clusters);
+    told
+}
+
+// The same, of clusters of which there are none yet. What is large is dropped by hand: each way on which it goes by itself costs the
+// proof of all that it has.
+fn go<L: Ledger>(
+    alloc: Global,
+    clusters: &mut Clusters,
+    size: u16,
+    arrivals: u16,
+    steps: &mut Steps<L>,
+) -> Result<(u32, Counts)>
+    requires { AreKept clusters.old }
+{
+    take_all(alloc, clusters, size, steps)?;
+    let served = warm_all(alloc, clusters, arrivals, steps)?;
+    let survey = survey(alloc, clusters, steps)?;
+    Ok((served, survey))
+}
+
+// The endpoints of so many clusters come. Answers how many came to serve.
+fn warm_all<L: Ledger>(
+    alloc: Global,
+    clusters: &mut Clusters,
+    arrivals: u16,
+    steps: &mut Steps<L>,
+) -> Result<u32>
+    requires { AreKept clusters.old }
+    ensures { OnOk result (AreKept clusters.new) }
+{
     let mut served = 0u32;
     for place in 0..arrivals {
-        if warm(alloc, &mut clusters, place, &mut steps)? {
+        if warm(alloc, clusters, place, steps)? {
             served = served.saturating_add(1);
         }
     }
-    let survey = survey(alloc, &mut clusters, &mut steps)?;
-    Ok((served, survey))
+    Ok(served)
 }
 
 // A response brings so many clusters.
@@ -86,9 +117,11 @@ fn take_all<L: Ledger>(
     if clusters.made() > 0 {
         return Err(anyhow!("numbers were drawn before"));
     }
-    let response = response(alloc, size)?;
     let verdicts = news(alloc, size)?;
-    clusters.apply(alloc, &response, verdicts.as_slice(), steps)?;
+    let response = response(alloc, size)?;
+    let applied = clusters.apply(alloc, &response, verdicts.as_slice(), steps);
+    drop(response);
+    drop(applied?);
     Ok(())
 }
 
@@ -107,8 +140,12 @@ fn warm<L: Ledger>(
         return Ok(false);
     }
     let arrival = endpoints(alloc)?;
-    clusters.arrival(alloc, &name, &arrival, steps)?;
+    let arrived = clusters.arrival(alloc, &name, &arrival, steps);
+    drop(arrival);
+    arrived?;
     let promoted = clusters.promote(alloc, steps)?;
+    let serves = !promoted.served.is_empty();
+    drop(promoted);
     clusters.forget(alloc, steps)?;
-    Ok(!promoted.served.is_empty())
+    Ok(serves)
 }

@@ -10,6 +10,3 @@ mod shown;
 pub use deferred::Deferred;
 pub use drain::Drain;
 pub use shown::Shows;
-
-#[cfg(test)]
-mod tests;

@@ -6,6 +6,3 @@ mod ledger;
 mod members;
 
 pub use ledger::Ledger;
-
-#[cfg(test)]
-mod tests;

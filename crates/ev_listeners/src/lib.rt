@@ -20,8 +20,6 @@ mod arrivals;
 mod holders;
 mod moved;
 mod reads;
-#[cfg(test)]
-mod tests;
 
 use crate::addresses::Addresses;
 use ev_generations::Steps;

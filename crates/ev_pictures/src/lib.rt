@@ -4,6 +4,3 @@
 mod pictures;
 
 pub use pictures::Pictures;
-
-#[cfg(test)]
-mod tests;

@@ -10,6 +10,3 @@ mod retiring;
 pub use holders::Holders;
 pub use lines::answer_of;
 pub use retiring::retirements_stand;
-
-#[cfg(test)]
-mod tests;

@@ -18,6 +18,3 @@ mod texts;
 mod weighed;
 
 pub use snapshot::Snapshot;
-
-#[cfg(test)]
-mod tests;

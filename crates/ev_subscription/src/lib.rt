@@ -9,8 +9,6 @@ mod replies;
 mod requests;
 mod responses;
 mod subscription;
-#[cfg(test)]
-mod tests;
 mod versions;
 
 pub use changes::NameChange;

@@ -13,8 +13,6 @@ ghost use Rattle.ev_warming.specs.Worlds.{StandsFor as ClustersStandFor};
 ghost use Rattle.ev_targets.specs.Targets.{StandsFor, come_in};
 
 mod first;
-#[cfg(test)]
-mod tests;
 mod waited;
 
 use crate::first::First;

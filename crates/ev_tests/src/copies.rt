@@ -4,6 +4,7 @@ use ev_types::{
     Text, TryCopy,
 };
 use std::alloc::Global;
+use std::mem::drop;
 use std::test::Fail;
 
 // The host `h` at port 80.
@@ -43,16 +44,32 @@ fn answer(alloc: Global, number: u8) -> Result<Answer, Fail> {
     })
 }
 
-// The journal with one entry, which is answered so. It is written of a copy of the entry.
-fn shown(alloc: Global, answer: Answer) -> Result<Vec<u8>, Fail> {
-    let entry = Entry {
+// An entry that is answered so.
+fn entry(answer: Answer) -> Entry {
+    Entry {
         actor: Actor::Main,
         at: 2,
         step: 1,
         event: Event::Publish,
         answer,
-    };
-    Ok(render_journal(alloc, Format::Two, 1, [entry.copy(alloc)?].as_slice())?)
+    }
+}
+
+// The journal with one entry. It is written of a copy of the entry.
+fn shown(alloc: Global, entry: &Entry) -> Result<Vec<u8>, Fail> {
+    let copies = [entry.copy(alloc)?];
+    let text = render_journal(alloc, Format::Two, 1, copies.as_slice());
+    drop(copies);
+    Ok(text?)
+}
+
+// The journal with one entry, whose answer has that number.
+fn shown_answer(alloc: Global, number: u8) -> Result<Vec<u8>, Fail> {
+    let answer = answer(alloc, number)?;
+    let entry = entry(answer);
+    let text = shown(alloc, &entry);
+    drop(entry);
+    text
 }
 
 #[test]
@@ -77,7 +94,7 @@ fn writes_each_kind_of_answer(rt: HostRuntime) -> Result<(), Fail> {
         (14, "{\"closed\":[6,5],\"version\":9}"),
     ];
     for (number, want) in rows {
-        let text = shown(rt.alloc(), answer(rt.alloc(), number)?)?;
+        let text = shown_answer(rt.alloc(), number)?;
         let want = format!(in rt.alloc();
             "{{\"format\":2,\"workers\":1}}\n{{\"actor\":\"main\",\"answer\":{want},\"at\":2,\"op\":\"publish\",\"step\":1}}\n{{\"end\":1}}\n"
         )?;
@@ -156,6 +173,37 @@ fn ask(alloc: Global) -> Result<Ask, Fail> {
     })
 }
 
+// A copy of the event that has that number.
+fn copied_event(alloc: Global, number: u8) -> Result<Event, Fail> {
+    let event = event(alloc, number)?;
+    let copy = event.copy(alloc);
+    drop(event);
+    Ok(copy?)
+}
+
+// The word of a copy of the event that has that number, and what it tells beside it.
+fn copy_tells(alloc: Global, number: u8) -> Result<(Op, String), Fail> {
+    let copy = copied_event(alloc, number)?;
+    let op = copy.op();
+    let text = told(alloc, &copy);
+    drop(copy);
+    Ok((op, text?))
+}
+
+// A copy of a row.
+fn copied_row(alloc: Global) -> Result<Row, Fail> {
+    let row = Row {
+        actor: Actor::Timer,
+        at: 2,
+        step: 1,
+        op: Op::Publish,
+        answer: Answer::Version(9),
+    };
+    let copy = row.copy(alloc);
+    drop(row);
+    Ok(copy?)
+}
+
 #[test]
 fn copies_tell_the_same(rt: HostRuntime) -> Result<(), Fail> {
     let rows = [
@@ -171,22 +219,16 @@ fn copies_tell_the_same(rt: HostRuntime) -> Result<(), Fail> {
         (10, Op::Close, "7"),
     ];
     for (number, op, want) in rows {
-        let copy = event(rt.alloc(), number)?.copy(rt.alloc())?;
-        assert_eq!(rt; copy.op(), op);
-        assert_eq!(rt; told(rt.alloc(), &copy)?.as_str(), want);
+        let (word, text) = copy_tells(rt.alloc(), number)?;
+        assert_eq!(rt; word, op);
+        assert_eq!(rt; text.as_str(), want);
     }
-    let row = Row {
-        actor: Actor::Timer,
-        at: 2,
-        step: 1,
-        op: Op::Publish,
-        answer: Answer::Version(9),
-    };
-    let copy = row.copy(rt.alloc())?;
+    let copy = copied_row(rt.alloc())?;
     assert_eq!(rt;
         (copy.actor, copy.at, copy.step, copy.op),
         (Actor::Timer, 2, 1, Op::Publish)
     );
     assert!(rt; matches!(&copy.answer, Answer::Version(9)));
+    drop(copy);
     Ok(())
 }

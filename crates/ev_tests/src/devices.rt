@@ -2,7 +2,30 @@ use ev_app::{Status, run_program};
 use ev_io::{MemSink, MemSource};
 use ev_types::Text;
 use std::alloc::Global;
+use std::mem::drop;
 use std::test::Fail;
+
+fn texts(alloc: Global, words: &[&str]) -> Result<Vec<Text>, Fail> {
+    let mut texts = Vec::new(alloc);
+    for word in words {
+        texts.push(Text::new(alloc, word)?)?;
+    }
+    Ok(texts)
+}
+
+// How a call of the program ended, with what it wrote left in the sink.
+fn ran_into(
+    alloc: Global,
+    words: &[&str],
+    input: &str,
+    read_fails: Vec<u64>,
+    sink: &mut MemSink,
+) -> Result<Status, Fail> {
+    let texts = texts(alloc, words)?;
+    let bytes = input.as_bytes().to_vec(alloc)?;
+    let mut source = MemSource::new(bytes, 10, read_fails);
+    Ok(run_program(alloc, texts.as_slice(), &mut source, sink))
+}
 
 // How a call of the program ended, and what it wrote.
 fn ran(
@@ -12,14 +35,11 @@ fn ran(
     read_fails: Vec<u64>,
     write_fails: Vec<u64>,
 ) -> Result<(Status, Vec<u8>), Fail> {
-    let mut texts = Vec::new(alloc);
-    for word in words {
-        texts.push(Text::new(alloc, word)?)?;
-    }
-    let mut source = MemSource::new(input.as_bytes().to_vec(alloc)?, 10, read_fails);
     let mut sink = MemSink::new(alloc, 10_000, 10, write_fails)?;
-    let status = run_program(alloc, texts.as_slice(), &mut source, &mut sink);
-    Ok((status, sink.as_bytes().to_vec(alloc)?))
+    let status = ran_into(alloc, words, input, read_fails, &mut sink);
+    let written = sink.as_bytes().to_vec(alloc);
+    drop(sink);
+    Ok((status?, written?))
 }
 
 #[test]

@@ -3,6 +3,8 @@ use ev_types::{
     Assignment, Gen, Host, HostRow, Name, RouteTable, Seq, Shared, Target, Text, TryCopy,
 };
 use std::alloc::Global;
+use std::mem::drop;
+use std::process::Abort;
 use std::test::Fail;
 
 fn host(alloc: Global, port: u16) -> Result<Host, Fail> {
@@ -12,16 +14,19 @@ fn host(alloc: Global, port: u16) -> Result<Host, Fail> {
 
 // A cluster with one host.
 fn cluster(alloc: Global) -> Result<ServedCluster, Fail> {
+    let name = Name::new(alloc, "c")?;
+    let host = host(alloc, 80)?;
     let row = HostRow {
-        host: host(alloc, 80)?,
+        host,
         weight: 1,
         priority: 0,
         usable: true,
     };
+    let rows = Seq::from_vec(vec![in alloc; row]?);
     Ok(ServedCluster {
         number: Gen::new(1),
-        name: Name::new(alloc, "c")?,
-        hosts: Assignment::new(Seq::from_vec(vec![in alloc; row]?)),
+        name,
+        hosts: Assignment::new(rows),
     })
 }
 
@@ -36,25 +41,49 @@ fn routing(alloc: Global, tcp: bool) -> Result<Routing, Fail> {
     Ok(Routing::Table(Shared::new(alloc, table)?))
 }
 
-// A picture of that cluster and one listener.
-fn picture(alloc: Global, number: Gen, port: u16, tcp: bool) -> Result<Picture, Fail> {
+fn listeners(
+    alloc: Global,
+    number: Gen,
+    port: u16,
+    tcp: bool,
+) -> Result<Seq<ServedListener>, Fail> {
+    let name = Name::new(alloc, "in")?;
+    let address = host(alloc, port)?;
+    let routing = routing(alloc, tcp)?;
     let listener = ServedListener {
         number,
-        name: Name::new(alloc, "in")?,
-        address: host(alloc, port)?,
-        routing: routing(alloc, tcp)?,
+        name,
+        address,
+        routing,
     };
+    Ok(Seq::from_vec(vec![in alloc; listener]?))
+}
+
+fn clusters(alloc: Global) -> Result<Seq<ServedCluster>, Fail> {
+    let cluster = cluster(alloc)?;
+    Ok(Seq::from_vec(vec![in alloc; cluster]?))
+}
+
+// A picture of that cluster and one listener.
+fn picture(alloc: Global, number: Gen, port: u16, tcp: bool) -> Result<Picture, Fail> {
+    let clusters = clusters(alloc)?;
+    let listeners = listeners(alloc, number, port, tcp)?;
     let shown = Shown {
-        clusters: Seq::from_vec(vec![in alloc; cluster(alloc)?]?),
-        listeners: Seq::from_vec(vec![in alloc; listener]?),
+        clusters,
+        listeners,
     };
     Ok(Picture { version: 1, shown })
 }
 
-#[test]
-fn copies_of_pictures_are_equal_and_other_pictures_are_not(rt: HostRuntime) -> Result<(), Fail> {
-    let alloc = rt.alloc();
-    let first = picture(alloc, Gen::new(2), 8080, false)?;
+// A copy of such a picture.
+fn copied(alloc: Global, number: Gen, port: u16, tcp: bool) -> Result<Picture, Fail> {
+    let picture = picture(alloc, number, port, tcp)?;
+    let copy = picture.copy(alloc);
+    drop(picture);
+    Ok(copy?)
+}
+
+fn compare(rt: &impl Abort, alloc: Global, first: &Picture) -> Result<(), Fail> {
     let rows = [
         (Gen::new(2), 8080, false, true),
         (Gen::new(3), 8080, false, false),
@@ -62,9 +91,18 @@ fn copies_of_pictures_are_equal_and_other_pictures_are_not(rt: HostRuntime) -> R
         (Gen::new(2), 8080, true, false),
     ];
     for (number, port, tcp, same) in rows {
-        let copied = picture(alloc, number, port, tcp)?.copy(alloc)?;
+        let copied = copied(alloc, number, port, tcp)?;
         assert_eq!(rt; copied.version, 1);
         assert_eq!(rt; copied.shown == first.shown, same);
+        drop(copied);
     }
     Ok(())
+}
+
+#[test]
+fn copies_of_pictures_are_equal_and_other_pictures_are_not(rt: HostRuntime) -> Result<(), Fail> {
+    let first = picture(rt.alloc(), Gen::new(2), 8080, false)?;
+    let compared = compare(&rt, rt.alloc(), &first);
+    drop(first);
+    compared
 }

@@ -12,6 +12,7 @@ use ev_wire::read_response;
 use serde_json::Value;
 use std::alloc::Global;
 use std::mem::drop;
+use std::process::Abort;
 use std::test::Fail;
 
 fn read(alloc: Global, message: &str) -> Result<Response, Fail> {
@@ -58,6 +59,42 @@ const ENDPOINTS_S: &str =
 const ENDPOINTS_C: &str =
     "{\"typeUrl\":\"type.googleapis.com/envoy.config.endpoint.v3.ClusterLoadAssignment\",\"nonce\":\"1\",\"resources\":[{\"name\":\"c\",\"resource\":{\"@type\":\"type.googleapis.com/envoy.config.endpoint.v3.ClusterLoadAssignment\",\"clusterName\":\"c\"}}]}";
 
+// Asserts the verdict on a response after an earlier one.
+fn judge(
+    rt: &impl Abort,
+    alloc: Global,
+    earlier: &Response,
+    warming: bool,
+    response: &Response,
+    want: Verdict,
+    message: &str,
+) -> Result<(), Fail> {
+    let lives = live(alloc, earlier, warming)?;
+    assert!(rt; response.kind.is_some());
+    let known = Listed {
+        lives: lives.as_slice(),
+        versions: &[],
+    };
+    let found = verdicts(alloc, &known, response)?;
+    assert_eq!(rt; found.as_slice(), [want].as_slice(), "{message}");
+    Ok(())
+}
+
+// The same, of the message that it is read of.
+fn judge_message(
+    rt: &impl Abort,
+    alloc: Global,
+    earlier: &Response,
+    warming: bool,
+    message: &str,
+    want: Verdict,
+) -> Result<(), Fail> {
+    let response = read(alloc, message)?;
+    let judged = judge(rt, alloc, earlier, warming, &response, want, message);
+    drop(response);
+    judged
+}
+
 #[test]
 fn judges_addresses_and_watched_names(rt: HostRuntime) -> Result<(), Fail> {
     let alloc = rt.alloc();
@@ -72,15 +109,9 @@ fn judges_addresses_and_watched_names(rt: HostRuntime) -> Result<(), Fail> {
     ];
     for (before, warming, message, want) in rows {
         let earlier = read(alloc, before)?;
-        let lives = live(alloc, &earlier, warming)?;
-        let response = read(alloc, message)?;
-        assert!(rt; response.kind.is_some());
-        let known = Listed {
-            lives: lives.as_slice(),
-            versions: &[],
-        };
-        let found = verdicts(alloc, &known, &response)?;
-        assert_eq!(rt; found.as_slice(), [want].as_slice(), "{message}");
+        let judged = judge_message(&rt, alloc, &earlier, warming, message, want);
+        drop(earlier);
+        judged?;
     }
     Ok(())
 }

@@ -10,6 +10,3 @@ pub use batches::Batch;
 pub use lines::{Accepted, BatchLine, Closed, Outcome, Settled};
 pub use members::on_of;
 pub use workers::Worker;
-
-#[cfg(test)]
-mod tests;

@@ -17,6 +17,7 @@ use ev_listeners::Listeners;
 use responses::{address, news, response, routes, routes_name};
 use std::alloc::Global;
 use std::marker::Brand;
+use std::mem::drop;
 use std::rt::Env;
 use std::sync::ledger::{Blank, Ledger};
 
@@ -72,10 +73,25 @@ fn run<L: Ledger>(alloc: Global, blank: Blank, plan: Plan) -> Result<Told>
 {
     let mut steps = Steps::<L>::new(blank);
     let mut listeners = Listeners::new(alloc);
-    take_all(alloc, &mut listeners, plan.size, &mut steps)?;
-    let held = ask_all(alloc, &listeners, plan.asks)?;
-    let served = warm_all(alloc, &mut listeners, plan.arrivals, &mut steps)?;
-    let goes = end_first(alloc, &mut listeners, &mut steps)?;
+    let told = go(alloc, &mut listeners, plan, &mut steps);
+    drop(listeners);
+    told
+}
+
+// The same, of listeners of which there are none yet. What is large is dropped by hand: each way on which it goes by itself costs the
+// proof of all that it has.
+fn go<L: Ledger>(
+    alloc: Global,
+    listeners: &mut Listeners,
+    plan: Plan,
+    steps: &mut Steps<L>,
+) -> Result<Told>
+    requires { AreKept listeners.old }
+{
+    take_all(alloc, listeners, plan.size, steps)?;
+    let held = ask_all(alloc, listeners, plan.asks)?;
+    let served = warm_all(alloc, listeners, plan.arrivals, steps)?;
+    let goes = end_first(alloc, listeners, steps)?;
     Ok(Told { held, served, goes })
 }
 
@@ -92,9 +108,11 @@ fn take_all<L: Ledger>(
     if listeners.made() > 0 {
         return Err(anyhow!("numbers were drawn before"));
     }
-    let response = response(alloc, size)?;
     let verdicts = news(alloc, size)?;
-    listeners.apply(alloc, &response, verdicts.as_slice(), steps)?;
+    let response = response(alloc, size)?;
+    let applied = listeners.apply(alloc, &response, verdicts.as_slice(), steps);
+    drop(response);
+    drop(applied?);
     Ok(())
 }
 
@@ -146,8 +164,12 @@ fn warm<L: Ledger>(
         return Ok(false);
     }
     let arrival = routes(alloc)?;
-    listeners.arrival(alloc, &name, &arrival, steps)?;
+    let arrived = listeners.arrival(alloc, &name, &arrival, steps);
+    drop(arrival);
+    arrived?;
     let promoted = listeners.promote(alloc, steps)?;
+    let serves = !promoted.served.is_empty();
+    drop(promoted);
     listeners.forget(alloc, steps)?;
-    Ok(!promoted.served.is_empty())
+    Ok(serves)
 }

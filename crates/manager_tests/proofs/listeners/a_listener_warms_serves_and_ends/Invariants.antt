@@ -1,4 +1,4 @@
-use Rattle.ev_listeners.proofs.tests.a_listener_warms_serves_and_ends.Given as goal
+use Rattle.manager_tests.proofs.listeners.a_listener_warms_serves_and_ends.Given as goal
 
 abbrev pub ghosts-run : goal.ghosts-run
 ghosts-run g a = record { name = a.blank.name; parts = a.blank.parts }

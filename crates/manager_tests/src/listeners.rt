@@ -4,14 +4,15 @@ ghost use Rattle.ev_types.specs.Items.{IsBodyOf};
 ghost use Rattle.ev_types.specs.declared.contents.Kind.TheVariants.{Lds, Rds};
 ghost use Rattle.ev_listeners.specs.Listeners.{AreKept};
 
-use crate::Listeners;
 use ev_generations::Steps;
+use ev_listeners::Listeners;
 use ev_types::{
     Arrival, Body, Content, Host, Item, Kind, Listener, Name, Response, RouteTable, Seq, Serve,
     Shared, Text, TryCopy, Verdict,
 };
 use std::alloc::Global;
 use std::marker::Brand;
+use std::mem::drop;
 use std::sync::ledger::{Blank, Ledger};
 use std::test::Fail;
 
@@ -25,23 +26,29 @@ fn host(alloc: Global) -> Result<Host, Fail> {
 }
 
 // A listener that waits for the routes of a name within a limit.
+fn listener(alloc: Global) -> Result<Listener, Fail> {
+    let own = Name::new(alloc, "l")?;
+    let name = Name::new(alloc, "r")?;
+    let address = host(alloc)?;
+    let limited = true;
+    Ok(Listener {
+        name: own,
+        address,
+        serve: Serve::Rds { name, limited },
+    })
+}
+
+// That listener, as a resource.
 fn item(alloc: Global) -> Result<Item, Fail>
     ensures { IfOk result (λ item. IsBodyOf Lds item.body) }
 {
-    let own = Name::new(alloc, "l")?;
-    let name = Name::new(alloc, "r")?;
-    let listener = Listener {
-        name: own,
-        address: host(alloc)?,
-        serve: Serve::Rds {
-            name,
-            limited: true,
-        },
-    };
+    let name = Text::new(alloc, "l")?;
+    let version = Text::new(alloc, "1")?;
+    let listener = listener(alloc)?;
     let content = Content::Listener(Shared::new(alloc, listener)?);
     Ok(Item {
-        name: Text::new(alloc, "l")?,
-        version: Text::new(alloc, "1")?,
+        name,
+        version,
         ttl: false,
         body: Body::Good(content),
     })
@@ -51,11 +58,12 @@ fn response(alloc: Global) -> Result<Response, Fail>
     ensures kind { IfOk result (λ response. response.kind ≡ Some Lds) }
     ensures one { IfOk result (λ response. length response.items ≡ 1) }
 {
+    let nonce = Text::new(alloc, "1")?;
     let item = item(alloc)?;
     let items = vec![in alloc; item]?;
     Ok(Response {
         kind: Some(Kind::Lds),
-        nonce: Text::new(alloc, "1")?,
+        nonce,
         items: Seq::from_vec(items),
         removed: Seq::new(alloc),
     })
@@ -66,11 +74,12 @@ fn removal(alloc: Global) -> Result<Response, Fail>
     ensures kind { IfOk result (λ response. response.kind ≡ Some Rds) }
     ensures none { IfOk result (λ response. response.items ≡ []) }
 {
-    let mut removed = Seq::new(alloc);
-    removed.push(Text::new(alloc, "r")?)?;
+    let nonce = Text::new(alloc, "2")?;
+    let name = Text::new(alloc, "r")?;
+    let removed = Seq::from_vec(vec![in alloc; name]?);
     Ok(Response {
         kind: Some(Kind::Rds),
-        nonce: Text::new(alloc, "2")?,
+        nonce,
         items: Seq::new(alloc),
         removed,
     })
@@ -95,7 +104,10 @@ fn holders(alloc: Global, listeners: &Listeners) -> Result<usize, Fail>
 fn shown(alloc: Global, listeners: &Listeners) -> Result<usize, Fail>
     requires { AreKept listeners.now }
 {
-    Ok(listeners.shown(alloc)?.len())
+    let shown = listeners.shown(alloc)?;
+    let count = shown.len();
+    drop(shown);
+    Ok(count)
 }
 
 // How many live listeners and watched names there are.
@@ -120,7 +132,9 @@ fn come<L: Ledger>(
         return Ok(false);
     }
     let response = response(alloc)?;
-    listeners.apply(alloc, &response, &[Verdict::New], steps)?;
+    let applied = listeners.apply(alloc, &response, &[Verdict::New], steps);
+    drop(response);
+    drop(applied?);
     Ok(true)
 }
 
@@ -147,7 +161,9 @@ fn arrive<L: Ledger>(
         return Ok(());
     }
     let arrival = routes(alloc)?;
-    Ok(listeners.arrival(alloc, &name, &arrival, steps)?)
+    let arrived = listeners.arrival(alloc, &name, &arrival, steps);
+    drop(arrival);
+    Ok(arrived?)
 }
 
 // What is due serves. Answers how many do.
@@ -160,7 +176,9 @@ fn promote<L: Ledger>(
     ensures { OnOk result (AreKept listeners.new) }
 {
     let promoted = listeners.promote(alloc, steps)?;
-    Ok(promoted.served.len())
+    let served = promoted.served.len();
+    drop(promoted);
+    Ok(served)
 }
 
 // The routes' name is removed, which takes nothing away.
@@ -173,7 +191,9 @@ fn lose<L: Ledger>(
     ensures { OnOk result (AreKept listeners.new) }
 {
     let response = removal(alloc)?;
-    Ok(listeners.arrivals(alloc, &response, &[], steps)?)
+    let arrived = listeners.arrivals(alloc, &response, &[], steps);
+    drop(response);
+    Ok(arrived?)
 }
 
 // It ends.
@@ -252,7 +272,22 @@ fn is_copied(alloc: Global, listeners: &Listeners) -> Result<bool, Fail>
     requires { AreKept listeners.now }
 {
     let copied = listeners.copy(alloc)?;
-    is_gone(alloc, &copied)
+    let gone = is_gone(alloc, &copied);
+    drop(copied);
+    gone
+}
+
+// All of this, and a copy after it.
+fn go_and_copy<L: Ledger>(
+    alloc: Global,
+    listeners: &mut Listeners,
+    steps: &mut Steps<L>,
+) -> Result<bool, Fail>
+    requires { AreKept listeners.old }
+{
+    let went = go(alloc, listeners, steps)?;
+    let copied = is_copied(alloc, listeners)?;
+    Ok(went && copied)
 }
 
 fn run<L: Ledger>(alloc: Global, blank: Blank) -> Result<bool, Fail>
@@ -262,9 +297,9 @@ fn run<L: Ledger>(alloc: Global, blank: Blank) -> Result<bool, Fail>
 {
     let mut steps = Steps::<L>::new(blank);
     let mut listeners = Listeners::new(alloc);
-    let went = go(alloc, &mut listeners, &mut steps)?;
-    let copied = is_copied(alloc, &listeners)?;
-    Ok(went && copied)
+    let went = go_and_copy(alloc, &mut listeners, &mut steps);
+    drop(listeners);
+    went
 }
 
 #[test]

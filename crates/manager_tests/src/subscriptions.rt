@@ -3,13 +3,14 @@ ghost use Rattle.std.specs.Prelude.{◌≡◌, length, IfOk};
 ghost use Rattle.ev_types.specs.Items.{IsBodyOf};
 ghost use Rattle.ev_types.specs.declared.contents.Kind.TheVariants.{Eds};
 
-use crate::{NameChange, Subscription, reply_of};
+use ev_subscription::{NameChange, Subscription, reply_of};
 use ev_types::{
     Assignment, Body, Content, Item, Kind, Name, Request, Response, Seq, Shared, Text, TryCopy,
     Verdict,
 };
 use ev_verdicts::Mentions;
 use std::alloc::Global;
+use std::mem::drop;
 use std::test::Fail;
 
 fn hold(
@@ -34,30 +35,31 @@ fn names(alloc: Global, text: &str) -> Result<Seq<Name>, Fail> {
 fn endpoints(alloc: Global, name: &str) -> Result<Item, Fail>
     ensures { IfOk result (λ item. IsBodyOf Eds item.body) }
 {
-    let name = Name::new(alloc, name)?;
-    let rows = Assignment::new(Seq::new(alloc));
+    let name = Text::new(alloc, name)?;
+    let version = Text::new(alloc, "2")?;
+    let rows = Shared::new(alloc, Assignment::new(Seq::new(alloc)))?;
     Ok(Item {
-        name: Text::new(alloc, name.as_str())?,
-        version: Text::new(alloc, "2")?,
+        name,
+        version,
         ttl: false,
-        body: Body::Good(Content::Assignment(Shared::new(alloc, rows)?)),
+        body: Body::Good(Content::Assignment(rows)),
     })
 }
 
-// A response with this resource that removes a name.
-fn response(alloc: Global, item: Item, removed: &str) -> Result<Response, Fail>
-    requires { IsBodyOf Eds item.body }
+// A response with endpoints under a name that removes another.
+fn response(alloc: Global, name: &str, removed: &str) -> Result<Response, Fail>
     ensures { IfOk result (λ response. length response.items ≡ 1) }
 {
-    let mut items = Seq::new(alloc);
-    items.push(item)?;
-    let mut removals = Seq::new(alloc);
-    removals.push(Text::new(alloc, removed)?)?;
+    let nonce = Text::new(alloc, "n")?;
+    let removed = Text::new(alloc, removed)?;
+    let removed = vec![in alloc; removed]?;
+    let item = endpoints(alloc, name)?;
+    let items = vec![in alloc; item]?;
     Ok(Response {
         kind: Some(Kind::Eds),
-        nonce: Text::new(alloc, "n")?,
-        items,
-        removed: removals,
+        nonce,
+        items: Seq::from_vec(items),
+        removed: Seq::from_vec(removed),
     })
 }
 
@@ -74,7 +76,9 @@ fn connect(alloc: Global, subscription: &Subscription) -> Result<(usize, usize),
     let watched = names(alloc, "e")?;
     let none = Seq::new(alloc);
     let requests = subscription.connect(alloc, &watched, &none, true)?;
-    Ok(told(&requests))
+    let told = told(&requests);
+    drop(requests);
+    Ok(told)
 }
 
 // A response brings endpoints.
@@ -82,7 +86,9 @@ fn bring(alloc: Global, subscription: &mut Subscription, response: &Response) ->
     requires { length response.now.items ≡ 1 }
 {
     let mentions = Mentions::of(alloc, response)?;
-    Ok(subscription.respond(alloc, Kind::Eds, &[Verdict::Kept], &mentions)?)
+    let brought = subscription.respond(alloc, Kind::Eds, &[Verdict::Kept], &mentions);
+    drop(mentions);
+    Ok(brought?)
 }
 
 // Endpoints are watched in the place of others, which are forgotten.
@@ -109,7 +115,9 @@ fn ask(
     };
     let reply = reply_of(alloc, Kind::Eds, response, &[Verdict::Kept])?;
     let requests = subscription.requests_after(alloc, Some(reply), change, none, false)?;
-    Ok(told(&requests))
+    let told = told(&requests);
+    drop(requests);
+    Ok(told)
 }
 
 // A response that brings endpoints and removes others, and what is asked for after it.
@@ -128,15 +136,18 @@ fn respond(
 
 // The same, with the response made.
 fn answer(alloc: Global, subscription: &mut Subscription) -> Result<(usize, usize), Fail> {
-    let item = endpoints(alloc, "f")?;
-    let response = response(alloc, item, "g")?;
-    respond(alloc, subscription, &response)
+    let response = response(alloc, "f", "g")?;
+    let asked = respond(alloc, subscription, &response);
+    drop(response);
+    asked
 }
 
 // Whether a copy has the endpoints' version, with its bound.
 fn is_copied(alloc: Global, subscription: &Subscription) -> Result<bool, Fail> {
     let copied = subscription.copy(alloc)?;
-    Ok(copied.is_kept(Kind::Eds, "e", "1") && copied.is_bounded(Kind::Eds, "e"))
+    let has = copied.is_kept(Kind::Eds, "e", "1") && copied.is_bounded(Kind::Eds, "e");
+    drop(copied);
+    Ok(has)
 }
 
 // Whether the version 1 of a cluster, or of endpoints that went, is still held.
@@ -174,7 +185,8 @@ fn a_subscription_asks_for_what_it_holds(rt: HostRuntime) -> Result<(), Fail> {
     let alloc = rt.alloc();
     let node = Text::new(alloc, "node")?;
     let mut subscription = Subscription::new(alloc, node);
-    let seen = walk(alloc, &mut subscription)?;
-    assert_eq!(rt; seen, (true, (3, 1), (2, 0), false, true));
+    let seen = walk(alloc, &mut subscription);
+    drop(subscription);
+    assert_eq!(rt; seen?, (true, (3, 1), (2, 0), false, true));
     Ok(())
 }

@@ -5,11 +5,12 @@ ghost use Rattle.ev_types.specs.declared.contents.Kind.TheVariants.{Lds};
 ghost use Rattle.ev_clusters.specs.Clusters.{AreKept as AreClustersKept};
 ghost use Rattle.ev_listeners.specs.Listeners.{AreKept as AreListenersKept};
 
-use crate::Targets;
 use ev_clusters::Clusters;
 use ev_listeners::Listeners;
+use ev_targets::Targets;
 use ev_types::{Body, Item, Kind, Phase, Response, Seq, Text, TryCopy, Verdict};
 use std::alloc::Global;
+use std::mem::drop;
 use std::test::Fail;
 
 // A response of clusters that has none.
@@ -27,9 +28,11 @@ fn nothing(alloc: Global) -> Result<Response, Fail>
 fn refused(alloc: Global) -> Result<Item, Fail>
     ensures { IfOk result (λ item. IsBodyOf Lds item.body) }
 {
+    let name = Text::new(alloc, "l")?;
+    let version = Text::new(alloc, "1")?;
     Ok(Item {
-        name: Text::new(alloc, "l")?,
-        version: Text::new(alloc, "1")?,
+        name,
+        version,
         ttl: false,
         body: Body::Bad(1),
     })
@@ -39,11 +42,13 @@ fn refused(alloc: Global) -> Result<Item, Fail>
 fn one(alloc: Global) -> Result<Response, Fail>
     ensures { IfOk result (λ response. length response.items ≡ 1) }
 {
+    let nonce = Text::new(alloc, "1")?;
     let item = refused(alloc)?;
+    let items = vec![in alloc; item]?;
     Ok(Response {
         kind: Some(Kind::Lds),
-        nonce: Text::new(alloc, "1")?,
-        items: Seq::from_vec(vec![in alloc; item]?),
+        nonce,
+        items: Seq::from_vec(items),
         removed: Seq::new(alloc),
     })
 }
@@ -58,13 +63,17 @@ fn lose_clusters(targets: &mut Targets) -> bool {
 // The first response of clusters comes.
 fn note_clusters(alloc: Global, targets: &mut Targets) -> Result<(), Fail> {
     let empty = nothing(alloc)?;
-    Ok(targets.note_first(alloc, Kind::Cds, &empty, &[])?)
+    let noted = targets.note_first(alloc, Kind::Cds, &empty, &[]);
+    drop(empty);
+    Ok(noted?)
 }
 
 // The first response of listeners comes.
 fn note_listeners(alloc: Global, targets: &mut Targets) -> Result<(), Fail> {
     let first = one(alloc)?;
-    Ok(targets.note_first(alloc, Kind::Lds, &first, &[Verdict::New])?)
+    let noted = targets.note_first(alloc, Kind::Lds, &first, &[Verdict::New]);
+    drop(first);
+    Ok(noted?)
 }
 
 // Both timeouts lead to serving; the listeners' isn't heard before they are awaited.
@@ -99,30 +108,53 @@ fn respond(
 }
 
 // Whether both ways lead to serving.
-fn go(alloc: Global, clusters: &Clusters, listeners: &Listeners) -> Result<bool, Fail>
+fn go_both(
+    alloc: Global,
+    targets: &mut Targets,
+    late: &mut Targets,
+    clusters: &Clusters,
+    listeners: &Listeners,
+) -> Result<bool, Fail>
     requires clusters { AreClustersKept clusters.now }
     requires listeners { AreListenersKept listeners.now }
 {
-    let mut targets = Targets::new();
-    let mut late = targets.copy(alloc)?;
-    let came = respond(alloc, &mut targets, clusters, listeners)?;
-    let timed = time_out(&mut late, clusters, listeners);
+    let came = respond(alloc, targets, clusters, listeners)?;
+    let timed = time_out(late, clusters, listeners);
     let serves = targets.phase() == Phase::Serving && late.phase() == Phase::Serving;
     Ok(came && timed && serves)
 }
 
-// The same, beside listeners and clusters of which there are none.
-fn run(alloc: Global, clusters: &Clusters) -> Result<bool, Fail>
+// The same, with a copy that goes the other way.
+fn copy_and_go(
+    alloc: Global,
+    targets: &mut Targets,
+    clusters: &Clusters,
+    listeners: &Listeners,
+) -> Result<bool, Fail>
     requires clusters { AreClustersKept clusters.now }
+    requires listeners { AreListenersKept listeners.now }
 {
+    let mut late = targets.copy(alloc)?;
+    let went = go_both(alloc, targets, &mut late, clusters, listeners);
+    drop(late);
+    went
+}
+
+// The same, beside listeners and clusters of which there are none.
+fn run(alloc: Global) -> Result<bool, Fail> {
+    let clusters = Clusters::new(alloc);
     let listeners = Listeners::new(alloc);
-    go(alloc, clusters, &listeners)
+    let mut targets = Targets::new();
+    let went = copy_and_go(alloc, &mut targets, &clusters, &listeners);
+    drop(targets);
+    drop(listeners);
+    drop(clusters);
+    went
 }
 
 #[test]
 fn the_first_responses_or_timeouts_lead_to_serving(rt: HostRuntime) -> Result<(), Fail> {
-    let clusters = Clusters::new(rt.alloc());
-    let done = run(rt.alloc(), &clusters)?;
+    let done = run(rt.alloc())?;
     assert_eq!(rt; done, true);
     Ok(())
 }
