@@ -140,7 +140,7 @@ fn has_lines(alloc: Global, registry: &Registry, lines: &[&str]) -> Result<bool,
 }
 
 // Whether a registry in which nothing was done takes this response of two clusters. Where it has no memory for it the first time,
-// journal and latest version have to be as before, and it has to take it the second time.
+// the journal has to be as before, and it has to take it the second time, with the first picture as the last one still.
 fn takes_two_clusters(alloc: Global, registry: &mut Registry, event: &Event) -> Result<bool, Fail>
     requires opened { (world_now registry.old).made ≡ 0 }
 {
@@ -149,22 +149,13 @@ fn takes_two_clusters(alloc: Global, registry: &mut Registry, event: &Event) -> 
     }
     let _ = registry.apply(Actor::Stream, 2, 0, &Event::Connect)?;
     if registry.apply(Actor::Stream, 3, 0, event).is_err() {
-        let same = has_lines(alloc, registry, &[BEGUN, CONNECTED])?;
-        if !same || !shows_first(registry) {
+        if !has_lines(alloc, registry, &[BEGUN, CONNECTED])? {
             return Ok(false);
         }
         let _ = registry.apply(Actor::Stream, 3, 0, event)?;
     }
     let entered = has_lines(alloc, registry, &[BEGUN, CONNECTED, MADE])?;
     Ok(entered && registry.snapshot()?.version() == 0)
-}
-
-// Whether the last picture is the first one, where it is known: what was lost is made anew with the next event alone.
-fn shows_first(registry: &Registry) -> bool {
-    match registry.snapshot() {
-        Ok(snapshot) => snapshot.version() == 0,
-        Err(_) => true,
-    }
 }
 
 // Whether the event is a response of two resources.
