@@ -51,12 +51,7 @@ fn measured(alloc: Global, size: u16, arrivals: u16) -> Result<(u32, Counts)> {
 }
 
 // The same, with a counter of look-ups.
-fn run<L: Ledger>(
-    alloc: Global,
-    blank: Blank,
-    size: u16,
-    arrivals: u16,
-) -> Result<(u32, Counts)>
+fn run<L: Ledger>(alloc: Global, blank: Blank, size: u16, arrivals: u16) -> Result<(u32, Counts)>
     requires name { blank.name ≡ L.name }
     requires parts { blank.parts ≡ L.parts }
     requires one { L.parts ≡ 1 }

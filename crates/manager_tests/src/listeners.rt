@@ -1,5 +1,5 @@
 //! One way through the calls: a listener waits for its routes, serves, and ends, and its address is free again.
-ghost use Rattle.std.specs.Prelude.{◌≡◌, [], Some, length, IfOk, OnOk};
+ghost use Rattle.std.specs.Prelude.{◌≡◌, [], Some, length, codes, IfOk, OnOk};
 ghost use Rattle.ev_types.specs.Items.{IsBodyOf};
 ghost use Rattle.ev_types.specs.declared.contents.Kind.TheVariants.{Lds, Rds};
 ghost use Rattle.ev_listeners.specs.Listeners.{AreKept};
@@ -26,7 +26,9 @@ fn host(alloc: Global) -> Result<Host, Fail> {
 }
 
 // A listener that waits for the routes of a name within a limit.
-fn listener(alloc: Global) -> Result<Listener, Fail> {
+fn listener(alloc: Global) -> Result<Listener, Fail>
+    ensures { IfOk result (λ listener. listener.name ≡ codes "l") }
+{
     let own = Name::new(alloc, "l")?;
     let name = Name::new(alloc, "r")?;
     let address = host(alloc)?;

@@ -35,11 +35,12 @@ fn names(alloc: Global, text: &str) -> Result<Seq<Name>, Fail> {
 fn endpoints(alloc: Global, name: &str) -> Result<Item, Fail>
     ensures { IfOk result (λ item. IsBodyOf Eds item.body) }
 {
-    let name = Text::new(alloc, name)?;
+    let name = Name::new(alloc, name)?;
+    let outer = Text::new(alloc, name.as_str())?;
     let version = Text::new(alloc, "2")?;
     let rows = Shared::new(alloc, Assignment::new(Seq::new(alloc)))?;
     Ok(Item {
-        name,
+        name: outer,
         version,
         ttl: false,
         body: Body::Good(Content::Assignment(rows)),
