@@ -1,32 +1,64 @@
 use std::rt::Files;
 use std::{fs, io};
 
-/// The input of a row: the bytes of `NAME.in`, or, where there is no such file, those that the lines of `NAME.parts` say.
+/// The input or the output of a row: the bytes of the file `NAME.KIND`, or, where there is none, those that the lines of
+/// `NAME.KIND.parts` say. The kind is `in` or `out`.
 ///
 /// # Errors
 /// Those of reading the files.
-pub(crate) fn input_of<R: Files + AllocGlobal>(rt: &R, name: &str) -> io::Result<Vec<u8>> {
+pub(crate) fn read_bytes<R: Files + AllocGlobal>(
+    rt: &R,
+    name: &str,
+    kind: &str,
+) -> io::Result<Vec<u8>> {
     let alloc = rt.alloc();
-    let file = format!(in alloc; "{name}.in")?;
+    let file = format!(in alloc; "{name}.{kind}")?;
     if fs::exists(rt, file.as_str())? {
         return fs::read(rt, file);
     }
-    let parts = fs::read_to_string(rt, format!(in alloc; "{name}.parts")?)?;
-    let mut input = Vec::new(alloc);
+    let parts = fs::read_to_string(rt, format!(in alloc; "{name}.{kind}.parts")?)?;
+    let mut bytes = Vec::new(alloc);
     for part in parts.lines() {
-        add_part(&mut input, part)?;
+        add_part(&mut bytes, part)?;
     }
-    Ok(input)
+    Ok(bytes)
 }
 
-// Adds what a line of `NAME.parts` says: how many lines, how many bytes each has with blanks behind its text, whether it is
-// `closed` by a line feed or `open`, and its text.
-fn add_part(input: &mut Vec<u8>, part: &str) -> io::Result<()> {
+// Adds what a line of parts says: how many lines, a number, a word and their text. By the word `closed` a line feed ends each
+// line, by `open` none does, and blanks behind the text make each line so many bytes long; by `numbered` a line feed ends each
+// line, and each `#` of the text stands for the line's number, which counts from the given one.
+fn add_part(bytes: &mut Vec<u8>, part: &str) -> io::Result<()> {
     let mut words = part.splitn(4, ' ');
     let count: u32 = words.next().unwrap_or("").parse().unwrap_or(0);
-    let width: u32 = words.next().unwrap_or("").parse().unwrap_or(0);
-    let closed = words.next().unwrap_or("") == "closed";
-    let text = words.next().unwrap_or("").as_bytes();
+    let number: u32 = words.next().unwrap_or("").parse().unwrap_or(0);
+    let word = words.next().unwrap_or("");
+    let text = words.next().unwrap_or("");
+    if word == "numbered" {
+        return add_numbered(bytes, count, number, text);
+    }
+    add_wide(bytes, count, number, word == "closed", text.as_bytes())
+}
+
+// Adds so many lines of a text, with the number of each in place of each `#`.
+fn add_numbered(bytes: &mut Vec<u8>, count: u32, first: u32, text: &str) -> io::Result<()> {
+    let alloc = *bytes.allocator();
+    for number in first..first.saturating_add(count) {
+        let number = format!(in alloc; "{number}")?;
+        let line = text.replace("#", number.as_str())?;
+        bytes.extend_from_slice(line.as_bytes())?;
+        bytes.push(b'\n')?;
+    }
+    Ok(())
+}
+
+// Adds so many lines of a text, each with blanks behind it up to a width.
+fn add_wide(
+    input: &mut Vec<u8>,
+    count: u32,
+    width: u32,
+    closed: bool,
+    text: &[u8],
+) -> io::Result<()> {
     for _ in 0..count {
         input.extend_from_slice(text)?;
         for _ in text.len()..width as usize {

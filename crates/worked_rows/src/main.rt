@@ -1,13 +1,13 @@
 //! The worked rows: scripts with what the program has to write of them, as files. Each name in `rows` is a row: its exit
 //! status, with the line and the kind of the fault where the input is no script, and its arguments. Its input is in
-//! `NAME.in`, or made of the pieces in `NAME.parts`, and the output that is wanted in `NAME.out`. The program runs each over
-//! memory, compares, and prints a line a row and the sum.
+//! `NAME.in`, and the output that is wanted in `NAME.out`; long ones are made of the pieces in `NAME.in.parts` and
+//! `NAME.out.parts`. The program runs each over memory, compares, and prints a line a row and the sum.
 #![tactic(auto)]
 
 mod inputs;
 mod row;
 
-use crate::inputs::input_of;
+use crate::inputs::read_bytes;
 use crate::row::{Row, read_row};
 use ev_app::{Status, run_program};
 use ev_io::{MemSink, MemSource};
@@ -15,8 +15,8 @@ use std::alloc::Global;
 use std::rt::Files;
 use std::{fs, io};
 
-/// The room for an output, in bytes.
-const ROOM: usize = 1_000_000;
+/// The room for an output, in bytes, beyond that of the one that is wanted.
+const ROOM: usize = 1_000;
 
 /// How many bytes a read gives, and a write takes, at most.
 const PIECE: usize = 65_536;
@@ -53,8 +53,8 @@ fn main(rt: HostRuntime) -> io::Result<()> {
 fn passes<R: Files + AllocGlobal>(rt: &R, row: &Row) -> io::Result<bool> {
     let alloc = rt.alloc();
     let name = row.name.as_str();
-    let input = input_of(rt, name)?;
-    let wanted = fs::read(rt, format!(in alloc; "{name}.out")?)?;
+    let input = read_bytes(rt, name, "in")?;
+    let wanted = read_bytes(rt, name, "out")?;
     if !answers(alloc, row, input.as_slice(), wanted.as_slice(), PIECE)? {
         return Ok(false);
     }
@@ -85,7 +85,7 @@ fn answers(
 ) -> io::Result<bool> {
     let piece = piece.max(1);
     let mut source = MemSource::new(input.to_vec(alloc)?, piece, Vec::new(alloc));
-    let mut sink = MemSink::new(alloc, ROOM, piece, Vec::new(alloc))?;
+    let mut sink = MemSink::new(alloc, wanted.len().saturating_add(ROOM), piece, Vec::new(alloc))?;
     let status = run_program(alloc, row.arguments.as_slice(), &mut source, &mut sink);
     Ok(row.is_end(status) && sink.as_bytes() == wanted)
 }
