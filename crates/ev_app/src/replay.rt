@@ -24,7 +24,7 @@ pub(crate) fn replay_text(alloc: Global, script: &Script) -> Result<Vec<u8>, All
 
 // The registry after the whole script.
 fn replay(alloc: Global, script: &Script) -> Result<Registry, AllocError>
-    ensures { IfOk result (λ registry. HasReplayed script.now registry) }
+    ensures { IfOk result (λ registry. HasReplayed script.now registry.journaled) }
 {
     let registry = Registry::new(alloc, script.workers, &script.node, Format::Two)?;
     ev_actors::replay(alloc, script, registry)

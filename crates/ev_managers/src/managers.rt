@@ -1,4 +1,4 @@
-ghost use Rattle.std.specs.Prelude.{true, ◌≡◌, ℕ, List, IfOk, OnOk};
+ghost use Rattle.std.specs.Prelude.{true, Some, ◌≡◌, ℕ, List, IfOk, OnOk};
 ghost use Rattle.ev_model.specs.World.{World, opening};
 ghost use Rattle.ev_model.specs.Tidy.{promoted, without_unwatched, without_old_results};
 ghost use Rattle.ev_generations.specs.Tables.{row_in, without_row};
@@ -8,7 +8,7 @@ use crate::retired::{Retired, put_all};
 use ev_clusters::Clusters;
 use ev_generations::Steps;
 use ev_listeners::Listeners;
-use ev_types::Gen;
+use ev_types::{Gen, GenRow};
 use std::alloc::{AllocError, Global};
 use std::sync::ledger::Ledger;
 
@@ -69,27 +69,29 @@ impl Managers {
         self.listeners.forget(alloc, steps)
     }
 
-    /// Takes out a cluster that drains or was dropped, once all is forgotten that nobody needs. It takes no memory.
-    pub fn remove_cluster(&mut self, number: Gen)
+    /// Takes out and answers a cluster that drains or was dropped, once all is forgotten that nobody needs. It takes no memory.
+    pub fn remove_cluster(&mut self, number: Gen) -> GenRow
         requires kept { AreKept self.old }
         requires forgotten { AreForgotten self.old }
         requires over { is_over (row_in number self.old.clusters.state.table.rows) ≡ true }
+        ensures row { row_in number self.old.clusters.state.table.rows ≡ Some result }
         ensures kept { AreKept self.new }
         ensures forgotten { AreForgotten self.new }
         ensures stands { (world : World) → StandFor self.old world → StandFor self.new (record world { rows = without_row number world.rows }) }
     {
-        self.clusters.remove(number);
+        self.clusters.remove(number)
     }
 
-    /// Takes out a listener that drains or was dropped, once all is forgotten that nobody needs. It takes no memory.
-    pub fn remove_listener(&mut self, number: Gen)
+    /// Takes out and answers a listener that drains or was dropped, once all is forgotten that nobody needs. It takes no memory.
+    pub fn remove_listener(&mut self, number: Gen) -> GenRow
         requires kept { AreKept self.old }
         requires forgotten { AreForgotten self.old }
         requires over { is_over (row_in number self.old.listeners.state.table.rows) ≡ true }
+        ensures row { row_in number self.old.listeners.state.table.rows ≡ Some result }
         ensures kept { AreKept self.new }
         ensures forgotten { AreForgotten self.new }
         ensures stands { (world : World) → StandFor self.old world → StandFor self.new (record world { rows = without_row number world.rows }) }
     {
-        self.listeners.remove(number);
+        self.listeners.remove(number)
     }
 }

@@ -1,3 +1,4 @@
 pub mod NotingLemmas
+pub mod ReapedLemmas
 pub mod ReapingLemmas
 pub mod WorldLemmas

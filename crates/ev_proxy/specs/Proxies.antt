@@ -1,13 +1,15 @@
 -- What the managers know and what holds generations, together, and at which worlds they are.
-use Rattle.std.specs.Prelude.{ℕ, Bool, true, false, if◌then◌else◌, List, [], ◌∷◌, Option, None, Some}
+use Rattle.std.specs.Prelude.{◌≡◌, ℕ, Bool, true, false, if◌then◌else◌, List, [], ◌∷◌, ◌++◌, map, Option, None, Some, option_to_list}
 use Rattle.ev_types.specs.Statuses.{is_live}
 use Rattle.ev_types.specs.declared.events.Event.{Event}
 use Rattle.ev_types.specs.declared.events.Event.TheVariants.{Connect, Disconnect, Response, Health, FetchTimeout, DrainTimeout, TtlExpired, Publish, Reap, Accept, Close, Settle}
+use Rattle.ev_types.specs.declared.journals.Format.{Format}
 use Rattle.ev_types.specs.declared.rows.GenRow.{GenRow}
 use Rattle.ev_model.specs.World.{World}
+use Rattle.ev_model.specs.Publishing.{dead_numbers}
 use Rattle.ev_generations.specs.Tables.{row_in}
 use Rattle.ev_drain.specs.Retired.{Retired}
-use Rattle.ev_state.specs.States.{IsAt as ManagesAt, without_over}
+use Rattle.ev_state.specs.States.{IsAt as ManagesAt, over_in, without_over}
 use Rattle.ev_retirement.specs.Holders.{StandsFor as HoldsFor}
 use Rattle.ev_retirement.specs.Retiring.{noted}
 use Rattle.ev_proxy.specs.declared.proxy.Proxy.{Proxy}
@@ -46,3 +48,27 @@ noted_each rows (number ∷ numbers) drain = noted_each rows numbers (noted_over
 abbrev pub without_each : List ℕ → List GenRow → List GenRow
 without_each [] rows = rows
 without_each (number ∷ numbers) rows = without_each numbers (without_over number rows)
+
+-- the rows of these numbers that drain or were dropped, as they go one after another
+abbrev pub rows_gone : List ℕ → List GenRow → List GenRow
+rows_gone [] rows = []
+rows_gone (number ∷ numbers) rows = option_to_list (over_in number rows) ++ rows_gone numbers (without_over number rows)
+
+-- the numbers of the generations that an event destroys: those that are dead where it reaps
+abbrev pub numbers_reaped : Format → World → Event → List ℕ
+numbers_reaped format world Connect = []
+numbers_reaped format world Disconnect = []
+numbers_reaped format world (Response response) = []
+numbers_reaped format world (Health cluster host healthy) = []
+numbers_reaped format world (FetchTimeout timeout) = []
+numbers_reaped format world (DrainTimeout listener) = []
+numbers_reaped format world (TtlExpired kind name) = []
+numbers_reaped format world Publish = []
+numbers_reaped format world Reap = dead_numbers format world
+numbers_reaped format world (Accept ask) = []
+numbers_reaped format world (Close connection) = []
+numbers_reaped format world Settle = []
+
+-- exactly the rows of these numbers, in their order, each as it stands among the others
+abbrev pub AreRowsOf : List ℕ → List GenRow → List GenRow → Type 0
+AreRowsOf numbers rows taken = map Some taken ≡ map (λ number. row_in number rows) numbers

@@ -1,9 +1,10 @@
-ghost use Rattle.std.specs.Prelude.{◌≡◌, option_copied, OnOk};
+ghost use Rattle.std.specs.Prelude.{◌≡◌, ◌≤◌, ◌<◌, ◌+◌, ◌++◌, length, option_copied, option_to_list, OnOk};
 ghost use Rattle.ev_model.specs.World.{World};
 ghost use Rattle.ev_managers.specs.Managers.{AreForgotten, AreKept};
 ghost use Rattle.ev_state.specs.States.{IsAt as ManagesAt};
-ghost use Rattle.ev_proxy.specs.Proxies.{noted_each, noted_over, without_each};
+ghost use Rattle.ev_proxy.specs.Proxies.{noted_each, noted_over, rows_gone, without_each};
 
+use ev_drain::Deferred;
 use ev_retirement::Holders;
 use ev_state::State;
 use ev_types::{Gen, GenRow};
@@ -37,13 +38,27 @@ fn note_row(alloc: Global, holders: &mut Holders, row: Option<&GenRow>) -> Resul
     holders.note(alloc, row)
 }
 
-/// Takes out the generations of these numbers that drain or were dropped. It takes no memory.
-pub(crate) fn remove_each(state: &mut State, numbers: &[Gen])
+/// Takes out the generations of these numbers that drain or were dropped, and puts their rows behind those that are deferred,
+/// where there is room for as many. It takes no memory.
+pub(crate) fn remove_each(state: &mut State, numbers: &[Gen], deferred: &mut Deferred)
     requires kept { AreKept state.old.managers }
     requires forgotten { AreForgotten state.old.managers }
-    ensures { (world : World) → ManagesAt state.old world → ManagesAt state.new (record world { rows = without_each numbers.now world.rows }) }
+    requires room { length numbers.now ≤ deferred.old.1 }
+    ensures at { (world : World) → ManagesAt state.old world → ManagesAt state.new (record world { rows = without_each numbers.now world.rows }) }
+    ensures rows { (world : World) → ManagesAt state.old world → deferred.new.0 ≡ deferred.old.0 ++ rows_gone numbers.now world.rows }
 {
     for number in numbers {
-        state.remove(*number);
+        defer(deferred, state.remove(*number));
+    }
+}
+
+// Puts a row, where there is one, behind those that are deferred.
+fn defer(deferred: &mut Deferred, row: Option<GenRow>)
+    requires room { 0 < deferred.old.1 }
+    ensures rows { deferred.new.0 ≡ deferred.old.0 ++ option_to_list row }
+    ensures room { deferred.old.1 ≤ deferred.new.1 + 1 }
+{
+    if let Some(row) = row {
+        deferred.push(row);
     }
 }

@@ -1,4 +1,4 @@
-ghost use Rattle.std.specs.Prelude.{◌≡◌, ◌<◌, ◌+◌, ◌^◌, false, true, length, IfOk, OnOk};
+ghost use Rattle.std.specs.Prelude.{◌≡◌, ◌<◌, ◌+◌, ◌^◌, [], false, true, length, IfOk, OnOk};
 ghost use Rattle.std.specs.Arc.{arc_value};
 ghost use Rattle.ev_types.specs.Scripts.{items_in};
 ghost use Rattle.ev_types.specs.declared.events.Actor.{Actor};
@@ -13,8 +13,9 @@ ghost use Rattle.ev_model.specs.declared.pictures.Picture.{Picture};
 ghost use Rattle.ev_types.specs.declared.journals.Format.{Format};
 ghost use Rattle.ev_worker.specs.Batches.{entries_of};
 ghost use Rattle.ev_worker.specs.Workers.{AreAnswered, IsToldBy};
-ghost use Rattle.ev_proxy.specs.Proxies.{IsAt, is_working};
+ghost use Rattle.ev_proxy.specs.Proxies.{AreRowsOf, IsAt, is_working, numbers_reaped};
 
+use ev_drain::Deferred;
 use ev_retirement::Holders;
 use ev_snapshot::Snapshot;
 use ev_state::State;
@@ -29,19 +30,27 @@ use std::sync::Arc;
 pub struct Proxy {
     pub state: State,
     pub holders: Holders,
+    /// The rows that the last event of the main side reaped, for whoever drops them.
+    pub deferred: Deferred,
 }
 
 impl Proxy {
     /// Nothing is known yet, and each of so many workers holds the empty picture.
     pub fn new(alloc: Global, workers: u32, node: &Text) -> Result<Proxy, AllocError>
-        ensures { IfOk result (λ p. IsAt p (opening workers node.now)) }
+        ensures at { IfOk result (λ p. IsAt p (opening workers node.now)) }
+        ensures deferred { IfOk result (λ p. p.deferred.0 ≡ []) }
     {
         let holders = Holders::new(alloc, workers)?;
         let state = State::new(alloc, node)?;
-        Ok(Proxy { state, holders })
+        Ok(Proxy {
+            state,
+            holders,
+            deferred: Deferred::new(alloc),
+        })
     }
 
-    /// What an event of the main side does, and its answer: one step of the machine, by the rules of a journal's format.
+    /// What an event of the main side does, and its answer: one step of the machine, by the rules of a journal's format. The rows of
+    /// the generations that it reaped are deferred, and no others.
     pub fn step(
         &mut self,
         alloc: Global,
@@ -54,7 +63,9 @@ impl Proxy {
         requires room { here.made + items_in event.now < 2 ^ 32 }
         ensures at { OnOk result ((actor : Actor) → IsAt self.new (machine_step format here actor event.now).0) }
         ensures answer { IfOk result (λ answer. (actor : Actor) → answer ≡ (machine_step format here actor event.now).1) }
+        ensures deferred { OnOk result (AreRowsOf (numbers_reaped format here event.now) here.rows self.new.deferred.0) }
     {
+        self.deferred = Deferred::new(alloc);
         match event {
             Event::Connect
             | Event::Disconnect

@@ -1,13 +1,13 @@
-ghost use Rattle.std.specs.Prelude.{◌≡◌, ◌<◌, ◌+◌, ◌^◌, IsTrue, IfOk, OnOk};
+ghost use Rattle.std.specs.Prelude.{◌≡◌, ◌<◌, ◌+◌, ◌^◌, [], IsTrue, IfOk, OnOk};
 ghost use Rattle.ev_types.specs.Scripts.{items_in};
 ghost use Rattle.ev_types.specs.declared.events.Actor.{Actor};
 ghost use Rattle.ev_types.specs.declared.journals.Format.{Format};
 ghost use Rattle.ev_model.specs.World.{World};
-ghost use Rattle.ev_model.specs.Publishing.{publish, reap};
+ghost use Rattle.ev_model.specs.Publishing.{dead_numbers, publish, reap};
 ghost use Rattle.ev_model.specs.Signals.{drain_timeout};
 ghost use Rattle.ev_model.specs.Step.{step as machine_step};
 ghost use Rattle.ev_state.specs.Managed.{is_managed};
-ghost use Rattle.ev_proxy.specs.Proxies.{IsAt};
+ghost use Rattle.ev_proxy.specs.Proxies.{AreRowsOf, IsAt};
 
 use crate::Proxy;
 use crate::noting::{note_each, remove_each};
@@ -24,6 +24,7 @@ impl Proxy {
         requires room { here.made + items_in event.now < 2 ^ 32 }
         ensures at { OnOk result ((format : Format) (actor : Actor) → IsAt self.new (machine_step format here actor event.now).0) }
         ensures answer { IfOk result (λ answer. (format : Format) (actor : Actor) → answer ≡ (machine_step format here actor event.now).1) }
+        ensures deferred { OnOk result (self.new.deferred ≡ self.old.deferred) }
     {
         let stepped = self.state.step(alloc, event)?;
         let clusters = stepped.retired.clusters.as_slice();
@@ -43,6 +44,7 @@ impl Proxy {
         requires at { IsAt self.old here }
         ensures at { OnOk result (IsAt self.new (drain_timeout listener.now here).0) }
         ensures answer { IfOk result (λ answer. answer ≡ (drain_timeout listener.now here).1) }
+        ensures deferred { OnOk result (self.new.deferred ≡ self.old.deferred) }
     {
         if !self.holders.drain_timeout(listener) {
             return Ok(Answer::Ignored);
@@ -69,6 +71,7 @@ impl Proxy {
         requires at { IsAt self.old here }
         ensures at { OnOk result (IsAt self.new (publish here).0) }
         ensures answer { IfOk result (λ answer. answer ≡ (publish here).1) }
+        ensures deferred { OnOk result (self.new.deferred ≡ self.old.deferred) }
     {
         let shown = self.state.shown(alloc)?;
         match self.holders.publish(alloc, shown)? {
@@ -77,15 +80,18 @@ impl Proxy {
         }
     }
 
-    /// All generations that nothing holds any more are named, and go.
+    /// All generations that nothing holds any more are named, and go; their rows are deferred, where none was before.
     pub(crate) fn reap(&mut self, alloc: Global, format: Format) -> Result<Answer, AllocError>
         ghost here: { World }
         requires at { IsAt self.old here }
+        requires none { self.old.deferred.0 ≡ [] }
         ensures at { OnOk result (IsAt self.new (reap format here).0) }
         ensures answer { IfOk result (λ answer. answer ≡ (reap format here).1) }
+        ensures deferred { OnOk result (AreRowsOf (dead_numbers format here) here.rows self.new.deferred.0) }
     {
         let dead = self.holders.dead(alloc, format)?;
-        remove_each(&mut self.state, dead.as_slice());
+        self.deferred.make_room(dead.len())?;
+        remove_each(&mut self.state, dead.as_slice(), &mut self.deferred);
         self.holders.remove_all(dead.as_slice());
         Ok(Answer::Reaped(Seq::from_vec(dead)))
     }

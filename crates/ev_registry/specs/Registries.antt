@@ -7,12 +7,18 @@ use Rattle.ev_types.specs.declared.events.Answer.TheVariants.{Settled}
 use Rattle.ev_types.specs.declared.events.Entry.{Entry}
 use Rattle.ev_types.specs.declared.events.Event.TheVariants.{Settle}
 use Rattle.ev_types.specs.declared.journals.Format.{Format}
+use Rattle.ev_types.specs.declared.rows.GenRow.{GenRow}
 use Rattle.ev_model.specs.World.{World, opening}
 use Rattle.ev_model.specs.Runs.{IsRun}
 use Rattle.ev_model.specs.Step.{step}
 use Rattle.ev_actors.specs.Journals.{JournalParts, world_now}
 use Rattle.ev_proxy.specs.declared.proxy.Proxy.{Proxy}
 use Rattle.ev_proxy.specs.Proxies.{IsAt}
+
+-- what contracts see of a registry: what was done, and the rows that the last event of the main side reaped, until they are taken
+pub record RegistryParts : Type 0 where
+  pub journaled : JournalParts
+  pub deferred : List GenRow
 
 -- the actor may make the event in this world, and the numbers suffice for its resources
 pub record MayStep (workers : ℕ) (world : World) (entry : Entry) : Type 0 where

@@ -1,11 +1,16 @@
-ghost use Rattle.std.specs.Prelude.{◌≡◌, ◌≤◌, [], IfOk};
+ghost use Rattle.std.specs.Prelude.{◌≡◌, ◌≤◌, ◌+◌, [], ◌∷◌, IfOk, OnOk, OnErr};
+ghost use Rattle.ev_types.specs.Scripts.{items_in};
+ghost use Rattle.ev_model.specs.Step.{step as machine_step};
+ghost use Rattle.ev_actors.specs.Journals.{with_entries, world_now};
+ghost use Rattle.ev_proxy.specs.Proxies.{AreRowsOf, numbers_reaped};
 
 use crate::batches::enter_batch;
 use crate::steps::{recover, settle_after, step_after, take_after};
 use ev_actors::Journaled;
+use ev_drain::Deferred;
 use ev_proxy::Proxy;
 use ev_snapshot::Snapshot;
-use ev_types::{Actor, Answer, Entry, Event, Format, Text, TryCopy};
+use ev_types::{Actor, Answer, Entry, Event, Format, GenRow, Seq, Text, TryCopy};
 use ev_worker::{Settled, Worker};
 use std::alloc::{AllocError, Global};
 use std::marker::Model;
@@ -26,12 +31,14 @@ pub struct Registry {
 }
 
 impl Model for Registry {
-    ghost use Rattle.ev_actors.specs.Journals.{JournalParts};
-    ghost use Rattle.ev_registry.specs.Registries.{StandsFor};
+    ghost use Rattle.ev_registry.specs.Registries.{RegistryParts, StandsFor};
 
-    ghost Value = { JournalParts };
+    ghost Value = { RegistryParts };
 
-    ghost view = { λ r. record { format = r.format; workers = r.workers; node = r.node; journal = r.journal.items } };
+    ghost view = { λ r. record {
+      journaled = record { format = r.format; workers = r.workers; node = r.node; journal = r.journal.items };
+      deferred = r.proxy.deferred.0;
+    } };
 
     ghost invariant = { λ r. StandsFor r.is_lost r.proxy record { format = r.format; workers = r.workers; node = r.node; journal = r.journal.items } };
 }
@@ -46,7 +53,8 @@ impl Registry {
     ) -> Result<Registry, AllocError>
         requires some { 1 ≤ workers }
         requires few { workers ≤ 16 }
-        ensures empty { IfOk result (λ made. made ≡ record { format = format; workers = workers; node = node.now; journal = [] }) }
+        ensures empty { IfOk result (λ made. made.journaled ≡ record { format = format; workers = workers; node = node.now; journal = [] }) }
+        ensures none { IfOk result (λ made. made.deferred ≡ []) }
     {
         let kept = node.copy(alloc)?;
         let proxy = Proxy::new(alloc, workers, node)?;
@@ -60,10 +68,21 @@ impl Registry {
             journal: Vec::new(alloc),
         })
     }
+
+    /// The rows of the generations that the last event of the main side reaped, for whoever drops them outside a lock; once they
+    /// are taken there are none. The next event of the main side drops those that weren't taken. It takes no memory.
+    pub fn take_deferred(&mut self) -> Seq<GenRow>
+        ensures rows { result ≡ self.old.deferred }
+        ensures none { self.new.deferred ≡ [] }
+        ensures journaled { self.new.journaled ≡ self.old.journaled }
+    {
+        let none = Deferred::new(self.alloc);
+        replace(&mut self.proxy.deferred, none).into_rows()
+    }
 }
 
 impl Journaled for Registry {
-    ghost shows = { λ r. r };
+    ghost shows = { λ r. r.journaled };
 
     fn apply(
         &mut self,
@@ -71,7 +90,14 @@ impl Journaled for Registry {
         at: u32,
         step: u32,
         event: &Event,
-    ) -> Result<Answer, AllocError> {
+    ) -> Result<Answer, AllocError>
+        ensures answer { IfOk result (λ answer. answer ≡ (machine_step self.old.journaled.format (world_now self.old.journaled) actor event.now).1) }
+        ensures entry { IfOk result (λ answer. self.new.journaled ≡ with_entries (record { actor = actor; at = at; step = step; event = event.now; answer = answer } ∷ []) self.old.journaled) }
+        ensures drawn { OnOk result ((world_now self.new.journaled).made ≤ (world_now self.old.journaled).made + items_in event.now) }
+        // What a reaping names is deferred, each row as the world had it; no other event defers a row.
+        ensures deferred { OnOk result (AreRowsOf (numbers_reaped self.old.journaled.format (world_now self.old.journaled) event.now) (world_now self.old.journaled).rows self.new.deferred) }
+        ensures err { OnErr result (self.new.journaled ≡ self.old.journaled) }
+    {
         let is_lost = replace(&mut self.is_lost, true);
         recover(
             &mut self.proxy,

@@ -9,7 +9,7 @@ ghost use Rattle.ev_model.specs.Runs.{world_after};
 ghost use Rattle.ev_model.specs.Step.{step as machine_step};
 ghost use Rattle.ev_worker.specs.Workers.{IsToldBy};
 ghost use Rattle.ev_actors.specs.Journals.{WorksIn, entries_made};
-ghost use Rattle.ev_proxy.specs.Proxies.{IsAt};
+ghost use Rattle.ev_proxy.specs.Proxies.{AreRowsOf, IsAt, numbers_reaped};
 ghost use Rattle.ev_registry.specs.Registries.{HaveStepped};
 
 use ev_proxy::Proxy;
@@ -121,6 +121,7 @@ pub(crate) fn step_after(
     requires room { here.made + items_in event.now < 2 ^ 32 }
     ensures at { OnOk result (IsAt proxy.new (machine_step format here actor event.now).0) }
     ensures answer { IfOk result (λ answer. answer ≡ (machine_step format here actor event.now).1) }
+    ensures deferred { OnOk result (AreRowsOf (numbers_reaped format here event.now) here.rows proxy.new.deferred.0) }
 {
     let answer = proxy.step(alloc, format, event)?;
     Ok(answer)

@@ -1,7 +1,7 @@
 -- A generation that is over goes: which rows are left, and that the live ones stay.
-use Rattle.std.proofs.Common.{◌≡◌, ◌∙◌, ℕ, Bool, true, false, cond, not, ◌&&◌, nat_eq, List, [], ◌∷◌, None, Some, filter, map, refl, sym, ap, subst}
+use Rattle.std.proofs.Common.{◌≡◌, ◌∙◌, ℕ, Bool, true, false, cond, not, ◌&&◌, nat_eq, List, [], ◌∷◌, Option, None, Some, filter, map, refl, sym, ap, subst}
 use Rattle.std.specs.List.{All, IsDistinct}
-use Rattle.std.proofs.lemmas.Bool.{false≢true}
+use Rattle.std.proofs.lemmas.Bool.{false≢true, true≢false}
 use Rattle.std.proofs.lemmas.Map.Keys.{IsDistinct-tail}
 use Rattle.ev_types.specs.Statuses.{is_live}
 use Rattle.ev_types.specs.declared.contents.Kind.{Kind}
@@ -18,7 +18,7 @@ use Rattle.ev_warming.proofs.ForgottenLemmas.{found-of_kind}
 use Rattle.ev_managers.specs.declared.managers.Managers.{Managers}
 use Rattle.ev_managers.specs.Managers.{AreForgotten, AreKept, StandFor}
 use Rattle.ev_state.specs.declared.state.State.{State}
-use Rattle.ev_state.specs.States.{IsAt, without_over}
+use Rattle.ev_state.specs.States.{IsAt, over_in, where_over, without_over}
 use Rattle.ev_state.proofs.AgeLemmas.{later-same}
 use Rattle.ev_state.proofs.FindLemmas.{none-behind, found-only, whole-found, over-found, live-found, listener-found}
 use Rattle.ev_state.proofs.HeardLemmas.{IsDue}
@@ -121,17 +121,23 @@ pub listener-goes : (s : State) (m : Managers) (n : ℕ) (world : World) → IsA
 listener-goes s m n world at over =
     one_goes s m Lds n world s.managers.listeners.state.table.rows at (listeners-are s.managers world at.kept at.follows.stands.managers) over
 
--- where it is over in neither kind, nothing goes
-pub nothing-goes : (s : State) (n : ℕ) (world : World) → IsAt s world → is_over (row_in n s.managers.clusters.state.table.rows) ≡ false
-    → is_over (row_in n s.managers.listeners.state.table.rows) ≡ false → IsAt s (record world { rows = without_over n world.rows })
-nothing-goes s n world at clusters listeners =
+-- where it is over in neither kind, it is over in none
+nothing-over : (s : State) (n : ℕ) (world : World) → IsAt s world → is_over (row_in n s.managers.clusters.state.table.rows) ≡ false
+    → is_over (row_in n s.managers.listeners.state.table.rows) ≡ false → is_over (row_in n world.rows) ≡ false
+nothing-over s n world at clusters listeners =
     let apart = at.follows.sound.table.apart in
     let of_clusters = clusters-are s.managers world at.kept at.follows.stands.managers in
     let of_listeners = listeners-are s.managers world at.kept at.follows.stands.managers in
-    let live : is_over (row_in n world.rows) ≡ false = live-found (row_in n world.rows) (whole-found n world.rows at.whole)
+    live-found (row_in n world.rows) (whole-found n world.rows at.whole)
     (ap is_over (sym (found-only Cds n world.rows apart)) ∙ (λ i. is_over (row_in n (sym of_clusters i))) ∙ clusters)
-    (ap is_over (sym (found-only Lds n world.rows apart)) ∙ (λ i. is_over (row_in n (sym of_listeners i))) ∙ listeners) in
-    subst (λ (left : List GenRow). IsAt s (record world { rows = left })) (sym (over-stays n world.rows apart live)) at
+    (ap is_over (sym (found-only Lds n world.rows apart)) ∙ (λ i. is_over (row_in n (sym of_listeners i))) ∙ listeners)
+
+-- and nothing goes
+pub nothing-goes : (s : State) (n : ℕ) (world : World) → IsAt s world → is_over (row_in n s.managers.clusters.state.table.rows) ≡ false
+    → is_over (row_in n s.managers.listeners.state.table.rows) ≡ false → IsAt s (record world { rows = without_over n world.rows })
+nothing-goes s n world at clusters listeners =
+    subst (λ (left : List GenRow). IsAt s (record world { rows = left }))
+    (sym (over-stays n world.rows at.follows.sound.table.apart (nothing-over s n world at clusters listeners))) at
 
 -- a cluster that is found is the world's generation of its number
 pub cluster-row : (m : Managers) (n : ℕ) (row : GenRow) (world : World) → AreKept m → StandFor m world → row_in n m.clusters.state.table.rows ≡ Some row
@@ -147,3 +153,35 @@ listener-row m n world kept stand whole none =
     (λ i. row_in n (listeners-are m world kept stand i)) ∙ found-only Lds n world.rows apart
     ∙ listener-found (row_in n world.rows) (whole-found n world.rows whole)
     (sym (found-only Cds n world.rows apart) ∙ (λ i. row_in n (sym (clusters-are m world kept stand) i)) ∙ none)
+
+-- what goes is the world's generation of its number
+gone-over : (n : ℕ) (row : GenRow) (rows : List GenRow) → row_in n rows ≡ Some row → is_over (Some row) ≡ true → Some row ≡ over_in n rows
+gone-over n row rows at over = sym ((λ i. where_over (at i)) ∙ by (is_live row.status) over)
+  where
+    by : (l : Bool) → not l ≡ true → cond l None (Some row) ≡ Some row
+    by true isnt = absurd (false≢true isnt)
+    by false is = refl
+
+pub cluster-gone : (s : State) (n : ℕ) (row : GenRow) (world : World) → IsAt s world → row_in n s.managers.clusters.state.table.rows ≡ Some row
+    → is_over (row_in n s.managers.clusters.state.table.rows) ≡ true → Some row ≡ over_in n world.rows
+cluster-gone s n row world at found over =
+    gone-over n row world.rows (cluster-row s.managers n row world at.kept at.follows.stands.managers found) (ap is_over (sym found) ∙ over)
+
+pub listener-gone : (s : State) (n : ℕ) (row : GenRow) (world : World) → IsAt s world → row_in n s.managers.listeners.state.table.rows ≡ Some row
+    → is_over (row_in n s.managers.listeners.state.table.rows) ≡ true → Some row ≡ over_in n world.rows
+listener-gone s n row world at found over =
+    gone-over n row world.rows
+    (found-of_kind Lds n row world.rows at.follows.sound.table.apart ((λ i. row_in n (sym (listeners-are s.managers world at.kept at.follows.stands.managers) i)) ∙ found))
+    (ap is_over (sym found) ∙ over)
+
+none-over : (found : Option GenRow) → is_over found ≡ false → None ≡ where_over found
+none-over None isnt = refl
+none-over (Some row) isnt = by (is_live row.status) isnt
+  where
+    by : (l : Bool) → not l ≡ false → None ≡ cond l None (Some row)
+    by true is = refl
+    by false isnt = absurd (true≢false isnt)
+
+pub nothing-gone : (s : State) (n : ℕ) (world : World) → IsAt s world → is_over (row_in n s.managers.clusters.state.table.rows) ≡ false
+    → is_over (row_in n s.managers.listeners.state.table.rows) ≡ false → None ≡ over_in n world.rows
+nothing-gone s n world at clusters listeners = none-over (row_in n world.rows) (nothing-over s n world at clusters listeners)

@@ -1,5 +1,5 @@
 -- What the managers, the subscription and the targets know together, and at which worlds they are.
-use Rattle.std.specs.Prelude.{◌≡◌, ℕ, true, false, not, ◌&&◌, List, All, filter}
+use Rattle.std.specs.Prelude.{◌≡◌, ℕ, true, false, not, ◌&&◌, if◌then◌else◌, List, All, filter, Option, None, Some}
 use Rattle.std.specs.List.{AllByRecursion}
 use Rattle.ev_types.specs.Statuses.{is_live}
 use Rattle.ev_types.specs.declared.events.Answer.{Answer}
@@ -9,7 +9,7 @@ use Rattle.ev_model.specs.World.{World}
 use Rattle.ev_model.specs.Live.{lives_of}
 use Rattle.ev_model.specs.Tidy.{is_version_due}
 use Rattle.ev_model.specs.Watching.{is_by_name}
-use Rattle.ev_generations.specs.Tables.{is_number}
+use Rattle.ev_generations.specs.Tables.{is_number, row_in}
 use Rattle.ev_warming.specs.Worlds.{IsSound}
 use Rattle.ev_managers.specs.Managers.{AreForgotten, AreKept, StandFor}
 use Rattle.ev_subscription.specs.Subscriptions.{StandsFor as HasVersions}
@@ -70,3 +70,12 @@ pub record SameManaged (before after : World) : Type 0 where
 -- these rows without that of this number, where it drains or was dropped
 abbrev pub without_over : ℕ → List GenRow → List GenRow
 without_over number rows = filter (λ (row : GenRow). not (is_number number row && not (is_live row.status))) rows
+
+-- the row, where it drains or was dropped
+abbrev pub where_over : Option GenRow → Option GenRow
+where_over None = None
+where_over (Some row) = if is_live row.status then None else Some row
+
+-- that of this number, where it drains or was dropped
+abbrev pub over_in : ℕ → List GenRow → Option GenRow
+over_in number rows = where_over (row_in number rows)

@@ -5,7 +5,7 @@ ghost use Rattle.ev_warming.specs.Changes.{is_over};
 ghost use Rattle.ev_managers.specs.Managers.{AreForgotten, AreKept};
 ghost use Rattle.ev_state.specs.Moves.{IsOver};
 ghost use Rattle.ev_state.specs.Retirements.{HaveCeased};
-ghost use Rattle.ev_state.specs.States.{Follows, IsAt, without_over};
+ghost use Rattle.ev_state.specs.States.{Follows, IsAt, over_in, without_over};
 
 use crate::moves::Moves;
 use crate::state::State;
@@ -44,20 +44,23 @@ impl State {
         Ok(moves)
     }
 
-    /// Takes out the generation of this number, where it drains or was dropped; where none has the number, or it is live, nothing is
-    /// done. It takes no memory.
-    pub fn remove(&mut self, number: Gen)
+    /// Takes out and answers the generation of this number, where it drains or was dropped; where none has the number, or it is live,
+    /// nothing is done. It takes no memory.
+    pub fn remove(&mut self, number: Gen) -> Option<GenRow>
         requires kept { AreKept self.old.managers }
         requires forgotten { AreForgotten self.old.managers }
         ensures kept { AreKept self.new.managers }
         ensures forgotten { AreForgotten self.new.managers }
         ensures at { (world : World) → IsAt self.old world → IsAt self.new (record world { rows = without_over number world.rows }) }
+        ensures row { (world : World) → IsAt self.old world → result ≡ over_in number world.rows }
     {
         if has_ended(self.managers.clusters.get(number)) {
-            self.managers.remove_cluster(number);
-        } else if has_ended(self.managers.listeners.get(number)) {
-            self.managers.remove_listener(number);
+            return Some(self.managers.remove_cluster(number));
         }
+        if has_ended(self.managers.listeners.get(number)) {
+            return Some(self.managers.remove_listener(number));
+        }
+        None
     }
 }
 

@@ -9,10 +9,10 @@ use Rattle.ev_app.proofs.replay.replay_text.Goals as goal
 
 pub returns : goal.returns
 returns c =
-    let same : rendering_of Two c.script.inside.workers c.journal.result.now ≡ rendering_of Two c.args.script.now.workers c.in_ok-registry.registry.journal =
+    let same : rendering_of Two c.script.inside.workers c.journal.result.now ≡ rendering_of Two c.args.script.now.workers c.in_ok-registry.registry.journaled.journal =
     λ i. rendering_of Two (c.script.view_is i).workers (c.journal.ensures.entries i) in
     IfOk-weaker c.render_journal-text.result
     (λ text. text.items ≡ rendering_of Two c.script.inside.workers c.journal.result.now)
     (λ text. IsReplayText c.args.script.now text.items)
-    (λ text rendered. text_of c.args.script.now c.in_ok-registry.registry text.items c.runs_have_the_laws.ensures c.in_ok-registry.ensures c.journal.ensures.run (rendered ∙ same))
+    (λ text rendered. text_of c.args.script.now c.in_ok-registry.registry.journaled text.items c.runs_have_the_laws.ensures c.in_ok-registry.ensures c.journal.ensures.run (rendered ∙ same))
     c.render_journal-text.ensures.text

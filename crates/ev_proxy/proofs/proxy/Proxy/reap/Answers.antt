@@ -16,6 +16,6 @@ returns-clause-at g c =
           at-frame c.remove_each.new.state (record g.here { rows = without_each c.as_slice.result.now g.here.rows }) (without_dead c.args.format g.here)
           (reaped_same c.args.format g.here (without_each c.as_slice.result.now g.here.rows)
           (ap (λ (ns : List ℕ). without_each ns g.here.rows) (c.as_slice.ensures.value ∙ dead) ∙ dead_gone c.args.format g.here apart))
-          (c.remove_each.ensures g.here c.requires.managed);
+          (c.remove_each.ensures.at g.here c.requires.managed);
       held = c.remove_all.ensures.reaped c.args.format g.here c.requires.held apart (c.as_slice-2.ensures.value ∙ dead);
     }
