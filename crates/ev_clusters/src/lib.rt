@@ -51,6 +51,7 @@ impl Clusters {
     /// No cluster, and nothing known. It takes no memory, and stands for every world in which nothing happened.
     pub fn new(alloc: Global) -> Clusters
         ensures kept { AreKept result }
+        ensures done { result.stale ≡ [] }
         ensures stands { (workers : ℕ) (node : List ℕ) → StandsFor result.state (opening workers node) }
     {
         Clusters {

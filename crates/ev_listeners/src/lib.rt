@@ -51,6 +51,7 @@ impl Listeners {
     /// No listener, and nothing known. It takes no memory, and stands for every world in which nothing happened.
     pub fn new(alloc: Global) -> Listeners
         ensures kept { AreKept result }
+        ensures done { result.stale ≡ [] }
         ensures stands { (workers : ℕ) (node : List ℕ) → StandsFor result (opening workers node) }
     {
         Listeners {

@@ -27,6 +27,7 @@ impl Managers {
     /// No generation, and nothing known. It takes no memory.
     pub fn new(alloc: Global) -> Managers
         ensures kept { AreKept result }
+        ensures forgotten { AreForgotten result }
         ensures stands { (workers : ℕ) (node : List ℕ) → StandFor result (opening workers node) }
     {
         Managers {

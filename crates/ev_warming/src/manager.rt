@@ -47,6 +47,7 @@ impl Manager {
         requires rows { is_by_name kind ≡ false }
         ensures kind { result.state.kind ≡ kind }
         ensures kept { IsKept result }
+        ensures done { result.stale ≡ [] }
         ensures stands { (workers : ℕ) (node : List ℕ) → StandsFor result.state (opening workers node) }
     {
         Manager {

@@ -5,15 +5,15 @@ use Rattle.ev_state.proofs.state.State.new.Goals as goal
 
 pub returns : goal.returns
 returns c = λ workers. record {
-  kept = c.in_ok-managers.ensures.kept;
-  forgotten = c.in_ok-managers.ensures.forgotten;
+  kept = c.new.ensures.kept;
+  forgotten = c.new.ensures.forgotten;
   follows = record {
     stands = record {
-      managers = c.in_ok-managers.ensures.stands workers c.args.node.now;
+      managers = c.new.ensures.stands workers c.args.node.now;
       subscription = record { node = c.new-2.ensures.node ∙ c.in_ok-node.ensures.equal; stream = c.new-2.ensures.closed; versions = λ kind. c.new-2.ensures.empty kind; kept_once = keeps_versions.opens workers c.args.node.now };
       targets = c.new-3.ensures workers c.args.node.now;
     };
-    sound = (c.in_ok-managers.ensures.stands workers c.args.node.now).clusters.sound;
+    sound = (c.new.ensures.stands workers c.args.node.now).clusters.sound;
     later = tt;
     heard = All-nil _;
     phase = refl;
