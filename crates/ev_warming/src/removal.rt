@@ -13,8 +13,8 @@ use crate::Manager;
 use ev_types::{Gen, GenRow};
 
 impl Manager {
-    /// Takes out a generation that drains or was dropped, once all is forgotten that nobody needs. Finding it takes no walk; the
-    /// rows behind it move up.
+    /// Takes out a generation that drains or was dropped, once all is forgotten that nobody needs. It costs a look-up: no other row
+    /// moves.
     pub fn remove(&mut self, number: Gen) -> GenRow
         requires kept { IsKept self.old }
         requires forgotten { self.old.stale ≡ [] }
