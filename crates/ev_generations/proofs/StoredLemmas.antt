@@ -1,20 +1,43 @@
 -- The rows of a table as the values of a map by number: what each change of the map does to the rows.
-use Rattle.std.proofs.Common.{◌≡◌, ◌∙◌, ℕ, Bool, true, false, cond, not, nat_eq, ◌<◌, ◌≤◌, List, [], ◌∷◌, ◌++◌, Option, None, Some, IsSome, refl, sym, ap, subst, arith, is_some}
-use Rattle.std.specs.List.{IsDistinct}
+use Rattle.std.proofs.Common.{◌≡◌, ◌∙◌, ℕ, Bool, true, false, cond, not, nat_eq, ◌<◌, ◌≤◌, ◌+◌, nat_lt, filter, List, [], ◌∷◌, ◌++◌, Option, None, Some, IsSome, refl, sym, ap, subst, arith, is_some}
+use Rattle.std.specs.List.{IsDistinct, AllByRecursion}
 use Rattle.std.specs.Map.{keys_of, values_of, lookup, set_value, remove_entry}
 use Rattle.std.specs.Cmp.{nat_eq_equiv}
-use Rattle.indexmap.specs.IndexMap.{IndexMap, get, insert_entry}
-use Rattle.indexmap.proofs.CallerLemmas.{insert_entry-new}
+use Rattle.std.specs.BTreeMap.{insert_entry, is_at}
+use Rattle.std.specs.BTreeMap.Range.{entries_between, range_contains}
+use Rattle.std.specs.declared.ops.Bound.TheVariants.{Excluded, Unbounded}
+use Rattle.std.specs.List.Sorted.{IsStrictlySortedBy}
+use Rattle.std.specs.Ordering.{match_ordering, nat_cmp}
+use Rattle.std.specs.declared.cmp.Ordering.{Ordering}
+use Rattle.std.specs.declared.cmp.Ordering.TheVariants.{Less, Equal, Greater}
+use Rattle.std.proofs.lemmas.Bool.Decides.{nat_tests}
 use Rattle.std.proofs.lemmas.Map.{lookup-none, lookup-remove_entry}
 use Rattle.std.proofs.lemmas.Bool.{ne_eqb}
 use Rattle.std.proofs.lemmas.List.Folds.{find-append}
 use Rattle.std.specs.Option.{option_or}
 use Rattle.std.proofs.lemmas.Map.Entries.{none_past_head}
-use Rattle.std.proofs.lemmas.Map.Keys.{IsDistinct-tail}
+use Rattle.std.proofs.lemmas.Map.Keys.{IsDistinct-tail, IsDistinct-from_sorted, sorted_head, sorted_tail}
 use Rattle.ev_types.specs.declared.rows.RowStatus.{RowStatus}
 use Rattle.ev_types.specs.declared.rows.GenRow.{GenRow}
-use Rattle.ev_generations.specs.Tables.{is_number, row_in, numbers_of, with_status, without_row, IsTable, IsStored}
-use Rattle.ev_generations.proofs.TableLemmas.{with_status-absent, without_row-absent, number-row_in, table-with_status}
+use Rattle.ev_generations.specs.Tables.{is_number, by_number, is_after, row_in, numbers_of, with_status, without_row, IsTable, IsStored}
+use Rattle.ev_generations.proofs.TableLemmas.{below_next, with_status-absent, without_row-absent, number-row_in, table-with_status}
+
+-- an order finds a number where equality does
+pub equal_test : (n k : ℕ) → is_at (nat_cmp n) k ≡ nat_eq n k
+equal_test n k = grind (arith, nat_tests)
+
+pub lookup_is : {X : Type 0} (number : ℕ) (es : List (ℕ × X)) → lookup (is_at (nat_cmp number)) es ≡ lookup (nat_eq number) es
+lookup_is number es i = lookup (λ k. equal_test number k i) es
+
+pub remove_entry_is : {X : Type 0} (number : ℕ) (es : List (ℕ × X)) → remove_entry (is_at (nat_cmp number)) es ≡ remove_entry (nat_eq number) es
+remove_entry_is number es i = remove_entry (λ k. equal_test number k i) es
+
+pub set_value_is : {X : Type 0} (number : ℕ) (es : List (ℕ × X)) (value : X) → set_value (is_at (nat_cmp number)) es value ≡ set_value (nat_eq number) es value
+set_value_is number es value i = set_value (λ k. equal_test number k i) es value
+
+-- numbers that rise differ
+pub apart_from_sorted : (numbers : List ℕ) → IsStrictlySortedBy nat_cmp numbers → IsDistinct nat_eq numbers
+apart_from_sorted numbers sorted = subst (λ (e : ℕ → ℕ → Bool). IsDistinct e numbers) (λ i n k. equal_test n k i) (IsDistinct-from_sorted nat_cmp numbers sorted)
 
 -- each row is kept under its number
 abbrev pub AreNumbered : List (ℕ × GenRow) → Type 0
@@ -116,6 +139,11 @@ stored_from es made h apart drawn = record {
   };
 }
 
+-- no entry
+pub stored_none : (made : ℕ) → IsStored [] made
+unfolding IsDistinct
+stored_none made = stored_from [] made refl tt (λ number above. refl)
+
 -- and a table has them
 pub apart_of : (es : List (ℕ × GenRow)) (made : ℕ) → IsStored es made → IsDistinct nat_eq (keys_of es)
 apart_of es made s = subst (IsDistinct nat_eq) (sym s.numbered) s.table.apart
@@ -165,16 +193,63 @@ stored-push row es made drawn s more within apart = record {
   };
 }
 
--- a row that is inserted under its number, which no other has, goes last
-module _ {S : Type 0} (m : IndexMap ℕ GenRow S) (key : ℕ) (row : GenRow) (own : row.number ≡ key) (absent : get nat_eq m key ≡ None) where
-  inserted : (es : List (ℕ × GenRow)) → es ≡ insert_entry nat_eq m.entries key row → es ≡ m.entries ++ (row.number, row) ∷ []
-  inserted es e = e ∙ insert_entry-new nat_eq m key row absent ∙ (λ i. m.entries ++ (sym own i, row) ∷ [])
+-- an entry whose number is above the others goes last
+pub insert_entry-last : {X : Type 0} (number : ℕ) (value : X) (es : List (ℕ × X)) → AllByRecursion (λ n. n < number) (keys_of es)
+    → insert_entry nat_cmp es number value ≡ es ++ (number, value) ∷ []
+insert_entry-last number value [] below = refl
+insert_entry-last {X} number value (e ∷ es) below = by (nat_cmp number e.0) (grind (arith, nat_tests, below.0)) (insert_entry-last number value es below.1)
+  where
+    by : (o : Ordering) → o ≡ Greater → insert_entry nat_cmp es number value ≡ es ++ (number, value) ∷ []
+        → match_ordering o ((number, value) ∷ e ∷ es) ((e.0, value) ∷ es) (e ∷ insert_entry nat_cmp es number value) ≡ e ∷ es ++ (number, value) ∷ []
+    by Less h rest = cc
+    by Equal h rest = cc
+    by Greater h rest = ap (λ (fs : List (ℕ × X)). e ∷ fs) rest
 
-  pub values_of-insert : (es : List (ℕ × GenRow)) → es ≡ insert_entry nat_eq m.entries key row → values_of es ≡ values_of m.entries ++ row ∷ []
-  values_of-insert es e = ap values_of (inserted es e) ∙ values_of-push row.number row m.entries
+last_above : {X : Type 0} (low : ℕ) (number : ℕ) (value : X) (es rest : List (ℕ × X)) → AllByRecursion (λ n. nat_cmp low n ≡ Less) (keys_of (es ++ (number, value) ∷ rest)) → low < number
+last_above low number value [] rest all = grind (arith, nat_tests, all.0)
+last_above low number value (e ∷ es) rest all = last_above low number value es rest all.1
 
-  pub stored-insert : (made drawn : ℕ) (es : List (ℕ × GenRow)) → IsStored m.entries made → made ≤ drawn → key ≤ drawn
-      → es ≡ insert_entry nat_eq m.entries key row → IsDistinct nat_eq (keys_of es) → IsStored es drawn
-  stored-insert made drawn es s more within e apart =
-      subst (λ fs. IsStored fs drawn) (sym (inserted es e))
-      (stored-push row m.entries made drawn s more (omega arith) (subst (λ (fs : List (ℕ × GenRow)). IsDistinct nat_eq (keys_of fs)) (inserted es e) apart))
+-- among entries whose numbers rise, those before one have lower numbers
+pub below_from_sorted : {X : Type 0} (number : ℕ) (value : X) (es rest : List (ℕ × X)) → IsStrictlySortedBy nat_cmp (keys_of (es ++ (number, value) ∷ rest))
+    → AllByRecursion (λ n. n < number) (keys_of es)
+below_from_sorted number value [] rest sorted = tt
+below_from_sorted number value (e ∷ es) rest sorted = (
+  last_above e.0 number value es rest (sorted_head nat_cmp e.0 (keys_of (es ++ (number, value) ∷ rest)) sorted),
+  below_from_sorted number value es rest (sorted_tail nat_cmp e.0 (keys_of (es ++ (number, value) ∷ rest)) sorted),
+)
+
+-- the next number is above those of the entries
+pub keys_below : (es : List (ℕ × GenRow)) (made : ℕ) → IsStored es made → AllByRecursion (λ n. n < made + 1) (keys_of es)
+keys_below es made s = subst (AllByRecursion (λ n. n < made + 1)) (sym s.numbered) (below_next (values_of es) made s.table.drawn)
+
+-- a row that is inserted under its number, which is above the others, goes last
+module _ (es : List (ℕ × GenRow)) (number : ℕ) (row : GenRow) (own : row.number ≡ number) (below : AllByRecursion (λ n. n < number) (keys_of es)) where
+  inserted : (fs : List (ℕ × GenRow)) → fs ≡ insert_entry nat_cmp es number row → fs ≡ es ++ (row.number, row) ∷ []
+  inserted fs e = e ∙ insert_entry-last number row es below ∙ (λ i. es ++ (sym own i, row) ∷ [])
+
+  pub values_of-insert : (fs : List (ℕ × GenRow)) → fs ≡ insert_entry nat_cmp es number row → values_of fs ≡ values_of es ++ row ∷ []
+  values_of-insert fs e = ap values_of (inserted fs e) ∙ values_of-push row.number row es
+
+  pub stored-insert : (made drawn : ℕ) (fs : List (ℕ × GenRow)) → IsStored es made → made ≤ drawn → number ≤ drawn
+      → fs ≡ insert_entry nat_cmp es number row → IsStrictlySortedBy nat_cmp (keys_of fs) → IsStored fs drawn
+  stored-insert made drawn fs s more within e sorted =
+      subst (λ gs. IsStored gs drawn) (sym (inserted fs e))
+      (stored-push row es made drawn s more (omega arith)
+      (subst (λ (gs : List (ℕ × GenRow)). IsDistinct nat_eq (keys_of gs)) (inserted fs e) (apart_from_sorted (keys_of fs) sorted)))
+
+-- the entries behind a number are the rows of higher numbers
+pub entries-after : (made : ℕ) (es : List (ℕ × GenRow)) → AreNumbered es → entries_between nat_cmp (Excluded made) Unbounded es ≡ by_number (filter (is_after made) (values_of es))
+entries-after made [] h = refl
+entries-after made (e ∷ es) h =
+    by (range_contains nat_cmp (Excluded made) Unbounded e.0) (is_after made e.1) (in_range (first_numbered e es h)) (entries-after made es (rest_numbered e es h))
+  where
+    in_range : e.0 ≡ e.1.number → range_contains nat_cmp (Excluded made) Unbounded e.0 ≡ nat_lt made e.1.number
+    in_range same = grind (arith, nat_tests, same)
+
+    by : (t u : Bool) → t ≡ u → entries_between nat_cmp (Excluded made) Unbounded es ≡ by_number (filter (is_after made) (values_of es))
+        → cond t (e ∷ entries_between nat_cmp (Excluded made) Unbounded es) (entries_between nat_cmp (Excluded made) Unbounded es)
+        ≡ by_number (cond u (e.1 ∷ filter (is_after made) (values_of es)) (filter (is_after made) (values_of es)))
+    by true true same rest = λ i. (first_numbered e es h i, e.1) ∷ rest i
+    by true false same rest = cc
+    by false true same rest = cc
+    by false false same rest = rest

@@ -1,8 +1,7 @@
 -- Look-ups in a list of rows by number, and what a change of one row's status does to them.
-use Rattle.std.proofs.Common.{◌≡◌, ◌∙◌, ℕ, zero, suc, Bool, true, false, cond, not, nat_eq, List, [], ◌∷◌, Option, None, Some, option_map, refl, sym, ap, subst, arith, ◌<◌, ◌≤◌, take, get_or, length, ⊎_elim}
+use Rattle.std.proofs.Common.{◌≡◌, ◌∙◌, ℕ, Bool, true, false, cond, not, nat_eq, List, [], ◌∷◌, Option, None, Some, option_map, refl, sym, ap, subst, arith, ◌<◌, ◌+◌, ⊎_elim}
 use Rattle.std.specs.List.{IsDistinct, AllByRecursion}
-use Rattle.std.proofs.lemmas.Bool.{eqb-true, eqb-false, ne_eqb, eq-eqb, cases_lt}
-use Rattle.std.proofs.lemmas.Map.Keys.{IsDistinct-head, IsDistinct-tail}
+use Rattle.std.proofs.lemmas.Bool.{eqb-true, eq-eqb, cases_lt}
 use Rattle.ev_types.specs.declared.rows.RowStatus.{RowStatus}
 use Rattle.ev_types.specs.declared.rows.GenRow.{GenRow}
 use Rattle.ev_model.specs.Rows.{with_statuses}
@@ -63,38 +62,18 @@ table-with_status number status rows made t = record {
   drawn = λ n above. row_in-with_statuses n (status_with number status) rows ∙ ap (option_map (λ (row : GenRow). record row { status = status_with number status row })) (t.drawn n above);
 }
 
-far_at : (n : ℕ) (rows : List GenRow) (i : ℕ) (d : GenRow) → AllByRecursion (λ y. nat_eq n y ≡ false) (numbers_of rows) → i < length rows
-    → nat_eq n (get_or rows i d).number ≡ false
-far_at n [] i d all within = absurd (omega arith)
-far_at n (row ∷ rows) zero d all within = all.0
-far_at n (row ∷ rows) (suc i) d all within = far_at n rows i d all.1 (omega arith)
-
--- no row before the one at a place has its number
-pub row_in-take-absent : (rows : List GenRow) (i : ℕ) (d : GenRow) → IsDistinct nat_eq (numbers_of rows) → i < length rows
-    → row_in (get_or rows i d).number (take i rows) ≡ None
-row_in-take-absent [] i d apart within = absurd (omega arith)
-row_in-take-absent (row ∷ rows) zero d apart within = refl
-row_in-take-absent (row ∷ rows) (suc i) d apart within =
-    let far = far_at row.number rows i d (IsDistinct-head nat_eq row.number (numbers_of rows) apart) (omega arith) in
-    let away : nat_eq (get_or rows i d).number row.number ≡ false = ne_eqb _ _ (λ e. eqb-false row.number (get_or rows i d).number far (sym e)) in
-    ap (λ b. cond b (Some row) (row_in (get_or rows i d).number (take i rows))) away
-    ∙ row_in-take-absent rows i d (IsDistinct-tail nat_eq row.number (numbers_of rows) apart) (omega arith)
-
--- the row at a place is found by its number
-row_in-at : (rows : List GenRow) (i : ℕ) (d : GenRow) → i < length rows → row_in (get_or rows i d).number rows ≡ None → ⊥
-row_in-at [] i d within none = absurd (omega arith)
-row_in-at (row ∷ rows) zero d within none = by (nat_eq row.number row.number) (eq-eqb row.number row.number refl) none
+-- the next number is above those of a table
+pub below_next : (rows : List GenRow) (made : ℕ) → ((number : ℕ) → made < number → row_in number rows ≡ None) → AllByRecursion (λ n. n < made + 1) (numbers_of rows)
+below_next [] made drawn = tt
+below_next (row ∷ rows) made drawn = (
+  ⊎_elim (λ above. absurd (own (nat_eq row.number row.number) (eq-eqb row.number row.number refl) (drawn row.number above))) (λ within. omega (arith, within)) (cases_lt made row.number),
+  below_next rows made (λ number above. later (nat_eq number row.number) (drawn number above)),
+)
   where
-    by : (b : Bool) → b ≡ true → cond b (Some row) (row_in row.number rows) ≡ None → ⊥
-    by true e h = cc
-    by false e h = cc
-row_in-at (row ∷ rows) (suc i) d within none = by (nat_eq (get_or rows i d).number row.number) none (row_in-at rows i d (omega arith))
-  where
-    by : (b : Bool) → cond b (Some row) (row_in (get_or rows i d).number rows) ≡ None → (row_in (get_or rows i d).number rows ≡ None → ⊥) → ⊥
-    by true h rest = cc
-    by false h rest = rest h
+    own : (b : Bool) → b ≡ true → cond b (Some row) (row_in row.number rows) ≡ None → ⊥
+    own true same h = cc
+    own false same h = cc
 
--- the number of a row of a table was drawn
-pub drawn_at : (rows : List GenRow) (made i : ℕ) (d : GenRow) → IsTable (record { rows = rows; made = made }) → i < length rows → (get_or rows i d).number ≤ made
-drawn_at rows made i d t within =
-    ⊎_elim (λ above. absurd (row_in-at rows i d within (t.drawn (get_or rows i d).number above))) (λ below. below) (cases_lt made (get_or rows i d).number)
+    later : (b : Bool) {r : Option GenRow} → cond b (Some row) r ≡ None → r ≡ None
+    later true h = cc
+    later false h = h

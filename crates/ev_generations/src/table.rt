@@ -1,26 +1,35 @@
-ghost use Rattle.std.specs.Prelude.{◌≡◌, ◌+◌, ◌<◌, ◌≤◌, ◌^◌, [], ◌∷◌, ◌++◌, Some, None, IsSome, OnOk, OnErr, IfOk, if◌then◌else◌};
+ghost use Rattle.std.specs.Prelude.{◌≡◌, ◌+◌, ◌<◌, ◌≤◌, ◌^◌, [], ◌∷◌, ◌++◌, Some, IsSome, OnOk, OnErr, IfOk, if◌then◌else◌, ℕ, filter};
+ghost use Rattle.std.specs.BTreeMap.{keys};
+ghost use Rattle.std.specs.List.{AllByRecursion};
+ghost use Rattle.std.specs.Map.Iter.{ShowsInOrder, deref, deref_pair};
 ghost use Rattle.std.specs.Option.{option_copied};
+ghost use Rattle.ev_types.specs.declared.rows.GenRow as declared;
 ghost use Rattle.ev_types.specs.declared.rows.RowStatus.TheVariants.{Active, Draining, Dropped};
 ghost use Rattle.ev_model.specs.Rows.{new_row};
-ghost use Rattle.ev_generations.specs.Tables.{IsTable, row_in, with_status, without_row};
+ghost use Rattle.ev_generations.specs.Tables.{IsTable, by_number, is_after, row_in, with_status, without_row};
 
 use crate::Steps;
 use ev_types::{Content, Gen, GenRow, Kind, Name, RowStatus, TryCopy};
-use indexmap::IndexMap;
 use std::alloc::{AllocError, Global};
+use std::collections::BTreeMap;
+use std::collections::btree_map::{Range, Values};
 use std::marker::Model;
+use std::ops::Bound;
 use std::sync::ledger::Ledger;
 
-/// The rows of generations by number, in the order in which they were added, and how many numbers were drawn. Contracts see
-/// the list of the rows. A row is found by its number without a walk.
+type Rows = BTreeMap<u32, GenRow>;
+
+/// The rows of generations by number, and how many numbers were drawn. Numbers rise as rows are added, so the order of the
+/// numbers is that in which the rows were added. Contracts see the list of the rows. A row is found, added or taken out by one
+/// look-up of its number, whose cost grows as the logarithm of how many rows there are; no other row moves.
 #[derive(Drop)]
 pub struct Generations {
-    rows: IndexMap<u32, GenRow>,
+    rows: Rows,
     made: u32,
 }
 
 impl Model for Generations {
-    ghost use Rattle.indexmap.specs.IndexMap.{values};
+    ghost use Rattle.std.specs.BTreeMap.{values};
     ghost use Rattle.ev_generations.specs.Tables.{GenerationsParts, IsStored};
 
     ghost Value = { GenerationsParts };
@@ -37,7 +46,7 @@ impl Generations {
         ensures made { result.made ≡ 0 }
     {
         Generations {
-            rows: IndexMap::new(alloc),
+            rows: BTreeMap::new(alloc),
             made: 0,
         }
     }
@@ -58,7 +67,7 @@ impl Generations {
         self.made = made;
     }
 
-    /// A new row, which warms and has the next number. Without memory the table stays as it was.
+    /// A new row, which warms and has the next number. It costs one look-up by number. Without memory the table stays as it was.
     pub fn add(&mut self, kind: Kind, name: Name, content: Content) -> Result<Gen, AllocError>
         requires { self.old.made + 1 < 2 ^ 32 }
         ensures number { IfOk result (λ number. number ≡ self.old.made + 1) }
@@ -82,19 +91,6 @@ impl Generations {
         Ok(Gen::new(number))
     }
 
-    // One more row of a table that is copied.
-    fn put(&mut self, row: GenRow) -> Result<(), AllocError>
-        requires absent { row_in row.number self.old.rows ≡ None }
-        requires drawn { row.number ≤ self.old.made }
-        ensures added { OnOk result (self.new.rows ≡ self.old.rows ++ row ∷ []) }
-        ensures made { self.new.made ≡ self.old.made }
-    {
-        let Ok(_) = self.rows.insert(row.number.number(), row) else {
-            return Err(AllocError);
-        };
-        Ok(())
-    }
-
     /// The row of a number, by one look-up, which is counted.
     pub fn row<'a, L: Ledger>(&'a self, number: Gen, steps: &mut Steps<L>) -> Option<&'a GenRow>
         ensures row { option_copied result ≡ row_in number self.now.rows }
@@ -112,7 +108,7 @@ impl Generations {
         self.rows.get(&number.number())
     }
 
-    /// The row of this number serves.
+    /// The row of this number serves. It costs one look-up by number.
     pub fn warm(&mut self, number: Gen)
         requires { IsSome (row_in number self.old.rows) }
         ensures rows { self.new.rows ≡ with_status number Active self.old.rows }
@@ -121,7 +117,7 @@ impl Generations {
         self.set_status(number, RowStatus::Active);
     }
 
-    /// The row of this number drains, or is dropped where it never served.
+    /// The row of this number drains, or is dropped where it never served. It costs one look-up by number.
     pub fn gone(&mut self, number: Gen, dropped: bool)
         requires { IsSome (row_in number self.old.rows) }
         ensures rows { self.new.rows ≡ with_status number (if dropped then Dropped else Draining) self.old.rows }
@@ -147,35 +143,66 @@ impl Generations {
         row.status = status;
     }
 
-    /// Takes the row of this number out; the others keep their order.
+    /// Takes the row of this number out; the others keep their order. It costs one look-up by number: no other row moves.
     pub fn remove(&mut self, number: Gen) -> GenRow
         requires { IsSome (row_in number self.old.rows) }
         ensures row { row_in number self.old.rows ≡ Some result }
         ensures rows { self.new.rows ≡ without_row number self.old.rows }
         ensures made { self.new.made ≡ self.old.made }
     {
-        let Some(row) = self.rows.shift_remove(&number.number()) else {
+        let Some(row) = self.rows.remove(&number.number()) else {
             unreachable!()
         };
         row
     }
 
-    /// All rows in order, for what shows or copies the whole table. It counts no look-up.
-    pub fn rows(&self) -> &[GenRow]
-        ensures rows { result.now ≡ self.now.rows }
+    /// All rows in order, for what shows the whole table, which it goes over. It counts no look-up.
+    pub fn rows(&self) -> Values<'_, u32, GenRow>
+        ensures rows { result ≡ self.now.rows }
+        ensures runs { ShowsInOrder (deref {X = declared.GenRow}) }
         ensures table { IsTable self.now }
     {
-        self.rows.values().as_slice()
+        self.rows.values()
+    }
+
+    /// The rows whose numbers were drawn after this one, in order, each beside its number. It costs one look-up by number, and then
+    /// what these rows cost: none of the others is gone over. It counts no look-up.
+    pub fn rows_after(&self, made: u32) -> Range<'_, u32, GenRow>
+        ensures rows { result ≡ by_number (filter (is_after made) self.now.rows) }
+        ensures runs { ShowsInOrder (deref_pair {K = ℕ} {X = declared.GenRow}) }
+    {
+        self.rows.range((Bound::Excluded(made), Bound::Unbounded))
     }
 }
 
 impl TryCopy for Generations {
+    // It goes over the whole table.
     fn copy(&self, alloc: Global) -> Result<Generations, AllocError> {
-        let mut copied = Generations::new(alloc);
-        copied.advance(self.made);
-        for row in self.rows() {
-            copied.put(row.copy(alloc)?)?;
-        }
-        Ok(copied)
+        Ok(Generations {
+            rows: copy_rows(alloc, &self.rows)?,
+            made: self.made,
+        })
     }
+}
+
+// The same rows, each under its number, in memory of their own.
+fn copy_rows(alloc: Global, rows: &Rows) -> Result<Rows, AllocError>
+    ensures { IfOk result (λ copied. copied.entries ≡ rows.now.entries) }
+{
+    let mut copied = BTreeMap::new(alloc);
+    for (number, row) in rows {
+        put(&mut copied, *number, row.copy(alloc)?)?;
+    }
+    Ok(copied)
+}
+
+// Puts a row behind the others, whose numbers are below its own.
+fn put(rows: &mut Rows, number: u32, row: GenRow) -> Result<(), AllocError>
+    requires { AllByRecursion (λ n. n < number) (keys rows.old) }
+    ensures { OnOk result (rows.new.entries ≡ rows.old.entries ++ (number, row) ∷ []) }
+{
+    let Ok(_) = rows.insert(number, row) else {
+        return Err(AllocError);
+    };
+    Ok(())
 }

@@ -1,8 +1,8 @@
 -- What a response does to a world that a state stands for.
-use Rattle.std.proofs.Common.{◌≡◌, ◌∙◌, ◌+◌, ◌<◌, ◌≤◌, ℕ, Bool, true, false, cond, not, ◌&&◌, ◌||◌, List, [], ◌∷◌, ◌++◌, None, map, filter, length, take, drop, get_or, nat_le, refl, sym, ap, subst, true≢false, append-nil}
+use Rattle.std.proofs.Common.{◌≡◌, ◌∙◌, ◌+◌, ◌<◌, ◌≤◌, ℕ, Bool, true, false, cond, ◌&&◌, ◌||◌, List, [], ◌∷◌, ◌++◌, None, map, filter, length, take, drop, get_or, refl, sym, ap, subst, true≢false, append-nil}
 use Rattle.std.specs.List.{list_any, filter_map, last_or, AllByRecursion}
 use Rattle.std.specs.Str.{bytes_eq}
-use Rattle.std.proofs.lemmas.Bool.{false_from_ne_true, le-leb, lt-leb}
+use Rattle.std.proofs.lemmas.Bool.{false_from_ne_true}
 use Rattle.std.proofs.lemmas.List.{take_more, drop_more, drop_all}
 use Rattle.std.proofs.lemmas.List.Elements.{filter-append}
 use Rattle.std.proofs.lemmas.List.Folds.{list_any-append, list_any_at}
@@ -26,7 +26,7 @@ use Rattle.ev_types.specs.declared.rows.GenRow.{GenRow}
 use Rattle.ev_model.specs.World.{World, Arrived}
 use Rattle.ev_model.specs.Watching.{is_by_name}
 use Rattle.ev_model.specs.Warming.{came_for, content_in, is_word, is_timeout}
-use Rattle.ev_model.specs.Verdicts.{items_named, is_among, is_removed}
+use Rattle.ev_model.specs.Verdicts.{is_among, is_removed}
 use Rattle.ev_model.specs.Rows.{versions_left, arrived, with_statuses, removed_status, rows_left, add_item, add_items, keep_version, keep_value, with_content, refuse, renew, with_removals}
 use Rattle.ev_model.specs.Signals.{ended_status, rows_ended}
 use Rattle.ev_warming.specs.declared.state.State.{State}

@@ -12,6 +12,7 @@ ghost use Rattle.ev_warming.specs.Reads.{live_rows, is_timeout_due};
 ghost use Rattle.ev_warming.specs.Worlds.{StandsFor, needs_of};
 
 use crate::{State, Watch};
+use ev_generations::Generations;
 use ev_types::{Gen, GenRow, Name, Seq};
 use ev_verdicts::LiveRow;
 use std::alloc::{AllocError, Global};
@@ -47,7 +48,7 @@ impl State {
         ensures rows { IfOk result (λ lives. lives.items ≡ map live_of (live_rows self.now.table.rows)) }
         ensures world { IfOk result (λ lives. (world : World) → StandsFor self.now world → lives.items ≡ filter (λ (live : Live). kind_same live.kind self.now.kind) (lives_of world)) }
     {
-        lives(alloc, self.table.rows())
+        lives(alloc, &self.table)
     }
 }
 
@@ -65,12 +66,12 @@ fn is_awaited(watch: &Watch) -> bool
     is_filled(&watch.limited) && !(watch.told || watch.timed)
 }
 
-// The live ones of these rows.
-fn lives<'a>(alloc: Global, rows: &'a [GenRow]) -> Result<Vec<LiveRow<'a>>, AllocError>
-    ensures { IfOk result (λ lives. lives.items ≡ map live_of (live_rows rows.now)) }
+// The live rows of a table.
+fn lives<'a>(alloc: Global, table: &'a Generations) -> Result<Vec<LiveRow<'a>>, AllocError>
+    ensures { IfOk result (λ lives. lives.items ≡ map live_of (live_rows table.now.rows)) }
 {
     let mut lives = Vec::new(alloc);
-    for row in rows {
+    for row in table.rows() {
         push_live(row, &mut lives)?;
     }
     Ok(lives)

@@ -14,6 +14,7 @@ ghost use Rattle.ev_warming.specs.Watched.{watch_in};
 ghost use Rattle.ev_warming.specs.Worlds.{StandsFor};
 
 use crate::{State, Watches};
+use ev_generations::Generations;
 use ev_model::{Routing, ServedListener};
 use ev_types::{Content, GenRow, Name, RouteTable, Seq, Serve, Shared, TryCopy};
 use std::alloc::{AllocError, Global};
@@ -26,22 +27,22 @@ impl State {
         ensures rows { IfOk result (λ served. served ≡ listeners_in self.now.watches self.now.table.rows) }
         ensures world { IfOk result (λ served. self.now.kind ≡ Lds → (world : World) → StandsFor self.now world → served ≡ served_listeners world.arrivals world.rows) }
     {
-        let mut served = listeners(alloc, &self.watches, self.table.rows())?;
+        let mut served = listeners(alloc, &self.watches, &self.table)?;
         sort(&mut served);
         Ok(Seq::from_vec(served))
     }
 }
 
-// The active ones of these listeners, in the order of the rows.
+// The active listeners of a table, in the order of the rows.
 fn listeners(
     alloc: Global,
     watches: &Watches,
-    rows: &[GenRow],
+    table: &Generations,
 ) -> Result<Vec<ServedListener>, AllocError>
-    ensures { IfOk result (λ served. served.items ≡ flat_map (λ (row : declared.GenRow). listener_in watches.now row row.content) (filter (λ (row : declared.GenRow). is_active row.status) rows.now)) }
+    ensures { IfOk result (λ served. served.items ≡ flat_map (λ (row : declared.GenRow). listener_in watches.now row row.content) (filter (λ (row : declared.GenRow). is_active row.status) table.now.rows)) }
 {
     let mut served = Vec::new(alloc);
-    for row in rows {
+    for row in table.rows() {
         push_listener(alloc, watches, row, &mut served)?;
     }
     Ok(served)

@@ -18,6 +18,7 @@ ghost use Rattle.ev_warming.specs.Worlds.{StandsFor};
 use crate::hosts::{assignment, is_checked};
 use crate::{State, Watches};
 use ev_endpoints::Endpoints;
+use ev_generations::Generations;
 use ev_model::ServedCluster;
 use ev_types::{Assignment, GenRow, HostRow, Seq, TryCopy};
 use std::alloc::{AllocError, Global};
@@ -30,23 +31,23 @@ impl State {
         ensures rows { IfOk result (λ served. served ≡ clusters_in self.now.watches self.now.results self.now.table.rows) }
         ensures world { IfOk result (λ served. self.now.kind ≡ Cds → (world : World) → StandsFor self.now world → served ≡ served_clusters world.arrivals world.results world.rows) }
     {
-        let mut served = clusters(alloc, &self.watches, &self.results, self.table.rows())?;
+        let mut served = clusters(alloc, &self.watches, &self.results, &self.table)?;
         sort(&mut served);
         Ok(Seq::from_vec(served))
     }
 }
 
-// The active ones of these clusters, in the order of the rows.
+// The active clusters of a table, in the order of the rows.
 fn clusters(
     alloc: Global,
     watches: &Watches,
     results: &Endpoints,
-    rows: &[GenRow],
+    table: &Generations,
 ) -> Result<Vec<ServedCluster>, AllocError>
-    ensures { IfOk result (λ served. served.items ≡ map (cluster_in watches.now results.now) (filter (λ (row : declared.GenRow). is_active row.status) rows.now)) }
+    ensures { IfOk result (λ served. served.items ≡ map (cluster_in watches.now results.now) (filter (λ (row : declared.GenRow). is_active row.status) table.now.rows)) }
 {
     let mut served = Vec::new(alloc);
-    for row in rows {
+    for row in table.rows() {
         push_cluster(alloc, watches, results, row, &mut served)?;
     }
     Ok(served)

@@ -5,6 +5,7 @@ ghost use Rattle.ev_warming.specs.Reads.{names_needed, names_watched};
 ghost use Rattle.ev_warming.specs.Worlds.{StandsFor, needs_of};
 
 use crate::{State, needed};
+use ev_generations::Generations;
 use ev_types::{GenRow, Name, Seq, TryCopy};
 use std::alloc::{AllocError, Global};
 
@@ -14,18 +15,18 @@ impl State {
         ensures rows { IfOk result (λ names. names ≡ names_watched self.now.table.rows) }
         ensures world { IfOk result (λ names. (world : World) → is_by_name self.now.kind ≡ false → StandsFor self.now world → names ≡ watched_of world (needs_of self.now.kind)) }
     {
-        let mut names = needs(alloc, self.table.rows())?;
+        let mut names = needs(alloc, &self.table)?;
         sort(&mut names);
         Ok(Seq::from_vec(names))
     }
 }
 
-// The names that live ones of these rows depend on.
-fn needs(alloc: Global, rows: &[GenRow]) -> Result<Vec<Name>, AllocError>
-    ensures { IfOk result (λ names. names.items ≡ names_needed rows.now) }
+// The names that live rows of a table depend on.
+fn needs(alloc: Global, table: &Generations) -> Result<Vec<Name>, AllocError>
+    ensures { IfOk result (λ names. names.items ≡ names_needed table.now.rows) }
 {
     let mut names = Vec::new(alloc);
-    for row in rows {
+    for row in table.rows() {
         push_need(alloc, row, &mut names)?;
     }
     Ok(names)

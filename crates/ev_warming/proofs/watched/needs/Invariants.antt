@@ -1,6 +1,6 @@
-use Rattle.std.proofs.Common.{◌≡◌, take}
+use Rattle.std.proofs.Common.{◌≡◌, ◌++◌}
 use Rattle.ev_warming.specs.Reads.{names_needed}
 use Rattle.ev_warming.proofs.watched.needs.Given as goal
 
 abbrev pub invariant-loop-row : goal.invariant-loop-row
-invariant-loop-row l = l.names.items ≡ names_needed (take l.row-index l.rows)
+invariant-loop-row l = l.names.items ++ names_needed l.row-iterator ≡ names_needed l.table.rows

@@ -14,16 +14,14 @@ use Rattle.ev_warming.proofs.state.State.clusters.Goals as goal
 pub sort-requires : goal.sort-requires
 sort-requires c =
     let s = c.args.self.now in
-    let made = c.in_ok-served.ensures ∙ (λ i. map (cluster_in s.watches s.results) (filter (λ (row : GenRow). is_active row.status) (c.rows.ensures.rows i))) in
-    subst (λ (xs : List ServedCluster). IsDistinct bytes_eq (map (λ (d : ServedCluster). d.name) xs)) (sym made)
+    subst (λ (xs : List ServedCluster). IsDistinct bytes_eq (map (λ (d : ServedCluster). d.name) xs)) (sym c.in_ok-served.ensures)
     (subst (IsDistinct bytes_eq) (sym (names-map (cluster_in s.watches s.results) (λ (d : ServedCluster). d.name) (λ r. refl) (filter (λ (row : GenRow). is_active row.status) s.table.rows)))
     (names-differ s c.requires.indexed))
 
 pub returns-clause-rows : goal.returns-clause-rows
 returns-clause-rows c =
     let s = c.args.self.now in
-    let made = c.in_ok-served.ensures ∙ (λ i. map (cluster_in s.watches s.results) (filter (λ (row : GenRow). is_active row.status) (c.rows.ensures.rows i))) in
-    c.from_vec.ensures.elements ∙ c.sort.ensures ∙ ap (sorted_by (λ (a b : ServedCluster). is_before a.name b.name)) made
+    c.from_vec.ensures.elements ∙ c.sort.ensures ∙ ap (sorted_by (λ (a b : ServedCluster). is_before a.name b.name)) c.in_ok-served.ensures
     ∙ sorted_by-map (cluster_in s.watches s.results) (λ (a b : GenRow). is_before a.name b.name) (λ (a b : ServedCluster). is_before a.name b.name) (λ a b. refl)
     (filter (λ (row : GenRow). is_active row.status) s.table.rows)
 

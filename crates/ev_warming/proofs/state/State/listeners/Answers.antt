@@ -1,5 +1,5 @@
 use Rattle.std.proofs.Common.{◌∙◌, List, map, filter, sym, ap, subst}
-use Rattle.std.specs.List.{IsDistinct, flat_map}
+use Rattle.std.specs.List.{IsDistinct}
 use Rattle.std.specs.Str.{bytes_eq}
 use Rattle.ev_types.specs.Statuses.{is_active}
 use Rattle.ev_types.specs.declared.rows.GenRow.{GenRow}
@@ -14,16 +14,14 @@ use Rattle.ev_warming.proofs.state.State.listeners.Goals as goal
 pub sort-requires : goal.sort-requires
 sort-requires c =
     let s = c.args.self.now in
-    let made = c.in_ok-served.ensures ∙ (λ i. flat_map (λ (row : GenRow). listener_in s.watches row row.content) (filter (λ (row : GenRow). is_active row.status) (c.rows.ensures.rows i))) in
-    subst (λ (xs : List ServedListener). IsDistinct bytes_eq (map (λ (l : ServedListener). l.name) xs)) (sym made)
+    subst (λ (xs : List ServedListener). IsDistinct bytes_eq (map (λ (l : ServedListener). l.name) xs)) (sym c.in_ok-served.ensures)
     (flat-apart (λ (r : GenRow). r.name) (λ (l : ServedListener). l.name) (λ (row : GenRow). listener_in s.watches row row.content) (listener-shape s.watches)
     (filter (λ (row : GenRow). is_active row.status) s.table.rows) (names-differ s c.requires.indexed))
 
 pub returns-clause-rows : goal.returns-clause-rows
 returns-clause-rows c =
     let s = c.args.self.now in
-    let made = c.in_ok-served.ensures ∙ (λ i. flat_map (λ (row : GenRow). listener_in s.watches row row.content) (filter (λ (row : GenRow). is_active row.status) (c.rows.ensures.rows i))) in
-    c.from_vec.ensures.elements ∙ c.sort.ensures ∙ ap (sorted_by (λ (a b : ServedListener). is_before a.name b.name)) made
+    c.from_vec.ensures.elements ∙ c.sort.ensures ∙ ap (sorted_by (λ (a b : ServedListener). is_before a.name b.name)) c.in_ok-served.ensures
     ∙ flat-sorted (λ (r : GenRow). r.name) (λ (l : ServedListener). l.name) (λ (row : GenRow). listener_in s.watches row row.content) (listener-shape s.watches)
     (filter (λ (row : GenRow). is_active row.status) s.table.rows) (names-differ s c.requires.indexed)
 

@@ -8,4 +8,4 @@ use Rattle.ev_warming.proofs.state.State.live.Goals as goal
 pub returns-clause-world : goal.returns-clause-world
 returns-clause-world c =
     IfOk-weaker c.lives.result _ _ (λ lives e world stands.
-    e ∙ (λ i. map live_of (live_rows ((c.rows.ensures.rows ∙ stands.rows) i))) ∙ lives-world c.args.self.now.kind world.rows) c.lives.ensures
+    e ∙ (λ i. map live_of (live_rows (stands.rows i))) ∙ lives-world c.args.self.now.kind world.rows) c.lives.ensures
