@@ -61,14 +61,14 @@ new_left address retired before after (p ∷ ps) told own = by (holds address p)
     by false h more = more
 
 -- those of before with the new ones, without those that retired
-all_left : (address : Host) (retired : List ℕ) (before after bs ps : List GenRow) → ((n : ℕ) → is_among retired n ≡ has_retired n before after) → Follow bs ps
+all_left : (made : ℕ) (address : Host) (retired : List ℕ) (before after bs ps : List GenRow) → ((n : ℕ) → is_among retired n ≡ has_retired n before after) → Follow made bs ps
     → AllByRecursion (λ (r : GenRow). row_in r.number before ≡ Some r) bs
     → AllByRecursion (λ (r : GenRow). row_in r.number after ≡ Some r) ps
     → filter (is_left_at address retired after) (numbers_where (holds address) bs ++ numbers_where (holds address) (drop (length bs) ps)) ≡ numbers_where (holds address) ps
-all_left address retired before after [] ps told follow had own = new_left address retired before after ps told own
-all_left address retired before after (b ∷ bs) [] told follow had own = absurd follow
-all_left address retired before after (b ∷ bs) (p ∷ ps) told follow had own =
-    by (holds address b) (holds address p) refl refl (all_left address retired before after bs ps told follow.1 had.1 own.1)
+all_left made address retired before after [] ps told follow had own = new_left address retired before after ps told own
+all_left made address retired before after (b ∷ bs) [] told follow had own = absurd follow
+all_left made address retired before after (b ∷ bs) (p ∷ ps) told follow had own =
+    by (holds address b) (holds address p) refl refl (all_left made address retired before after bs ps told follow.1 had.1 own.1)
   where
     left : List ℕ → List ℕ
     left ns = filter (is_left_at address retired after) (ns ++ numbers_where (holds address) (drop (length bs) ps))
@@ -94,11 +94,11 @@ all_left address retired before after (b ∷ bs) (p ∷ ps) told follow had own 
     by false false h k more = more
 
 -- the index that has what was left, and the new ones, is a search of the rows again
-pub index-follows : (old new : AddressesKept) (retired : List ℕ) (before after : List GenRow) → ((n : ℕ) → is_among retired n ≡ has_retired n before after) → Follow before after
+pub index-follows : (made : ℕ) (old new : AddressesKept) (retired : List ℕ) (before after : List GenRow) → ((n : ℕ) → is_among retired n ≡ has_retired n before after) → Follow made before after
     → IsDistinct nat_eq (numbers_of before) → IsDistinct nat_eq (numbers_of after) → AreByAddress old before
     → ((address : Host) → numbers_at new address ≡ filter (is_left_at address retired after) (numbers_at old address ++ numbers_where (holds address) (drop (length before) after)))
     → AreByAddress new after
-index-follows old new retired before after told follow apart apart_after was now = λ address.
+index-follows made old new retired before after told follow apart apart_after was now = λ address.
     now address
     ∙ ap (λ ns. filter (is_left_at address retired after) (ns ++ numbers_where (holds address) (drop (length before) after))) (was address)
-    ∙ all_left address retired before after before after told follow (own-rows before apart) (own-rows after apart_after)
+    ∙ all_left made address retired before after before after told follow (own-rows before apart) (own-rows after apart_after)

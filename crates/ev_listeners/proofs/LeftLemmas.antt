@@ -2,35 +2,36 @@
 use Rattle.std.proofs.Common.{◌≡◌, ◌∙◌, ℕ, ◌+◌, ◌<◌, Bool, true, false, cond, not, ◌&&◌, ◌||◌, nat_eq, List, [], ◌∷◌, ◌++◌, take, length, get_or, filter, map, option_to_list, refl, sym, ap, append_assoc, append-nil, arith}
 use Rattle.std.proofs.lemmas.Grind.{common_steps}
 use Rattle.std.proofs.lemmas.List.{map-append}
-use Rattle.std.proofs.lemmas.List.Elements.{filter-append}
 use Rattle.std.proofs.lemmas.Bool.{eqb-true}
 use Rattle.std.specs.List.{flat_map}
+use Rattle.std.specs.Map.{values_of}
 use Rattle.ev_types.specs.declared.hosts.Host.{Host}
 use Rattle.ev_types.specs.declared.rows.GenRow.{GenRow}
 use Rattle.ev_types.specs.declared.rows.Live.{Live}
 use Rattle.ev_model.specs.Live.{live_of}
-use Rattle.ev_generations.specs.Tables.{row_in}
+use Rattle.ev_generations.specs.Tables.{by_number, numbers_of, row_in}
 use Rattle.ev_warming.specs.Due.{is_among}
 use Rattle.ev_warming.specs.Indexes.{numbers_where}
 use Rattle.ev_warming.specs.Watched.{without_number}
 use Rattle.ev_listeners.specs.Addresses.{is_found_at, is_left_at, holds, lives_numbered}
 
-one_row : (rows : List GenRow) (i : ℕ) (row : GenRow) → i < length rows → row ≡ get_or rows i row → take (i + 1) rows ≡ take i rows ++ row ∷ []
-one_row rows i row within is = grind (arith, common_steps)
-
 one_number : (numbers : List ℕ) (i number : ℕ) → i < length numbers → number ≡ get_or numbers i number → take (i + 1) numbers ≡ take i numbers ++ number ∷ []
 one_number numbers i number within is = grind (arith, common_steps)
 
--- the numbers at an address with those of one more row
-pub rows-more : (address : Host) (old : List ℕ) (rows : List GenRow) (i : ℕ) (row : GenRow) → i < length rows → row ≡ get_or rows i row
-    → (old ++ numbers_where (holds address) (take i rows)) ++ numbers_where (holds address) (row ∷ []) ≡ old ++ numbers_where (holds address) (take (i + 1) rows)
-rows-more address old rows i row within is =
-    let number : GenRow → ℕ = λ r. r.number in
-    append_assoc old (numbers_where (holds address) (take i rows)) (numbers_where (holds address) (row ∷ []))
-    ∙ ap (λ ns. old ++ ns)
-    (sym (map-append number (filter (holds address) (take i rows)) (filter (holds address) (row ∷ [])))
-    ∙ ap (map number) (sym (filter-append (holds address) (take i rows) (row ∷ [])))
-    ∙ ap (numbers_where (holds address)) (sym (one_row rows i row within is)))
+-- rows that stand beside their numbers
+pub values_of-by_number : (rows : List GenRow) → values_of (by_number rows) ≡ rows
+values_of-by_number [] = refl
+values_of-by_number (row ∷ rows) = ap (λ (rs : List GenRow). row ∷ rs) (values_of-by_number rows)
+
+-- the numbers at an address, then that of one more row, then those of the rows behind it
+pub row-entered : (address : Host) (old : List ℕ) (row : GenRow) (rows : List GenRow)
+    → (old ++ numbers_where (holds address) (row ∷ [])) ++ numbers_where (holds address) rows ≡ old ++ numbers_where (holds address) (row ∷ rows)
+row-entered address old row rows = by (holds address row)
+  where
+    by : (t : Bool) → (old ++ numbers_of (cond t (row ∷ []) [])) ++ numbers_where (holds address) rows
+        ≡ old ++ numbers_of (cond t (row ∷ filter (holds address) rows) (filter (holds address) rows))
+    by true = append_assoc old (row.number ∷ []) (numbers_where (holds address) rows)
+    by false = ap (λ ns. ns ++ numbers_where (holds address) rows) (append-nil old)
 
 filter_same : (p q : ℕ → Bool) → ((n : ℕ) → p n ≡ q n) → (ns : List ℕ) → filter p ns ≡ filter q ns
 filter_same p q same [] = refl

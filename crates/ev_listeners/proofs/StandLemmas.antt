@@ -14,7 +14,8 @@ use Rattle.ev_model.specs.Rows.{with_statuses, with_removals, add_items}
 use Rattle.ev_model.specs.Signals.{ended_status, rows_ended}
 use Rattle.ev_model.specs.Tidy.{promoted, promoted_status, has_successor}
 use Rattle.ev_model.specs.Warming.{is_ready_by}
-use Rattle.ev_generations.specs.Tables.{row_in, numbers_of, without_row}
+use Rattle.ev_generations.specs.Tables.{is_after, row_in, numbers_of, without_row}
+use Rattle.ev_generations.proofs.TableLemmas.{below_next}
 use Rattle.ev_verdicts.specs.Known.{is_at}
 use Rattle.ev_warming.specs.Due.{is_among}
 use Rattle.ev_warming.specs.Changes.{has_retired, is_over, began_to_drain}
@@ -22,7 +23,7 @@ use Rattle.ev_warming.specs.Indexes.{numbers_where, serves, warms}
 use Rattle.ev_warming.specs.Worlds.{rows_of_kind, StandsFor as HasPart}
 use Rattle.ev_listeners.specs.Addresses.{numbers_at, holds, AreByAddress, is_left_at}
 use Rattle.ev_listeners.specs.Listeners.{ListenersKept, AreKept, StandsFor, holders_in}
-use Rattle.ev_listeners.proofs.FollowLemmas.{Follow, follow-response, follow-promoted, follow-ended}
+use Rattle.ev_listeners.proofs.FollowLemmas.{Follow, follow-response, follow-promoted, follow-ended, rows-after}
 use Rattle.ev_listeners.proofs.AddressLemmas.{index-follows}
 use Rattle.ev_listeners.proofs.ChangeLemmas.{kind-statused, drained-retired, ended-retired, held-without, held-world}
 
@@ -37,33 +38,38 @@ rows_are l world kept part = part.rows ∙ ap (λ k. rows_of_kind k world.rows) 
 pub response-stands : (l m : ListenersKept) (response : ResponseParts) (verdicts : List Verdict) (retired : List ℕ) (world : World) → AreKept l → AreKept m
     → ((n : ℕ) → is_among retired n ≡ has_retired n l.state.table.rows m.state.table.rows)
     → ((a : Host) → numbers_at m.addresses a ≡ filter (is_left_at a retired m.state.table.rows)
-    (numbers_at l.addresses a ++ numbers_where (holds a) (drop (length l.state.table.rows) m.state.table.rows)))
+    (numbers_at l.addresses a ++ numbers_where (holds a) (filter (is_after l.state.table.made) m.state.table.rows)))
     → StandsFor l world → HasPart m.state (add_items Lds verdicts response.items (with_removals Lds response world))
     → StandsFor m (add_items Lds verdicts response.items (with_removals Lds response world))
 response-stands l m response verdicts retired world kept kept_after told now stands part = record {
   part = part;
-  addresses = index-follows l.addresses m.addresses retired l.state.table.rows m.state.table.rows told follow (apart_of l kept) (apart_of m kept_after) stands.addresses now;
+  addresses = index-follows l.state.table.made l.addresses m.addresses retired l.state.table.rows m.state.table.rows told follow (apart_of l kept) (apart_of m kept_after) stands.addresses
+      (λ a. now a ∙ ap (λ rows. filter (is_left_at a retired m.state.table.rows) (numbers_at l.addresses a ++ numbers_where (holds a) rows)) behind);
 }
   where
-    follow : Follow l.state.table.rows m.state.table.rows
+    follow : Follow l.state.table.made l.state.table.rows m.state.table.rows
     follow =
-        subst (λ (rows : List GenRow). Follow rows m.state.table.rows) (sym (rows_are l world kept stands.part))
-        (subst (λ (rows : List GenRow). Follow (rows_of_kind Lds world.rows) rows)
+        subst (λ made. Follow made l.state.table.rows m.state.table.rows) (sym stands.part.made)
+        (subst (λ (rows : List GenRow). Follow world.made rows m.state.table.rows) (sym (rows_are l world kept stands.part))
+        (subst (λ (rows : List GenRow). Follow world.made (rows_of_kind Lds world.rows) rows)
         (sym (rows_are m (add_items Lds verdicts response.items (with_removals Lds response world)) kept_after part))
-        (follow-response response verdicts response.items world))
+        (follow-response response verdicts response.items world)))
+
+    behind : filter (is_after l.state.table.made) m.state.table.rows ≡ drop (length l.state.table.rows) m.state.table.rows
+    behind = rows-after l.state.table.made l.state.table.rows m.state.table.rows (below_next l.state.table.rows l.state.table.made kept.kept.indexed.table.drawn) follow
 
 none_behind : (f : GenRow → RowStatus) (rows : List GenRow) → drop (length rows) (with_statuses f rows) ≡ []
 none_behind f rows = grind (arith, common_steps)
 
 -- after other statuses, where what retired has gone out
 index-statused : (l m : ListenersKept) (retired : List ℕ) (f : GenRow → RowStatus) → AreKept l → AreKept m → m.state.table.rows ≡ with_statuses f l.state.table.rows
-    → Follow l.state.table.rows (with_statuses f l.state.table.rows)
+    → Follow l.state.table.made l.state.table.rows (with_statuses f l.state.table.rows)
     → ((n : ℕ) → is_among retired n ≡ has_retired n l.state.table.rows m.state.table.rows)
     → ((a : Host) → numbers_at m.addresses a ≡ filter (is_left_at a retired m.state.table.rows) (numbers_at l.addresses a))
     → AreByAddress l.addresses l.state.table.rows → AreByAddress m.addresses m.state.table.rows
 index-statused l m retired f kept kept_after is follow told now was =
-    index-follows l.addresses m.addresses retired l.state.table.rows m.state.table.rows told
-    (subst (λ (rows : List GenRow). Follow l.state.table.rows rows) (sym is) follow) (apart_of l kept) (apart_of m kept_after) was
+    index-follows l.state.table.made l.addresses m.addresses retired l.state.table.rows m.state.table.rows told
+    (subst (λ (rows : List GenRow). Follow l.state.table.made l.state.table.rows rows) (sym is) follow) (apart_of l kept) (apart_of m kept_after) was
     (λ a. now a
     ∙ ap (filter (is_left_at a retired m.state.table.rows))
     (sym (append-nil (numbers_at l.addresses a))
@@ -77,7 +83,7 @@ pub promotion-stands : (l m : ListenersKept) (drained : List ℕ) (world : World
 promotion-stands l m drained world kept kept_after told now stands part = record {
   part = part;
   addresses = index-statused l m drained (promoted_status world.arrivals world.results world.rows) kept kept_after is
-      (follow-promoted (has_successor world.arrivals world.results world.rows) (is_ready_by world.arrivals world.results) l.state.table.rows)
+      (follow-promoted l.state.table.made (has_successor world.arrivals world.results world.rows) (is_ready_by world.arrivals world.results) l.state.table.rows)
       (λ n. told n ∙ drained-retired n (has_successor world.arrivals world.results world.rows) (is_ready_by world.arrivals world.results) l.state.table.rows m.state.table.rows is)
       now stands.addresses;
 }
@@ -95,7 +101,7 @@ pub end-stands : (l m : ListenersKept) (name : List ℕ) (warming active : Optio
     → StandsFor l world → HasPart m.state (record world { rows = rows_ended Lds name world.rows }) → StandsFor m (record world { rows = rows_ended Lds name world.rows })
 end-stands l m name warming active world kept kept_after warm act now stands part = record {
   part = part;
-  addresses = index-statused l m (option_to_list warming ++ option_to_list active) (ended_status Lds name) kept kept_after is (follow-ended Lds name l.state.table.rows)
+  addresses = index-statused l m (option_to_list warming ++ option_to_list active) (ended_status Lds name) kept kept_after is (follow-ended l.state.table.made Lds name l.state.table.rows)
       (λ n. ended-retired name n l.state.table.rows m.state.table.rows warming active (apart_of l kept) kinds is warm act)
       now stands.addresses;
 }

@@ -1,11 +1,11 @@
-ghost use Rattle.std.specs.Prelude.{◌≡◌, ◌++◌, [], ◌∷◌, None, drop, filter, option_to_list, IfOk, OnOk, if◌then◌else◌};
+ghost use Rattle.std.specs.Prelude.{◌≡◌, ◌++◌, [], ◌∷◌, None, filter, option_to_list, IfOk, OnOk, if◌then◌else◌};
 ghost use Rattle.std.specs.Map.{lookup};
 ghost use Rattle.std.specs.Option.{option_copied};
 ghost use Rattle.indexmap.specs.IndexMap.{get};
 ghost use Rattle.ev_types.specs.SameHosts.{host_same};
 ghost use Rattle.ev_types.specs.declared.hosts.Host as declared;
 ghost use Rattle.ev_model.specs.Verdicts.{listening_address};
-ghost use Rattle.ev_generations.specs.Tables.{row_in};
+ghost use Rattle.ev_generations.specs.Tables.{is_after, row_in};
 ghost use Rattle.ev_warming.specs.Indexes.{numbers_where};
 ghost use Rattle.ev_warming.specs.Watched.{without_number};
 ghost use Rattle.ev_listeners.specs.Addresses.{numbers_at, holds, is_found_at, is_left_at};
@@ -79,30 +79,33 @@ impl Addresses {
         self.trim(address);
     }
 
-    /// The index of rows that have changed: those from a place on are new, and those of these numbers have retired. Without memory
-    /// nothing is promised.
+    /// The index of rows that have changed: those whose numbers were drawn after this one are new, and those of these numbers have
+    /// retired. None of the others is gone over. Without memory nothing is promised.
     pub(crate) fn follow(
         &mut self,
         alloc: Global,
         table: &Generations,
-        from: usize,
+        made: u32,
         retired: &[Gen],
     ) -> Result<(), AllocError>
         ensures { OnOk result ((a : declared.Host) → numbers_at self.new a
-            ≡ filter (is_left_at a retired.now table.now.rows) (numbers_at self.old a ++ numbers_where (holds a) (drop from table.now.rows))) }
+            ≡ filter (is_left_at a retired.now table.now.rows) (numbers_at self.old a ++ numbers_where (holds a) (filter (is_after made) table.now.rows))) }
     {
-        let rows = table.rows();
-        let from = from.min(rows.len());
-        self.enter_rows(alloc, &rows[from..])?;
+        self.enter_rows(alloc, table, made)?;
         self.leave_rows(table, retired);
         Ok(())
     }
 
-    // The live ones of these rows come in at their addresses.
-    fn enter_rows(&mut self, alloc: Global, rows: &[GenRow]) -> Result<(), AllocError>
-        ensures { OnOk result ((a : declared.Host) → numbers_at self.new a ≡ numbers_at self.old a ++ numbers_where (holds a) rows.now) }
+    // The live ones of the rows whose numbers were drawn after this one come in at their addresses.
+    fn enter_rows(
+        &mut self,
+        alloc: Global,
+        table: &Generations,
+        made: u32,
+    ) -> Result<(), AllocError>
+        ensures { OnOk result ((a : declared.Host) → numbers_at self.new a ≡ numbers_at self.old a ++ numbers_where (holds a) (filter (is_after made) table.now.rows)) }
     {
-        for row in rows {
+        for (_, row) in table.rows_after(made) {
             self.enter_row(alloc, row)?;
         }
         Ok(())

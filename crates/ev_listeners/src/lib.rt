@@ -81,11 +81,11 @@ impl Listeners {
         // Whatever world they stood for, they stand for that world once the response's removals and resources are in.
         ensures stands { OnOk result ((world : World) → StandsFor self.old world → StandsFor self.new (add_items Lds verdicts.now response.now.items (with_removals Lds response.now world))) }
     {
-        let before = self.manager.state.table.rows().len();
+        let made = self.manager.made();
         let applied = self.manager.apply(alloc, response, verdicts, steps)?;
         let table = &self.manager.state.table;
         self.addresses
-            .follow(alloc, table, before, applied.retired.as_slice())?;
+            .follow(alloc, table, made, applied.retired.as_slice())?;
         Ok(applied)
     }
 

@@ -1,5 +1,6 @@
-use Rattle.std.proofs.Common.{◌∙◌, ◌++◌, ap, sym, subst, length, drop, filter}
+use Rattle.std.proofs.Common.{◌∙◌, ◌++◌, ap, sym, subst, filter}
 use Rattle.ev_model.specs.Rows.{with_removals, add_items}
+use Rattle.ev_generations.specs.Tables.{is_after}
 use Rattle.ev_warming.specs.Worlds.{StandsFor as HasPart}
 use Rattle.ev_warming.specs.Due.{is_among}
 use Rattle.ev_warming.specs.Indexes.{numbers_where}
@@ -18,7 +19,7 @@ returns-clause-stands g c world stands =
     response-stands l m c.args.response.now c.args.verdicts.now c.as_slice.result.now world kept (record { listeners = told.kind ∙ kept.listeners; kept = told.kept })
     (λ n. ap (λ ns. is_among ns n) c.as_slice.ensures.elements ∙ told.retired n)
     (λ a. c.in_ok-follow.ensures a
-    ∙ ap (λ rows. filter (is_left_at a c.as_slice.result.now m.state.table.rows) (numbers_at l.addresses a ++ numbers_where (holds a) (drop (length rows) m.state.table.rows)))
-    c.rows-before.ensures.rows)
+    ∙ ap (λ made. filter (is_left_at a c.as_slice.result.now m.state.table.rows) (numbers_at l.addresses a ++ numbers_where (holds a) (filter (is_after made) m.state.table.rows)))
+    c.made-made.ensures)
     before
     (subst (λ kind. HasPart m.state (add_items kind c.args.verdicts.now c.args.response.now.items (with_removals kind c.args.response.now world))) kept.listeners (told.stands world before.part))
