@@ -85,7 +85,12 @@ fn answers(
 ) -> io::Result<bool> {
     let piece = piece.max(1);
     let mut source = MemSource::new(input.to_vec(alloc)?, piece, Vec::new(alloc));
-    let mut sink = MemSink::new(alloc, wanted.len().saturating_add(ROOM), piece, Vec::new(alloc))?;
+    let mut sink = MemSink::new(
+        alloc,
+        wanted.len().saturating_add(ROOM),
+        piece,
+        Vec::new(alloc),
+    )?;
     let status = run_program(alloc, row.arguments.as_slice(), &mut source, &mut sink);
     Ok(row.is_end(status) && sink.as_bytes() == wanted)
 }
