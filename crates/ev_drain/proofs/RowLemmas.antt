@@ -2,7 +2,7 @@
 use Rattle.std.proofs.Common.{◌≡◌, ℕ, suc, Bool, true, false, not, ◌&&◌, ◌||◌, ◌==◌, cond, List, [], ◌∷◌, filter, map, length, Some, refl, sym, ap, ◌∙◌, arith}
 use Rattle.std.specs.List.{list_any, find}
 use Rattle.std.specs.List.Sorted.{IsStrictlySortedBy}
-use Rattle.std.specs.Option.{is_some, option_map}
+use Rattle.std.specs.Option.{is_some, option_map, unwrap_or}
 use Rattle.std.specs.Map.{keys_of, values_of, lookup, remove_entry}
 use Rattle.std.specs.BTreeMap.{insert_entry, is_at}
 use Rattle.std.specs.Ordering.{is_eq, is_le, match_ordering, nat_cmp}
@@ -17,7 +17,7 @@ use Rattle.std.proofs.lemmas.Map.Entries.{none_past_head}
 use Rattle.std.proofs.lemmas.Map.Keys.{IsDistinct-from_sorted}
 use Rattle.ev_model.specs.Sorted.{put_by}
 use Rattle.ev_drain.specs.declared.notes.Note.{Note}
-use Rattle.ev_drain.specs.Retired.{Retired, comes_before, is_numbered, has_row, is_waiting, marked, is_dead_row, dead_of}
+use Rattle.ev_drain.specs.Retired.{Retired, comes_before, is_numbered, has_row, is_waiting, marked, is_dead_row, dead_of, is_dead_in}
 use Rattle.ev_drain.specs.Notes.{row_of, rows_of, marked_note, is_waiting_note, is_dead_note}
 use Rattle.ev_types.specs.declared.journals.Format.{Format}
 use Rattle.ev_model.specs.World.{OpenMember}
@@ -26,6 +26,10 @@ use Rattle.ev_model.specs.Dead.{is_dead_at, is_open_on, waits_for_timer}
 -- the entry of a number is found exactly at the row of this number
 pub same_number : (n k : ℕ) → is_eq (nat_cmp n k) ≡ (k == n)
 same_number n k = grind (arith, nat_tests)
+
+-- what the test of numbers passes is equal
+number_same : (a n : ℕ) → (a == n) ≡ true → n ≡ a
+number_same a n h = grind (arith, nat_tests)
 
 pub found_row : (n : ℕ) (es : List (ℕ × Note)) → is_some (lookup (is_at (nat_cmp n)) es) ≡ has_row (rows_of es) n
 found_row n [] = refl
@@ -129,6 +133,42 @@ dead_rows format shown opened (e ∷ es) =
     by true false h rest = absurd (true≢false h)
     by false true h rest = absurd (false≢true h)
     by false false h rest = rest
+
+-- where no key is found, no row of this number passes a test
+none_numbered : (q : Retired → Bool) (n : ℕ) (es : List (ℕ × Note)) → NonePasses (is_at (nat_cmp n)) es → list_any (λ r. is_numbered n r && q r) (rows_of es) ≡ false
+none_numbered q n [] none = refl
+none_numbered q n (e ∷ es) none =
+    ap (λ t. (t && q (row_of e)) || list_any (λ r. is_numbered n r && q r) (rows_of es)) (sym (same_number n e.0) ∙ none.0)
+    ∙ none_numbered q n es none.1
+
+or_none : (t u : Bool) → u ≡ false → (t || u) ≡ t
+or_none true u h = refl
+or_none false u h = h
+
+-- the row of a number is dead exactly where its note is
+pub dead_found : (format : Format) (shown : ℕ → Bool) (opened : List OpenMember) (n : ℕ) (es : List (ℕ × Note)) → IsStrictlySortedBy nat_cmp (keys_of es)
+    → unwrap_or (option_map (λ v. is_dead_note format shown opened (n, v)) (lookup (is_at (nat_cmp n)) es)) false ≡ is_dead_in format shown opened n (rows_of es)
+unfolding IsStrictlySortedBy
+dead_found format shown opened n [] sorted = refl
+dead_found format shown opened n (e ∷ es) sorted = by (is_at (nat_cmp n) e.0) (e.0 == n) refl (same_number n e.0) (dead_found format shown opened n es sorted.1)
+  where
+    q : Retired → Bool
+    q = is_dead_row format shown opened
+
+    own : (e.0 == n) ≡ true → is_dead_note format shown opened (n, e.1) ≡ q (row_of e)
+    own h = ap (λ k. is_dead_note format shown opened (k, e.1)) (number_same e.0 n h) ∙ dead_entry format shown opened e
+
+    by : (t u : Bool) → is_at (nat_cmp n) e.0 ≡ t → t ≡ u
+        → unwrap_or (option_map (λ v. is_dead_note format shown opened (n, v)) (lookup (is_at (nat_cmp n)) es)) false ≡ list_any (λ r. is_numbered n r && q r) (rows_of es)
+        → unwrap_or (option_map (λ v. is_dead_note format shown opened (n, v)) (cond t (Some e.1) (lookup (is_at (nat_cmp n)) es))) false
+        ≡ ((u && q (row_of e)) || list_any (λ r. is_numbered n r && q r) (rows_of es))
+    by true true at h rest =
+        own (sym (same_number n e.0) ∙ at)
+        ∙ sym (or_none (q (row_of e)) (list_any (λ r. is_numbered n r && q r) (rows_of es))
+        (none_numbered q n es (none_past_head (eq_by_cmp_equiv nat_cmp_total) n e es (IsDistinct-from_sorted nat_cmp (keys_of (e ∷ es)) sorted) at)))
+    by true false at h rest = absurd (true≢false h)
+    by false true at h rest = absurd (false≢true h)
+    by false false at h rest = rest
 
 -- a listener waits for its drain timeout among the rows as among the notes
 pub any_waiting : (name : List ℕ) (es : List (ℕ × Note)) → list_any (is_waiting_note name) (values_of es) ≡ list_any (is_waiting name) (rows_of es)

@@ -63,6 +63,10 @@ is_draining_listener name row = (kind_same row.kind Lds && bytes_eq row.name nam
 abbrev pub is_waiting : List ℕ → Retired → Bool
 is_waiting name row = is_draining_listener name row && not row.expired
 
+-- the numbers of those
+abbrev pub numbers_waiting : List ℕ → List Retired → List ℕ
+numbers_waiting name rows = map (λ (row : Retired). row.number) (filter (is_waiting name) rows)
+
 -- the row once the drain timeout of this name came
 abbrev pub marked : List ℕ → Retired → Retired
 marked name row = record row { expired = row.expired || is_draining_listener name row }
@@ -72,6 +76,10 @@ abbrev pub is_dead_row : Format → (ℕ → Bool) → List OpenMember → Retir
 is_dead_row format shown opened row =
     is_dead_at row.status
     ((shown row.number || list_any (is_open_on row.number) opened) || (waits_for_timer format row.kind && not row.expired))
+
+-- the row of this number is among these, and nothing holds it any more
+abbrev pub is_dead_in : Format → (ℕ → Bool) → List OpenMember → ℕ → List Retired → Bool
+is_dead_in format shown opened number rows = list_any (λ row. is_numbered number row && is_dead_row format shown opened row) rows
 
 -- the numbers of the dead ones
 abbrev pub dead_of : Format → (ℕ → Bool) → List OpenMember → List Retired → List ℕ

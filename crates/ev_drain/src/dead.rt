@@ -21,13 +21,19 @@ pub(crate) fn dead_notes<S: Shows>(
 {
     notes
         .iter()
-        .filter(|entry| is_dead(format, ledger, shown, *entry.0, entry.1))
+        .filter(|entry| nothing_holds(format, ledger, shown, *entry.0, entry.1))
         .map(|(number, _)| *number)
         .collect(alloc)
 }
 
-// Whether nothing holds a generation any more.
-fn is_dead<S: Shows>(format: Format, ledger: &Ledger, shown: &S, number: Gen, note: &Note) -> bool
+/// Whether nothing holds a generation any more.
+pub(crate) fn nothing_holds<S: Shows>(
+    format: Format,
+    ledger: &Ledger,
+    shown: &S,
+    number: Gen,
+    note: &Note,
+) -> bool
     ensures { result ≡ is_dead_note format (S.has shown.now) ledger.now (number, note.now) }
 {
     match note.status {

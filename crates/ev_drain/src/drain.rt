@@ -10,9 +10,9 @@ ghost use Rattle.ev_model.specs.Picture.{has_number};
 ghost use Rattle.ev_model.specs.Dead.{numbers_in_use};
 ghost use Rattle.ev_model.specs.Publishing.{dead_numbers};
 ghost use Rattle.ev_ledger.specs.Members.{StandsFor as HasOpened};
-ghost use Rattle.ev_drain.specs.Retired.{Retired, newly_retired, comes_before, is_numbered, has_row, kind_of_row, is_expired, is_waiting, marked, dead_of, retired_status, StandsFor};
+ghost use Rattle.ev_drain.specs.Retired.{Retired, newly_retired, comes_before, is_numbered, has_row, kind_of_row, is_expired, is_waiting, marked, dead_of, is_dead_in, retired_status, StandsFor};
 
-use crate::dead::dead_notes;
+use crate::dead::{dead_notes, nothing_holds};
 use crate::notes::{Note, Notes, any_waits, kind_of, mark, put};
 use crate::shown::Shows;
 use ev_ledger::Ledger;
@@ -120,6 +120,19 @@ impl Drain {
         ensures world { IfOk result (λ dead. (world : World) → StandsFor self.now world.rows world.expired → HasOpened ledger.now world.opened → ((n : ℕ) → S.has shown.now n ≡ has_number n (numbers_in_use world)) → dead.items ≡ dead_numbers format world) }
     {
         dead_notes(alloc, &self.notes, format, ledger, shown)
+    }
+
+    /// Whether nothing holds a generation any more that was retired, and not removed since; the rest is as in `dead`. It looks at
+    /// no other generation, and takes no memory.
+    pub fn is_dead<S: Shows>(&self, format: Format, ledger: &Ledger, shown: &S, number: Gen) -> bool
+        ensures dead { result ≡ is_dead_in format (S.has shown.now) ledger.now number self.now }
+    {
+        // They stand in the order of their numbers.
+        let _ = self.notes.len();
+        match self.notes.get(&number) {
+            Some(note) => nothing_holds(format, ledger, shown, number, note),
+            None => false,
+        }
     }
 
     /// Takes a generation out. It takes no memory.

@@ -1,6 +1,6 @@
 -- The entries of the ledger's map as connections.
-use Rattle.std.proofs.Common.{◌≡◌, ℕ, ◌+◌, ◌≤◌, Bool, true, false, not, ◌&&◌, ◌||◌, ◌==◌, cond, List, [], ◌∷◌, filter, map, length, Option, None, Some, refl, sym, ap, ◌∙◌, arith}
-use Rattle.std.specs.List.{list_any, sum_by, count_by, AllByRecursion, IsDistinct}
+use Rattle.std.proofs.Common.{◌≡◌, ℕ, ◌+◌, ◌≤◌, Bool, true, false, not, ◌||◌, ◌==◌, cond, List, [], ◌∷◌, filter, map, length, Option, None, Some, refl, sym, ap, ◌∙◌, arith}
+use Rattle.std.specs.List.{find, sum_by, count_by, AllByRecursion}
 use Rattle.std.specs.List.Sorted.{IsStrictlySortedBy}
 use Rattle.std.specs.Option.{is_some, unwrap_or, option_map}
 use Rattle.std.specs.Map.{keys_of, values_of, lookup, remove_entry}
@@ -8,10 +8,10 @@ use Rattle.std.specs.BTreeMap.{insert_entry, is_at}
 use Rattle.std.specs.BTreeMap.Range.{range_contains, entries_between}
 use Rattle.std.specs.declared.ops.Bound.TheVariants.{Included, Excluded}
 use Rattle.std.proofs.lemmas.Bool.Decides.{nat_tests}
-use Rattle.std.specs.Ordering.{is_eq, is_le, match_ordering, ordering_then, nat_cmp, eq_by_cmp}
+use Rattle.std.specs.Ordering.{is_eq, is_le, match_ordering}
 use Rattle.std.specs.declared.cmp.Ordering.{Ordering}
 use Rattle.std.specs.declared.cmp.Ordering.TheVariants.{Less, Equal, Greater}
-use Rattle.std.specs.Cmp.{IsTotalOrder, IsEquivalence, eq_by_cmp_equiv}
+use Rattle.std.specs.Cmp.{IsTotalOrder, eq_by_cmp_equiv}
 use Rattle.std.proofs.lemmas.Bool.{true≢false, false≢true}
 use Rattle.std.proofs.lemmas.Cmp.{nat_cmp_total, then_total, on_total}
 use Rattle.std.proofs.lemmas.List.Sums.{sum_by-cons, length-filter, count_by-le-length}
@@ -21,8 +21,8 @@ use Rattle.std.proofs.lemmas.Map.Keys.{IsDistinct-from_sorted}
 use Rattle.ev_model.specs.World.{OpenMember}
 use Rattle.ev_model.specs.Sorted.{put_by}
 use Rattle.ev_model.specs.Dead.{is_open_on, is_forwarded_to}
-use Rattle.ev_model.specs.Connections.{is_member, is_open, member_on, closed}
-use Rattle.ev_ledger.specs.Members.{AreApart, comes_before, count_of, held_of, is_of_worker, connection_of}
+use Rattle.ev_model.specs.Connections.{is_member, is_open, closed}
+use Rattle.ev_ledger.specs.Members.{AreApart, comes_before, count_of, held_of, is_of_worker, connection_of, on_in}
 use Rattle.ev_ledger.specs.Entries.{key_order, member_of, members_of, weight, is_at_worker, held_at}
 use Rattle.ev_ledger.proofs.PlaceLemmas.{same_place, closed_leaves}
 
@@ -35,6 +35,19 @@ found_open w c [] = refl
 found_open w c (e ∷ es) = by (is_at (key_order (w, c)) e.0) (is_member w c (member_of e)) (same_place w c e.0.0 e.0.1) (found_open w c es)
   where
     by : (t u : Bool) → t ≡ u → is_some (lookup (is_at (key_order (w, c))) es) ≡ is_open (members_of es) w c → is_some (cond t (Some e.1) (lookup (is_at (key_order (w, c))) es)) ≡ (u || is_open (members_of es) w c)
+    by true true h rest = refl
+    by true false h rest = absurd (true≢false h)
+    by false true h rest = absurd (false≢true h)
+    by false false h rest = rest
+
+-- and what it has is what the connection is open on
+pub found_on : (w c : ℕ) (es : List ((ℕ × ℕ) × (ℕ × Option ℕ))) → lookup (is_at (key_order (w, c))) es ≡ on_in w c (members_of es)
+found_on w c [] = refl
+found_on w c (e ∷ es) = by (is_at (key_order (w, c)) e.0) (is_member w c (member_of e)) (same_place w c e.0.0 e.0.1) (found_on w c es)
+  where
+    by : (t u : Bool) → t ≡ u → lookup (is_at (key_order (w, c))) es ≡ on_in w c (members_of es)
+        → cond t (Some e.1) (lookup (is_at (key_order (w, c))) es)
+        ≡ option_map (λ (m : OpenMember). (m.listener, m.cluster)) (cond u (Some (member_of e)) (find (is_member w c) (members_of es)))
     by true true h rest = refl
     by true false h rest = absurd (true≢false h)
     by false true h rest = absurd (false≢true h)

@@ -1,11 +1,12 @@
 -- The open connections as the ledger has them: in one order, by worker and number, so that those of a worker stand together.
-use Rattle.std.specs.Prelude.{◌≡◌, ℕ, Bool, false, ⊤, ◌==◌, List, [], ◌∷◌, ◌++◌, length, filter, map}
+use Rattle.std.specs.Prelude.{◌≡◌, ℕ, Bool, false, ⊤, ◌==◌, List, [], ◌∷◌, length, filter, find, map, Option}
+use Rattle.std.specs.Option.{option_map}
 use Rattle.std.specs.Ordering.{ordering_then, nat_cmp, is_le}
 use Rattle.std.specs.declared.cmp.Ordering.{Ordering}
 use Rattle.ev_model.specs.World.{OpenMember}
 use Rattle.ev_model.specs.Sorted.{sorted_by}
 use Rattle.ev_model.specs.Dead.{is_open_on}
-use Rattle.ev_model.specs.Connections.{is_open}
+use Rattle.ev_model.specs.Connections.{is_member, is_open}
 
 -- connections compare by worker, and those of one worker by number
 abbrev pub place_order : OpenMember → OpenMember → Ordering
@@ -26,6 +27,11 @@ StandsFor ledger opened = ledger ≡ in_order opened
 -- how many of these connections are open on the generation of this number, as its listener or its cluster
 abbrev pub count_of : ℕ → List OpenMember → ℕ
 count_of number opened = length (filter (is_open_on number) opened)
+
+-- what the worker's connection of this number is open on, where it is among these: its listener and, where it was forwarded, its
+-- cluster
+abbrev pub on_in : ℕ → ℕ → List OpenMember → Option (ℕ × Option ℕ)
+on_in worker connection members = option_map (λ (m : OpenMember). (m.listener, m.cluster)) (find (is_member worker connection) members)
 
 -- no two of these connections are of one worker and number
 abbrev pub AreApart : List OpenMember → Type 0

@@ -2,10 +2,10 @@ ghost use Rattle.std.specs.Prelude.{◌≡◌, false, List, [], ◌∷◌, ◌++
 ghost use Rattle.ev_model.specs.World.{OpenMember};
 ghost use Rattle.ev_model.specs.Sorted.{put_by};
 ghost use Rattle.ev_model.specs.Connections.{is_open, member_on, closed};
-ghost use Rattle.ev_ledger.specs.Members.{comes_before, in_order, AreApart, StandsFor, count_of, held_of};
+ghost use Rattle.ev_ledger.specs.Members.{comes_before, in_order, AreApart, StandsFor, count_of, held_of, on_in};
 
 use crate::counts::{count_in, lower_on, raise_on};
-use crate::members::{Members, held, is_there, put, take};
+use crate::members::{Members, found, held, is_there, put, take};
 use ev_types::{Gen, TryCopy};
 use indexmap::IndexMap;
 use std::alloc::{AllocError, Global};
@@ -102,6 +102,14 @@ impl Ledger {
         ensures world { (opened : List OpenMember) → StandsFor self.now opened → result ≡ is_open opened worker conn }
     {
         is_there(&self.members, (worker as u64, conn))
+    }
+
+    /// The listener and, where it was forwarded, the cluster of a worker's connection, where it is open. It looks at no other,
+    /// and takes no memory.
+    pub fn on(&self, worker: u32, conn: u64) -> Option<(Gen, Option<Gen>)>
+        ensures on { result ≡ on_in worker conn self.now }
+    {
+        found(&self.members, (worker as u64, conn))
     }
 
     /// The connections that a worker has open, each with its listener, by their numbers from the least.

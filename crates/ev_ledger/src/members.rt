@@ -41,6 +41,13 @@ pub(crate) fn take(members: &mut Members, place: (u64, u64)) -> Option<(Gen, Opt
     members.remove(&place)
 }
 
+/// What the connection at a place is open on, where there is one. It takes no memory.
+pub(crate) fn found(members: &Members, place: (u64, u64)) -> Option<(Gen, Option<Gen>)>
+    ensures { result ≡ lookup (is_at (key_order place)) members.now.entries }
+{
+    members.get(&place).copied()
+}
+
 /// Whether there is a connection at a place.
 pub(crate) fn is_there(members: &Members, place: (u64, u64)) -> bool
     ensures { result ≡ is_some (lookup (is_at (key_order place)) members.now.entries) }

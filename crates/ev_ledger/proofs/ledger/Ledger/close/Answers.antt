@@ -1,9 +1,7 @@
-use Rattle.std.proofs.Common.{◌≡◌, ℕ, ◌≤◌, ◌+◌, Some, None, true, false, refl, sym, ap, ◌∙◌, arith}
+use Rattle.std.proofs.Common.{Some, None, sym, ap, ◌∙◌, arith}
 use Rattle.std.specs.Option.{is_some}
-use Rattle.std.specs.Map.{lookup, remove_entry}
-use Rattle.std.specs.BTreeMap.{is_at}
 use Rattle.ev_model.specs.Connections.{is_open, closed}
-use Rattle.ev_ledger.specs.Entries.{key_order, members_of, weight, counted}
+use Rattle.ev_ledger.specs.Entries.{members_of}
 use Rattle.ev_ledger.proofs.EntryLemmas.{found_open, closed_members, sum_taken}
 use Rattle.ev_ledger.proofs.PlaceLemmas.{close_stands, closed_gone, answer_stands}
 use Rattle.ev_ledger.proofs.ledger.Ledger.close.Goals as goal

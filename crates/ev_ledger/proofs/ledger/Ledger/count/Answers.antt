@@ -1,6 +1,5 @@
-use Rattle.std.proofs.Common.{◌≡◌, ℕ, List, sym, ap, ◌∙◌}
-use Rattle.ev_model.specs.World.{OpenMember}
-use Rattle.ev_ledger.specs.Members.{StandsFor, count_of}
+use Rattle.std.proofs.Common.{ap, ◌∙◌}
+use Rattle.ev_ledger.specs.Members.{count_of}
 use Rattle.ev_ledger.proofs.EntryLemmas.{count_members}
 use Rattle.ev_ledger.proofs.PlaceLemmas.{count_in_order}
 use Rattle.ev_ledger.proofs.ledger.Ledger.count.Goals as goal

@@ -1,4 +1,4 @@
-use Rattle.std.proofs.Common.{◌≡◌, ap, ◌∙◌, subst}
+use Rattle.std.proofs.Common.{ap, ◌∙◌, subst}
 use Rattle.std.proofs.lemmas.Result.{IfOk-weaker}
 use Rattle.ev_ledger.specs.Members.{AreApart, held_of}
 use Rattle.ev_ledger.proofs.EntryLemmas.{apart_members, held_members}

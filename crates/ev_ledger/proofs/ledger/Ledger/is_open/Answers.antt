@@ -1,4 +1,4 @@
-use Rattle.std.proofs.Common.{◌≡◌, ap, ◌∙◌}
+use Rattle.std.proofs.Common.{ap, ◌∙◌}
 use Rattle.ev_model.specs.Connections.{is_open}
 use Rattle.ev_ledger.proofs.EntryLemmas.{found_open}
 use Rattle.ev_ledger.proofs.PlaceLemmas.{answer_stands}

@@ -1,12 +1,11 @@
-use Rattle.std.proofs.Common.{◌≡◌, ℕ, ◌≤◌, ◌<◌, ◌+◌, List, Option, true, false, nat_eq, refl, sym, ap, ◌∙◌, arith}
-use Rattle.std.specs.Option.{is_some, unwrap_or}
+use Rattle.std.proofs.Common.{◌+◌, nat_eq, sym, ap, ◌∙◌, arith}
+use Rattle.std.specs.Option.{unwrap_or}
 use Rattle.std.specs.Map.{lookup, values_of}
-use Rattle.std.specs.BTreeMap.{is_at}
 use Rattle.std.specs.List.{sum_by}
 use Rattle.ev_model.specs.Sorted.{put_by}
 use Rattle.ev_model.specs.Connections.{is_open, member_on}
 use Rattle.ev_ledger.specs.Members.{comes_before}
-use Rattle.ev_ledger.specs.Entries.{key_order, members_of, counted, weight}
+use Rattle.ev_ledger.specs.Entries.{members_of, weight}
 use Rattle.ev_ledger.proofs.EntryLemmas.{found_open, put_members, sum_put, sum_few}
 use Rattle.ev_ledger.proofs.PlaceLemmas.{open_stands}
 use Rattle.ev_ledger.proofs.ledger.Ledger.open.Goals as goal
