@@ -1,2 +1,4 @@
 pub mod RowLemmas
 pub mod WorldLemmas
+pub mod WaiterLemmas
+pub mod MarkLemmas

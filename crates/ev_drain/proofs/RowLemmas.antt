@@ -3,7 +3,7 @@ use Rattle.std.proofs.Common.{◌≡◌, ℕ, suc, Bool, true, false, not, ◌&&
 use Rattle.std.specs.List.{list_any, find}
 use Rattle.std.specs.List.Sorted.{IsStrictlySortedBy}
 use Rattle.std.specs.Option.{is_some, option_map, unwrap_or}
-use Rattle.std.specs.Map.{keys_of, values_of, lookup, remove_entry}
+use Rattle.std.specs.Map.{keys_of, lookup, remove_entry}
 use Rattle.std.specs.BTreeMap.{insert_entry, is_at}
 use Rattle.std.specs.Ordering.{is_eq, is_le, match_ordering, nat_cmp}
 use Rattle.std.specs.declared.cmp.Ordering.{Ordering}
@@ -17,8 +17,8 @@ use Rattle.std.proofs.lemmas.Map.Entries.{none_past_head}
 use Rattle.std.proofs.lemmas.Map.Keys.{IsDistinct-from_sorted}
 use Rattle.ev_model.specs.Sorted.{put_by}
 use Rattle.ev_drain.specs.declared.notes.Note.{Note}
-use Rattle.ev_drain.specs.Retired.{Retired, comes_before, is_numbered, has_row, is_waiting, marked, is_dead_row, dead_of, is_dead_in}
-use Rattle.ev_drain.specs.Notes.{row_of, rows_of, marked_note, is_waiting_note, is_dead_note}
+use Rattle.ev_drain.specs.Retired.{Retired, comes_before, is_numbered, has_row, is_dead_row, dead_of, is_dead_in}
+use Rattle.ev_drain.specs.Notes.{row_of, rows_of, is_dead_note}
 use Rattle.ev_types.specs.declared.journals.Format.{Format}
 use Rattle.ev_model.specs.World.{OpenMember}
 use Rattle.ev_model.specs.Dead.{is_dead_at, is_open_on, waits_for_timer}
@@ -28,7 +28,7 @@ pub same_number : (n k : ℕ) → is_eq (nat_cmp n k) ≡ (k == n)
 same_number n k = grind (arith, nat_tests)
 
 -- what the test of numbers passes is equal
-number_same : (a n : ℕ) → (a == n) ≡ true → n ≡ a
+pub number_same : (a n : ℕ) → (a == n) ≡ true → n ≡ a
 number_same a n h = grind (arith, nat_tests)
 
 pub found_row : (n : ℕ) (es : List (ℕ × Note)) → is_some (lookup (is_at (nat_cmp n)) es) ≡ has_row (rows_of es) n
@@ -96,10 +96,9 @@ remove_rows n (e ∷ es) sorted = by (is_at (nat_cmp n) e.0) (e.0 == n) refl (sa
     by false true at h rest = absurd (false≢true h)
     by false false at h rest = ap (λ rs. row_of e ∷ rs) rest
 
--- the marks of a drain timeout
-pub marked_rows : (name : List ℕ) (es : List (ℕ × Note)) → rows_of (map (λ e. (e.0, marked_note name e.1)) es) ≡ map (marked name) (rows_of es)
-marked_rows name [] = refl
-marked_rows name (e ∷ es) = ap (λ rs. marked name (row_of e) ∷ rs) (marked_rows name es)
+pub rows_left : (n : ℕ) (es left : List (ℕ × Note)) (rows : List Retired) → left ≡ remove_entry (is_at (nat_cmp n)) es → IsStrictlySortedBy nat_cmp (keys_of es)
+    → rows_of es ≡ rows → rows_of left ≡ filter (λ r. not (is_numbered n r)) rows
+rows_left n es left rows is sorted are = ap rows_of is ∙ remove_rows n es sorted ∙ ap (filter (λ r. not (is_numbered n r))) are
 
 -- a count is none exactly where no element passes
 some_counted : (n : ℕ) → not (suc n == 0) ≡ true
@@ -169,8 +168,3 @@ dead_found format shown opened n (e ∷ es) sorted = by (is_at (nat_cmp n) e.0) 
     by true false at h rest = absurd (true≢false h)
     by false true at h rest = absurd (false≢true h)
     by false false at h rest = rest
-
--- a listener waits for its drain timeout among the rows as among the notes
-pub any_waiting : (name : List ℕ) (es : List (ℕ × Note)) → list_any (is_waiting_note name) (values_of es) ≡ list_any (is_waiting name) (rows_of es)
-any_waiting name [] = refl
-any_waiting name (e ∷ es) = ap (λ b. is_waiting name (row_of e) || b) (any_waiting name es)

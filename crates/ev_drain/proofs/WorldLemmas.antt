@@ -113,7 +113,7 @@ dead_stands format shown drain opened world stands holds shows =
     ∙ ap (λ rs. ascending (map (λ (r : GenRow). r.number) rs))
     (filter_both is_retired (λ row. dead (retired row)) (is_dead format world) (dead_same format shown opened world shows opens) world.rows)
 
-any_mapped : {X Y : Type 0} (q : Y → Bool) (f : X → Y) (xs : List X) → list_any q (map f xs) ≡ list_any (λ x. q (f x)) xs
+pub any_mapped : {X Y : Type 0} (q : Y → Bool) (f : X → Y) (xs : List X) → list_any q (map f xs) ≡ list_any (λ x. q (f x)) xs
 any_mapped q f [] = refl
 any_mapped q f (x ∷ xs) = ap (λ b. q (f x) || b) (any_mapped q f xs)
 
@@ -145,7 +145,7 @@ other_number : (m k n : ℕ) → (m == n) ≡ true → not (k == n) ≡ true →
 other_number m k n at apart = grind (arith, nat_tests)
 
 -- a number that stays is marked as before
-number_left : (k n : ℕ) (es : List ℕ) → not (k == n) ≡ true → has_number k es ≡ has_number k (filter (λ m. not (m == n)) es)
+pub number_left : (k n : ℕ) (es : List ℕ) → not (k == n) ≡ true → has_number k es ≡ has_number k (filter (λ m. not (m == n)) es)
 number_left k n [] apart = refl
 number_left k n (m ∷ es) apart = by (m == n) refl (number_left k n es apart)
   where
@@ -272,7 +272,7 @@ Distinct f (x ∷ xs) = (list_any (λ y. f y == f x) xs ≡ false) × Distinct f
 number_turned : (a b : ℕ) → (a == b) ≡ false → (b == a) ≡ false
 number_turned a b h = grind (arith, nat_tests)
 
-number_own : (a : ℕ) → (a == a) ≡ true
+pub number_own : (a : ℕ) → (a == a) ≡ true
 number_own a = grind (arith, nat_tests)
 
 module _ {X : Type 0} (f : X → ℕ) where

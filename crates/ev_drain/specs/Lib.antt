@@ -1,2 +1,3 @@
 pub mod Retired
+pub mod Waiters
 pub mod Notes

@@ -1,5 +1,5 @@
 -- What the drain's map holds: what is noted of a row, by its number.
-use Rattle.std.specs.Prelude.{ℕ, Bool, not, ◌==◌, ◌&&◌, ◌||◌, List, map}
+use Rattle.std.specs.Prelude.{ℕ, Bool, not, ◌==◌, ◌&&◌, ◌||◌, if◌then◌else◌, List, map}
 use Rattle.ev_types.specs.declared.journals.Format.{Format}
 use Rattle.ev_model.specs.World.{OpenMember}
 use Rattle.ev_model.specs.Dead.{is_dead_at, waits_for_timer}
@@ -7,6 +7,7 @@ use Rattle.ev_ledger.specs.Members.{count_of}
 use Rattle.std.specs.Str.{bytes_eq}
 use Rattle.ev_types.specs.Kinds.{kind_same}
 use Rattle.ev_types.specs.declared.contents.Kind.TheVariants.{Lds}
+use Rattle.ev_model.specs.Picture.{has_number}
 use Rattle.ev_model.specs.Signals.{is_draining}
 use Rattle.ev_drain.specs.declared.notes.Note.{Note}
 use Rattle.ev_drain.specs.Retired.{Retired}
@@ -33,6 +34,14 @@ is_waiting_note name note = ((kind_same note.kind Lds && bytes_eq note.name name
 abbrev pub marked_note : List ℕ → Note → Note
 marked_note name note =
     record note { expired = note.expired || ((kind_same note.kind Lds && bytes_eq note.name name) && is_draining note.status) }
+
+-- the entry has one of these numbers, and its note waits for the drain timeout of this name
+abbrev pub is_waiting_among : List ℕ → List ℕ → ℕ × Note → Bool
+is_waiting_among name numbers entry = has_number entry.0 numbers && is_waiting_note name entry.1
+
+-- the entry once the drain timeout of this name came, which is told to the notes of these numbers
+abbrev pub marked_among : List ℕ → List ℕ → ℕ × Note → ℕ × Note
+marked_among name numbers entry = (entry.0, if has_number entry.0 numbers then marked_note name entry.1 else entry.1)
 
 -- nothing holds the generation of an entry any more, by a test of what is shown and the open connections' counts
 abbrev pub is_dead_note : Format → (ℕ → Bool) → List OpenMember → ℕ × Note → Bool

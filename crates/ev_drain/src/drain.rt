@@ -10,11 +10,12 @@ ghost use Rattle.ev_model.specs.Picture.{has_number};
 ghost use Rattle.ev_model.specs.Dead.{numbers_in_use};
 ghost use Rattle.ev_model.specs.Publishing.{dead_numbers};
 ghost use Rattle.ev_ledger.specs.Members.{StandsFor as HasOpened};
-ghost use Rattle.ev_drain.specs.Retired.{Retired, newly_retired, comes_before, is_numbered, has_row, kind_of_row, is_expired, is_waiting, marked, dead_of, is_dead_in, retired_status, StandsFor};
+ghost use Rattle.ev_drain.specs.Retired.{Retired, newly_retired, comes_before, is_numbered, has_row, kind_of_row, is_expired, is_waiting, numbers_waiting, marked, dead_of, is_dead_in, retired_status, StandsFor};
 
 use crate::dead::{dead_notes, nothing_holds};
-use crate::notes::{Note, Notes, any_waits, kind_of, mark, put};
+use crate::notes::{Note, Notes, is_waiting, kind_of, mark, put};
 use crate::shown::Shows;
+use crate::waiters::Waiters;
 use ev_ledger::Ledger;
 use ev_types::{Format, Gen, Kind, Name, RowStatus, Shared, TryCopy};
 use std::alloc::{AllocError, Global};
@@ -25,6 +26,8 @@ use std::marker::Model;
 #[derive(Drop)]
 pub struct Drain {
     notes: Notes,
+    // By name the numbers of the listeners among them that wait for their drain timeout. One that waits for nothing does no harm.
+    waiters: Waiters,
 }
 
 impl Model for Drain {
@@ -34,8 +37,11 @@ impl Model for Drain {
     ghost Value = { List Retired };
 
     ghost use Rattle.ev_drain.specs.Notes.{rows_of};
+    ghost use Rattle.ev_drain.specs.Waiters.{HaveWaiters};
 
     ghost view = { λ d. rows_of d.notes.entries };
+
+    ghost invariant = { λ d. HaveWaiters d.waiters (rows_of d.notes.entries) };
 }
 
 impl Drain {
@@ -46,6 +52,7 @@ impl Drain {
     {
         Drain {
             notes: BTreeMap::new(alloc),
+            waiters: Waiters::new(alloc),
         }
     }
 
@@ -65,6 +72,13 @@ impl Drain {
         ensures err { OnErr result (self.new ≡ self.old) }
     {
         let Ok(note) = new_note(alloc, kind, name, dropped) else {
+            return Err(AllocError);
+        };
+        // The number goes first: without its note it waits for nothing.
+        let Ok(_) = self
+            .waiters
+            .await_timeout(alloc, kind, number, name, dropped)
+        else {
             return Err(AllocError);
         };
         let Ok(_) = put(&mut self.notes, number, note) else {
@@ -94,17 +108,27 @@ impl Drain {
     }
 
     /// The drain timeout of a listener's old generations: it came for those of this name that drain. It answers whether there
-    /// was one for which it hadn't come. It takes no memory.
+    /// was one for which it hadn't come. It takes no memory, and looks at those alone that wait under this name.
     pub fn expire(&mut self, name: &Name) -> bool
         ensures answer { result ≡ list_any (is_waiting name.now) self.old }
         ensures marked { self.new ≡ map (marked name.now) self.old }
         ensures answer_by_world { (rows : List GenRow) (expired : List ℕ) → StandsFor self.old rows expired → result ≡ list_any (is_unexpired expired name.now) rows }
         ensures world { (rows : List GenRow) (expired : List ℕ) → StandsFor self.old rows expired → StandsFor self.new rows (expired ++ unexpired expired name.now rows) }
     {
-        let text = name.as_str();
-        let meant = any_waits(&self.notes, text);
-        mark(&mut self.notes, text);
-        meant
+        // They stand in the order of their numbers.
+        let _ = self.notes.len();
+        let Some(numbers) = self.waiters.take(name) else {
+            return false;
+        };
+        mark(&mut self.notes, name.as_str(), numbers.as_slice())
+    }
+
+    /// Numbers of generations among which are all draining listeners of this name whose drain timeout hasn't come. They are lent:
+    /// it takes no memory, and walks nothing.
+    pub fn waiting(&self, name: &Name) -> &[Gen]
+        ensures waiting { (number : ℕ) → has_number number (numbers_waiting name.now self.now) ≡ true → has_number number result.now ≡ true }
+    {
+        self.waiters.under(name)
     }
 
     /// The numbers of the generations that nothing holds any more, from the least, by a journal's format: `ledger` has the open
@@ -135,20 +159,28 @@ impl Drain {
         }
     }
 
-    /// Takes a generation out. It takes no memory.
+    /// Takes a generation out. It takes no memory, and is a look-up; of a listener that still waits for its drain timeout it goes
+    /// over the numbers of those that wait under its name, to take its own out.
     pub fn remove(&mut self, number: Gen)
         ensures removed { self.new ≡ filter (λ row. not (is_numbered number row)) self.old }
         ensures world { (rows : List GenRow) (expired : List ℕ) → StandsFor self.old rows expired → StandsFor self.new (filter (λ row. not (row.number == number)) rows) (filter (λ n. not (n == number)) expired) }
     {
+        // They stand in the order of their numbers.
         let _ = self.notes.len();
-        let _ = self.notes.remove(&number);
+        let Some(note) = self.notes.remove(&number) else {
+            return;
+        };
+        if is_waiting(&note) {
+            self.waiters.leave(note.name.get(), number);
+        }
     }
 }
 
 impl TryCopy for Drain {
-    fn copy(&self, _alloc: Global) -> Result<Drain, AllocError> {
+    fn copy(&self, alloc: Global) -> Result<Drain, AllocError> {
         Ok(Drain {
             notes: self.notes.clone()?,
+            waiters: self.waiters.copy(alloc)?,
         })
     }
 }

@@ -6,6 +6,7 @@ mod deferred;
 mod drain;
 mod notes;
 mod shown;
+mod waiters;
 
 pub use deferred::Deferred;
 pub use drain::Drain;

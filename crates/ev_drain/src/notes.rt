@@ -1,12 +1,8 @@
-ghost use Rattle.std.specs.Prelude.{◌≡◌, ◌&&◌, ◌||◌, ℕ, not, map, OnOk, OnErr};
+ghost use Rattle.std.specs.Prelude.{◌≡◌, [], ◌∷◌, map, OnOk, OnErr};
 ghost use Rattle.std.specs.List.{list_any};
-ghost use Rattle.ev_drain.specs.Notes.{is_waiting_note, marked_note};
+ghost use Rattle.ev_drain.specs.Notes.{is_waiting_note, is_waiting_among, marked_note, marked_among};
 ghost use Rattle.std.specs.Ordering.{nat_cmp};
-ghost use Rattle.std.specs.BTreeMap.{insert_entry, values, IsOrdered};
-ghost use Rattle.ev_types.specs.Kinds.{kind_same};
-ghost use Rattle.std.specs.Str.{bytes_eq};
-ghost use Rattle.ev_model.specs.Signals.{is_draining};
-ghost use Rattle.ev_types.specs.declared.contents.Kind.TheVariants.{Lds};
+ghost use Rattle.std.specs.BTreeMap.{insert_entry, IsOrdered};
 
 use ev_types::{Gen, Kind, Name, RowStatus, Shared};
 use std::alloc::{AllocError, Global};
@@ -46,13 +42,18 @@ pub(crate) fn kind_of(note: &Note) -> Kind
     note.kind
 }
 
-/// Whether it is a draining listener of this name.
-pub(crate) fn is_draining_listener(note: &Note, name: &str) -> bool
-    ensures { result ≡ ((kind_same note.now.kind Lds && bytes_eq note.now.name name.now) && is_draining note.now.status) }
+/// Whether it is a draining listener whose drain timeout hasn't come.
+pub(crate) fn is_waiting(note: &Note) -> bool
+    ensures { result ≡ is_waiting_note note.now.name note.now }
 {
-    note.kind.is(Kind::Lds)
-        && note.name.get().as_str() == name
-        && matches!(note.status, RowStatus::Draining)
+    note.kind.is(Kind::Lds) && matches!(note.status, RowStatus::Draining) && !note.expired
+}
+
+// Whether it is a draining listener of this name whose drain timeout hasn't come.
+fn waits(note: &Note, name: &str) -> bool
+    ensures { result ≡ is_waiting_note name.now note.now }
+{
+    is_waiting(note) && note.name.get().as_str() == name
 }
 
 /// The notes by number.
@@ -72,36 +73,41 @@ pub(crate) fn put(notes: &mut Notes, number: Gen, note: Note) -> Result<(), Allo
     Ok(())
 }
 
-/// Whether a draining listener of this name waits for its drain timeout.
-pub(crate) fn any_waits(notes: &Notes, name: &str) -> bool
-    ensures { result ≡ list_any (is_waiting_note name.now) (values notes.now) }
+/// The drain timeout of this name came: marks the draining listeners of the name among the notes of these numbers, and answers
+/// whether there was one for which it hadn't come. It looks at no other note, and takes no memory.
+pub(crate) fn mark(notes: &mut Notes, name: &str, numbers: &[Gen]) -> bool
+    ensures answer { result ≡ list_any (is_waiting_among name.now numbers.now) notes.old.entries }
+    ensures entries { notes.new.entries ≡ map (marked_among name.now numbers.now) notes.old.entries }
 {
-    notes.values().any(|note| waits(note, name))
-}
-
-// Whether it is a draining listener of this name whose drain timeout hasn't come.
-fn waits(note: &Note, name: &str) -> bool
-    ensures { result ≡ is_waiting_note name.now note.now }
-{
-    is_draining_listener(note, name) && !note.expired
-}
-
-/// Marks the draining listeners of this name: their drain timeout came. It takes no memory.
-pub(crate) fn mark(notes: &mut Notes, name: &str)
-    ensures entries { notes.new.entries ≡ map (λ entry. (entry.0, marked_note name.now entry.1)) notes.old.entries }
-    ensures ordered { IsOrdered nat_cmp notes.old }
-{
-    notes.retain(|_, note| {
-        mark_one(note, name);
-        true
-    });
-}
-
-// Marks it where it is a draining listener of this name.
-fn mark_one(note: &mut Note, name: &str)
-    ensures { note.new ≡ marked_note name.now note.old }
-{
-    if is_draining_listener(note, name) {
-        note.expired = true;
+    let mut meant = false;
+    for number in numbers {
+        meant |= mark_numbered(notes, name, *number);
     }
+    meant
+}
+
+// Marks the note of this number, where it is a draining listener of this name, and answers whether its drain timeout hadn't
+// come.
+fn mark_numbered(notes: &mut Notes, name: &str, number: Gen) -> bool
+    ensures answer { result ≡ list_any (is_waiting_among name.now (number ∷ [])) notes.old.entries }
+    ensures entries { notes.new.entries ≡ map (marked_among name.now (number ∷ [])) notes.old.entries }
+{
+    // They stand in the order of their numbers.
+    let _ = notes.len();
+    match notes.get_mut(&number) {
+        Some(note) => mark_one(note, name),
+        None => false,
+    }
+}
+
+// Marks it where it is a draining listener of this name, and answers whether its drain timeout hadn't come.
+fn mark_one(note: &mut Note, name: &str) -> bool
+    ensures answer { result ≡ is_waiting_note name.now note.old }
+    ensures marked { note.new ≡ marked_note name.now note.old }
+{
+    if !waits(note, name) {
+        return false;
+    }
+    note.expired = true;
+    true
 }

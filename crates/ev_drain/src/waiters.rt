@@ -1,0 +1,157 @@
+ghost use Rattle.std.specs.Prelude.{◌≡◌, ℕ, List, [], ◌∷◌, ◌++◌, None, if◌then◌else◌, OnOk, OnErr, IfOk};
+ghost use Rattle.std.specs.Option.{unwrap_or};
+ghost use Rattle.std.specs.Str.{bytes_eq};
+ghost use Rattle.indexmap.specs.IndexMap.{get};
+ghost use Rattle.ev_drain.specs.Retired.{is_waiting, newly_retired};
+ghost use Rattle.ev_drain.specs.Waiters.{numbers_under, without_number};
+
+use ev_types::{Gen, Kind, Name, Seq, TryCopy};
+use indexmap::IndexMap;
+use std::alloc::{AllocError, Global};
+use std::marker::Model;
+
+type Numbers = IndexMap<Name, Seq<Gen>>;
+
+/// By a listener's name the numbers of the generations that may wait for its drain timeout. A name without any has no entry.
+#[derive(Drop)]
+pub(crate) struct Waiters {
+    numbers: Numbers,
+}
+
+impl Model for Waiters {
+    ghost use Rattle.ev_drain.specs.Waiters.{WaitersKept};
+
+    ghost Value = { WaitersKept };
+
+    ghost view = { λ w. w.numbers.entries };
+}
+
+impl Waiters {
+    /// No name. It takes no memory.
+    pub(crate) fn new(alloc: Global) -> Waiters
+        ensures { result ≡ [] }
+    {
+        Waiters {
+            numbers: IndexMap::new(alloc),
+        }
+    }
+
+    /// The numbers under a name. It takes no memory.
+    pub(crate) fn under(&self, name: &Name) -> &[Gen]
+        ensures { result.now ≡ numbers_under self.now name.now }
+    {
+        match self.numbers.get(name) {
+            Some(numbers) => numbers.as_slice(),
+            None => &[],
+        }
+    }
+
+    /// Puts the number of a generation that is retired behind those of its name, where it is a draining listener. Out of memory,
+    /// the numbers stay as they were.
+    pub(crate) fn await_timeout(
+        &mut self,
+        alloc: Global,
+        kind: Kind,
+        number: Gen,
+        name: &Name,
+        dropped: bool,
+    ) -> Result<(), AllocError>
+        ensures entered { OnOk result ((n : List ℕ) → numbers_under self.new n ≡ numbers_under self.old n ++ (if is_waiting n (newly_retired kind number name.now dropped) then number ∷ [] else [])) }
+        ensures err { OnErr result ((n : List ℕ) → numbers_under self.new n ≡ numbers_under self.old n) }
+    {
+        if dropped || !kind.is(Kind::Lds) {
+            return Ok(());
+        }
+        self.enter(alloc, name, number)
+    }
+
+    // Puts a number behind those of a name. Out of memory, the numbers stay as they were.
+    fn enter(&mut self, alloc: Global, name: &Name, number: Gen) -> Result<(), AllocError>
+        ensures entered { OnOk result ((n : List ℕ) → numbers_under self.new n ≡ numbers_under self.old n ++ (if bytes_eq name.now n then number ∷ [] else [])) }
+        ensures err { OnErr result ((n : List ℕ) → numbers_under self.new n ≡ numbers_under self.old n) }
+    {
+        if let Some(numbers) = self.numbers.get_mut(name) {
+            return numbers.push(number);
+        }
+        let mut numbers = Seq::new(alloc);
+        numbers.push(number)?;
+        let Ok(_) = self.numbers.insert(name.copy(alloc)?, numbers) else {
+            return Err(AllocError);
+        };
+        Ok(())
+    }
+
+    /// A generation no longer waits under the name. It takes no memory, and looks at the numbers of this name alone.
+    pub(crate) fn leave(&mut self, name: &Name, number: Gen)
+        ensures { (n : List ℕ) → numbers_under self.new n ≡ (if bytes_eq name.now n then without_number number (numbers_under self.old n) else numbers_under self.old n) }
+    {
+        if let Some(numbers) = self.numbers.get_mut(name) {
+            leave_out(numbers, number);
+        }
+        self.trim(name);
+    }
+
+    /// Takes the numbers under a name out, where there are some. It takes no memory.
+    pub(crate) fn take(&mut self, name: &Name) -> Option<Seq<Gen>>
+        ensures taken { unwrap_or result [] ≡ numbers_under self.old name.now }
+        ensures left { (n : List ℕ) → numbers_under self.new n ≡ (if bytes_eq name.now n then [] else numbers_under self.old n) }
+    {
+        self.numbers.swap_remove(name)
+    }
+
+    // Takes out the entry of a name without any.
+    fn trim(&mut self, name: &Name)
+        ensures { (n : List ℕ) → numbers_under self.new n ≡ numbers_under self.old n }
+    {
+        let Some(numbers) = self.numbers.get(name) else {
+            return;
+        };
+        if numbers.is_empty() {
+            take_out(&mut self.numbers, name);
+        }
+    }
+}
+
+// Leaves a number out of these.
+fn leave_out(numbers: &mut Seq<Gen>, number: Gen)
+    ensures { numbers.new ≡ without_number number numbers.old }
+{
+    numbers.retain(|other| *other != number);
+}
+
+// Takes out the entry of a name.
+fn take_out(map: &mut Numbers, name: &Name)
+    ensures { (n : List ℕ) → get bytes_eq map.new n ≡ (if bytes_eq name.now n then None else get bytes_eq map.old n) }
+{
+    map.swap_remove(name);
+}
+
+impl TryCopy for Waiters {
+    fn copy(&self, alloc: Global) -> Result<Waiters, AllocError> {
+        Ok(Waiters {
+            numbers: copy_numbers(alloc, &self.numbers)?,
+        })
+    }
+}
+
+// The same entries in the same order, in memory of their own.
+fn copy_numbers(alloc: Global, map: &Numbers) -> Result<Numbers, AllocError>
+    ensures { IfOk result (λ copied. copied.entries ≡ map.now.entries) }
+{
+    let mut copied = IndexMap::new(alloc);
+    for (name, numbers) in map {
+        put(&mut copied, name.copy(alloc)?, numbers.copy(alloc)?)?;
+    }
+    Ok(copied)
+}
+
+// Puts the numbers of a name that has none behind the others.
+fn put(map: &mut Numbers, name: Name, numbers: Seq<Gen>) -> Result<(), AllocError>
+    requires { get bytes_eq map.old name ≡ None }
+    ensures { OnOk result (map.new.entries ≡ map.old.entries ++ (name, numbers) ∷ []) }
+{
+    let Ok(_) = map.insert(name, numbers) else {
+        return Err(AllocError);
+    };
+    Ok(())
+}
