@@ -95,7 +95,7 @@ retired_waits old new one rows entered had n k h =
     by false s waits has h' = others h'
 
 -- rows that were there before wait as before
-pub fewer_wait : (old new : WaitersKept) (before after : List Retired)
+fewer_wait : (old new : WaitersKept) (before after : List Retired)
     → ((n : List ℕ) (k : ℕ) → list_any (λ r. is_waiting n r && is_numbered k r) after ≡ true
     → (list_any (λ r. is_waiting n r && is_numbered k r) before ≡ true) × (has_number k (numbers_under old n) ≡ true → has_number k (numbers_under new n) ≡ true))
     → HaveWaiters old before → HaveWaiters new after
