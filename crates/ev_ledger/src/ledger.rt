@@ -108,6 +108,7 @@ impl Ledger {
     /// and takes no memory.
     pub fn on(&self, worker: u32, conn: u64) -> Option<(Gen, Option<Gen>)>
         ensures on { result ≡ on_in worker conn self.now }
+        ensures apart { AreApart self.now }
     {
         found(&self.members, (worker as u64, conn))
     }

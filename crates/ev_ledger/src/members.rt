@@ -43,8 +43,11 @@ pub(crate) fn take(members: &mut Members, place: (u64, u64)) -> Option<(Gen, Opt
 
 /// What the connection at a place is open on, where there is one. It takes no memory.
 pub(crate) fn found(members: &Members, place: (u64, u64)) -> Option<(Gen, Option<Gen>)>
-    ensures { result ≡ lookup (is_at (key_order place)) members.now.entries }
+    ensures found { result ≡ lookup (is_at (key_order place)) members.now.entries }
+    ensures ordered { IsOrdered key_order members.now }
 {
+    // They stand in the order of their places.
+    let _ = members.len();
     members.get(&place).copied()
 }
 

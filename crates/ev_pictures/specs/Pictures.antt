@@ -1,6 +1,7 @@
 -- What contracts see of the pictures, and what a world has of them.
-use Rattle.std.specs.Prelude.{◌≡◌, ◌<◌, ◌+◌, ◌||◌, ℕ, Bool, if◌then◌else◌, List, map, length, slice_set, Option, Some, None}
+use Rattle.std.specs.Prelude.{◌≡◌, ◌<◌, ◌≤◌, ◌+◌, ◌||◌, ℕ, Bool, if◌then◌else◌, List, [], ◌∷◌, ◌++◌, map, find, length, slice_set, Option, Some, None}
 use Rattle.std.specs.List.{list_any, AllByRecursion}
+use Rattle.std.specs.Option.{option_map}
 use Rattle.ev_types.specs.declared.events.Answer.{Answer}
 use Rattle.ev_types.specs.declared.events.Answer.TheVariants.{Version, Unchanged}
 use Rattle.ev_model.specs.declared.pictures.Picture.{Picture}
@@ -13,6 +14,20 @@ use Rattle.ev_model.specs.Dead.{last_picture, picture_at}
 pub record PicturesParts : Type 0 where
   pub last : Picture
   pub held : List Picture
+
+-- the pictures in use: the one that each worker holds, and the last
+abbrev pub in_use : PicturesParts → List Picture
+in_use pictures = pictures.held ++ pictures.last ∷ []
+
+-- the picture is no later one than this, and the same where it has its version
+pub record IsUpTo (last picture : Picture) : Type 0 where
+  pub version : picture.version ≤ last.version
+  pub same : picture.version ≡ last.version → picture ≡ last
+
+-- the last picture is kept as data too, and no worker holds a later one
+pub record AreKept (picture last : Picture) (held : List Picture) : Type 0 where
+  pub kept : picture ≡ last
+  pub earlier : AllByRecursion (IsUpTo last) held
 
 -- the picture before the first
 abbrev pub first_picture : Picture
@@ -49,6 +64,10 @@ is_shown_in number picture = is_shown number picture.shown
 -- a picture that a worker holds, or the last, shows the generation of this number
 abbrev pub is_shown_by : ℕ → PicturesParts → Bool
 is_shown_by number pictures = list_any (is_shown_in number) pictures.held || is_shown_in number pictures.last
+
+-- the version of the first picture in use that shows the generation of this number
+abbrev pub version_showing : ℕ → PicturesParts → Option ℕ
+version_showing number pictures = option_map (λ (p : Picture). p.version) (find (is_shown_in number) (in_use pictures))
 
 -- The pictures are those of the world: the last one, and of as many workers the one that each holds. The last one's version is
 -- that of the world's last picture, and each worker's was published.

@@ -1,12 +1,13 @@
-ghost use Rattle.std.specs.Prelude.{◌≡◌, ◌<◌, ◌+◌, ℕ, List, length, map, replicate, IfOk, OnOk, OnErr};
+ghost use Rattle.std.specs.Prelude.{◌≡◌, ◌<◌, ◌+◌, ℕ, None, Some, if◌then◌else◌, List, find, length, map, replicate, slice_get, IfOk, OnOk, OnErr, IfSome, IfNone};
 ghost use Rattle.std.specs.Arc.{arc_value};
 ghost use Rattle.std.specs.List.{list_any};
+ghost use Rattle.std.specs.Option.{option_copied, option_map};
 ghost use Rattle.ev_model.specs.World.{World, opening};
 ghost use Rattle.ev_model.specs.Picture.{has_number, shown_of};
 ghost use Rattle.ev_model.specs.Choice.{choice_of};
 ghost use Rattle.ev_model.specs.Dead.{numbers_in_use, picture_held};
 ghost use Rattle.ev_model.specs.Publishing.{publish};
-ghost use Rattle.ev_pictures.specs.Pictures.{StandsFor, first_picture, is_shown_by, is_shown_in, next_version, published_answer, settled_on, with_shown, with_settled};
+ghost use Rattle.ev_pictures.specs.Pictures.{StandsFor, first_picture, is_shown_by, is_shown_in, next_version, published_answer, settled_on, version_showing, with_shown, with_settled};
 
 use ev_model::{Choice, Picture, Shown};
 use ev_snapshot::Snapshot;
@@ -25,15 +26,15 @@ pub struct Pictures {
 }
 
 impl Model for Pictures {
-    ghost use Rattle.std.specs.Prelude.{◌≡◌, map};
+    ghost use Rattle.std.specs.Prelude.{map};
     ghost use Rattle.std.specs.Arc.{arc_value};
-    ghost use Rattle.ev_pictures.specs.Pictures.{PicturesParts};
+    ghost use Rattle.ev_pictures.specs.Pictures.{PicturesParts, AreKept};
 
     ghost Value = { PicturesParts };
 
     ghost view = { λ p. record { last = arc_value p.last; held = map arc_value p.held.items } };
 
-    ghost invariant = { λ p. p.picture ≡ arc_value p.last };
+    ghost invariant = { λ p. AreKept p.picture (arc_value p.last) (map arc_value p.held.items) };
 }
 
 impl Pictures {
@@ -122,6 +123,30 @@ impl Pictures {
         any_shows(self.held.as_slice(), number) || shows(&self.last, number)
     }
 
+    /// The version of a picture in use that shows the generation of this number, where one does: of one that a worker holds, or else
+    /// of the last. It looks two numbers up in each, and goes through no picture.
+    pub fn shown_in(&self, number: Gen) -> Option<u64>
+        ensures { result ≡ version_showing number self.now }
+    {
+        match first_showing(self.held.as_slice(), number) {
+            Some(snapshot) => Some(snapshot.version()),
+            None => version_where(&self.last, number),
+        }
+    }
+
+    /// The version of the picture that a worker gives up where it settles. There is none where it holds the last one already.
+    pub fn leaving(&self, worker: u32) -> Option<u64>
+        requires known { worker < length self.now.held }
+        ensures none { IfNone result (slice_get self.now.held worker ≡ Some self.now.last) }
+        ensures version { IfSome result (λ version. option_map (λ p. p.version) (slice_get self.now.held worker) ≡ Some version) }
+    {
+        let version = self.held[worker as usize].version();
+        if version == self.last.version() {
+            return None;
+        }
+        Some(version)
+    }
+
     /// The last snapshot, shared. It takes no memory; it is refused where 2^63 - 1 owners hold it already.
     pub fn snapshot(&self) -> Result<Arc<Snapshot>, AllocError>
         ensures last { IfOk result (λ snapshot. arc_value snapshot ≡ self.now.last) }
@@ -188,6 +213,23 @@ fn any_shows(held: &[Arc<Snapshot>], number: Gen) -> bool
     ensures { result ≡ list_any (λ s. is_shown_in number (arc_value s)) held.now }
 {
     held.iter().any(|snapshot| shows(snapshot, number))
+}
+
+// The first of these snapshots that shows the generation of this number.
+fn first_showing(held: &[Arc<Snapshot>], number: Gen) -> Option<&Arc<Snapshot>>
+    ensures { option_copied result ≡ find (λ s. is_shown_in number (arc_value s)) held.now }
+{
+    held.iter().find(|snapshot| shows(snapshot, number))
+}
+
+// The version of a snapshot, where it shows the generation of this number.
+fn version_where(snapshot: &Arc<Snapshot>, number: Gen) -> Option<u64>
+    ensures { result ≡ (if is_shown_in number (arc_value snapshot.now) then Some (arc_value snapshot.now).version else None) }
+{
+    if shows(snapshot, number) {
+        return Some(snapshot.version());
+    }
+    None
 }
 
 // Whether a snapshot shows the generation of this number.

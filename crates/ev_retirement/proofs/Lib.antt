@@ -1,3 +1,7 @@
+pub mod DeadLemmas
+pub mod GoLemmas
+pub mod MoreLemmas
+pub mod AskLemmas
 pub mod HoldLemmas
 pub mod CloseLemmas
 pub mod LineLemmas

@@ -1,5 +1,6 @@
 -- A worker's lines, and the world.
-use Rattle.std.proofs.Common.{◌≡◌, ℕ, Bool, true, false, List, [], ◌∷◌, ◌++◌, Option, None, Some, refl, sym, ap, ◌∙◌}
+use Rattle.std.proofs.Common.{◌≡◌, ℕ, Bool, true, false, Result, Ok, Err, OnOk, OnErr, List, [], ◌∷◌, ◌++◌, Option, None, Some, refl, sym, ap, ◌∙◌}
+use Rattle.std.specs.List.{list_any}
 use Rattle.std.specs.Option.{option_and_then}
 use Rattle.std.proofs.lemmas.List.{append-nil}
 use Rattle.ev_types.specs.declared.events.Actor.TheVariants.{Worker as by_worker}
@@ -9,7 +10,8 @@ use Rattle.ev_types.specs.declared.events.Ask.{Ask}
 use Rattle.ev_types.specs.declared.journals.Format.{Format}
 use Rattle.ev_model.specs.World.{World, OpenMember}
 use Rattle.ev_model.specs.Choice.{choice_of}
-use Rattle.ev_model.specs.Dead.{picture_held}
+use Rattle.ev_model.specs.Sorted.{put_by}
+use Rattle.ev_model.specs.Dead.{is_open_on, picture_held}
 use Rattle.ev_model.specs.Step.{step}
 use Rattle.ev_model.specs.Runs.{world_after}
 use Rattle.ev_model.specs.Connections.{accept, accepted, close, closed, cluster_numbered, host_at, host_in, is_open, members_of}
@@ -18,7 +20,8 @@ use Rattle.ev_model.specs.declared.pictures.ServedCluster.{ServedCluster}
 use Rattle.ev_model.specs.declared.pictures.Choice.{Choice}
 use Rattle.ev_model.specs.declared.pictures.Choice.TheVariants.{NoListener, NoRoute, Local, Redirect, NoCluster, NoEndpoint, Served}
 use Rattle.ev_snapshot.specs.Chosen.{host_of, host_in as place_in}
-use Rattle.ev_ledger.specs.Members.{in_order, StandsFor as HasOpened}
+use Rattle.ev_ledger.specs.Members.{comes_before, in_order, StandsFor as HasOpened}
+use Rattle.ev_ledger.proofs.OrderLemmas.{any_put}
 use Rattle.ev_worker.specs.Batches.{accepted_as, entries_of}
 use Rattle.ev_worker.specs.Members.{chosen_on, on_of}
 use Rattle.ev_worker.specs.Workers.{AreAnswered, IsAnswer}
@@ -27,6 +30,7 @@ use Rattle.ev_worker.specs.declared.lines.Outcome.TheVariants.{Accepted as by_ac
 use Rattle.ev_worker.specs.declared.lines.BatchLine.{BatchLine}
 use Rattle.ev_retirement.specs.Holders.{HoldersParts, StandsFor}
 use Rattle.ev_retirement.specs.Lines.{accept_leaves, event_leaves, lines_leave, opened_on}
+use Rattle.ev_retirement.proofs.MoreLemmas.{or_second}
 
 -- a snapshot's host of a cluster and place is the machine's
 pub same_host : (picture : Picture) (number place : ℕ) → host_of picture number place ≡ host_at picture number place
@@ -141,3 +145,10 @@ pub record Leads (worker : ℕ) (now : List OpenMember) (left lines : List Batch
   pub between : List OpenMember
   pub has : HasOpened now between
   pub leads : lines_leave worker left between ≡ lines_leave worker lines opened
+
+-- a connection that opens leaves the others open
+pub open_kept : {T E : Type 0} (result : Result T E) (member : OpenMember) (before after : List OpenMember) → OnOk result (after ≡ put_by comes_before member before)
+    → OnErr result (after ≡ before) → (number : ℕ) → list_any (is_open_on number) before ≡ true → list_any (is_open_on number) after ≡ true
+open_kept (Ok value) member before after is same number on =
+    ap (list_any (is_open_on number)) is ∙ any_put comes_before (is_open_on number) member before ∙ or_second (is_open_on number member) (list_any (is_open_on number) before) on
+open_kept (Err error) member before after is same number on = ap (list_any (is_open_on number)) same ∙ on

@@ -18,7 +18,7 @@ use Rattle.ev_ledger.specs.Members.{StandsFor as HasOpened}
 use Rattle.ev_generations.specs.Tables.{row_in}
 use Rattle.ev_drain.specs.Retired.{Retired, comes_before, has_row, is_numbered, is_retired, newly_retired, retired_in, retired_of, retired_status, StandsFor}
 use Rattle.ev_retirement.specs.Holders.{HoldersParts, AreNumbered, StandsFor as Stand}
-use Rattle.ev_retirement.specs.Retiring.{is_dropped, is_over, noted, noted_where, noted_all, HaveCeased, HoldTheSame}
+use Rattle.ev_retirement.specs.Retiring.{AreInOrder, is_dropped, is_over, noted, noted_where, noted_all, HaveCeased, HoldTheSame}
 
 clash : (n a b : ℕ) → is_le (nat_cmp a b) ≡ false → (a == n) ≡ true → (b == n) ≡ true → ⊥
 clash n a b order at also = grind (arith, nat_tests)
@@ -29,13 +29,13 @@ less_of a b order apart = grind (arith, nat_tests)
 more_of : (a b : ℕ) → is_le (nat_cmp a b) ≡ false → b < a
 more_of a b order = grind (arith, nat_tests)
 
-is_itself : (n : ℕ) → (n == n) ≡ true
+pub is_itself : (n : ℕ) → (n == n) ≡ true
 is_itself n = grind (arith, nat_tests)
 
 turned : (a b : ℕ) → (a == b) ≡ (b == a)
 turned a b = grind (arith, nat_tests)
 
-same_of : (a b : ℕ) → (a == b) ≡ true → a ≡ b
+pub same_of : (a b : ℕ) → (a == b) ≡ true → a ≡ b
 same_of a b at = grind (arith, nat_tests)
 
 apart_of : (a b : ℕ) → a < b → (b == a) ≡ false
@@ -61,11 +61,7 @@ find_put n one (row ∷ rows) = by (comes_before one row) refl (find_put n one r
         ap (λ found. cond (row.number == n) (Some row) found) rest
         ∙ swapped (one.number == n) (row.number == n) (Some one) (Some row) (find (is_numbered n) rows) (clash n one.number row.number is)
 
--- the rows stand in the order of their numbers, and no two have one
-abbrev Ascending : List Retired → Type 0
-Ascending [] = ⊤
-Ascending (row ∷ rows) = AllByRecursion (λ (other : Retired). row.number < other.number) rows × Ascending rows
-
+-- the order of the rows
 above : (k m : ℕ) → k < m → (rows : List Retired) → AllByRecursion (λ (other : Retired). m < other.number) rows → AllByRecursion (λ (other : Retired). k < other.number) rows
 above k m less [] all = tt
 above k m less (row ∷ rows) all = (omega (arith, less, all.0), above k m less rows all.1)
@@ -79,12 +75,12 @@ put_above k one (row ∷ rows) less all = by (comes_before one row) (put_above k
     by true rest = (less, all)
     by false rest = (all.0, rest)
 
-put_ascending : (one : Retired) (rows : List Retired) → has_row rows one.number ≡ false → Ascending rows → Ascending (put_by comes_before one rows)
+pub put_ascending : (one : Retired) (rows : List Retired) → has_row rows one.number ≡ false → AreInOrder rows → AreInOrder (put_by comes_before one rows)
 put_ascending one [] none up = (tt, tt)
 put_ascending one (row ∷ rows) none up =
     by (comes_before one row) refl (put_ascending one rows (or_parts (is_numbered one.number row) (has_row rows one.number) none).1 up.1)
   where
-    by : (b : Bool) → comes_before one row ≡ b → Ascending (put_by comes_before one rows) → Ascending (cond b (one ∷ row ∷ rows) (row ∷ put_by comes_before one rows))
+    by : (b : Bool) → comes_before one row ≡ b → AreInOrder (put_by comes_before one rows) → AreInOrder (cond b (one ∷ row ∷ rows) (row ∷ put_by comes_before one rows))
     by true is rest =
         let less : one.number < row.number = less_of one.number row.number is (or_parts (is_numbered one.number row) (has_row rows one.number) none).0 in
         ((less, above one.number row.number less rows up.0), up)
@@ -117,7 +113,7 @@ rests row xs ys low also same n = by (row.number == n) refl (same n)
     by true at is = none_at row.number n xs at low ∙ sym (none_at row.number n ys at also)
     by false at is = is
 
-heads : (x y : Retired) (xs ys : List Retired) → Ascending (x ∷ xs) → Ascending (y ∷ ys)
+heads : (x y : Retired) (xs ys : List Retired) → AreInOrder (x ∷ xs) → AreInOrder (y ∷ ys)
     → ((n : ℕ) → find (is_numbered n) (x ∷ xs) ≡ find (is_numbered n) (y ∷ ys)) → x ≡ y
 heads x y xs ys up also same = by (y.number == x.number) (x.number == y.number) refl refl (sym (own x xs) ∙ same x.number) (same y.number ∙ own y ys)
   where
@@ -130,7 +126,7 @@ heads x y xs ys up also same = by (y.number == x.number) (x.number == y.number) 
         let two : x.number < y.number = found_above x.number y.number xs y up.0 other in
         absurd (omega (arith, one, two))
 
-same_lists : (xs ys : List Retired) → Ascending xs → Ascending ys → ((n : ℕ) → find (is_numbered n) xs ≡ find (is_numbered n) ys) → xs ≡ ys
+same_lists : (xs ys : List Retired) → AreInOrder xs → AreInOrder ys → ((n : ℕ) → find (is_numbered n) xs ≡ find (is_numbered n) ys) → xs ≡ ys
 same_lists [] [] up also same = refl
 same_lists [] (y ∷ ys) up also same = absurd (cc (same y.number ∙ own y ys))
 same_lists (x ∷ xs) [] up also same = absurd (cc (sym (own x xs) ∙ same x.number))
@@ -159,7 +155,7 @@ abbrev Apart : List Retired → Type 0
 Apart [] = ⊤
 Apart (row ∷ rows) = (has_row rows row.number ≡ false) × Apart rows
 
-sorted_ascending : (rows : List Retired) → Apart rows → Ascending (sorted_by comes_before rows)
+sorted_ascending : (rows : List Retired) → Apart rows → AreInOrder (sorted_by comes_before rows)
 sorted_ascending [] apart = tt
 sorted_ascending (row ∷ rows) apart =
     put_ascending row (sorted_by comes_before rows)
@@ -188,7 +184,7 @@ retired_apart expired (row ∷ rows) apart = by (is_retired row) (retired_apart 
     by true rest = (none_left row.number expired rows apart.0, rest)
     by false rest = rest
 
-retired_ascending : (expired : List ℕ) (rows : List GenRow) → AreNumbered rows → Ascending (retired_of expired rows)
+retired_ascending : (expired : List ℕ) (rows : List GenRow) → AreNumbered rows → AreInOrder (retired_of expired rows)
 retired_ascending expired rows apart = sorted_ascending (map (retired_in expired) (filter is_retired rows)) (retired_apart expired rows apart)
 
 -- what a drain has of a row that was found
@@ -261,10 +257,10 @@ noted_find n drain row = by (has_row drain row.number) refl
     by true is = there (find (is_numbered n) drain) (row.number == n) (found_by true is)
     by false is = find_put n (retired_in [] row) drain ∙ absent (find (is_numbered n) drain) (row.number == n) (found_by false is)
 
-noted_ascending : (drain : List Retired) (row : GenRow) → Ascending drain → Ascending (noted drain row)
+noted_ascending : (drain : List Retired) (row : GenRow) → AreInOrder drain → AreInOrder (noted drain row)
 noted_ascending drain row up = by (has_row drain row.number) refl
   where
-    by : (b : Bool) → has_row drain row.number ≡ b → Ascending (cond b drain (put_by comes_before (retired_in [] row) drain))
+    by : (b : Bool) → has_row drain row.number ≡ b → AreInOrder (cond b drain (put_by comes_before (retired_in [] row) drain))
     by true is = up
     by false is = put_ascending (retired_in [] row) drain is up
 
@@ -299,7 +295,7 @@ where_find n m rows drain = by (row_in m rows) refl
         ∙ ap (λ k. or_else (find (is_numbered n) drain) (cond (k == n) (Some (retired_in [] row)) None)) (sym (number_found m rows row is))
         ∙ ap (or_else (find (is_numbered n) drain)) (there row (m == n) refl is)
 
-where_ascending : (drain : List Retired) (found : Option GenRow) → Ascending drain → Ascending (noted_where drain found)
+where_ascending : (drain : List Retired) (found : Option GenRow) → AreInOrder drain → AreInOrder (noted_where drain found)
 where_ascending drain None up = up
 where_ascending drain (Some row) up = noted_ascending drain row up
 
@@ -319,7 +315,7 @@ all_find n rows (m ∷ numbers) drain =
     by None (Some row) true t = refl
     by None (Some row) false t = refl
 
-all_ascending : (rows : List GenRow) (numbers : List ℕ) (drain : List Retired) → Ascending drain → Ascending (noted_all rows numbers drain)
+all_ascending : (rows : List GenRow) (numbers : List ℕ) (drain : List Retired) → AreInOrder drain → AreInOrder (noted_all rows numbers drain)
 all_ascending rows [] drain up = up
 all_ascending rows (m ∷ numbers) drain up = all_ascending rows numbers (noted_where drain (row_in m rows)) (where_ascending drain (row_in m rows) up)
 
@@ -330,7 +326,7 @@ rows_stand : (drain : List Retired) (numbers expired : List ℕ) (before after :
     → StandsFor (noted_all after numbers drain) after expired
 rows_stand drain numbers expired before after stands apart also marks retired =
     same_lists (noted_all after numbers drain) (retired_of expired after)
-    (all_ascending after numbers drain (subst Ascending (sym stands) (retired_ascending expired before apart)))
+    (all_ascending after numbers drain (subst AreInOrder (sym stands) (retired_ascending expired before apart)))
     (retired_ascending expired after also)
     (λ n. all_find n after numbers drain
     ∙ ap (λ found. or_else found (cond (has_number n numbers) (noted_of (row_in n after)) None)) (had n)

@@ -1,3 +1,4 @@
+pub mod Asking
 pub mod Closing
 pub mod Holders
 pub mod Lines

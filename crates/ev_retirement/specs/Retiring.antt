@@ -1,5 +1,6 @@
 -- Generations that cease to be live are noted in the drain, one after another. This project's own.
-use Rattle.std.specs.Prelude.{◌≡◌, ℕ, Bool, true, false, not, ◌&&◌, if◌then◌else◌, List, [], ◌∷◌, Option, None, Some}
+use Rattle.std.specs.Prelude.{◌≡◌, ◌<◌, ⊤, ℕ, Bool, true, false, not, ◌&&◌, if◌then◌else◌, List, [], ◌∷◌, Option, None, Some}
+use Rattle.std.specs.List.{AllByRecursion}
 use Rattle.ev_types.specs.Statuses.{is_live}
 use Rattle.ev_types.specs.declared.rows.GenRow.{GenRow}
 use Rattle.ev_types.specs.declared.rows.RowStatus.{RowStatus}
@@ -22,6 +23,11 @@ is_dropped Warming = false
 is_dropped Active = false
 is_dropped Draining = false
 is_dropped Dropped = true
+
+-- the rows stand in the order of their numbers, and no two have one
+abbrev pub AreInOrder : List Retired → Type 0
+AreInOrder [] = ⊤
+AreInOrder (row ∷ rows) = AllByRecursion (λ (other : Retired). row.number < other.number) rows × AreInOrder rows
 
 -- the drain once this row is noted, where none of its number is there yet
 abbrev pub noted : List Retired → GenRow → List Retired

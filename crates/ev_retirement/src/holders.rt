@@ -2,33 +2,24 @@ ghost use Rattle.std.specs.Prelude.{◌≡◌, ◌<◌, ◌++◌, ◌∷◌, ℕ
 ghost use Rattle.std.specs.Arc.{arc_value};
 ghost use Rattle.ev_types.specs.Statuses.{is_live};
 ghost use Rattle.ev_types.specs.declared.rows.GenRow.{GenRow};
-ghost use Rattle.ev_types.specs.declared.events.Answer.TheVariants.{Settled as settled_answer};
 ghost use Rattle.ev_model.specs.World.{World, opening};
 ghost use Rattle.ev_model.specs.Picture.{shown_of};
 ghost use Rattle.ev_model.specs.Publishing.{publish, dead_numbers, without_dead};
 ghost use Rattle.ev_model.specs.Signals.{drain_timeout};
-ghost use Rattle.ev_model.specs.Connections.{accept, close, settle};
 ghost use Rattle.ev_pictures.specs.Pictures.{published_answer};
 ghost use Rattle.ev_drain.specs.Retired.{has_row};
 ghost use Rattle.ev_types.specs.declared.journals.Format.{Format};
-ghost use Rattle.ev_model.specs.Runs.{world_after};
-ghost use Rattle.ev_model.specs.declared.pictures.Picture.{Picture};
-ghost use Rattle.ev_worker.specs.Batches.{entries_of};
-ghost use Rattle.ev_worker.specs.Workers.{AreAnswered, IsToldBy};
 ghost use Rattle.ev_retirement.specs.Retiring.{noted};
 ghost use Rattle.ev_retirement.specs.Holders.{AreNumbered, StandsFor, timed_out, timeout_answer, with_expired, with_retired, without_generation, without_generations};
 
-use crate::closing::{close_all, numbers_closing};
-use crate::in_use::InUse;
-use crate::lines::{answer_accept, take_accept, take_lines};
+use crate::asking::Asking;
 use crate::retiring::is_dropped;
 use ev_drain::Drain;
 use ev_ledger::Ledger;
 use ev_model::Shown;
 use ev_pictures::Pictures;
 use ev_snapshot::Snapshot;
-use ev_types::{Ask, Format, Gen, GenRow, Kind, Name, Seq};
-use ev_worker::{Batch, Settled};
+use ev_types::{Format, Gen, GenRow, Kind, Name};
 use std::alloc::{AllocError, Global};
 use std::marker::Model;
 use std::sync::Arc;
@@ -37,17 +28,22 @@ use std::sync::Arc;
 /// dropped, until nothing holds them any more.
 #[derive(Drop)]
 pub struct Holders {
-    pictures: Pictures,
-    ledger: Ledger,
-    drain: Drain,
+    pub(crate) pictures: Pictures,
+    pub(crate) ledger: Ledger,
+    pub(crate) drain: Drain,
+    // Each generation that nothing holds is among those to be asked about.
+    pub(crate) asking: Asking,
 }
 
 impl Model for Holders {
+    ghost use Rattle.ev_retirement.specs.Asking.{AreKept};
     ghost use Rattle.ev_retirement.specs.Holders.{HoldersParts};
 
     ghost Value = { HoldersParts };
 
     ghost view = { λ h. record { pictures = h.pictures; ledger = h.ledger; drain = h.drain } };
+
+    ghost invariant = { λ h. AreKept h.asking (record { pictures = h.pictures; ledger = h.ledger; drain = h.drain }) };
 }
 
 impl Holders {
@@ -60,6 +56,7 @@ impl Holders {
             pictures,
             ledger: Ledger::new(alloc),
             drain: Drain::new(alloc),
+            asking: Asking::new(alloc),
         })
     }
 
@@ -70,18 +67,26 @@ impl Holders {
         ensures world { OnOk result ((world : World) → StandsFor self.old world → shown ≡ shown_of world → StandsFor self.new (publish world).0) }
         ensures err { OnErr result (self.new ≡ self.old) }
     {
+        // Where nothing is published, the last picture shows only what still serves, and none is set aside under it.
+        let Ok(_) = self.asking.recall(alloc, self.pictures.version()) else {
+            return Err(AllocError);
+        };
         self.pictures.publish(alloc, shown)
     }
 
     /// The drain timeout of a listener's old generations: it came for those of this name that drain. It answers whether there
-    /// was one for which it hadn't come; where there was none, the machine ignores it, and else the world is to be tidied. It
-    /// takes no memory.
-    pub fn drain_timeout(&mut self, name: &Name) -> bool
-        ensures answer { (world : World) → StandsFor self.old world → (drain_timeout name.now world).1 ≡ timeout_answer result }
-        ensures machine { (world : World) → StandsFor self.old world → (drain_timeout name.now world).0 ≡ timed_out result name.now world }
-        ensures world { (world : World) → StandsFor self.old world → StandsFor self.new (with_expired name.now world) }
+    /// was one for which it hadn't come; where there was none, the machine ignores it, and else the world is to be tidied. Out
+    /// of memory, all stays as it was.
+    pub fn drain_timeout(&mut self, name: &Name) -> Result<bool, AllocError>
+        ensures answer { IfOk result (λ meant. (world : World) → StandsFor self.old world → (drain_timeout name.now world).1 ≡ timeout_answer meant) }
+        ensures machine { IfOk result (λ meant. (world : World) → StandsFor self.old world → (drain_timeout name.now world).0 ≡ timed_out meant name.now world) }
+        ensures world { OnOk result ((world : World) → StandsFor self.old world → StandsFor self.new (with_expired name.now world)) }
+        ensures err { OnErr result (self.new ≡ self.old) }
     {
-        self.drain.expire(name)
+        let Ok(_) = self.asking.ask_each(self.drain.waiting(name)) else {
+            return Err(AllocError);
+        };
+        Ok(self.drain.expire(name))
     }
 
     /// Notes a generation that drains from now on, or was dropped, and served or warmed before. Out of memory, all stays as it
@@ -98,6 +103,9 @@ impl Holders {
         ensures world { OnOk result ((world : World) (before after : List GenRow) (row : GenRow) → StandsFor self.old world → world.rows ≡ before ++ row ∷ after → is_live row.status ≡ true → row.kind ≡ kind → row.number ≡ number → row.name ≡ name.now → StandsFor self.new (with_retired dropped before row after world)) }
         ensures err { OnErr result (self.new ≡ self.old) }
     {
+        let Ok(_) = self.asking.ask(number) else {
+            return Err(AllocError);
+        };
         self.drain.retire(alloc, kind, number, name, dropped)
     }
 
@@ -111,26 +119,32 @@ impl Holders {
         if self.has_retired(row.number) {
             return Ok(());
         }
+        let Ok(_) = self.asking.ask(row.number) else {
+            return Err(AllocError);
+        };
         let dropped = is_dropped(row.status);
         self.drain
             .retire(alloc, row.kind, row.number, &row.name, dropped)
     }
 
-    /// The numbers of the generations that nothing holds any more, from the least, by a journal's format. Of each generation
-    /// that drains it asks the pictures in use and a count, and goes through no picture and no connection.
-    pub fn dead(&self, alloc: Global, format: Format) -> Result<Vec<Gen>, AllocError>
-        ensures world { IfOk result (λ dead. (world : World) → StandsFor self.now world → dead.items ≡ dead_numbers format world) }
+    /// The numbers of the generations that nothing holds any more, from the least, by a journal's format. By the rules of format 2 it
+    /// asks only about those that were retired since the last time, or of whose holders one let go since then; by those of format 1
+    /// it asks about all that drain. It goes through no picture and no connection.
+    pub fn dead(&mut self, alloc: Global, format: Format) -> Result<Vec<Gen>, AllocError>
+        ensures world { IfOk result (λ dead. (world : World) → StandsFor self.old world → dead.items ≡ dead_numbers format world) }
+        ensures same { self.new ≡ self.old }
     {
-        let shown = InUse {
-            pictures: &self.pictures,
-        };
-        self.drain.dead(alloc, format, &self.ledger, &shown)
+        match format {
+            Format::One => self.dead_of_all(alloc),
+            Format::Two => self.dead_asked(alloc),
+        }
     }
 
     /// A dead generation goes, and its mark with it. It takes no memory.
     pub fn remove(&mut self, number: Gen)
         ensures world { (world : World) → StandsFor self.old world → StandsFor self.new (without_generation number world) }
     {
+        self.asking.forget(number);
         self.drain.remove(number);
     }
 
@@ -149,56 +163,6 @@ impl Holders {
         for number in numbers {
             self.remove(*number);
         }
-    }
-
-    /// A worker settles: its connections on listeners whose drain timeout came are closed, and it takes over the last snapshot.
-    /// Out of memory, all stays as it was.
-    pub fn settle(&mut self, alloc: Global, worker: u32) -> Result<Settled, AllocError>
-        requires known { worker < length self.old.pictures.held }
-        ensures answer { IfOk result (λ settled. (world : World) → StandsFor self.old world → (settle worker world).1 ≡ settled_answer settled.closed settled.version) }
-        ensures told { IfOk result (λ settled. (world : World) → StandsFor self.old world → IsToldBy worker settled.closed (arc_value settled.snapshot) world) }
-        ensures world { OnOk result ((world : World) → StandsFor self.old world → StandsFor self.new (settle worker world).0) }
-        ensures err { OnErr result (self.new ≡ self.old) }
-    {
-        let Ok(closed) = numbers_closing(alloc, &self.ledger, &self.drain, worker) else {
-            return Err(AllocError);
-        };
-        let Ok(snapshot) = self.pictures.settle(worker) else {
-            return Err(AllocError);
-        };
-        close_all(&mut self.ledger, worker, closed.as_slice());
-        Ok(Settled {
-            closed: Seq::from_vec(closed),
-            version: snapshot.version(),
-            snapshot,
-        })
-    }
-
-    /// Takes over what a worker did since it settled: its lines open and close connections, one after another, and the world is
-    /// then the one after these entries. Out of memory, some of the first lines are taken: whoever holds this makes it anew.
-    pub fn take_batch(&mut self, batch: &Batch) -> Result<(), AllocError>
-        ensures world { OnOk result ((format : Format) (world : World) (picture : Picture) → StandsFor self.old world → AreAnswered format batch.now.worker world batch.now.lines → StandsFor self.new (world_after format world (entries_of batch.now.worker picture batch.now.lines))) }
-    {
-        take_lines(&mut self.ledger, batch.worker(), batch.lines())
-    }
-
-    /// A worker accepts a connection, by the snapshot that it holds here: for an event that is made once more out of a journal.
-    /// Where it has one of this number open, nothing is done. Out of memory, all stays as it was.
-    pub fn accept(&mut self, worker: u32, ask: &Ask) -> Result<(), AllocError>
-        requires known { worker < length self.old.pictures.held }
-        ensures world { OnOk result ((world : World) → StandsFor self.old world → StandsFor self.new (accept ask.now worker world).0) }
-        ensures err { OnErr result (self.new ≡ self.old) }
-    {
-        let outcome = answer_accept(&self.pictures, &self.ledger, worker, ask);
-        take_accept(&mut self.ledger, worker, ask.conn, &outcome)
-    }
-
-    /// A worker closes a connection: for an event that is made once more out of a journal. Where it isn't open there, nothing is
-    /// done. It takes no memory.
-    pub fn close(&mut self, worker: u32, conn: u64)
-        ensures world { (world : World) → StandsFor self.old world → StandsFor self.new (close conn worker world).0 }
-    {
-        self.ledger.close(worker, conn);
     }
 
     /// Whether a generation was retired, and not removed since.

@@ -1,14 +1,19 @@
-ghost use Rattle.std.specs.Prelude.{◌≡◌, ◌<◌, length, List, IfOk, OnOk, OnErr};
+ghost use Rattle.std.specs.Prelude.{◌≡◌, ◌<◌, ℕ, true, length, List, IfOk, OnOk, OnErr};
+ghost use Rattle.std.specs.List.{list_any};
 ghost use Rattle.ev_model.specs.World.{OpenMember, World};
 ghost use Rattle.ev_model.specs.Connections.{answer_of, is_open, served_by};
-ghost use Rattle.ev_model.specs.Dead.{picture_held};
+ghost use Rattle.ev_model.specs.Dead.{is_open_on, picture_held};
 ghost use Rattle.ev_pictures.specs.Pictures.{StandsFor as HasPictures};
 ghost use Rattle.ev_snapshot.specs.Chosen.{host_of};
 ghost use Rattle.ev_ledger.specs.Members.{StandsFor as HasOpened};
 ghost use Rattle.ev_worker.specs.Batches.{outcome_answer, accepted_answer, accepted_as, closed_answer};
 ghost use Rattle.ev_worker.specs.declared.lines.Outcome.TheVariants.{Accepted as by_accept};
+ghost use Rattle.ev_retirement.specs.Asking.{LetsGo};
 ghost use Rattle.ev_retirement.specs.Lines.{accept_leaves, event_leaves, lines_leave, opened_on};
 
+use crate::asking::Asking;
+use crate::letting_go::close_one;
+use ev_drain::Drain;
 use ev_ledger::Ledger;
 use ev_model::Choice;
 use ev_pictures::Pictures;
@@ -17,30 +22,38 @@ use ev_types::{Answer, Ask, Event, Gen, TryCopy};
 use ev_worker::{Accepted, BatchLine, Closed, Outcome, on_of};
 use std::alloc::{AllocError, Global};
 
-/// Opens and closes what a worker's lines opened and closed, one after another. Out of memory, some of the first are taken.
+/// Opens and closes what a worker's lines opened and closed, one after another; what a closed connection was open on is to be asked
+/// about, where it was retired. Out of memory, some of the first are taken.
 pub(crate) fn take_lines(
+    asking: &mut Asking,
+    drain: &Drain,
     ledger: &mut Ledger,
     worker: u32,
     lines: &[BatchLine],
 ) -> Result<(), AllocError>
-    ensures { OnOk result ((opened : List OpenMember) → HasOpened ledger.old opened → HasOpened ledger.new (lines_leave worker lines.now opened)) }
+    ensures opened { OnOk result ((opened : List OpenMember) → HasOpened ledger.old opened → HasOpened ledger.new (lines_leave worker lines.now opened)) }
+    ensures goes { LetsGo drain.now asking.old asking.new ledger.old ledger.new }
 {
     for line in lines {
-        take_line(ledger, worker, line)?;
+        take_line(asking, drain, ledger, worker, line)?;
     }
     Ok(())
 }
 
 // Opens or closes what a line opened or closed.
-fn take_line(ledger: &mut Ledger, worker: u32, line: &BatchLine) -> Result<(), AllocError>
-    ensures { OnOk result ((opened : List OpenMember) → HasOpened ledger.old opened → HasOpened ledger.new (event_leaves worker line.now.event line.now.outcome opened)) }
+fn take_line(
+    asking: &mut Asking,
+    drain: &Drain,
+    ledger: &mut Ledger,
+    worker: u32,
+    line: &BatchLine,
+) -> Result<(), AllocError>
+    ensures opened { OnOk result ((opened : List OpenMember) → HasOpened ledger.old opened → HasOpened ledger.new (event_leaves worker line.now.event line.now.outcome opened)) }
+    ensures goes { LetsGo drain.now asking.old asking.new ledger.old ledger.new }
 {
     match &line.event {
         Event::Accept(ask) => take_accept(ledger, worker, ask.conn, &line.outcome),
-        Event::Close(conn) => {
-            ledger.close(worker, *conn);
-            Ok(())
-        }
+        Event::Close(conn) => close_one(asking, drain, ledger, worker, *conn),
         _ => Ok(()),
     }
 }
@@ -64,6 +77,7 @@ pub(crate) fn take_accept(
     outcome: &Outcome,
 ) -> Result<(), AllocError>
     ensures opened { OnOk result ((opened : List OpenMember) → HasOpened ledger.old opened → HasOpened ledger.new (accept_leaves worker conn outcome.now opened)) }
+    ensures kept { (number : ℕ) → list_any (is_open_on number) ledger.old ≡ true → list_any (is_open_on number) ledger.new ≡ true }
     ensures err { OnErr result (ledger.new ≡ ledger.old) }
 {
     match outcome {
@@ -80,6 +94,7 @@ fn open_on(
     on: Option<(Gen, Option<Gen>)>,
 ) -> Result<(), AllocError>
     ensures opened { OnOk result ((opened : List OpenMember) → HasOpened ledger.old opened → HasOpened ledger.new (opened_on worker conn on opened)) }
+    ensures kept { (number : ℕ) → list_any (is_open_on number) ledger.old ≡ true → list_any (is_open_on number) ledger.new ≡ true }
     ensures err { OnErr result (ledger.new ≡ ledger.old) }
 {
     let Some(on) = on else {

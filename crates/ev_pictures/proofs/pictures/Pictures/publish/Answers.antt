@@ -9,7 +9,7 @@ use Rattle.ev_pictures.proofs.pictures.Pictures.publish.Goals as goal
 
 pub returns-clause-world : goal.returns-clause-world
 returns-clause-world c world stands is =
-    let before : c.self.inside.picture ≡ c.args.self.now.last = c.self.invariant ∙ ap (λ (v : PicturesParts). v.last) c.self.view_is in
+    let before : c.self.inside.picture ≡ c.args.self.now.last = c.self.invariant.kept ∙ ap (λ (v : PicturesParts). v.last) c.self.view_is in
     let other : shown_same c.args.shown c.args.self.now.last.shown ≡ false =
     ap (λ (p : Picture). shown_same c.args.shown p.shown) (sym before) ∙ sym c.eq.ensures ∙ c.if-eq.false in
     let last : arc_value c.in-Ok-build_from.last ≡ record { version = c.args.self.now.last.version + 1; shown = c.args.shown } =

@@ -1,7 +1,10 @@
-use Rattle.std.proofs.Common.{slice_set, sym, ap, ◌∙◌, subst}
+use Rattle.std.proofs.Common.{◌≡◌, map, slice_set, sym, ap, ◌∙◌, subst}
 use Rattle.std.specs.Arc.{arc_value}
+use Rattle.std.specs.List.{AllByRecursion}
 use Rattle.std.proofs.lemmas.List.{map-set}
-use Rattle.ev_pictures.specs.Pictures.{PicturesParts, StandsFor, settled_on}
+use Rattle.ev_model.specs.declared.pictures.Picture.{Picture}
+use Rattle.ev_pictures.specs.Pictures.{IsUpTo, PicturesParts, StandsFor, settled_on}
+use Rattle.ev_pictures.proofs.UseLemmas.{all_set, is_itself}
 use Rattle.ev_pictures.proofs.WorldLemmas.{settle_stands}
 use Rattle.ev_pictures.proofs.pictures.Pictures.settle.Goals as goal
 
@@ -17,3 +20,13 @@ returns-clause-settled c = settled c
 pub returns-clause-world : goal.returns-clause-world
 returns-clause-world c world stands =
     subst (λ p. StandsFor p (settled_on c.args.worker world)) (sym (settled c)) (settle_stands c.args.worker c.args.self.now world stands)
+
+pub invariant_of-self : goal.invariant_of-self
+invariant_of-self c =
+    let last : Picture = arc_value c.self.inside.last in
+    let given : arc_value c.in-Ok.kept ≡ last = c.in-Ok.ensures.last ∙ sym (ap (λ (v : PicturesParts). v.last) c.self.view_is) in
+    record {
+      kept = c.self.invariant.kept;
+      earlier = subst (AllByRecursion (IsUpTo last)) (sym (map-set arc_value c.self.inside.held.items c.args.worker c.in-Ok.kept))
+          (all_set (IsUpTo last) (arc_value c.in-Ok.kept) (map arc_value c.self.inside.held.items) c.args.worker (subst (IsUpTo last) (sym given) (is_itself last)) c.self.invariant.earlier);
+    }

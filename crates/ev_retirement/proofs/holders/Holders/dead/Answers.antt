@@ -1,14 +1,16 @@
-use Rattle.std.proofs.Common.{sym, subst}
+use Rattle.std.proofs.Common.{sym, ap, ◌∙◌}
 use Rattle.std.proofs.lemmas.Result.{IfOk-weaker}
+use Rattle.ev_types.specs.declared.journals.Format.TheVariants.{Two}
+use Rattle.ev_model.specs.Publishing.{dead_numbers}
+use Rattle.ev_drain.proofs.WorldLemmas.{dead_stands}
+use Rattle.ev_pictures.specs.Pictures.{is_shown_by}
 use Rattle.ev_pictures.proofs.WorldLemmas.{shows_stands}
-use Rattle.ev_retirement.specs.Holders.{HoldersParts, StandsFor}
 use Rattle.ev_retirement.proofs.holders.Holders.dead.Goals as goal
 
-pub returns : goal.returns
-returns c = record {
-  world =
-      IfOk-weaker c.dead.result _ _
-      (λ dead is world stands.
-      let here : StandsFor _ world = subst (λ (v : HoldersParts). StandsFor v world) (sym c.self.view_is) stands in
-      is world here.retired here.opened (λ n. shows_stands n c.self.inside.pictures world here.pictures)) c.dead.ensures.world;
-}
+pub returns-in-Two-clause-world : goal.returns-in-Two-clause-world
+returns-in-Two-clause-world c =
+    IfOk-weaker c.dead_asked.result _ _
+    (λ dead is world stands. is
+    ∙ dead_stands Two (λ n. is_shown_by n c.args.self.now.pictures) c.args.self.now.drain c.args.self.now.ledger world stands.retired stands.opened
+    (λ n. shows_stands n c.args.self.now.pictures world stands.pictures)
+    ∙ ap (λ f. dead_numbers f world) (sym c.in-Two.is)) c.dead_asked.ensures.dead

@@ -1,6 +1,9 @@
-use Rattle.std.proofs.Common.{sym, ap, ◌∙◌, subst}
+use Rattle.std.proofs.Common.{List, sym, ap, ◌∙◌, subst}
 use Rattle.ev_retirement.specs.Holders.{HoldersParts, StandsFor, timed_out, timeout_answer}
 use Rattle.ev_retirement.proofs.HoldLemmas.{timeout_answers, timeout_leaves, timeout_stands}
+use Rattle.ev_drain.specs.Retired.{Retired}
+use Rattle.ev_retirement.specs.Asking.{AreKept}
+use Rattle.ev_retirement.proofs.AskLemmas.{expired_kept, more_kept}
 use Rattle.ev_retirement.proofs.holders.Holders.drain_timeout.Goals as goal
 
 pub returns-clause-answer : goal.returns-clause-answer
@@ -17,3 +20,13 @@ pub returns-clause-world : goal.returns-clause-world
 returns-clause-world c world stands =
     let here : StandsFor _ world = subst (λ (v : HoldersParts). StandsFor v world) (sym c.self.view_is) stands in
     timeout_stands c.args.name.now _ c.expire.new.self world here c.expire.ensures.marked (c.expire.ensures.world world.rows world.expired here.retired)
+
+pub invariant_of-self : goal.invariant_of-self
+invariant_of-self c = more_kept c.self.inside.asking c.ask_each.new.self _ c.ask_each.ensures.more c.self.invariant
+
+pub invariant_of-self-2 : goal.invariant_of-self-2
+invariant_of-self-2 c =
+    let holders : HoldersParts = record { pictures = c.self.inside.pictures; ledger = c.self.inside.ledger; drain = c.self.inside.drain } in
+    subst (λ (drain : List Retired). AreKept c.ask_each.new.self (record holders { drain = drain })) (sym c.expire.ensures.marked)
+    (expired_kept c.args.name.now c.ask_each.new.self holders (λ n h. c.in-Ok.ensures.asked n (c.waiting.ensures.waiting n h))
+    (more_kept c.self.inside.asking c.ask_each.new.self holders c.ask_each.ensures.more c.self.invariant))

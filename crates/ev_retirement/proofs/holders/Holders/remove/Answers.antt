@@ -1,6 +1,9 @@
-use Rattle.std.proofs.Common.{sym, subst}
+use Rattle.std.proofs.Common.{List, sym, subst}
 use Rattle.ev_retirement.specs.Holders.{HoldersParts, StandsFor}
 use Rattle.ev_retirement.proofs.HoldLemmas.{remove_stands}
+use Rattle.ev_drain.specs.Retired.{Retired}
+use Rattle.ev_retirement.specs.Asking.{AreKept}
+use Rattle.ev_retirement.proofs.AskLemmas.{removed_kept}
 use Rattle.ev_retirement.proofs.holders.Holders.remove.Goals as goal
 
 pub returns : goal.returns
@@ -9,3 +12,9 @@ returns c = record {
       let here : StandsFor _ world = subst (λ (v : HoldersParts). StandsFor v world) (sym c.self.view_is) stands in
       remove_stands c.args.number _ c.remove.new.self world here c.remove.ensures.removed (c.remove.ensures.world world.rows world.expired here.retired);
 }
+
+pub invariant_of-self : goal.invariant_of-self
+invariant_of-self c =
+    let holders : HoldersParts = record { pictures = c.self.inside.pictures; ledger = c.self.inside.ledger; drain = c.self.inside.drain } in
+    subst (λ (drain : List Retired). AreKept c.forget.new.self (record holders { drain = drain })) (sym c.remove.ensures.removed)
+    (removed_kept c.args.number c.self.inside.asking c.forget.new.self holders c.forget.ensures c.self.invariant)

@@ -6,6 +6,13 @@ use Rattle.ev_model.specs.declared.pictures.Picture.{Picture}
 use Rattle.ev_retirement.specs.Closing.{closed_all}
 use Rattle.ev_retirement.specs.Holders.{HoldersParts, StandsFor}
 use Rattle.ev_retirement.proofs.CloseLemmas.{settle_stands, settle_told}
+use Rattle.ev_pictures.specs.Pictures.{PicturesParts}
+use Rattle.ev_retirement.specs.declared.asking.Asking.{Asking}
+use Rattle.ev_retirement.specs.Asking.{AreKept, LetsGo}
+use Rattle.ev_retirement.specs.Closing.{is_among}
+use Rattle.ev_retirement.proofs.AskLemmas.{go_kept, more_kept, settled_kept}
+use Rattle.ev_retirement.proofs.GoLemmas.{asked_go, more_on}
+use Rattle.ev_retirement.proofs.MoreLemmas.{same_more}
 use Rattle.ev_retirement.proofs.holders.Holders.settle.Goals as goal
 
 told : goal.returns-clause-told
@@ -27,5 +34,37 @@ pub returns-clause-world : goal.returns-clause-world
 returns-clause-world c world stands =
     let here : StandsFor _ world = subst (λ (v : HoldersParts). StandsFor v world) (sym c.self.view_is) stands in
     settle_stands c.args.worker _ c.settle.new.self c.close_all.new.ledger c.in-Ok.closed.items world here c.in-Ok.ensures.apart c.in-Ok.ensures.numbers
-    (c.close_all.ensures ∙ ap (λ (ns : List ℕ). closed_all c.args.worker ns c.self.inside.ledger) c.as_slice.ensures.value)
+    (c.close_all.ensures ∙ ap (λ (ns : List ℕ). closed_all c.args.worker ns c.self.inside.ledger) c.as_slice-numbers.ensures.value)
     (c.in-Ok-settle.ensures.world world here.pictures)
+
+pub invariant_of-self : goal.invariant_of-self
+invariant_of-self c = more_kept c.self.inside.asking c.ask_on_each.new.asking _ c.ask_on_each.ensures.more c.self.invariant
+
+pub invariant_of-self-in_default-recall_left : goal.invariant_of-self-in_default-recall_left
+invariant_of-self-in_default-recall_left c =
+    more_kept c.ask_on_each.new.asking c.recall_left.new.asking _ c.recall_left.ensures.more
+    (more_kept c.self.inside.asking c.ask_on_each.new.asking _ c.ask_on_each.ensures.more c.self.invariant)
+
+pub invariant_of-self-in_default-settle : goal.invariant_of-self-in_default-settle
+invariant_of-self-in_default-settle c =
+    let holders : HoldersParts = record { pictures = c.self.inside.pictures; ledger = c.self.inside.ledger; drain = c.self.inside.drain } in
+    subst (λ (pictures : PicturesParts). AreKept c.recall_left.new.asking (record holders { pictures = pictures })) (sym c.in_default-settle.ensures.err)
+    (more_kept c.ask_on_each.new.asking c.recall_left.new.asking holders c.recall_left.ensures.more
+    (more_kept c.self.inside.asking c.ask_on_each.new.asking holders c.ask_on_each.ensures.more c.self.invariant))
+
+pub invariant_of-self-2 : goal.invariant_of-self-2
+invariant_of-self-2 c =
+    let holders : HoldersParts = record { pictures = c.self.inside.pictures; ledger = c.self.inside.ledger; drain = c.self.inside.drain } in
+    let asking : Asking = c.recall_left.new.asking in
+    let worker : ℕ = c.args.worker in
+    let kept : AreKept asking holders =
+    more_kept c.ask_on_each.new.asking asking holders c.recall_left.ensures.more
+    (more_kept c.self.inside.asking c.ask_on_each.new.asking holders c.ask_on_each.ensures.more c.self.invariant) in
+    let settled : AreKept asking (record holders { pictures = c.settle.new.self }) =
+    subst (λ (pictures : PicturesParts). AreKept asking (record holders { pictures = pictures })) (sym c.in-Ok-settle.ensures.settled)
+    (settled_kept worker asking holders c.in-Ok-recall_left.ensures.left kept) in
+    go_kept asking asking (record holders { pictures = c.settle.new.self }) c.close_all.new.ledger
+    (subst (LetsGo holders.drain asking asking holders.ledger) (sym c.close_all.ensures)
+    (asked_go (is_among worker c.as_slice-numbers.result.now) holders.drain asking asking holders.ledger (same_more asking)
+    (more_on c.ask_on_each.new.asking asking (is_among worker c.as_slice-numbers.result.now) holders.drain holders.ledger c.recall_left.ensures.more c.in-Ok-ask_on_each.ensures.asked)))
+    settled

@@ -3,6 +3,7 @@ use Rattle.std.proofs.lemmas.Result.{IfOk-weaker}
 use Rattle.ev_ledger.specs.Members.{in_order}
 use Rattle.ev_retirement.specs.Holders.{HoldersParts, StandsFor}
 use Rattle.ev_retirement.specs.Lines.{lines_leave}
+use Rattle.ev_retirement.proofs.AskLemmas.{go_kept}
 use Rattle.ev_retirement.proofs.LineLemmas.{lines_stand}
 use Rattle.ev_retirement.proofs.holders.Holders.take_batch.Goals as goal
 
@@ -15,5 +16,8 @@ returns c = record {
       lines_stand format c.args.batch.now.worker picture c.args.batch.now.lines _ c.take_lines.new.ledger world here answered
       (taken world.opened here.opened
       ∙ ap (λ w. in_order (lines_leave w c.lines.result.now world.opened)) c.worker.ensures
-      ∙ ap (λ ls. in_order (lines_leave c.args.batch.now.worker ls world.opened)) c.lines.ensures.lines)) c.take_lines.ensures;
+      ∙ ap (λ ls. in_order (lines_leave c.args.batch.now.worker ls world.opened)) c.lines.ensures.lines)) c.take_lines.ensures.opened;
 }
+
+pub invariant_of-self : goal.invariant_of-self
+invariant_of-self c = go_kept c.self.inside.asking c.take_lines.new.asking _ c.take_lines.new.ledger c.take_lines.ensures.goes c.self.invariant

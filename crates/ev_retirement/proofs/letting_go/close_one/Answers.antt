@@ -1,0 +1,12 @@
+use Rattle.std.proofs.Common.{sym, ◌∙◌, subst}
+use Rattle.ev_model.specs.Connections.{is_member}
+use Rattle.ev_ledger.proofs.PlaceLemmas.{closed_leaves}
+use Rattle.ev_retirement.specs.Asking.{LetsGo}
+use Rattle.ev_retirement.proofs.GoLemmas.{asked_go}
+use Rattle.ev_retirement.proofs.letting_go.close_one.Goals as goal
+
+pub returns-clause-goes : goal.returns-clause-goes
+returns-clause-goes c =
+    subst (LetsGo c.args.drain.now c.args.asking.now c.ask_on.new.asking c.args.ledger.now)
+    (sym (c.close.ensures.closed ∙ closed_leaves c.args.worker c.args.conn c.args.ledger.now))
+    (asked_go (is_member c.args.worker c.args.conn) c.args.drain.now c.args.asking.now c.ask_on.new.asking c.args.ledger.now c.ask_on.ensures.more c.in-Ok.ensures.asked)
