@@ -2,7 +2,7 @@
 use Rattle.std.proofs.Common.{◌≡◌, ℕ, Bool, true, false, not, ◌&&◌, ◌||◌, ◌==◌, cond, nat_eq, nat_le, List, [], ◌∷◌, ◌++◌, Option, None, Some, filter, map, refl, sym, ap, ◌∙◌, arith}
 use Rattle.std.specs.Prelude.{option_to_list, ⊤}
 use Rattle.std.specs.List.{list_any, AllByRecursion}
-use Rattle.std.proofs.lemmas.Bool.{true≢false, false≢true, or_parts, eqb-true}
+use Rattle.std.proofs.lemmas.Bool.{false≢true, or_parts, eqb-true}
 use Rattle.std.proofs.lemmas.Bool.Decides.{nat_tests}
 use Rattle.std.proofs.lemmas.List.{append_assoc, append-nil}
 use Rattle.ev_types.specs.Statuses.{is_live}
@@ -10,12 +10,12 @@ use Rattle.ev_types.specs.declared.journals.Format.{Format}
 use Rattle.ev_types.specs.declared.rows.GenRow.{GenRow}
 use Rattle.ev_types.specs.declared.rows.RowStatus.{RowStatus}
 use Rattle.ev_types.specs.declared.rows.RowStatus.TheVariants.{Warming, Active, Draining, Dropped}
-use Rattle.ev_model.specs.Sorted.{put_by, sorted_by}
+use Rattle.ev_model.specs.Sorted.{put_by}
 use Rattle.ev_model.specs.Picture.{has_number}
 use Rattle.ev_model.specs.Publishing.{ascending, dead_numbers}
 use Rattle.ev_model.specs.Dead.{is_dead, is_dead_at}
 use Rattle.ev_model.specs.World.{World}
-use Rattle.ev_generations.specs.Tables.{is_number, row_in}
+use Rattle.ev_generations.specs.Tables.{row_in}
 use Rattle.ev_ledger.proofs.OrderLemmas.{any_put, any_sorted}
 use Rattle.ev_warming.specs.Changes.{is_over}
 use Rattle.ev_state.specs.States.{over_in, where_over, without_over}
@@ -176,7 +176,7 @@ rows_of_dead dead rows over apart =
 -- one more goes
 pub rows_more : (numbers : List ℕ) (number : ℕ) (rows : List GenRow)
     → rows_gone numbers rows ++ option_to_list (over_in number (without_each numbers rows)) ≡ rows_gone (numbers ++ number ∷ []) rows
-rows_more [] number rows = append-nil (option_to_list (over_in number rows))
+rows_more [] number rows = sym (append-nil (option_to_list (over_in number rows)))
 rows_more (n ∷ numbers) number rows =
     append_assoc (option_to_list (over_in n rows)) (rows_gone numbers (without_over n rows)) (option_to_list (over_in number (without_each numbers (without_over n rows))))
     ∙ ap (λ (rs : List GenRow). option_to_list (over_in n rows) ++ rs) (rows_more numbers number (without_over n rows))

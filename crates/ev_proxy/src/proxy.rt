@@ -90,10 +90,7 @@ impl Proxy {
     {
         match event {
             Event::Accept(ask) => self.holders.accept(worker, ask),
-            Event::Close(conn) => {
-                self.holders.close(worker, *conn);
-                Ok(())
-            }
+            Event::Close(conn) => self.holders.close(worker, *conn),
             Event::Settle => {
                 let _ = self.holders.settle(alloc, worker)?;
                 Ok(())

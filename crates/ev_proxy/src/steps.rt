@@ -46,7 +46,8 @@ impl Proxy {
         ensures answer { IfOk result (λ answer. answer ≡ (drain_timeout listener.now here).1) }
         ensures deferred { OnOk result (self.new.deferred ≡ self.old.deferred) }
     {
-        if !self.holders.drain_timeout(listener) {
+        let meant = self.holders.drain_timeout(listener)?;
+        if !meant {
             return Ok(Answer::Ignored);
         }
         let retired = self.state.tidy_up(alloc)?;

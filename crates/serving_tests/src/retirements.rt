@@ -86,7 +86,7 @@ fn retire(alloc: Global, holders: &mut Holders, number: Gen, name: &Name) -> Res
 }
 
 // How many generations are dead.
-fn count_dead(alloc: Global, holders: &Holders, format: Format) -> Result<usize, Fail> {
+fn count_dead(alloc: Global, holders: &mut Holders, format: Format) -> Result<usize, Fail> {
     Ok(holders.dead(alloc, format)?.len())
 }
 
@@ -107,7 +107,9 @@ fn drain(rt: &impl Abort, alloc: Global, holders: &mut Holders) -> Result<(), Fa
     retire(alloc, holders, Gen::new(1), &name)?;
     assert_eq!(rt; publish(alloc, holders, None)?, Some(2));
     assert_eq!(rt; count_dead(alloc, holders, Format::One)?, 0);
-    assert!(rt; holders.drain_timeout(&name) && !holders.drain_timeout(&name));
+    let first = holders.drain_timeout(&name)?;
+    let again = holders.drain_timeout(&name)?;
+    assert!(rt; first && !again);
     assert_eq!(rt; count_dead(alloc, holders, Format::Two)?, 0);
     settle(rt, alloc, holders)
 }

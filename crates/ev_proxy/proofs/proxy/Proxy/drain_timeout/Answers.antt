@@ -14,7 +14,7 @@ returns-clause-at g c =
     let marked : World = with_expired c.args.listener.now g.here in
     let before = at-frame c.args.self.now.state g.here marked (same_but g.here g.here.pictures g.here.held g.here.opened marked.expired) c.requires.managed in
     let managed = c.in_ok-retired.ensures.at marked before in
-    let reached : Proxy = record { state = c.tidy_up.new.self; holders = c.note_each-2.new.holders } in
+    let reached : Proxy = record { state = c.tidy_up.new.self; holders = c.note_each-2.new.holders; deferred = c.args.self.now.deferred } in
     let there : IsAt reached (tidy marked) = record {
       managed = managed;
       held =
@@ -22,9 +22,9 @@ returns-clause-at g c =
           c.as_slice.result.now c.as_slice-2.result.now marked (tidy marked)
           c.as_slice.ensures.elements c.as_slice-2.ensures.elements
           (c.in_ok-note_each.ensures (tidy marked) managed) (c.in_ok-note_each-2.ensures (tidy marked) managed)
-          (c.drain_timeout.ensures.world g.here c.requires.held) (at-numbered c.args.self.now.state marked before) (at-numbered c.tidy_up.new.self (tidy marked) managed)
+          (c.in_ok-meant.ensures.world g.here c.requires.held) (at-numbered c.args.self.now.state marked before) (at-numbered c.tidy_up.new.self (tidy marked) managed)
           (tidy_same marked) (c.in_ok-retired.ensures.ceased marked before);
     } in
-    let meant : c.drain_timeout.result ≡ true = c.if-not-drain_timeout.false in
+    let meant : c.in_ok-meant.meant ≡ true = c.if-not-meant.false in
     subst (IsAt reached)
-    (sym (c.drain_timeout.ensures.machine g.here c.requires.held ∙ ap (λ (b : Bool). timed_out b c.args.listener.now g.here) meant)) there
+    (sym (c.in_ok-meant.ensures.machine g.here c.requires.held ∙ ap (λ (b : Bool). timed_out b c.args.listener.now g.here) meant)) there
