@@ -1,4 +1,5 @@
 ghost use Rattle.std.specs.Prelude.{◌≡◌, ◌≤◌, ◌+◌, [], ◌∷◌, IfOk, OnOk, OnErr};
+ghost use Rattle.ev_types.specs.Events.{IsMainSide, MayMake};
 ghost use Rattle.ev_types.specs.Scripts.{items_in};
 ghost use Rattle.ev_model.specs.Step.{step as machine_step};
 ghost use Rattle.ev_actors.specs.Journals.{with_entries, world_now};
@@ -91,6 +92,9 @@ impl Journaled for Registry {
         step: u32,
         event: &Event,
     ) -> Result<Answer, AllocError>
+        requires main { IsMainSide actor }
+        requires allowed { MayMake self.old.journaled.workers actor event.now }
+        requires numbered { (world_now self.old.journaled).made + items_in event.now ≤ u32.MAX }
         ensures answer { IfOk result (λ answer. answer ≡ (machine_step self.old.journaled.format (world_now self.old.journaled) actor event.now).1) }
         ensures entry { IfOk result (λ answer. self.new.journaled ≡ with_entries (record { actor = actor; at = at; step = step; event = event.now; answer = answer } ∷ []) self.old.journaled) }
         ensures drawn { OnOk result ((world_now self.new.journaled).made ≤ (world_now self.old.journaled).made + items_in event.now) }
