@@ -140,9 +140,10 @@ fn has_lines(alloc: Global, registry: &Registry, lines: &[&str]) -> Result<bool,
 }
 
 // Whether a registry in which nothing was done takes this response of two clusters. Where it has no memory for it the first time,
-// the journal has to be as before, and it has to take it the second time, with the first picture as the last one still.
+// the journal has to be as before, and it has to take it the second time, with the first picture as the last one still, and with
+// no row that was reaped.
 fn takes_two_clusters(alloc: Global, registry: &mut Registry, event: &Event) -> Result<bool, Fail>
-    requires opened { (world_now registry.old).made ≡ 0 }
+    requires opened { (world_now registry.old.journaled).made ≡ 0 }
 {
     if !is_of_two(event) {
         return Ok(false);
@@ -155,7 +156,8 @@ fn takes_two_clusters(alloc: Global, registry: &mut Registry, event: &Event) -> 
         let _ = registry.apply(Actor::Stream, 3, 0, event)?;
     }
     let entered = has_lines(alloc, registry, &[BEGUN, CONNECTED, MADE])?;
-    Ok(entered && registry.snapshot()?.version() == 0)
+    let reaped = registry.take_deferred().len();
+    Ok(entered && reaped == 0 && registry.snapshot()?.version() == 0)
 }
 
 // Whether the event is a response of two resources.
