@@ -1,3 +1,4 @@
+use std::alloc::Global;
 use std::rt::Files;
 use std::{fs, io};
 
@@ -19,7 +20,7 @@ pub(crate) fn read_bytes<R: Files + AllocGlobal>(
     let parts = fs::read_to_string(rt, format!(in alloc; "{name}.{kind}.parts")?)?;
     let mut bytes = Vec::new(alloc);
     for part in parts.lines() {
-        add_part(&mut bytes, part)?;
+        add_part(alloc, &mut bytes, part)?;
     }
     Ok(bytes)
 }
@@ -27,24 +28,29 @@ pub(crate) fn read_bytes<R: Files + AllocGlobal>(
 // Adds what a line of parts says: how many lines, a number, a word and their text. By the word `closed` a line feed ends each
 // line, by `open` none does, and blanks behind the text make each line so many bytes long; by `numbered` a line feed ends each
 // line, and each `#` of the text stands for the line's number, which counts from the given one.
-fn add_part(bytes: &mut Vec<u8>, part: &str) -> io::Result<()> {
+fn add_part(alloc: Global, bytes: &mut Vec<u8>, part: &str) -> io::Result<()> {
     let mut words = part.splitn(4, ' ');
     let count: u32 = words.next().unwrap_or("").parse().unwrap_or(0);
     let number: u32 = words.next().unwrap_or("").parse().unwrap_or(0);
     let word = words.next().unwrap_or("");
     let text = words.next().unwrap_or("");
     if word == "numbered" {
-        return add_numbered(bytes, count, number, text);
+        return add_numbered(alloc, bytes, count, number, text);
     }
     add_wide(bytes, count, number, word == "closed", text.as_bytes())
 }
 
 // Adds so many lines of a text, with the number of each in place of each `#`.
-fn add_numbered(bytes: &mut Vec<u8>, count: u32, first: u32, text: &str) -> io::Result<()> {
-    let alloc = *bytes.allocator();
+fn add_numbered(
+    alloc: Global,
+    bytes: &mut Vec<u8>,
+    count: u32,
+    first: u32,
+    text: &str,
+) -> io::Result<()> {
     for number in first..first.saturating_add(count) {
         let number = format!(in alloc; "{number}")?;
-        let line = text.replace("#", number.as_str())?;
+        let line = text.replace(alloc, "#", number.as_str())?;
         bytes.extend_from_slice(line.as_bytes())?;
         bytes.push(b'\n')?;
     }
