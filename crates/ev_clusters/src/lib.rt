@@ -15,7 +15,7 @@ ghost use Rattle.ev_warming.specs.Ready.{is_due_at};
 ghost use Rattle.ev_warming.specs.Indexes.{depends_on, serves, warms, numbers_where};
 ghost use Rattle.ev_warming.specs.Reads.{names_watched};
 ghost use Rattle.ev_warming.specs.Worlds.{StandsFor};
-ghost use Rattle.ev_warming.specs.Changes.{began_to_drain, has_retired, is_over};
+ghost use Rattle.ev_warming.specs.Changes.{began_to_serve, began_to_drain, has_retired, is_over};
 ghost use Rattle.ev_warming.specs.Frames.{PassesResponses};
 
 mod arrivals;
@@ -111,6 +111,7 @@ impl Clusters {
         requires kept { AreKept self.old }
         ensures kept { OnOk result (AreKept self.new) }
         ensures served { IfOk result (λ promoted. (n : ℕ) → is_among promoted.served n ≡ is_due_at self.old.state.watches self.old.state.results n self.old.state.table.rows) }
+        ensures began { IfOk result (λ promoted. (n : ℕ) → is_among promoted.served n ≡ began_to_serve n self.old.state.table.rows self.new.state.table.rows) }
         ensures drained { IfOk result (λ promoted. (n : ℕ) → is_among promoted.drained n ≡ began_to_drain n self.old.state.table.rows self.new.state.table.rows) }
         // Where none began to drain, the same names of endpoints are watched as before.
         ensures watched { IfOk result (λ promoted. promoted.drained ≡ [] → names_watched self.new.state.table.rows ≡ names_watched self.old.state.table.rows) }

@@ -1,4 +1,4 @@
-ghost use Rattle.std.specs.Prelude.{◌≡◌, ◌||◌, not, map, filter, IfOk};
+ghost use Rattle.std.specs.Prelude.{◌≡◌, ◌||◌, not, map, filter, option_to_list, IfOk};
 ghost use Rattle.std.specs.List.{list_any};
 ghost use Rattle.std.specs.Option.{option_copied};
 ghost use Rattle.ev_types.specs.Kinds.{kind_same};
@@ -11,15 +11,17 @@ ghost use Rattle.ev_model.specs.Picture.{served_clusters};
 ghost use Rattle.ev_model.specs.Signals.{is_awaited};
 ghost use Rattle.ev_model.specs.Watching.{is_watched, watched_of};
 ghost use Rattle.ev_generations.specs.Tables.{row_in};
-ghost use Rattle.ev_warming.specs.Indexes.{depends_on, serves, warms};
+ghost use Rattle.ev_warming.specs.Indexes.{depends_on, serves, warms, numbers_where};
 ghost use Rattle.ev_warming.specs.Newest.{newest_in};
 ghost use Rattle.ev_warming.specs.Reads.{live_rows, names_watched, is_timeout_due, clusters_in};
+ghost use Rattle.ev_warming.specs.Shown.{cluster_at, cluster_shown_in};
 ghost use Rattle.ev_warming.specs.Worlds.{StandsFor};
 
 use crate::Clusters;
 use ev_model::ServedCluster;
 use ev_types::{Gen, GenRow, Name, Seq, TryCopy};
 use ev_verdicts::LiveRow;
+use ev_warming::Standing;
 use std::alloc::{AllocError, Global};
 
 impl Clusters {
@@ -30,6 +32,15 @@ impl Clusters {
         ensures { option_copied result ≡ row_in number self.now.state.table.rows }
     {
         self.manager.state.table.get(number)
+    }
+
+    /// Which clusters of a name stand: one that serves it, and one that warms under it. It costs a look-up of the name.
+    pub fn of_name(&self, name: &Name) -> Standing
+        requires kept { AreKept self.now }
+        ensures active { option_to_list result.active ≡ numbers_where (serves name.now) self.now.state.table.rows }
+        ensures warming { option_to_list result.warming ≡ numbers_where (warms name.now) self.now.state.table.rows }
+    {
+        self.manager.state.names.standing(name)
     }
 
     /// The newest live cluster of a name. It costs a look-up of the name, and one of the cluster where one is live.
@@ -57,6 +68,14 @@ impl Clusters {
         ensures world { (world : World) → StandsFor self.now.state world → result ≡ is_watched (lives_of world) Eds name.now }
     {
         self.manager.state.is_watched(name)
+    }
+
+    /// The numbers of the live clusters that depend on a name of endpoints, in order. It costs a look-up of the name.
+    pub fn dependents(&self, name: &str) -> &[Gen]
+        requires kept { AreKept self.now }
+        ensures { result.now ≡ numbers_where (depends_on name.now) self.now.state.table.rows }
+    {
+        self.manager.state.dependents(name)
     }
 
     /// The names of endpoints that live clusters depend on, in the order of their bytes, each once. It goes over all clusters.
@@ -95,6 +114,16 @@ impl Clusters {
         ensures world { IfOk result (λ served. (world : World) → StandsFor self.now.state world → served ≡ served_clusters world.arrivals world.results world.rows) }
     {
         self.manager.state.clusters(alloc)
+    }
+
+    /// What a picture shows of the cluster of this number now: where it is active, its hosts that may be chosen. It costs a
+    /// look-up of the number and of the name that the cluster depends on, and one of each of its hosts.
+    pub fn served(&self, alloc: Global, number: Gen) -> Result<Option<ServedCluster>, AllocError>
+        requires kept { AreKept self.now }
+        ensures rows { IfOk result (λ served. served ≡ cluster_shown_in self.now.state.watches self.now.state.results (row_in number self.now.state.table.rows)) }
+        ensures world { IfOk result (λ served. (world : World) → StandsFor self.now.state world → served ≡ cluster_at world number) }
+    {
+        self.manager.state.cluster(alloc, number)
     }
 }
 

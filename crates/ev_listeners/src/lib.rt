@@ -13,7 +13,7 @@ ghost use Rattle.ev_generations.specs.Tables.{row_in, without_row};
 ghost use Rattle.ev_warming.specs.Due.{is_among};
 ghost use Rattle.ev_warming.specs.Ready.{is_due_at};
 ghost use Rattle.ev_warming.specs.Indexes.{depends_on, serves, warms, numbers_where};
-ghost use Rattle.ev_warming.specs.Changes.{began_to_drain, has_retired, is_over};
+ghost use Rattle.ev_warming.specs.Changes.{began_to_serve, began_to_drain, has_retired, is_over};
 
 mod addresses;
 mod arrivals;
@@ -117,6 +117,7 @@ impl Listeners {
         requires kept { AreKept self.old }
         ensures kept { OnOk result (AreKept self.new) }
         ensures served { IfOk result (λ promoted. (n : ℕ) → is_among promoted.served n ≡ is_due_at self.old.state.watches self.old.state.results n self.old.state.table.rows) }
+        ensures began { IfOk result (λ promoted. (n : ℕ) → is_among promoted.served n ≡ began_to_serve n self.old.state.table.rows self.new.state.table.rows) }
         ensures drained { IfOk result (λ promoted. (n : ℕ) → is_among promoted.drained n ≡ began_to_drain n self.old.state.table.rows self.new.state.table.rows) }
         ensures bounded { IfOk result (λ promoted. steps.new ≤ steps.old + 4 * length promoted.served + 4) }
         // Whatever world they stood for, they stand for that world with all that are due promoted.

@@ -10,10 +10,11 @@ ghost use Rattle.ev_model.specs.Phase.{has_come};
 ghost use Rattle.ev_model.specs.Picture.{served_listeners};
 ghost use Rattle.ev_model.specs.Signals.{is_awaited};
 ghost use Rattle.ev_model.specs.Watching.{is_watched, watched_of};
-ghost use Rattle.ev_generations.specs.Tables.{row_in};
-ghost use Rattle.ev_warming.specs.Indexes.{depends_on, serves, warms};
+ghost use Rattle.ev_generations.specs.Tables.{row_in, numbers_of};
+ghost use Rattle.ev_warming.specs.Indexes.{depends_on, serves, warms, numbers_where};
 ghost use Rattle.ev_warming.specs.Newest.{newest_in};
 ghost use Rattle.ev_warming.specs.Reads.{live_rows, names_watched, is_timeout_due, listeners_in};
+ghost use Rattle.ev_warming.specs.Shown.{listener_shown, listener_shown_in};
 
 use crate::Listeners;
 use ev_model::ServedListener;
@@ -38,6 +39,14 @@ impl Listeners {
         ensures world { (world : World) → StandsFor self.now world → result ≡ is_watched (lives_of world) Rds name.now }
     {
         self.manager.state.is_watched(name)
+    }
+
+    /// The numbers of the live listeners that depend on a name of routes, in order. It costs a look-up of the name.
+    pub fn dependents(&self, name: &str) -> &[Gen]
+        requires kept { AreKept self.now }
+        ensures { result.now ≡ numbers_where (depends_on name.now) self.now.state.table.rows }
+    {
+        self.manager.state.dependents(name)
     }
 
     /// The names of routes that live listeners depend on, in the order of their bytes, each once. It goes over all listeners.
@@ -86,6 +95,13 @@ impl Listeners {
         self.manager.state.live(alloc)
     }
 
+    /// The numbers of the live listeners, in order. It goes over all listeners.
+    pub fn numbers_live(&self, alloc: Global) -> Result<Vec<Gen>, AllocError>
+        ensures { IfOk result (λ numbers. numbers.items ≡ numbers_of (live_rows self.now.state.table.rows)) }
+    {
+        self.manager.state.numbers_live(alloc)
+    }
+
     /// What a picture shows of listeners once they serve: each active one with its routes, or its target, in the order of their
     /// names; where no routes came there are none. It goes over all listeners.
     pub fn shown(&self, alloc: Global) -> Result<Seq<ServedListener>, AllocError>
@@ -94,6 +110,16 @@ impl Listeners {
         ensures world { IfOk result (λ served. (world : World) → StandsFor self.now world → served ≡ served_listeners world.arrivals world.rows) }
     {
         self.manager.state.listeners(alloc)
+    }
+
+    /// What a picture shows of the listener of this number once listeners serve: where it is active, its routes or its target. It
+    /// costs a look-up of the number, and one of the name that the listener depends on.
+    pub fn served(&self, alloc: Global, number: Gen) -> Result<Option<ServedListener>, AllocError>
+        requires kept { AreKept self.now }
+        ensures rows { IfOk result (λ served. served ≡ listener_shown_in self.now.state.watches (row_in number self.now.state.table.rows)) }
+        ensures world { IfOk result (λ served. (world : World) → StandsFor self.now world → served ≡ listener_shown world.arrivals (row_in number world.rows)) }
+    {
+        self.manager.state.listener(alloc, number)
     }
 }
 

@@ -4,11 +4,11 @@ ghost use Rattle.ev_model.specs.Tidy.{promoted, without_unwatched, without_old_r
 ghost use Rattle.ev_generations.specs.Tables.{row_in, without_row};
 ghost use Rattle.ev_warming.specs.Changes.{is_over};
 
-use crate::retired::{Retired, put_all};
+use crate::retired::{Retired, put_all, put_moved};
 use ev_clusters::Clusters;
 use ev_generations::Steps;
 use ev_listeners::Listeners;
-use ev_types::{Gen, GenRow};
+use ev_types::{Gen, GenRow, Seq};
 use std::alloc::{AllocError, Global};
 use std::sync::ledger::Ledger;
 
@@ -22,7 +22,7 @@ pub struct Managers {
 
 impl Managers {
     ghost use Rattle.ev_managers.specs.Managers.{AreForgotten, AreKept, StandFor};
-    ghost use Rattle.ev_managers.specs.Retired.{AreDrained};
+    ghost use Rattle.ev_managers.specs.Retired.{AreDrained, AreChanged};
 
     /// No generation, and nothing known. It takes no memory.
     pub fn new(alloc: Global) -> Managers
@@ -37,22 +37,26 @@ impl Managers {
     }
 
     /// Each generation that is due serves, and the one that served its name before it drains, and is put to those that retired.
+    /// The numbers of both are put to those that changed.
     pub fn promote<L: Ledger>(
         &mut self,
         alloc: Global,
         retired: &mut Retired,
+        changed: &mut Seq<Gen>,
         steps: &mut Steps<L>,
     ) -> Result<(), AllocError>
         requires kept { AreKept self.old }
         ensures kept { OnOk result (AreKept self.new) }
         ensures drained { OnOk result (AreDrained retired.old retired.new self.old self.new) }
+        ensures changed { OnOk result (AreChanged changed.old changed.new self.old self.new) }
         ensures stands { OnOk result ((world : World) → StandFor self.old world → StandFor self.new (promoted world)) }
     {
         let clusters = self.clusters.promote(alloc, steps)?;
         put_all(&mut retired.clusters, clusters.drained.as_slice())?;
+        put_moved(changed, &clusters)?;
         let listeners = self.listeners.promote(alloc, steps)?;
         put_all(&mut retired.listeners, listeners.drained.as_slice())?;
-        Ok(())
+        put_moved(changed, &listeners)
     }
 
     /// Forgets what nobody needs any more.

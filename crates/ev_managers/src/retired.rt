@@ -1,7 +1,7 @@
 ghost use Rattle.std.specs.Prelude.{◌≡◌, ◌++◌, [], IfOk, OnOk, option_to_list};
 
 use ev_types::{Gen, Seq};
-use ev_warming::Standing;
+use ev_warming::{Promoted, Standing};
 use std::alloc::{AllocError, Global};
 
 /// The numbers of the generations that an event has retired: they began to drain, or were dropped where they warmed.
@@ -41,6 +41,14 @@ fn put_one(numbers: &mut Seq<Gen>, number: Option<Gen>) -> Result<(), AllocError
         numbers.push(number)?;
     }
     Ok(())
+}
+
+// Puts the numbers of those that came to serve, and of those that began to drain, to the others.
+pub(crate) fn put_moved(numbers: &mut Seq<Gen>, promoted: &Promoted) -> Result<(), AllocError>
+    ensures { OnOk result (numbers.new ≡ (numbers.old ++ promoted.now.served) ++ promoted.now.drained) }
+{
+    put_all(numbers, promoted.served.as_slice())?;
+    put_all(numbers, promoted.drained.as_slice())
 }
 
 // Puts numbers to the others.

@@ -13,6 +13,10 @@ use Rattle.ev_generations.specs.Tables.{row_in}
 use Rattle.ev_warming.specs.Due.{is_among as among}
 use Rattle.ev_warming.specs.Indexes.{status_in}
 
+-- the row of this number serves after, and it didn't serve before
+abbrev pub began_to_serve : ℕ → List GenRow → List GenRow → Bool
+began_to_serve number before after = not (is_active (status_in (row_in number before))) && is_active (status_in (row_in number after))
+
 -- the row of this number served before, and it drains after
 abbrev pub began_to_drain : ℕ → List GenRow → List GenRow → Bool
 began_to_drain number before after = is_active (status_in (row_in number before)) && is_draining (status_in (row_in number after))

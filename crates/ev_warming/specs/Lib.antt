@@ -13,5 +13,6 @@ pub mod Managers
 pub mod Arrivals
 pub mod Health
 pub mod Reads
+pub mod Shown
 pub mod Newest
 pub mod Frames

@@ -12,7 +12,7 @@ ghost use Rattle.ev_warming.specs.Watched.{watch_in};
 ghost use Rattle.ev_warming.specs.Indexes.{depends_on, serves, warms, numbers_where};
 ghost use Rattle.ev_warming.specs.Reads.{names_watched};
 ghost use Rattle.ev_warming.specs.Worlds.{StandsFor, needs_of};
-ghost use Rattle.ev_warming.specs.Changes.{began_to_drain};
+ghost use Rattle.ev_warming.specs.Changes.{began_to_serve, began_to_drain};
 
 use crate::state::put_one;
 use crate::{Promoted, Standing, State};
@@ -151,6 +151,7 @@ impl Manager {
         ensures kept { OnOk result (IsKept self.new) }
         ensures kind { OnOk result (self.new.state.kind ≡ self.old.state.kind) }
         ensures served { IfOk result (λ promoted. (n : ℕ) → is_among promoted.served n ≡ is_due_at self.old.state.watches self.old.state.results n self.old.state.table.rows) }
+        ensures began { IfOk result (λ promoted. (n : ℕ) → is_among promoted.served n ≡ began_to_serve n self.old.state.table.rows self.new.state.table.rows) }
         ensures drained { IfOk result (λ promoted. (n : ℕ) → is_among promoted.drained n ≡ began_to_drain n self.old.state.table.rows self.new.state.table.rows) }
         ensures made { OnOk result (self.new.state.table.made ≡ self.old.state.table.made) }
         // Where none began to drain, the same names are watched as before.

@@ -7,7 +7,8 @@ ghost use Rattle.ev_model.specs.Live.{live_of, lives_of};
 ghost use Rattle.ev_model.specs.Signals.{is_awaited};
 ghost use Rattle.ev_model.specs.Watching.{is_by_name, is_watched};
 ghost use Rattle.ev_warming.specs.Due.{is_filled};
-ghost use Rattle.ev_warming.specs.Indexes.{IsIndexed, depends_on};
+ghost use Rattle.ev_generations.specs.Tables.{numbers_of};
+ghost use Rattle.ev_warming.specs.Indexes.{IsIndexed, depends_on, numbers_where};
 ghost use Rattle.ev_warming.specs.Reads.{live_rows, is_timeout_due};
 ghost use Rattle.ev_warming.specs.Worlds.{StandsFor, needs_of};
 
@@ -27,6 +28,17 @@ impl State {
         match self.watches.get_text(name) {
             Some(watch) => is_filled(&watch.rows),
             None => false,
+        }
+    }
+
+    /// The numbers of the live generations that depend on the name, in order. It costs a look-up of the name.
+    pub fn dependents(&self, name: &str) -> &[Gen]
+        requires indexed { IsIndexed self.now }
+        ensures { result.now ≡ numbers_where (depends_on name.now) self.now.table.rows }
+    {
+        match self.watches.get_text(name) {
+            Some(watch) => watch.rows.as_slice(),
+            None => &[],
         }
     }
 
@@ -50,6 +62,34 @@ impl State {
     {
         lives(alloc, &self.table)
     }
+
+    /// The numbers of the live generations, in order. It goes over the whole table.
+    pub fn numbers_live(&self, alloc: Global) -> Result<Vec<Gen>, AllocError>
+        ensures { IfOk result (λ numbers. numbers.items ≡ numbers_of (live_rows self.now.table.rows)) }
+    {
+        numbers(alloc, &self.table)
+    }
+}
+
+// The numbers of the live rows of a table.
+fn numbers(alloc: Global, table: &Generations) -> Result<Vec<Gen>, AllocError>
+    ensures { IfOk result (λ numbers. numbers.items ≡ numbers_of (live_rows table.now.rows)) }
+{
+    let mut numbers = Vec::new(alloc);
+    for row in table.rows() {
+        push_number(row, &mut numbers)?;
+    }
+    Ok(numbers)
+}
+
+// Puts the number of a row to the others, where it is live.
+fn push_number(row: &GenRow, numbers: &mut Vec<Gen>) -> Result<(), AllocError>
+    ensures { OnOk result (numbers.new.items ≡ numbers.old.items ++ numbers_of (live_rows (row.now ∷ []))) }
+{
+    if row.status.is_live() {
+        numbers.push(row.number)?;
+    }
+    Ok(())
 }
 
 // Whether there is a number.

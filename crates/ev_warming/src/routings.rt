@@ -1,4 +1,4 @@
-ghost use Rattle.std.specs.Prelude.{◌≡◌, ◌++◌, [], ◌∷◌, map, filter, IfOk, OnOk};
+ghost use Rattle.std.specs.Prelude.{◌≡◌, ◌++◌, [], ◌∷◌, Some, map, filter, option_to_list, IfOk, OnOk};
 ghost use Rattle.std.specs.Str.{bytes_eq};
 ghost use Rattle.std.specs.List.{IsDistinct, flat_map};
 ghost use Rattle.ev_types.specs.Statuses.{is_active};
@@ -8,15 +8,17 @@ ghost use Rattle.ev_model.specs.World.{World};
 ghost use Rattle.ev_model.specs.Sorted.{sorted_by};
 ghost use Rattle.ev_model.specs.Versions.{is_before};
 ghost use Rattle.ev_model.specs.Picture.{served_listeners, table_in};
+ghost use Rattle.ev_generations.specs.Tables.{row_in};
 ghost use Rattle.ev_warming.specs.Indexes.{IsIndexed};
 ghost use Rattle.ev_warming.specs.Reads.{listener_in, listeners_in, routing_in};
+ghost use Rattle.ev_warming.specs.Shown.{first_of, listener_shown, listener_shown_in};
 ghost use Rattle.ev_warming.specs.Watched.{watch_in};
 ghost use Rattle.ev_warming.specs.Worlds.{StandsFor};
 
 use crate::{State, Watches};
 use ev_generations::Generations;
 use ev_model::{Routing, ServedListener};
-use ev_types::{Content, GenRow, Name, RouteTable, Seq, Serve, Shared, TryCopy};
+use ev_types::{Content, Gen, GenRow, Name, RouteTable, Seq, Serve, Shared, TryCopy};
 use std::alloc::{AllocError, Global};
 
 impl State {
@@ -31,6 +33,54 @@ impl State {
         sort(&mut served);
         Ok(Seq::from_vec(served))
     }
+
+    /// What a picture shows of the listener of this number once listeners serve: where it is active, its routes or its target. It
+    /// costs a look-up of the number, and one of the name that the listener depends on.
+    pub fn listener(&self, alloc: Global, number: Gen) -> Result<Option<ServedListener>, AllocError>
+        requires indexed { IsIndexed self.now }
+        ensures rows { IfOk result (λ served. served ≡ listener_shown_in self.now.watches (row_in number self.now.table.rows)) }
+        ensures world { IfOk result (λ served. self.now.kind ≡ Lds → (world : World) → StandsFor self.now world → served ≡ listener_shown world.arrivals (row_in number world.rows)) }
+    {
+        match self.table.get(number) {
+            Some(row) => active_listener(alloc, &self.watches, row),
+            None => Ok(None),
+        }
+    }
+}
+
+// A listener with its routes or its target, where it is active.
+fn active_listener(
+    alloc: Global,
+    watches: &Watches,
+    row: &GenRow,
+) -> Result<Option<ServedListener>, AllocError>
+    ensures { IfOk result (λ served. served ≡ listener_shown_in watches.now (Some row.now)) }
+{
+    if !row.status.is_active() {
+        return Ok(None);
+    }
+    listener(alloc, watches, row)
+}
+
+// A listener with its routes or its target; what is no listener isn't shown.
+fn listener(
+    alloc: Global,
+    watches: &Watches,
+    row: &GenRow,
+) -> Result<Option<ServedListener>, AllocError>
+    ensures first { IfOk result (λ served. served ≡ first_of (listener_in watches.now row.now row.now.content)) }
+    ensures whole { IfOk result (λ served. option_to_list served ≡ listener_in watches.now row.now row.now.content) }
+{
+    let Content::Listener(listener) = &row.content else {
+        return Ok(None);
+    };
+    let listener = listener.get();
+    Ok(Some(ServedListener {
+        number: row.number,
+        name: row.name.copy(alloc)?,
+        address: listener.address.copy(alloc)?,
+        routing: routing(alloc, watches, &listener.serve)?,
+    }))
 }
 
 // The active listeners of a table, in the order of the rows.
@@ -60,16 +110,9 @@ fn push_listener(
     if !row.status.is_active() {
         return Ok(());
     }
-    let Content::Listener(listener) = &row.content else {
-        return Ok(());
-    };
-    let listener = listener.get();
-    served.push(ServedListener {
-        number: row.number,
-        name: row.name.copy(alloc)?,
-        address: listener.address.copy(alloc)?,
-        routing: routing(alloc, watches, &listener.serve)?,
-    })?;
+    if let Some(listener) = listener(alloc, watches, row)? {
+        served.push(listener)?;
+    }
     Ok(())
 }
 

@@ -1,4 +1,4 @@
-ghost use Rattle.std.specs.Prelude.{◌≡◌, ◌<◌, ◌++◌, [], ◌∷◌, map, filter, length, IfOk, OnOk};
+ghost use Rattle.std.specs.Prelude.{◌≡◌, ◌<◌, ◌++◌, [], ◌∷◌, Some, map, filter, length, IfOk, OnOk};
 ghost use Rattle.std.specs.Str.{bytes_eq};
 ghost use Rattle.std.specs.List.{IsDistinct};
 ghost use Rattle.ev_types.specs.Hosts.{HostRowParts};
@@ -10,9 +10,11 @@ ghost use Rattle.ev_model.specs.World.{World};
 ghost use Rattle.ev_model.specs.Sorted.{sorted_by};
 ghost use Rattle.ev_model.specs.Versions.{is_before};
 ghost use Rattle.ev_model.specs.Picture.{served_clusters};
+ghost use Rattle.ev_generations.specs.Tables.{row_in};
 ghost use Rattle.ev_warming.specs.Ready.{assignment_in};
 ghost use Rattle.ev_warming.specs.Indexes.{IsIndexed};
 ghost use Rattle.ev_warming.specs.Reads.{is_eligible_in, cluster_in, clusters_in};
+ghost use Rattle.ev_warming.specs.Shown.{cluster_at, cluster_shown_in};
 ghost use Rattle.ev_warming.specs.Worlds.{StandsFor};
 
 use crate::hosts::{assignment, is_checked};
@@ -20,7 +22,7 @@ use crate::{State, Watches};
 use ev_endpoints::Endpoints;
 use ev_generations::Generations;
 use ev_model::ServedCluster;
-use ev_types::{Assignment, GenRow, HostRow, Seq, TryCopy};
+use ev_types::{Assignment, Gen, GenRow, HostRow, Seq, TryCopy};
 use std::alloc::{AllocError, Global};
 
 impl State {
@@ -35,6 +37,50 @@ impl State {
         sort(&mut served);
         Ok(Seq::from_vec(served))
     }
+
+    /// What a picture shows of the cluster of this number now: where it is active, its hosts that may be chosen. It costs a
+    /// look-up of the number and of the name that the cluster depends on, and one of each of its hosts.
+    pub fn cluster(&self, alloc: Global, number: Gen) -> Result<Option<ServedCluster>, AllocError>
+        requires indexed { IsIndexed self.now }
+        ensures rows { IfOk result (λ served. served ≡ cluster_shown_in self.now.watches self.now.results (row_in number self.now.table.rows)) }
+        ensures world { IfOk result (λ served. self.now.kind ≡ Cds → (world : World) → StandsFor self.now world → served ≡ cluster_at world number) }
+    {
+        match self.table.get(number) {
+            Some(row) => active_cluster(alloc, &self.watches, &self.results, row),
+            None => Ok(None),
+        }
+    }
+}
+
+// A cluster with its hosts that may be chosen, where it is active.
+fn active_cluster(
+    alloc: Global,
+    watches: &Watches,
+    results: &Endpoints,
+    row: &GenRow,
+) -> Result<Option<ServedCluster>, AllocError>
+    ensures { IfOk result (λ served. served ≡ cluster_shown_in watches.now results.now (Some row.now)) }
+{
+    if !row.status.is_active() {
+        return Ok(None);
+    }
+    Ok(Some(cluster(alloc, watches, results, row)?))
+}
+
+// A cluster with its hosts that may be chosen.
+fn cluster(
+    alloc: Global,
+    watches: &Watches,
+    results: &Endpoints,
+    row: &GenRow,
+) -> Result<ServedCluster, AllocError>
+    ensures { IfOk result (λ served. served ≡ cluster_in watches.now results.now row.now) }
+{
+    Ok(ServedCluster {
+        number: row.number,
+        name: row.name.copy(alloc)?,
+        hosts: eligible(alloc, watches, results, row)?,
+    })
 }
 
 // The active clusters of a table, in the order of the rows.
@@ -64,11 +110,7 @@ fn push_cluster(
     ensures { OnOk result (served.new.items ≡ served.old.items ++ map (cluster_in watches.now results.now) (filter (λ (r : declared.GenRow). is_active r.status) (row.now ∷ []))) }
 {
     if row.status.is_active() {
-        served.push(ServedCluster {
-            number: row.number,
-            name: row.name.copy(alloc)?,
-            hosts: eligible(alloc, watches, results, row)?,
-        })?;
+        served.push(cluster(alloc, watches, results, row)?)?;
     }
     Ok(())
 }

@@ -16,7 +16,7 @@ ghost use Rattle.ev_model.specs.Tidy.{promoted};
 ghost use Rattle.ev_model.specs.Signals.{rows_ended};
 ghost use Rattle.ev_warming.specs.Worlds.{StandsFor, needs_of};
 ghost use Rattle.ev_warming.specs.Promotion.{rows_promoted, status_drained};
-ghost use Rattle.ev_warming.specs.Changes.{began_to_drain};
+ghost use Rattle.ev_warming.specs.Changes.{began_to_serve, began_to_drain};
 ghost use Rattle.ev_warming.specs.Indexes.{IsIndexed, SameMarks, depends_on, is_needed, numbers_where, status_in, name_in};
 
 use crate::{Due, Names, Standing, Watches, limited, needed, refresh};
@@ -207,6 +207,7 @@ impl State {
         ensures indexed { OnOk result (IsIndexed self.new) }
         ensures rows { OnOk result (self.new.table.rows ≡ rows_promoted (is_ready_in self.old.watches self.old.results) self.old.table.rows) }
         ensures served { IfOk result (λ promoted. (n : ℕ) → is_among promoted.served n ≡ is_due_at self.old.watches self.old.results n self.old.table.rows) }
+        ensures began { IfOk result (λ promoted. (n : ℕ) → is_among promoted.served n ≡ began_to_serve n self.old.table.rows self.new.table.rows) }
         ensures drained { IfOk result (λ promoted. (n : ℕ) → is_among promoted.drained n ≡ began_to_drain n self.old.table.rows self.new.table.rows) }
         ensures made { OnOk result (self.new.table.made ≡ self.old.table.made) }
         ensures marks { OnOk result (SameMarks self.old.watches self.new.watches) }
