@@ -13,6 +13,7 @@ pub mod NewLemmas
 pub mod ForgettingLemmas
 pub mod ForgottenLemmas
 pub mod DrainLemmas
+pub mod ServingLemmas
 pub mod TidyLemmas
 pub mod ResponseLemmas
 pub mod RemovalLemmas
@@ -22,6 +23,7 @@ pub mod HealthLemmas
 pub mod SortLemmas
 pub mod ReadLemmas
 pub mod ShownLemmas
+pub mod FoundLemmas
 pub mod AbsenceLemmas
 pub mod NewestLemmas
 pub mod FrameLemmas

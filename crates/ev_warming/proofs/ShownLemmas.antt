@@ -121,7 +121,7 @@ module _ (s : State) (world : World) (stands : StandsFor s world) (x : IsIndexed
       (sorted_by-same (by_key (λ (r : GenRow). r.name)) (on_total (λ (r : GenRow). r.name) nat_list_cmp_total) (filter (λ (r : GenRow). is_active r.status) s.table.rows)).there P
       (all_left P (λ (r : GenRow). is_active r.status) s.table.rows all)
 
-  cluster-world : (r : GenRow) → content_kind r.content ≡ s.kind → IsSome (row_in r.number s.table.rows) → cluster_in s.watches s.results r ≡ served_cluster world.arrivals world.results r
+  pub cluster-world : (r : GenRow) → content_kind r.content ≡ s.kind → IsSome (row_in r.number s.table.rows) → cluster_in s.watches s.results r ≡ served_cluster world.arrivals world.results r
   cluster-world r k there = λ i. record {
     number = r.number;
     name = r.name;
@@ -153,7 +153,7 @@ flat_map_agrees f g [] all = refl
 flat_map_agrees f g (row ∷ rows) all = λ i. all.0 i ++ flat_map_agrees f g rows all.1 i
 
 module _ (s : State) (world : World) (stands : StandsFor s world) (x : IsIndexed s) (lds : s.kind ≡ Lds) where
-  listener-world : (r : GenRow) → listener_in s.watches r r.content ≡ served_listener world.arrivals r r.content
+  pub listener-world : (r : GenRow) → listener_in s.watches r r.content ≡ served_listener world.arrivals r r.content
   listener-world r = by r.content
     where
       routed : (v : Serve) → routing_in s.watches v ≡ routing_of world.arrivals v

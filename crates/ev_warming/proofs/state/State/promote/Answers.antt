@@ -10,6 +10,7 @@ use Rattle.ev_warming.specs.Promotion.{rows_promoted, status_drained}
 use Rattle.ev_warming.specs.Changes.{began_to_drain}
 use Rattle.ev_warming.proofs.WhereLemmas.{or_false}
 use Rattle.ev_warming.proofs.DrainLemmas.{due-found, drained-one, drained-more, drained-done}
+use Rattle.ev_warming.proofs.ServingLemmas.{due-began}
 use Rattle.ev_warming.proofs.WayLemmas.{ready-same, marks-then, promoted-done, served-more}
 use Rattle.ev_warming.proofs.WorldLemmas.{promoted-stands}
 use Rattle.ev_warming.proofs.state.State.promote.Goals as goal
@@ -57,6 +58,16 @@ returns-clause-rows g c =
     (λ j. is_ready_in s.watches (i.results j)) ∙ ready-same s0.watches s.watches s0.results i.marks in
     let none : s.due ≡ [] = subst (λ o. IfNone o (s.due ≡ [])) c.in_default.is c.first.ensures.none in
     sym (promoted-done s i.indexed none) ∙ (λ j. rows_promoted (same j) s.table.rows) ∙ i.rows
+
+pub returns-clause-began : goal.returns-clause-began
+returns-clause-began g c =
+    let i = c.loop-number.invariant in
+    let s0 = c.args.self.now in
+    let s = c.loop-number.self in
+    let none : s.due ≡ [] = subst (λ o. IfNone o (s.due ≡ [])) c.in_default.is c.first.ensures.none in
+    λ n.
+    sym ((λ j. is_among c.loop-number.served n || is_among (none j) n) ∙ or_false (is_among c.loop-number.served n)) ∙ i.served n ∙ c.requires.indexed.due n
+    ∙ due-began s0.watches s0.results s0.table.rows s.table.rows (returns-clause-rows g c) n
 
 pub returns-clause-drained : goal.returns-clause-drained
 returns-clause-drained g c =
