@@ -1,4 +1,4 @@
--- Which generations of both managers retired.
+-- Which generations of both managers retired, and which changed.
 use Rattle.std.proofs.Common.{◌≡◌, ◌∙◌, ℕ, Bool, true, false, not, ◌&&◌, ◌||◌, nat_eq, List, [], ◌++◌, Option, option_to_list, refl, sym, ap}
 use Rattle.std.proofs.lemmas.List.Folds.{list_any-append}
 use Rattle.ev_types.specs.declared.contents.Kind.{Kind}
@@ -7,12 +7,12 @@ use Rattle.ev_model.specs.Signals.{rows_ended}
 use Rattle.ev_generations.specs.Tables.{row_in}
 use Rattle.ev_warming.specs.declared.state.State.{State}
 use Rattle.ev_warming.specs.Due.{is_among}
-use Rattle.ev_warming.specs.Changes.{is_over, has_retired, began_to_drain}
+use Rattle.ev_warming.specs.Changes.{is_over, has_retired, began_to_serve, began_to_drain}
 use Rattle.ev_warming.specs.Indexes.{IsIndexed, numbers_where, serves, warms}
 use Rattle.ev_warming.proofs.RetiredLemmas.{tells-ended}
 use Rattle.ev_managers.specs.declared.managers.Managers.{Managers}
 use Rattle.ev_managers.specs.declared.retired.Retired.{Retired}
-use Rattle.ev_managers.specs.Retired.{AreRetired}
+use Rattle.ev_managers.specs.Retired.{AreRetired, is_moved}
 
 -- where the rows are the same, none retired
 pub none-retired : (before after : List GenRow) → after ≡ before → (number : ℕ) → false ≡ has_retired number before after
@@ -46,3 +46,27 @@ pub put-are : (before after : List GenRow) (numbers put drained : List ℕ) → 
     → (number : ℕ) → is_among put number ≡ (is_among numbers number || began_to_drain number before after)
 put-are before after numbers put drained are told number =
     ap (λ ns. is_among ns number) are ∙ list_any-append (nat_eq number) numbers drained ∙ (λ i. is_among numbers number || told number i)
+
+either_first : (a b c : Bool) → ((a || b) || c) ≡ (a || (b || c))
+either_first true b c = refl
+either_first false b c = refl
+
+-- numbers with those that came to serve and those that began to drain
+pub put-moved : (before after : List GenRow) (numbers put served drained : List ℕ) → put ≡ (numbers ++ served) ++ drained
+    → ((number : ℕ) → is_among served number ≡ began_to_serve number before after)
+    → ((number : ℕ) → is_among drained number ≡ began_to_drain number before after)
+    → (number : ℕ) → is_among put number ≡ (is_among numbers number || is_moved number before after)
+put-moved before after numbers put served drained are serve drain number =
+    ap (λ ns. is_among ns number) are
+    ∙ list_any-append (nat_eq number) (numbers ++ served) drained
+    ∙ (λ i. list_any-append (nat_eq number) numbers served i || drain number i)
+    ∙ (λ i. (is_among numbers number || serve number i) || began_to_drain number before after)
+    ∙ either_first (is_among numbers number) (began_to_serve number before after) (began_to_drain number before after)
+
+-- of one manager, then of the other
+pub put-both : (numbers first both : List ℕ) (one other : ℕ → Bool)
+    → ((number : ℕ) → is_among first number ≡ (is_among numbers number || one number))
+    → ((number : ℕ) → is_among both number ≡ (is_among first number || other number))
+    → (number : ℕ) → is_among both number ≡ (is_among numbers number || (one number || other number))
+put-both numbers first both one other here there number =
+    there number ∙ (λ i. here number i || other number) ∙ either_first (is_among numbers number) (one number) (other number)

@@ -56,7 +56,8 @@ impl Managers {
         put_moved(changed, &clusters)?;
         let listeners = self.listeners.promote(alloc, steps)?;
         put_all(&mut retired.listeners, listeners.drained.as_slice())?;
-        put_moved(changed, &listeners)
+        put_moved(changed, &listeners)?;
+        Ok(())
     }
 
     /// Forgets what nobody needs any more.
