@@ -1,4 +1,4 @@
-use Rattle.std.proofs.Common.{ap, ◌∙◌, ◌++◌, ℕ}
+use Rattle.std.proofs.Common.{ap, ◌∙◌, ◌++◌}
 use Rattle.ev_managers.specs.Retired.{is_moved}
 use Rattle.ev_managers.proofs.RetiredLemmas.{put-are, put-moved, put-both}
 use Rattle.ev_managers.proofs.managers.Managers.promote.Goals as goal
