@@ -15,3 +15,12 @@ pub mod FindLemmas
 pub mod CeaseLemmas
 pub mod GoneLemmas
 pub mod FrameLemmas
+pub mod StillLemmas
+pub mod ValueLemmas
+pub mod SameLemmas
+pub mod EnterLemmas
+pub mod KeepLemmas
+pub mod DependLemmas
+pub mod ResultLemmas
+pub mod BeginLemmas
+pub mod TellLemmas

@@ -34,6 +34,7 @@ use Rattle.ev_state.specs.States.{Follows, Steps}
 use Rattle.ev_state.proofs.AgeLemmas.{later-same, end-later}
 use Rattle.ev_state.proofs.MoveLemmas.{none-have}
 use Rattle.ev_state.proofs.RestLemmas.{SameRest, rest_boots}
+use Rattle.ev_state.proofs.SameLemmas.{changed-none}
 
 -- the managers alone have changed
 pub managers_follow : (s : State) (m : Managers) (world after : World) → Follows s world world → StandFor m after
@@ -71,7 +72,7 @@ targets_follow s targets world after follows boots stand held versions phase row
 }
 
 -- nothing is done
-pub ignores : (s : State) (told : Stepped) (world : World) → told ≡ record { answer = Ignored; retired = record { clusters = []; listeners = [] } }
+pub ignores : (s : State) (told : Stepped) (world : World) → told ≡ record { answer = Ignored; retired = record { clusters = []; listeners = [] }; changed = [] }
     → AreKept s.managers → AreForgotten s.managers → Follows s world world → Steps s told world (world, Ignored)
 ignores s told world is kept forgotten follows = record {
   kept = kept;
@@ -80,6 +81,7 @@ ignores s told world is kept forgotten follows = record {
   later = later-same world.made world.rows;
   answer = ap (λ (t : Stepped). t.answer) is;
   retired = none-have told.retired world world (ap (λ (t : Stepped). t.retired) is) refl;
+  changed = changed-none told.changed world;
 }
 
 none_by : {X : Type 0} (p : X → Bool) (xs : List X) → list_any p xs ≡ false → filter p xs ≡ []
@@ -120,7 +122,7 @@ append_nil (x ∷ xs) = ap (λ ys. x ∷ ys) (append_nil xs)
 -- one that is for none
 pub health_ignored : (s : State) (m : Managers) (told : Stepped) (host : Host) (healthy : Bool) (p : GenRow → Bool) (world : World) → AreKept m → AreForgotten m
     → Follows s world world → list_any p world.rows ≡ false → StandFor m (with_results host healthy (filter p world.rows) world)
-    → told ≡ record { answer = Ignored; retired = record { clusters = []; listeners = [] } }
+    → told ≡ record { answer = Ignored; retired = record { clusters = []; listeners = [] }; changed = [] }
     → Steps (record s { managers = m }) told world (health_of host healthy (filter p world.rows) world)
 health_ignored s m told host healthy p world kept forgotten follows none stand is =
     let gone : filter p world.rows ≡ [] = none_by p world.rows none in

@@ -4,3 +4,4 @@ pub mod Known
 pub mod States
 pub mod Moves
 pub mod Retirements
+pub mod Changed

@@ -8,6 +8,7 @@ use Rattle.ev_subscription.specs.declared.changes.NameChange.{NameChange}
 use Rattle.ev_state.specs.declared.moves.Moves.{Moves}
 use Rattle.ev_state.specs.declared.state.State.{State}
 use Rattle.ev_state.specs.Ages.{AreLater}
+use Rattle.ev_state.specs.Changed.{HaveChanged}
 use Rattle.ev_state.specs.Retirements.{HaveRetired}
 use Rattle.ev_state.specs.States.{Follows}
 
@@ -16,12 +17,14 @@ pub record IsChange (change : NameChange) (before after : List (List ℕ)) : Typ
   pub begun : change.begun ≡ other_than before after
   pub ended : change.ended ≡ other_than after before
 
--- the names that began and ceased to be watched between these worlds, whether the first phase was left, and which generations retired
+-- the names that began and ceased to be watched between these worlds, whether the first phase was left, which generations retired, and
+-- of which a picture may show something else
 pub record AreMoves (moves : Moves) (before after : World) : Type 0 where
   pub endpoints : IsChange moves.endpoints (watched_of before Eds) (watched_of after Eds)
   pub routes : IsChange moves.routes (watched_of before Rds) (watched_of after Rds)
   pub left : moves.left ≡ has_left_clusters before after
   pub retired : HaveRetired moves.retired before after
+  pub changed : HaveChanged moves.changed before after
 
 -- an event that led from the first world is over, and these are its moves
 pub record IsOver (s : State) (told : Moves) (before after : World) : Type 0 where

@@ -17,6 +17,7 @@ use Rattle.ev_targets.specs.Targets.{StandsFor as HasTargets}
 use Rattle.ev_state.specs.declared.state.State.{State}
 use Rattle.ev_state.specs.declared.stepped.Stepped.{Stepped}
 use Rattle.ev_state.specs.Ages.{AreLater}
+use Rattle.ev_state.specs.Changed.{HaveChanged}
 use Rattle.ev_state.specs.Retirements.{HaveRetired}
 
 -- each part has what the world has of it
@@ -42,7 +43,7 @@ pub record IsAt (s : State) (world : World) : Type 0 where
   pub whole : AllByRecursion (λ (row : GenRow). is_by_name row.kind ≡ false) world.rows
 
 -- the state is at the world that the machine's step leads to, but for which generations it has; the answer is the machine's, and what
--- is told of retirements is so
+-- is told of retirements and of changes is so
 pub record Steps (s : State) (told : Stepped) (before : World) (stepped : World × Answer) : Type 0 where
   pub kept : AreKept s.managers
   pub forgotten : AreForgotten s.managers
@@ -50,6 +51,7 @@ pub record Steps (s : State) (told : Stepped) (before : World) (stepped : World 
   pub later : AreLater before.made before.rows stepped.0.rows
   pub answer : told.answer ≡ stepped.1
   pub retired : HaveRetired told.retired before stepped.0
+  pub changed : HaveChanged told.changed before stepped.0
 
 -- the worlds differ at most in what was published, which picture each worker holds, which connections are open, and which drain
 -- timeouts came

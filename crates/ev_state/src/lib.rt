@@ -1,6 +1,7 @@
 //! All that is known: the managers, the subscription, how far the proxy has booted. Each event is one step of the flat machine.
 #![tactic(auto)]
 
+mod changed;
 mod known;
 mod moves;
 mod reads;
@@ -13,4 +14,4 @@ mod stepped;
 mod stream;
 
 pub use state::State;
-pub use stepped::Stepped;
+pub use stepped::{Altered, Stepped};

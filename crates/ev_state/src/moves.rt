@@ -11,54 +11,62 @@ ghost use Rattle.ev_state.specs.Ages.{AreLater};
 ghost use Rattle.ev_state.specs.States.{Follows};
 ghost use Rattle.ev_state.specs.Moves.{IsChange, IsOver};
 ghost use Rattle.ev_state.specs.Retirements.{HaveRetired};
+ghost use Rattle.ev_state.specs.Changed.{HaveChanged};
 
 use crate::state::State;
 use ev_generations::Steps;
 use ev_managers::Retired;
 use ev_subscription::NameChange;
-use ev_types::Gen;
+use ev_types::{Gen, Seq};
 use std::alloc::{AllocError, Global};
 use std::sync::ledger::Ledger;
 
 /// What an event changed: the names of endpoints and of routes that began and ceased to be watched, whether the first phase was
-/// left, and which generations retired.
+/// left, which generations retired, and of which a picture may show something else than before.
 #[derive(Drop)]
 pub(crate) struct Moves {
     pub(crate) endpoints: NameChange,
     pub(crate) routes: NameChange,
     pub(crate) left: bool,
     pub(crate) retired: Retired,
+    pub(crate) changed: Seq<Gen>,
 }
 
 impl State {
     /// What follows an event by itself: what is due serves, what nobody needs is forgotten, and the phase moves on. So many numbers
-    /// were drawn before the event, and these generations it has retired. Only what it changed is looked at.
+    /// were drawn before the event, these generations it has retired, and of these a picture may show something else. Only what it
+    /// changed is looked at.
     pub(crate) fn tidy<L: Ledger>(
         &mut self,
         alloc: Global,
         made: u32,
         mut retired: Retired,
+        mut changed: Seq<Gen>,
         steps: &mut Steps<L>,
     ) -> Result<Moves, AllocError>
         requires kept { AreKept self.old.managers }
         ensures kept { OnOk result (AreKept self.new.managers) }
         ensures forgotten { OnOk result (AreForgotten self.new.managers) }
-        ensures over { IfOk result (λ moves. (before world : World) → Follows self.old before world → made ≡ before.made → HaveRetired retired before world → IsOver self.new moves before (tidy world)) }
+        ensures over { IfOk result (λ moves. (before world : World) → Follows self.old before world → made ≡ before.made → HaveRetired retired before world → HaveChanged changed before world → IsOver self.new moves before (tidy world)) }
     {
-        self.managers.promote(alloc, &mut retired, steps)?;
+        self.managers
+            .promote(alloc, &mut retired, &mut changed, steps)?;
         let endpoints = self.endpoints_changed(alloc, made, retired.clusters.as_slice())?;
         let routes = self.routes_changed(alloc, made, retired.listeners.as_slice())?;
         self.subscription
             .forget_unwatched(&endpoints.ended, &routes.ended);
         self.managers.forget(alloc, steps)?;
+        let phase = self.targets.phase();
         let left = self
             .targets
             .advance(&self.managers.clusters, &self.managers.listeners);
+        self.put_listeners(alloc, phase, &mut changed)?;
         Ok(Moves {
             endpoints,
             routes,
             left,
             retired,
+            changed,
         })
     }
 

@@ -3,10 +3,11 @@ ghost use Rattle.ev_model.specs.World.{World};
 ghost use Rattle.ev_model.specs.Phase.{is_serving};
 ghost use Rattle.ev_model.specs.Picture.{served_listeners, shown_of};
 ghost use Rattle.ev_generations.specs.Tables.{row_in};
+ghost use Rattle.ev_warming.specs.Shown.{cluster_at, listener_at};
 ghost use Rattle.ev_managers.specs.Managers.{AreKept};
 
 use crate::state::State;
-use ev_model::{ServedListener, Shown};
+use ev_model::{ServedCluster, ServedListener, Shown};
 use ev_types::{Gen, GenRow, Phase, Seq};
 use std::alloc::{AllocError, Global};
 
@@ -27,6 +28,31 @@ impl State {
         match self.managers.clusters.get(number) {
             Some(row) => Some(row),
             None => self.managers.listeners.get(number),
+        }
+    }
+
+    /// What a picture shows of the cluster of this number now: where it is active, its hosts that may be chosen. It costs a look-up of
+    /// the number and of the name that the cluster depends on, and one of each of its hosts.
+    pub fn cluster(&self, alloc: Global, number: Gen) -> Result<Option<ServedCluster>, AllocError>
+        requires kept { AreKept self.now.managers }
+        ensures { IfOk result (λ served. (world : World) → IsAt self.now world → served ≡ cluster_at world number) }
+    {
+        let served = self.managers.clusters.served(alloc, number)?;
+        Ok(served)
+    }
+
+    /// What a picture shows of the listener of this number now: nothing before listeners serve, and then, where it is active, its routes
+    /// or its target. It costs a look-up of the number, and one of the name that the listener depends on.
+    pub fn listener(&self, alloc: Global, number: Gen) -> Result<Option<ServedListener>, AllocError>
+        requires kept { AreKept self.now.managers }
+        ensures { IfOk result (λ served. (world : World) → IsAt self.now world → served ≡ listener_at world number) }
+    {
+        match self.targets.phase() {
+            Phase::Serving => {
+                let served = self.managers.listeners.served(alloc, number)?;
+                Ok(served)
+            }
+            Phase::Clusters | Phase::Listeners => Ok(None),
         }
     }
 

@@ -1,31 +1,38 @@
-ghost use Rattle.std.specs.Prelude.{◌≡◌, option_copied, IfOk, OnOk};
+ghost use Rattle.std.specs.Prelude.{◌≡◌, [], option_copied, IfOk, OnOk};
 ghost use Rattle.ev_model.specs.World.{World};
 ghost use Rattle.ev_model.specs.Tidy.{tidy};
 ghost use Rattle.ev_warming.specs.Changes.{is_over};
 ghost use Rattle.ev_managers.specs.Managers.{AreForgotten, AreKept};
+ghost use Rattle.ev_state.specs.Changed.{HaveChanged};
 ghost use Rattle.ev_state.specs.Moves.{IsOver};
 ghost use Rattle.ev_state.specs.Retirements.{HaveCeased};
 ghost use Rattle.ev_state.specs.States.{Follows, IsAt, over_in, without_over};
 
 use crate::moves::Moves;
 use crate::state::State;
+use crate::stepped::Altered;
 use ev_generations::Steps;
 use ev_managers::Retired;
-use ev_types::{Gen, GenRow};
+use ev_types::{Gen, GenRow, Seq};
 use std::alloc::{AllocError, Global};
 use std::marker::Brand;
 use std::sync::ledger::{Blank, Ledger};
 
 impl State {
     /// What follows an event by itself, where the event was of no manager: what is due serves, what nobody needs is forgotten, and
-    /// the phase moves on. Answers which generations that retired. After want of memory nothing is promised of the state.
-    pub fn tidy_up(&mut self, alloc: Global) -> Result<Retired, AllocError>
+    /// the phase moves on. Answers which generations that retired, and of which a picture may show something else. After want of memory
+    /// nothing is promised of the state.
+    pub fn tidy_up(&mut self, alloc: Global) -> Result<Altered, AllocError>
         requires kept { AreKept self.old.managers }
         ensures at { OnOk result ((world : World) → IsAt self.old world → IsAt self.new (tidy world)) }
-        ensures ceased { IfOk result (λ retired. (world : World) → IsAt self.old world → HaveCeased retired world (tidy world)) }
+        ensures ceased { IfOk result (λ altered. (world : World) → IsAt self.old world → HaveCeased altered.retired world (tidy world)) }
+        ensures changed { IfOk result (λ altered. (world : World) → IsAt self.old world → HaveChanged altered.changed world (tidy world)) }
     {
         let moves = self.tidy_counted::<Brand>(Blank::new(1), alloc)?;
-        Ok(moves.retired)
+        Ok(Altered {
+            retired: moves.retired,
+            changed: moves.changed,
+        })
     }
 
     // The same, with a ledger by which look-ups are counted.
@@ -40,7 +47,13 @@ impl State {
     {
         let mut steps = Steps::<L>::new(blank);
         let made = self.managers.clusters.made();
-        let moves = self.tidy(alloc, made, Retired::none(alloc), &mut steps)?;
+        let moves = self.tidy(
+            alloc,
+            made,
+            Retired::none(alloc),
+            Seq::new(alloc),
+            &mut steps,
+        )?;
         Ok(moves)
     }
 
@@ -53,6 +66,8 @@ impl State {
         ensures forgotten { AreForgotten self.new.managers }
         ensures at { (world : World) → IsAt self.old world → IsAt self.new (record world { rows = without_over number world.rows }) }
         ensures row { (world : World) → IsAt self.old world → result ≡ over_in number world.rows }
+        // A picture shows what it showed.
+        ensures shown { (world : World) → IsAt self.old world → HaveChanged [] world (record world { rows = without_over number world.rows }) }
     {
         if has_ended(self.managers.clusters.get(number)) {
             return Some(self.managers.remove_cluster(number));

@@ -12,13 +12,14 @@ ghost use Rattle.ev_subscription.specs.Subscriptions.{StandsFor as HasVersions};
 ghost use Rattle.ev_state.specs.States.{Follows, IsAt, Steps as AreSteps};
 ghost use Rattle.ev_state.specs.Moves.{IsOver};
 ghost use Rattle.ev_state.specs.Retirements.{HaveRetired};
+ghost use Rattle.ev_state.specs.Changed.{HaveChanged};
 
+use crate::changed::put_retired;
 use crate::known::Before;
 use crate::moves::Moves;
 use crate::state::State;
-use crate::stepped::Stepped;
+use crate::stepped::{Altered, Stepped};
 use ev_generations::Steps;
-use ev_managers::Retired;
 use ev_subscription::reply_of;
 use ev_types::{Answer, Kind, Response, Seq, Verdict};
 use ev_verdicts::{Mentions, verdicts_by_mentions};
@@ -98,8 +99,8 @@ impl State {
         ensures over { IfOk result (λ moves. IsOver self.new moves here (responded kind mentions.now verdicts.now here)) }
     {
         let made = self.managers.clusters.made();
-        let retired = self.enter(alloc, kind, verdicts, mentions, steps)?;
-        let moves = self.tidy(alloc, made, retired, steps)?;
+        let altered = self.enter(alloc, kind, verdicts, mentions, steps)?;
+        let moves = self.tidy(alloc, made, altered.retired, altered.changed, steps)?;
         Ok(moves)
     }
 
@@ -114,6 +115,7 @@ impl State {
     ) -> Result<Stepped, AllocError>
         requires one_each { length verdicts ≡ length response.now.items }
         ensures retired { IfOk result (λ stepped. stepped.retired ≡ moves.retired) }
+        ensures changed { IfOk result (λ stepped. stepped.changed ≡ moves.changed) }
         ensures answer { IfOk result (λ stepped. (world : World) (before after : Watched) → HasVersions self.now.subscription world
             → moves.endpoints.begun ≡ other_than before.endpoints after.endpoints → moves.endpoints.ended ≡ other_than after.endpoints before.endpoints
             → moves.routes.begun ≡ other_than before.routes after.routes → moves.routes.ended ≡ other_than after.routes before.routes
@@ -130,10 +132,12 @@ impl State {
         Ok(Stepped {
             answer: Answer::Replied { requests, verdicts },
             retired: moves.retired,
+            changed: moves.changed,
         })
     }
 
-    // What a response does to each part, by the verdicts on its resources. Answers which generations retired.
+    // What a response does to each part, by the verdicts on its resources. Answers which generations retired, and of which a picture may
+    // show something else.
     fn enter<L: Ledger>(
         &mut self,
         alloc: Global,
@@ -141,7 +145,7 @@ impl State {
         verdicts: &[Verdict],
         mentions: &Mentions<'_>,
         steps: &mut Steps<L>,
-    ) -> Result<Retired, AllocError>
+    ) -> Result<Altered, AllocError>
         ghost here: { World }
         requires at { IsAt self.old here }
         requires typed { mentions.now.kind ≡ Some kind }
@@ -151,15 +155,20 @@ impl State {
         ensures kept { OnOk result (AreKept self.new.managers) }
         ensures follows { OnOk result (Follows self.new here (with_first kind (made_names verdicts.now mentions.now.items)
             (add_items kind verdicts.now mentions.now.items (with_removals kind mentions.now here)))) }
-        ensures retired { IfOk result (λ retired. HaveRetired retired here (with_first kind (made_names verdicts.now mentions.now.items)
+        ensures retired { IfOk result (λ altered. HaveRetired altered.retired here (with_first kind (made_names verdicts.now mentions.now.items)
+            (add_items kind verdicts.now mentions.now.items (with_removals kind mentions.now here)))) }
+        ensures changed { IfOk result (λ altered. HaveChanged altered.changed here (with_first kind (made_names verdicts.now mentions.now.items)
             (add_items kind verdicts.now mentions.now.items (with_removals kind mentions.now here)))) }
     {
         let response = mentions.response();
+        let mut changed = Seq::new(alloc);
+        self.put_all_dependents(kind, response, &mut changed)?;
         let retired = self
             .managers
             .respond(alloc, kind, response, verdicts, steps)?;
+        put_retired(&mut changed, &retired)?;
         self.subscription.respond(alloc, kind, verdicts, mentions)?;
         self.targets.note_first(alloc, kind, response, verdicts)?;
-        Ok(retired)
+        Ok(Altered { retired, changed })
     }
 }

@@ -5,35 +5,39 @@ ghost use Rattle.ev_model.specs.Signals.{health, fetch_timeout, clusters_timeout
 ghost use Rattle.ev_managers.specs.Managers.{AreForgotten, AreKept};
 ghost use Rattle.ev_state.specs.States.{Follows, Steps as AreSteps};
 ghost use Rattle.ev_state.specs.Retirements.{HaveRetired};
+ghost use Rattle.ev_state.specs.Changed.{HaveChanged};
 
+use crate::changed::put_retired;
 use crate::state::State;
 use crate::stepped::Stepped;
 use ev_generations::Steps;
 use ev_managers::Retired;
-use ev_types::{Answer, Arrival, Host, Kind, Name};
+use ev_types::{Answer, Arrival, Gen, Host, Kind, Name, Seq};
 use std::alloc::{AllocError, Global};
 use std::sync::ledger::Ledger;
 
 impl State {
-    // An event that drew no number, and retired these generations, has led here: what follows it by itself follows, and its requests
-    // are sent.
+    // An event that drew no number, retired these generations, and changed what a picture may show of these, has led here: what follows
+    // it by itself follows, and its requests are sent.
     fn moved<L: Ledger>(
         &mut self,
         alloc: Global,
         retired: Retired,
+        changed: Seq<Gen>,
         steps: &mut Steps<L>,
     ) -> Result<Stepped, AllocError>
         requires kept { AreKept self.old.managers }
-        ensures { IfOk result (λ stepped. (before world : World) → Follows self.old before world → world.made ≡ before.made → HaveRetired retired before world → AreSteps self.new stepped before (moved before world)) }
+        ensures { IfOk result (λ stepped. (before world : World) → Follows self.old before world → world.made ≡ before.made → HaveRetired retired before world → HaveChanged changed before world → AreSteps self.new stepped before (moved before world)) }
     {
         let made = self.managers.clusters.made();
-        let moves = self.tidy(alloc, made, retired, steps)?;
+        let moves = self.tidy(alloc, made, retired, changed, steps)?;
         let requests = self
             .subscription
             .requests_after(alloc, None, moves.endpoints, moves.routes, moves.left)?;
         Ok(Stepped {
             answer: Answer::Moved { requests },
             retired: moves.retired,
+            changed: moves.changed,
         })
     }
 
@@ -53,7 +57,9 @@ impl State {
         if !self.managers.health(alloc, cluster, host, healthy, steps)? {
             return Ok(Stepped::ignored(alloc));
         }
-        let stepped = self.moved(alloc, Retired::none(alloc), steps)?;
+        let mut changed = Seq::new(alloc);
+        self.put_active(cluster, &mut changed)?;
+        let stepped = self.moved(alloc, Retired::none(alloc), changed, steps)?;
         Ok(stepped)
     }
 
@@ -70,7 +76,7 @@ impl State {
         if !self.targets.clusters_timeout() {
             return Ok(Stepped::ignored(alloc));
         }
-        let stepped = self.moved(alloc, Retired::none(alloc), steps)?;
+        let stepped = self.moved(alloc, Retired::none(alloc), Seq::new(alloc), steps)?;
         Ok(stepped)
     }
 
@@ -87,7 +93,7 @@ impl State {
         if !self.targets.listeners_timeout() {
             return Ok(Stepped::ignored(alloc));
         }
-        let stepped = self.moved(alloc, Retired::none(alloc), steps)?;
+        let stepped = self.moved(alloc, Retired::none(alloc), Seq::new(alloc), steps)?;
         Ok(stepped)
     }
 
@@ -107,7 +113,7 @@ impl State {
         }
         self.managers
             .arrive_endpoints(alloc, name, &Arrival::TimedOut, steps)?;
-        let stepped = self.moved(alloc, Retired::none(alloc), steps)?;
+        let stepped = self.moved(alloc, Retired::none(alloc), Seq::new(alloc), steps)?;
         Ok(stepped)
     }
 
@@ -127,7 +133,7 @@ impl State {
         }
         self.managers
             .arrive_routes(alloc, name, &Arrival::TimedOut, steps)?;
-        let stepped = self.moved(alloc, Retired::none(alloc), steps)?;
+        let stepped = self.moved(alloc, Retired::none(alloc), Seq::new(alloc), steps)?;
         Ok(stepped)
     }
 
@@ -147,8 +153,11 @@ impl State {
             return Ok(Stepped::ignored(alloc));
         }
         self.subscription.forget(kind, name.as_str());
+        let mut changed = Seq::new(alloc);
+        self.put_dependents(kind, name.as_str(), &mut changed)?;
         let retired = self.managers.end(alloc, kind, name, steps)?;
-        let stepped = self.moved(alloc, retired, steps)?;
+        put_retired(&mut changed, &retired)?;
+        let stepped = self.moved(alloc, retired, changed, steps)?;
         Ok(stepped)
     }
 }

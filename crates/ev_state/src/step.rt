@@ -7,6 +7,7 @@ ghost use Rattle.ev_model.specs.Step.{step as machine_step};
 ghost use Rattle.ev_model.specs.Signals.{fetch_timeout};
 ghost use Rattle.ev_managers.specs.Managers.{AreForgotten, AreKept};
 ghost use Rattle.ev_state.specs.Managed.{is_managed};
+ghost use Rattle.ev_state.specs.Changed.{HaveChanged};
 ghost use Rattle.ev_state.specs.Retirements.{HaveCeased};
 ghost use Rattle.ev_state.specs.States.{Follows, IsAt, Steps as AreSteps};
 
@@ -19,8 +20,9 @@ use std::marker::Brand;
 use std::sync::ledger::{Blank, Ledger};
 
 impl State {
-    /// What an event does, its answer, and which generations it retired: one step of the machine. Who brings the event makes no
-    /// difference, nor do the rules of the format. After want of memory nothing is promised of the state.
+    /// What an event does, its answer, which generations it retired, and of which a picture may show something else: one step of the
+    /// machine. Who brings the event makes no difference, nor do the rules of the format. After want of memory nothing is promised of
+    /// the state.
     pub fn step(&mut self, alloc: Global, event: &Event) -> Result<Stepped, AllocError>
         ghost here: { World }
         requires at { IsAt self.old here }
@@ -29,6 +31,7 @@ impl State {
         ensures at { OnOk result ((format : Format) (actor : Actor) → IsAt self.new (machine_step format here actor event.now).0) }
         ensures answer { IfOk result (λ stepped. (format : Format) (actor : Actor) → stepped.answer ≡ (machine_step format here actor event.now).1) }
         ensures ceased { IfOk result (λ stepped. (format : Format) (actor : Actor) → HaveCeased stepped.retired here (machine_step format here actor event.now).0) }
+        ensures changed { IfOk result (λ stepped. (format : Format) (actor : Actor) → HaveChanged stepped.changed here (machine_step format here actor event.now).0) }
     {
         let stepped = self.counted::<Brand>(Blank::new(1), alloc, event)?;
         Ok(stepped)

@@ -31,10 +31,11 @@ impl State {
         let requests = self.asked_at_first(alloc)?;
         self.subscription.set_stream(true);
         let made = self.managers.clusters.made();
-        let moves = self.tidy(alloc, made, Retired::none(alloc), steps)?;
+        let moves = self.tidy(alloc, made, Retired::none(alloc), Seq::new(alloc), steps)?;
         Ok(Stepped {
             answer: Answer::Moved { requests },
             retired: moves.retired,
+            changed: moves.changed,
         })
     }
 
@@ -77,10 +78,11 @@ impl State {
         }
         self.subscription.set_stream(false);
         let made = self.managers.clusters.made();
-        let moves = self.tidy(alloc, made, Retired::none(alloc), steps)?;
+        let moves = self.tidy(alloc, made, Retired::none(alloc), Seq::new(alloc), steps)?;
         Ok(Stepped {
             answer: Answer::Done,
             retired: moves.retired,
+            changed: moves.changed,
         })
     }
 }

@@ -1,4 +1,4 @@
-use Rattle.std.proofs.Common.{◌≡◌, ◌+◌, ◌<◌, List, length, Some, ap, sym, subst, ◌∙◌}
+use Rattle.std.proofs.Common.{◌≡◌, ℕ, ◌+◌, ◌<◌, List, length, Some, ap, sym, subst, ◌∙◌}
 use Rattle.ev_types.specs.Items.{ResponseParts}
 use Rattle.ev_types.specs.declared.contents.Kind.{Kind}
 use Rattle.ev_types.specs.declared.events.Verdict.{Verdict}
@@ -14,6 +14,7 @@ use Rattle.ev_managers.specs.declared.retired.Retired.{Retired}
 use Rattle.ev_state.specs.declared.state.State.{State}
 use Rattle.ev_state.specs.declared.stepped.Stepped.{Stepped}
 use Rattle.ev_state.specs.Retirements.{HaveRetired}
+use Rattle.ev_state.specs.Changed.{HaveChanged}
 use Rattle.ev_state.specs.declared.moves.Moves.{Moves}
 use Rattle.ev_state.specs.Moves.{IsOver}
 use Rattle.ev_state.specs.States.{Steps}
@@ -48,13 +49,13 @@ replies : (s : State) (told : Stepped) (verdicts given : List Verdict) (kind : K
     → AreKept s.managers → AreForgotten s.managers
     → mentioned ≡ response → given ≡ verdicts → given ≡ verdicts_of (lives_of here) here.versions response
     → IsOver s moves here (responded kind mentioned given here)
-    → told.retired ≡ moves.retired
+    → told.retired ≡ moves.retired → told.changed ≡ moves.changed
     → ((world : World) (before after : Watched) → HasVersions s.subscription world
     → moves.endpoints.begun ≡ other_than before.endpoints after.endpoints → moves.endpoints.ended ≡ other_than after.endpoints before.endpoints
     → moves.routes.begun ≡ other_than before.routes after.routes → moves.routes.ended ≡ other_than after.routes before.routes
     → told.answer ≡ Replied (requests_by world.stream before after moves.left world.versions (Some (reply_of kind response verdicts))) verdicts)
     → Steps s told here (answered kind response (verdicts_of (lives_of here) here.versions response) here)
-replies s told verdicts given kind mentioned response moves here kept forgotten same are judged over retired answers =
+replies s told verdicts given kind mentioned response moves here kept forgotten same are judged over retired changed answers =
     let after : World = responded kind mentioned given here in
     let replied : reply_of kind response verdicts ≡ reply_of kind mentioned given = (λ i. reply_of kind (sym same i) (sym are i)) in
     let sent : requests_by after.stream (all_watched here) (all_watched after) moves.left after.versions (Some (reply_of kind response verdicts)) ≡ requests_of here after (Some (reply_of kind mentioned given)) =
@@ -68,6 +69,7 @@ replies s told verdicts given kind mentioned response moves here kept forgotten 
           over.moves.endpoints.begun over.moves.endpoints.ended over.moves.routes.begun over.moves.routes.ended
           ∙ (λ i. Replied (sent i) (sym are i));
       retired = subst (λ (r : Retired). HaveRetired r here after) (sym retired) over.moves.retired;
+      changed = subst (λ (ns : List ℕ). HaveChanged ns here after) (sym changed) over.moves.changed;
     } in
     subst (λ (vs : List Verdict). Steps s told here (answered kind response vs here)) judged
     (subst (λ (r : ResponseParts). Steps s told here (answered kind r given here)) same base)
@@ -81,4 +83,4 @@ returns g c =
     (c.as_slice.ensures.elements ∙ c.in_ok-verdicts.ensures.judged c.args.kind g.here c.requires.1.0 typed
     ∙ ap (verdicts_of (lives_of g.here) g.here.versions) c.in_ok-mentions.ensures)
     c.in_ok-moves.ensures.over
-    c.in_ok-stepped.ensures.retired c.in_ok-stepped.ensures.answer
+    c.in_ok-stepped.ensures.retired c.in_ok-stepped.ensures.changed c.in_ok-stepped.ensures.answer

@@ -8,6 +8,7 @@ use Rattle.ev_model.specs.Signals.{is_awaited, moved}
 use Rattle.ev_state.proofs.SignalLemmas.{managers_follow, due_is_watched, ignores}
 use Rattle.ev_state.proofs.StepLemmas.{where_true, where_false}
 use Rattle.ev_state.proofs.MoveLemmas.{none-have}
+use Rattle.ev_state.proofs.TellLemmas.{timeout-changed}
 use Rattle.ev_state.proofs.state.State.endpoints_timeout.Goals as goal
 
 pub arrive_endpoints-requires-clause-watched : goal.arrive_endpoints-requires-clause-watched
@@ -29,4 +30,4 @@ returns g c = λ world follows.
     (c.in_ok-stepped.ensures world after
     (managers_follow c.args.self.now c.arrive_endpoints.new.self world after follows (c.in_ok-arrive_endpoints.ensures.stands world follows.stands.managers) refl refl refl
     (record { first_clusters = refl; first_listeners = refl; late_clusters = refl; late_listeners = refl; phase = refl }) refl)
-    refl (none-have c.none.result world after c.none.ensures refl))
+    refl (none-have c.none.result world after c.none.ensures refl) (timeout-changed c.new.result Eds c.args.name.now world))

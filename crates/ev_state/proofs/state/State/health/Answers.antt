@@ -1,8 +1,10 @@
-use Rattle.std.proofs.Common.{refl, sym, ◌∙◌}
+use Rattle.std.proofs.Common.{◌++◌, refl, sym, ◌∙◌}
 use Rattle.ev_model.specs.World.{World}
 use Rattle.ev_model.specs.Signals.{is_meant, with_results, rows_meant}
+use Rattle.ev_warming.specs.Indexes.{serves, numbers_where}
 use Rattle.ev_state.proofs.SignalLemmas.{managers_follow, health_led, health_ignored}
 use Rattle.ev_state.proofs.MoveLemmas.{none-have}
+use Rattle.ev_state.proofs.TellLemmas.{resulted-changed}
 use Rattle.ev_state.proofs.state.State.health.Goals as goal
 
 pub returns-then-not-branch : goal.returns-then-not-branch
@@ -15,9 +17,12 @@ returns-then-not-branch g c = λ world follows.
 pub returns : goal.returns
 returns g c = λ world follows.
     let after : World = with_results c.args.host.now c.args.healthy (rows_meant world.arrivals c.args.cluster.now c.args.host.now world.rows) world in
+    let changed = resulted-changed c.put_active.new.changed c.health.new.self c.args.cluster.now c.args.host.now c.args.healthy world
+    c.in_ok-health.ensures.kept (c.in_ok-health.ensures.stands world follows.stands.managers)
+    (c.in_ok-put_active.ensures ∙ (λ i. c.new-changed.ensures.empty i ++ numbers_where (serves c.args.cluster.now) c.health.new.self.clusters.state.table.rows)) in
     health_led c.moved.new.self c.in_ok-stepped.stepped c.args.host.now c.args.healthy (is_meant world.arrivals c.args.cluster.now c.args.host.now) world
     (sym (c.in_ok-health.ensures.ignored world follows.stands.managers) ∙ c.if-not-branch.false)
     (c.in_ok-stepped.ensures world after
     (managers_follow c.args.self.now c.health.new.self world after follows (c.in_ok-health.ensures.stands world follows.stands.managers) refl refl refl
     (record { first_clusters = refl; first_listeners = refl; late_clusters = refl; late_listeners = refl; phase = refl }) refl)
-    refl (none-have c.none.result world after c.none.ensures refl))
+    refl (none-have c.none.result world after c.none.ensures refl) changed)

@@ -10,6 +10,7 @@ use Rattle.ev_state.specs.declared.state.State.{State}
 use Rattle.ev_state.proofs.SignalLemmas.{targets_follow, not_true, not_false, ignores}
 use Rattle.ev_state.proofs.StepLemmas.{where_true, where_false}
 use Rattle.ev_state.proofs.MoveLemmas.{none-have}
+use Rattle.ev_state.proofs.TellLemmas.{quiet-changed}
 use Rattle.ev_state.proofs.state.State.listeners_timeout.Goals as goal
 
 pub returns-then-not-listeners_timeout : goal.returns-then-not-listeners_timeout
@@ -38,4 +39,4 @@ returns g c = λ world follows.
     (see_the_same c.args.self.now.managers world after (record { rows = refl; made = refl; arrivals = refl; results = refl }) follows.stands.managers)
     (record { node = had.node; stream = had.stream; versions = had.versions; kept_once = had.kept_once })
     refl refl refl)
-    refl (none-have c.none.result world after c.none.ensures refl))
+    refl (none-have c.none.result world after c.none.ensures refl) (quiet-changed c.new.result world after refl (λ k q. refl) refl refl))

@@ -1,6 +1,7 @@
 use Rattle.std.proofs.Common.{sym, ap, ◌∙◌}
 use Rattle.ev_warming.specs.Changes.{is_over}
 use Rattle.ev_state.proofs.GoneLemmas.{cluster-goes, cluster-gone, listener-goes, listener-gone, nothing-goes, nothing-gone}
+use Rattle.ev_state.proofs.TellLemmas.{left-changed}
 use Rattle.ev_state.proofs.state.State.remove.Goals as goal
 
 pub returns-then-has_ended-clause-at : goal.returns-then-has_ended-clause-at
@@ -36,3 +37,12 @@ returns-clause-row c = λ world at.
     nothing-gone c.args.self.now c.args.number world at
     (ap is_over (sym c.get.ensures) ∙ sym c.has_ended.ensures ∙ c.if-has_ended.false)
     (ap is_over (sym c.get-2.ensures) ∙ sym c.has_ended-2.ensures ∙ c.if-has_ended-2.false)
+
+pub returns-then-has_ended-clause-shown : goal.returns-then-has_ended-clause-shown
+returns-then-has_ended-clause-shown c = λ world at. left-changed c.args.number world at.follows.sound
+
+pub returns-then-has_ended-2-clause-shown : goal.returns-then-has_ended-2-clause-shown
+returns-then-has_ended-2-clause-shown c = λ world at. left-changed c.args.number world at.follows.sound
+
+pub returns-clause-shown : goal.returns-clause-shown
+returns-clause-shown c = λ world at. left-changed c.args.number world at.follows.sound

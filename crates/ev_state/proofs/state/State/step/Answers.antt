@@ -15,3 +15,6 @@ returns-clause-ceased g c = λ format actor.
     let led = c.in_ok-stepped.ensures format actor in
     have-ceased c.in_ok-stepped.stepped.retired g.here _ c.requires.0.follows.sound led.follows.sound led.later
     (step-whole format g.here actor c.args.event.now c.requires.0.whole) led.retired
+
+pub returns-clause-changed : goal.returns-clause-changed
+returns-clause-changed g c = λ format actor. (c.in_ok-stepped.ensures format actor).changed

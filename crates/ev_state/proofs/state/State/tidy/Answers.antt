@@ -1,4 +1,4 @@
-use Rattle.std.proofs.Common.{◌&&◌, not, refl, ap, ◌∙◌}
+use Rattle.std.proofs.Common.{◌&&◌, ◌++◌, not, refl, ap, ◌∙◌}
 use Rattle.std.proofs.lemmas.List.Elements.{filter_passes}
 use Rattle.ev_types.specs.declared.contents.Kind.TheVariants.{Eds, Rds}
 use Rattle.ev_types.specs.declared.rows.GenRow.{GenRow}
@@ -13,12 +13,14 @@ use Rattle.ev_subscription.specs.Subscriptions.{StandsFor as HasVersions}
 use Rattle.ev_targets.specs.Targets.{StandsFor as HasTargets}
 use Rattle.ev_managers.proofs.FrameLemmas.{see_the_same}
 use Rattle.ev_state.proofs.AgeLemmas.{later-same, later-then, later-promoted}
+use Rattle.ev_state.specs.Changed.{listeners_begun}
 use Rattle.ev_state.proofs.MoveLemmas.{promoted-have}
+use Rattle.ev_state.proofs.TellLemmas.{tidied-changed}
 use Rattle.ev_state.proofs.TidyLemmas.{ended_of}
 use Rattle.ev_state.proofs.state.State.tidy.Goals as goal
 
 pub returns-clause-over : goal.returns-clause-over
-returns-clause-over g c = λ before world follows drawn have.
+returns-clause-over g c = λ before world follows drawn have changed.
     let w1 : World = promoted world in
     let w3 : World = without_old_results (without_unwatched w1) in
     let first = c.in_ok-promote.ensures.stands world follows.stands.managers in
@@ -60,6 +62,11 @@ returns-clause-over g c = λ before world follows drawn have.
         endpoints = endpoints;
         routes = routes;
         retired = record { clusters = told.clusters; listeners = told.listeners };
+        changed = tidied-changed c.args.changed c.promote.new.changed c.put_listeners.new.changed m c.promote.new.self c.forget.new.self before world
+            c.requires.kept c.in_ok-promote.ensures.kept c.in_ok-forget.ensures.kept follows.stands.managers first third c.in_ok-promote.ensures.changed
+            (c.in_ok-put_listeners.ensures
+            ∙ (λ i. c.promote.new.changed ++ listeners_begun ((c.phase-phase.ensures.value ∙ booted.phase) i) (moved.phase i) c.forget.new.self.listeners.state))
+            changed;
         left = c.advance-left.ensures.left ∙ (λ i. is_clusters ((booted.phase ∙ follows.phase) i) && not (is_clusters (moved.phase i)));
       };
     }

@@ -15,3 +15,6 @@ pub returns-clause-ceased : goal.returns-clause-ceased
 returns-clause-ceased c = λ world at.
     let over = c.in_ok-moves.ensures.over world at.follows in
     have-ceased c.in_ok-moves.moves.retired world (tidy world) at.follows.sound over.follows.sound over.later (tidy-whole world at.whole) over.moves.retired
+
+pub returns-clause-changed : goal.returns-clause-changed
+returns-clause-changed c = λ world at. (c.in_ok-moves.ensures.over world at.follows).moves.changed

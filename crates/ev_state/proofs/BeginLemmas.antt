@@ -1,0 +1,59 @@
+-- Where listeners come to serve, a picture may show something else of each that is live.
+use Rattle.std.proofs.Common.{◌≡◌, ◌∙◌, ℕ, Bool, true, false, cond, not, ◌&&◌, nat_eq, List, [], Option, None, Some, refl, sym}
+use Rattle.std.specs.Option.{option_and_then}
+use Rattle.std.specs.List.{IsDistinct}
+use Rattle.std.proofs.lemmas.Bool.{false≢true}
+use Rattle.ev_types.specs.Statuses.{is_live}
+use Rattle.ev_types.specs.declared.contents.Kind.TheVariants.{Lds}
+use Rattle.ev_types.specs.declared.rows.Phase.{Phase}
+use Rattle.ev_types.specs.declared.rows.Phase.TheVariants.{Clusters, Listeners, Serving}
+use Rattle.ev_types.specs.declared.rows.GenRow.{GenRow}
+use Rattle.ev_model.specs.World.{World}
+use Rattle.ev_model.specs.Phase.{is_serving, clusters_have_come, listeners_have_come, phase_from, phase_after}
+use Rattle.ev_model.specs.Tidy.{with_phase}
+use Rattle.ev_generations.specs.Tables.{row_in, numbers_of}
+use Rattle.ev_warming.specs.declared.state.State.{State}
+use Rattle.ev_warming.specs.Due.{is_among}
+use Rattle.ev_warming.specs.Reads.{live_rows}
+use Rattle.ev_warming.specs.Shown.{listener_shown}
+use Rattle.ev_warming.specs.Worlds.{rows_of_kind}
+use Rattle.ev_warming.proofs.WhereLemmas.{among-where}
+use Rattle.ev_state.specs.Changed.{HaveChanged, listeners_begun}
+use Rattle.ev_state.proofs.StillLemmas.{serving}
+use Rattle.ev_state.proofs.KeepLemmas.{served-is, active-live}
+use Rattle.ev_state.proofs.SameLemmas.{first_served, listener-served}
+use Rattle.ev_state.proofs.DependLemmas.{served-at}
+
+-- listeners that serve don't cease to
+stays_serving : (clusters_come listeners_come : Bool) (phase : Phase) → is_serving phase ≡ true → is_serving (phase_from clusters_come listeners_come phase) ≡ true
+stays_serving c l Clusters h = absurd (false≢true h)
+stays_serving c l Listeners h = absurd (false≢true h)
+stays_serving c l Serving h = refl
+
+-- a number that no live listener has is shown in neither phase
+dead_hidden : (n : ℕ) (listeners : State) (world : World) → listeners.table.rows ≡ rows_of_kind Lds world.rows → IsDistinct nat_eq (numbers_of world.rows)
+    → is_among (numbers_of (live_rows listeners.table.rows)) n ≡ false → listener_shown world.arrivals (row_in n world.rows) ≡ None
+dead_hidden n listeners world are apart none = listener-served world.arrivals (row_in n world.rows) ∙ by (serving Lds (row_in n world.rows)) refl
+  where
+    by : (found : Option GenRow) → serving Lds (row_in n world.rows) ≡ found → option_and_then (first_served world.arrivals) found ≡ None
+    by None at = refl
+    by (Some row) at =
+        let served = served-is Lds (row_in n world.rows) row at in
+        absurd (false≢true (sym none
+        ∙ among-where (λ (r : GenRow). is_live r.status) n row listeners.table.rows (served-at Lds n row world.rows listeners.table.rows apart are at) (active-live row.status served.active)))
+
+pub begun-changed : (changed : List ℕ) (listeners : State) (world : World) → listeners.table.rows ≡ rows_of_kind Lds world.rows → IsDistinct nat_eq (numbers_of world.rows)
+    → ((n : ℕ) → is_among changed n ≡ false → is_among (listeners_begun world.phase (phase_after world) listeners) n ≡ false)
+    → HaveChanged changed world (with_phase world)
+begun-changed changed listeners world are apart told = record {
+  clusters = λ n other. refl;
+  listeners = λ n other.
+      by n (is_serving world.phase) (is_serving (phase_after world)) (told n other) (stays_serving (clusters_have_come world) (listeners_have_come world) world.phase);
+}
+  where
+    by : (n : ℕ) (b c : Bool) → is_among (cond (not b && c) (numbers_of (live_rows listeners.table.rows)) []) n ≡ false → (b ≡ true → c ≡ true)
+        → cond c (listener_shown world.arrivals (row_in n world.rows)) None ≡ cond b (listener_shown world.arrivals (row_in n world.rows)) None
+    by n true true none stays = refl
+    by n true false none stays = absurd (false≢true (stays refl))
+    by n false true none stays = dead_hidden n listeners world are apart none
+    by n false false none stays = refl

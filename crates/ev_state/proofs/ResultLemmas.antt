@@ -1,0 +1,103 @@
+-- A health result changes what a picture shows of the cluster alone that serves the name.
+use Rattle.std.proofs.Common.{◌≡◌, ◌∙◌, ℕ, Bool, true, false, cond, ◌&&◌, nat_eq, List, [], ◌∷◌, ◌++◌, None, Some, map, filter, refl, sym, ap}
+use Rattle.std.specs.Prelude.{unwrap_or}
+use Rattle.std.specs.List.{AllByRecursion, IsDistinct, last_or}
+use Rattle.std.specs.Str.{bytes_eq}
+use Rattle.std.proofs.lemmas.Bool.{false≢true, eqb-true}
+use Rattle.std.proofs.lemmas.List.Elements.{filter-append}
+use Rattle.ev_types.specs.Hosts.{HostRowParts}
+use Rattle.ev_types.specs.Kinds.{kind_same}
+use Rattle.ev_types.specs.SameHosts.{host_same, has_host}
+use Rattle.ev_types.specs.Statuses.{is_live}
+use Rattle.ev_types.specs.declared.contents.Kind.TheVariants.{Cds}
+use Rattle.ev_types.specs.declared.hosts.Host.{Host}
+use Rattle.ev_types.specs.declared.rows.GenRow.{GenRow}
+use Rattle.ev_model.specs.World.{World, HealthResult}
+use Rattle.ev_model.specs.Warming.{assignment_by, is_checked, is_result_of, is_healthy}
+use Rattle.ev_model.specs.Signals.{is_meant, rows_meant, result_for, with_results}
+use Rattle.ev_generations.specs.Tables.{row_in, numbers_of}
+use Rattle.ev_generations.proofs.TableLemmas.{number-row_in}
+use Rattle.ev_warming.specs.declared.state.State.{State}
+use Rattle.ev_warming.specs.Due.{is_among}
+use Rattle.ev_warming.specs.Indexes.{serves, numbers_where}
+use Rattle.ev_warming.specs.Worlds.{rows_of_kind}
+use Rattle.ev_warming.proofs.PromotionLemmas.{all_then}
+use Rattle.ev_warming.proofs.WhereLemmas.{among-where, own-rows}
+use Rattle.ev_state.proofs.StillLemmas.{serving}
+use Rattle.ev_state.proofs.SameLemmas.{AreSame, SameResults}
+use Rattle.ev_state.proofs.KeepLemmas.{served-is}
+use Rattle.ev_state.proofs.DependLemmas.{served-at}
+
+-- results of other numbers are none of a number's
+others_none : (n : ℕ) (host given : Host) (healthy : Bool) (rows : List GenRow) → AllByRecursion (λ (r : GenRow). nat_eq r.number n ≡ false) rows
+    → filter (is_result_of n host) (map (result_for given healthy) rows) ≡ []
+others_none n host given healthy [] others = refl
+others_none n host given healthy (row ∷ rows) others =
+    (λ i. cond (others.0 i && host_same given host) (result_for given healthy row ∷ filter (is_result_of n host) (map (result_for given healthy) rows)) (filter (is_result_of n host) (map (result_for given healthy) rows)))
+    ∙ others_none n host given healthy rows others.1
+
+append_none : {A : Type 0} (xs : List A) → xs ++ [] ≡ xs
+append_none [] = refl
+append_none (x ∷ xs) = ap (λ ys. x ∷ ys) (append_none xs)
+
+healthy_same : (n : ℕ) (host given : Host) (healthy : Bool) (results : List HealthResult) (rows : List GenRow) → AllByRecursion (λ (r : GenRow). nat_eq r.number n ≡ false) rows
+    → is_healthy (results ++ map (result_for given healthy) rows) n host ≡ is_healthy results n host
+healthy_same n host given healthy results rows others =
+    ap (λ (rs : List HealthResult). unwrap_or (last_or None (map (λ (r : HealthResult). r.healthy) rs)) false)
+    (filter-append (is_result_of n host) results (map (result_for given healthy) rows)
+    ∙ ap (λ (rs : List HealthResult). filter (is_result_of n host) results ++ rs) (others_none n host given healthy rows others)
+    ∙ append_none (filter (is_result_of n host) results))
+
+results_same : (n : ℕ) (given : Host) (healthy : Bool) (results : List HealthResult) (rows : List GenRow) → AllByRecursion (λ (r : GenRow). nat_eq r.number n ≡ false) rows
+    → (hosts : List HostRowParts) → SameResults results (results ++ map (result_for given healthy) rows) n hosts
+results_same n given healthy results rows others [] = tt
+results_same n given healthy results rows others (h ∷ hosts) =
+    (healthy_same n h.host given healthy results rows others, results_same n given healthy results rows others hosts)
+
+-- what holds of each row that passes holds of all that are left
+all_left : (P : GenRow → Type 0) (keep : GenRow → Bool) (rows : List GenRow) → AllByRecursion (λ (r : GenRow). keep r ≡ true → P r) rows → AllByRecursion P (filter keep rows)
+all_left P keep [] all = tt
+all_left P keep (row ∷ rows) all = by (keep row) all.0 (all_left P keep rows all.1)
+  where
+    by : (b : Bool) → (b ≡ true → P row) → AllByRecursion P (filter keep rows) → AllByRecursion P (cond b (row ∷ filter keep rows) (filter keep rows))
+    by true here rest = (here refl, rest)
+    by false here rest = rest
+
+module _ (changed : List ℕ) (clusters : State) (name : List ℕ) (host : Host) (healthy : Bool) (world : World)
+    (of_clusters : clusters.table.rows ≡ rows_of_kind Cds world.rows) (apart : IsDistinct nat_eq (numbers_of world.rows))
+    (told : (n : ℕ) → is_among changed n ≡ false → is_among (numbers_where (serves name) clusters.table.rows) n ≡ false) where
+  name_of : (kind named live checked assigned : Bool) → (kind && named && live && checked && assigned) ≡ true → named ≡ true
+  name_of true true live checked assigned h = refl
+  name_of true false live checked assigned h = absurd (false≢true h)
+  name_of false named live checked assigned h = absurd (false≢true h)
+
+  -- a cluster that serves another name is none of those that the result is for
+  not_meant : (n : ℕ) (row : GenRow) → is_among changed n ≡ false → serving Cds (row_in n world.rows) ≡ Some row
+      → (r : GenRow) → row_in r.number world.rows ≡ Some r → is_meant world.arrivals name host r ≡ true → nat_eq r.number row.number ≡ false
+  not_meant n row other at r own meant = by (nat_eq r.number row.number) refl
+    where
+      by : (b : Bool) → nat_eq r.number row.number ≡ b → b ≡ false
+      by false isnt = refl
+      by true is =
+          let served = served-is Cds (row_in n world.rows) row at in
+          let numbered : r.number ≡ n = eqb-true r.number row.number is ∙ number-row_in n row world.rows served.at in
+          let found : Some r ≡ Some row = sym own ∙ (λ i. row_in (numbered i) world.rows) ∙ served.at in
+          let same : r ≡ row = cc in
+          let named : bytes_eq row.name name ≡ true =
+          (λ i. bytes_eq (sym same i).name name)
+          ∙ name_of (kind_same r.kind Cds) (bytes_eq r.name name) (is_live r.status) (is_checked r.content) (has_host host (assignment_by world.arrivals r.content)) meant in
+          absurd (false≢true (sym (told n other)
+          ∙ among-where (serves name) n row clusters.table.rows (served-at Cds n row world.rows clusters.table.rows apart of_clusters at) (λ i. served.active i && named i)))
+
+  pub resulted-same : AreSame changed world (with_results host healthy (rows_meant world.arrivals name host world.rows) world)
+  resulted-same = record {
+    clusters = record { rows = λ n other. refl; values = λ n row other at q needs. refl };
+    listeners = record { rows = λ n other. refl; values = λ n row other at q needs. refl };
+    results = λ n row other at.
+        results_same row.number host healthy world.results (rows_meant world.arrivals name host world.rows)
+        (all_left (λ (r : GenRow). nat_eq r.number row.number ≡ false) (is_meant world.arrivals name host) world.rows
+        (all_then (λ (r : GenRow). row_in r.number world.rows ≡ Some r) (λ (r : GenRow). is_meant world.arrivals name host r ≡ true → nat_eq r.number row.number ≡ false) world.rows
+        (λ r own meant. not_meant n row other at r own meant) (own-rows world.rows apart)))
+        (assignment_by world.arrivals row.content);
+    phase = refl;
+  }

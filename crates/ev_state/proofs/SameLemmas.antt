@@ -1,0 +1,152 @@
+-- What a picture shows of a number is the same where its generation, the values that it depends on and its results are.
+use Rattle.std.proofs.Common.{◌≡◌, ◌∙◌, ℕ, Bool, true, false, cond, not, ◌&&◌, ◌||◌, List, [], ◌∷◌, Option, None, Some, option_map, filter, refl, sym, ap}
+use Rattle.std.specs.Option.{option_and_then}
+use Rattle.std.specs.List.{AllByRecursion}
+use Rattle.ev_types.specs.Hosts.{HostRowParts}
+use Rattle.ev_types.specs.Kinds.{kind_same}
+use Rattle.ev_types.specs.Same.{bytes_decide}
+use Rattle.ev_types.specs.Statuses.{is_active}
+use Rattle.ev_types.specs.declared.clusters.Discovery.{Discovery}
+use Rattle.ev_types.specs.declared.clusters.Discovery.TheVariants.{Static, Eds as by_eds}
+use Rattle.ev_types.specs.declared.contents.Kind.{Kind}
+use Rattle.ev_types.specs.declared.contents.Kind.TheVariants.{Cds, Eds, Lds, Rds}
+use Rattle.ev_types.specs.declared.contents.Content.{Content}
+use Rattle.ev_types.specs.declared.contents.Content.TheVariants.{Cluster as a_cluster, Assignment as an_assignment, Listener as a_listener, Routes as routes}
+use Rattle.ev_types.specs.declared.listeners.Serve.{Serve}
+use Rattle.ev_types.specs.declared.listeners.Serve.TheVariants.{Rds as by_rds, Inline, Tcp}
+use Rattle.ev_types.specs.declared.rows.GenRow.{GenRow}
+use Rattle.ev_model.specs.declared.pictures.Routing.TheVariants.{Table}
+use Rattle.ev_model.specs.declared.pictures.ServedListener.{ServedListener}
+use Rattle.ev_model.specs.World.{World, Arrived, HealthResult}
+use Rattle.ev_model.specs.Phase.{is_serving}
+use Rattle.ev_model.specs.Picture.{served_cluster, served_listener, routing_of, table_in}
+use Rattle.ev_model.specs.Warming.{value_by, rows_in, discovered, assignment_by, is_healthy, is_eligible_by, is_checked}
+use Rattle.ev_model.specs.Watching.{dependency_of, discovery_dependency, serve_dependency, is_dependency}
+use Rattle.ev_generations.specs.Tables.{row_in}
+use Rattle.ev_warming.specs.Due.{is_among}
+use Rattle.ev_warming.specs.Worlds.{needs_of}
+use Rattle.ev_warming.specs.Shown.{cluster_shown, first_of, listener_shown}
+use Rattle.ev_state.specs.Changed.{HaveChanged}
+use Rattle.ev_state.proofs.StillLemmas.{serving}
+
+-- what a picture shows of a generation of the kind that serves is what it shows of one that is found
+cluster_served : (arrivals : List Arrived) (results : List HealthResult) (found : Option GenRow)
+    → cluster_shown arrivals results found ≡ option_map (served_cluster arrivals results) (serving Cds found)
+cluster_served arrivals results None = refl
+cluster_served arrivals results (Some row) = by (kind_same row.kind Cds && is_active row.status)
+  where
+    by : (b : Bool) → cond b (Some (served_cluster arrivals results row)) None ≡ option_map (served_cluster arrivals results) (cond b (Some row) None)
+    by true = refl
+    by false = refl
+
+abbrev pub first_served : List Arrived → GenRow → Option ServedListener
+first_served arrivals row = first_of (served_listener arrivals row row.content)
+
+pub listener-served : (arrivals : List Arrived) (found : Option GenRow)
+    → listener_shown arrivals found ≡ option_and_then (first_served arrivals) (serving Lds found)
+listener-served arrivals None = refl
+listener-served arrivals (Some row) = by (kind_same row.kind Lds && is_active row.status)
+  where
+    by : (b : Bool) → cond b (first_served arrivals row) None ≡ option_and_then (first_served arrivals) (cond b (Some row) None)
+    by true = refl
+    by false = refl
+
+-- the values of what a content depends on are the same
+abbrev pub SameNeeds : Kind → List Arrived → List Arrived → Content → Type 0
+SameNeeds kind before after content = (q : List ℕ) → is_dependency kind q (dependency_of content) ≡ true → value_by after kind q ≡ value_by before kind q
+
+discovered_same : (before after : List Arrived) (d : Discovery)
+    → ((q : List ℕ) → is_dependency Eds q (discovery_dependency d) ≡ true → value_by after Eds q ≡ value_by before Eds q)
+    → discovered after d ≡ discovered before d
+discovered_same before after (Static rows) same = refl
+discovered_same before after (by_eds service limited) same = ap rows_in (same service ((bytes_decide service service).1 refl))
+
+assignment_same : (before after : List Arrived) (content : Content) → SameNeeds Eds before after content → assignment_by after content ≡ assignment_by before content
+assignment_same before after (a_cluster cluster) same = discovered_same before after cluster.discovery same
+assignment_same before after (an_assignment rows) same = refl
+assignment_same before after (a_listener listener) same = refl
+assignment_same before after (routes table) same = refl
+
+routing_same : (before after : List Arrived) (serve : Serve)
+    → ((q : List ℕ) → is_dependency Rds q (serve_dependency serve) ≡ true → value_by after Rds q ≡ value_by before Rds q)
+    → routing_of after serve ≡ routing_of before serve
+routing_same before after (by_rds name limited) same = ap (λ v. Table (table_in v)) (same name ((bytes_decide name name).1 refl))
+routing_same before after (Inline table) same = refl
+routing_same before after (Tcp target) same = refl
+
+listener_same : (before after : List Arrived) (row : GenRow) (content : Content) → SameNeeds Rds before after content
+    → served_listener after row content ≡ served_listener before row content
+listener_same before after row (a_cluster cluster) same = refl
+listener_same before after row (an_assignment rows) same = refl
+listener_same before after row (a_listener listener) same =
+    λ i. record { number = row.number; name = row.name; address = listener.address; routing = routing_same before after listener.serve same i } ∷ []
+listener_same before after row (routes table) same = refl
+
+-- the last results of these hosts are the same
+abbrev pub SameResults : List HealthResult → List HealthResult → ℕ → List HostRowParts → Type 0
+SameResults before after number hosts = AllByRecursion (λ (h : HostRowParts). is_healthy after number h.host ≡ is_healthy before number h.host) hosts
+
+eligible_same : (before after : List HealthResult) (row : GenRow) (hosts : List HostRowParts) → SameResults before after row.number hosts
+    → filter (is_eligible_by after row) hosts ≡ filter (is_eligible_by before row) hosts
+eligible_same before after row [] same = refl
+eligible_same before after row (h ∷ hosts) same =
+    λ i. cond (h.usable && (not (is_checked row.content) || same.0 i)) (h ∷ eligible_same before after row hosts same.1 i) (eligible_same before after row hosts same.1 i)
+
+-- the generations of the kind that serve are the same, but for these numbers, and so is what came for what they depend on
+pub record AreAlike (kind : Kind) (changed : List ℕ) (before after : World) : Type 0 where
+  pub rows : (number : ℕ) → is_among changed number ≡ false → serving kind (row_in number after.rows) ≡ serving kind (row_in number before.rows)
+  pub values : (number : ℕ) (row : GenRow) → is_among changed number ≡ false → serving kind (row_in number before.rows) ≡ Some row
+      → SameNeeds (needs_of kind) before.arrivals after.arrivals row.content
+
+-- and so are the results of the clusters that serve
+pub record AreSame (changed : List ℕ) (before after : World) : Type 0 where
+  pub clusters : AreAlike Cds changed before after
+  pub listeners : AreAlike Lds changed before after
+  pub results : (number : ℕ) (row : GenRow) → is_among changed number ≡ false → serving Cds (row_in number before.rows) ≡ Some row
+      → SameResults before.results after.results row.number (assignment_by before.arrivals row.content)
+  pub phase : is_serving after.phase ≡ is_serving before.phase
+
+-- then a picture shows the same of each other number
+pub same-changed : (changed : List ℕ) (before after : World) → AreSame changed before after → HaveChanged changed before after
+same-changed changed before after same = record {
+  clusters = λ n other.
+      cluster_served after.arrivals after.results (row_in n after.rows)
+      ∙ ap (option_map (served_cluster after.arrivals after.results)) (same.clusters.rows n other)
+      ∙ cluster n other (serving Cds (row_in n before.rows)) refl
+      ∙ sym (cluster_served before.arrivals before.results (row_in n before.rows));
+  listeners = λ n other. λ i. cond (same.phase i)
+      ((listener-served after.arrivals (row_in n after.rows)
+      ∙ ap (option_and_then (first_served after.arrivals)) (same.listeners.rows n other)
+      ∙ listener n other (serving Lds (row_in n before.rows)) refl
+      ∙ sym (listener-served before.arrivals (row_in n before.rows))) i)
+      None;
+}
+  where
+    cluster : (n : ℕ) → is_among changed n ≡ false → (found : Option GenRow) → serving Cds (row_in n before.rows) ≡ found
+        → option_map (served_cluster after.arrivals after.results) found ≡ option_map (served_cluster before.arrivals before.results) found
+    cluster n other None at = refl
+    cluster n other (Some row) at =
+        let assigned = assignment_same before.arrivals after.arrivals row.content (same.clusters.values n row other at) in
+        let chosen = ap (filter (is_eligible_by after.results row)) assigned
+        ∙ eligible_same before.results after.results row (assignment_by before.arrivals row.content) (same.results n row other at) in
+        λ i. Some (record { number = row.number; name = row.name; hosts = chosen i })
+
+    listener : (n : ℕ) → is_among changed n ≡ false → (found : Option GenRow) → serving Lds (row_in n before.rows) ≡ found
+        → option_and_then (first_served after.arrivals) found ≡ option_and_then (first_served before.arrivals) found
+    listener n other None at = refl
+    listener n other (Some row) at = ap first_of (listener_same before.arrivals after.arrivals row row.content (same.listeners.values n row other at))
+
+-- the same, where more numbers may have changed
+pub changed-more : (xs zs : List ℕ) (before after : World) → ((n : ℕ) → is_among zs n ≡ false → is_among xs n ≡ false) → HaveChanged xs before after → HaveChanged zs before after
+changed-more xs zs before after fewer x = record { clusters = λ n other. x.clusters n (fewer n other); listeners = λ n other. x.listeners n (fewer n other) }
+
+-- one change and then another
+pub changed-then : (changed : List ℕ) (a b c : World) → HaveChanged changed a b → HaveChanged changed b c → HaveChanged changed a c
+changed-then changed a b c x y = record {
+  clusters = λ n other. y.clusters n other ∙ x.clusters n other;
+  listeners = λ n other. y.listeners n other ∙ x.listeners n other;
+}
+
+-- none has changed
+pub changed-none : (changed : List ℕ) (world : World) → HaveChanged changed world world
+changed-none changed world = record { clusters = λ n other. refl; listeners = λ n other. refl }

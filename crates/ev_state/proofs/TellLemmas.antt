@@ -1,0 +1,196 @@
+-- What is told of changes is so: a picture shows the same of each number that isn't told.
+use Rattle.std.proofs.Common.{◌≡◌, ◌∙◌, ℕ, Bool, true, false, cond, not, ◌&&◌, ◌||◌, nat_eq, List, [], ◌∷◌, ◌++◌, Option, None, Some, refl, sym, ap, subst}
+use Rattle.std.proofs.lemmas.Bool.{false≢true, eqb-true}
+use Rattle.ev_types.specs.Items.{ResponseParts}
+use Rattle.ev_types.specs.Kinds.{kind_same}
+use Rattle.ev_types.specs.Statuses.{is_live, is_active}
+use Rattle.ev_types.specs.declared.contents.Kind.{Kind}
+use Rattle.ev_types.specs.declared.contents.Kind.TheVariants.{Cds, Eds, Lds, Rds}
+use Rattle.ev_types.specs.declared.events.Verdict.{Verdict}
+use Rattle.ev_types.specs.declared.hosts.Host.{Host}
+use Rattle.ev_types.specs.declared.rows.RowStatus.{RowStatus}
+use Rattle.ev_types.specs.declared.rows.RowStatus.TheVariants.{Warming, Active, Draining, Dropped}
+use Rattle.ev_types.specs.declared.rows.GenRow.{GenRow}
+use Rattle.ev_model.specs.World.{World}
+use Rattle.ev_model.specs.Phase.{is_serving, phase_after}
+use Rattle.ev_model.specs.Rows.{arrived, with_removals, add_items, with_first}
+use Rattle.ev_model.specs.Signals.{rows_meant, with_results, with_end, forget_version}
+use Rattle.ev_model.specs.Tidy.{tidy, promoted, without_unwatched, without_old_results}
+use Rattle.ev_model.specs.Warming.{value_by, assignment_by}
+use Rattle.ev_types.specs.declared.rows.Arrival.TheVariants.{TimedOut}
+use Rattle.ev_generations.specs.Tables.{row_in}
+use Rattle.ev_warming.specs.Due.{is_among}
+use Rattle.ev_warming.specs.Changes.{is_over, began_to_serve, began_to_drain}
+use Rattle.ev_warming.specs.Indexes.{serves, numbers_where}
+use Rattle.ev_warming.specs.Worlds.{IsSound, rows_of_kind}
+use Rattle.ev_warming.proofs.RemovalLemmas.{row_in-without}
+use Rattle.ev_managers.specs.declared.managers.Managers.{Managers}
+use Rattle.ev_managers.specs.declared.retired.Retired.{Retired}
+use Rattle.ev_managers.specs.Managers.{AreKept, StandFor}
+use Rattle.ev_managers.specs.Retired.{AreChanged, is_moved}
+use Rattle.ev_state.specs.Changed.{HaveChanged, dependents_in, dependents_of, listeners_begun}
+use Rattle.ev_state.specs.Retirements.{HaveRetired}
+use Rattle.ev_state.specs.States.{without_over}
+use Rattle.ev_state.proofs.GoneLemmas.{over-stays, over-goes}
+use Rattle.ev_state.proofs.MoveLemmas.{clusters-are, listeners-are}
+use Rattle.ev_state.proofs.SameLemmas.{SameResults, same-changed, changed-more, changed-then}
+use Rattle.ev_state.proofs.ValueLemmas.{value-quiet, mute-quiet}
+use Rattle.ev_state.proofs.StillLemmas.{serving}
+use Rattle.ev_state.proofs.KeepLemmas.{results-stay, unwatched-same, old_results-same, promoted-same}
+use Rattle.ev_state.proofs.DependLemmas.{or_none, none-of, entered-same, ended-same}
+use Rattle.ev_state.proofs.ResultLemmas.{resulted-same}
+use Rattle.ev_state.proofs.BeginLemmas.{begun-changed}
+
+-- where generations, values, results and the phase are the same, so is what a picture shows
+pub quiet-changed : (changed : List ℕ) (before after : World) → after.rows ≡ before.rows → ((k : Kind) (q : List ℕ) → value_by after.arrivals k q ≡ value_by before.arrivals k q)
+    → after.results ≡ before.results → after.phase ≡ before.phase → HaveChanged changed before after
+quiet-changed changed before after rows values results phase = same-changed changed before after (record {
+  clusters = record { rows = λ n other. λ i. serving Cds (row_in n (rows i)); values = λ n row other at q needs. values Eds q };
+  listeners = record { rows = λ n other. λ i. serving Lds (row_in n (rows i)); values = λ n row other at q needs. values Rds q };
+  results = λ n row other at.
+      subst (λ rs. SameResults before.results rs row.number (assignment_by before.arrivals row.content)) (sym results)
+      (results-stay before.results row.number (assignment_by before.arrivals row.content));
+  phase = λ i. is_serving (phase i);
+})
+
+-- a fetch timeout brings no value
+pub timeout-changed : (changed : List ℕ) (kind : Kind) (name : List ℕ) (world : World) → HaveChanged changed world (record world { arrivals = world.arrivals ++ arrived kind TimedOut name ∷ [] })
+timeout-changed changed kind name world =
+    quiet-changed changed world (record world { arrivals = world.arrivals ++ arrived kind TimedOut name ∷ [] }) refl
+    (λ k q. value-quiet world.arrivals (arrived kind TimedOut name ∷ []) k q (mute-quiet kind TimedOut name k q refl)) refl refl
+
+-- a generation that is over isn't shown
+over_hidden : (kind : Kind) (found : Option GenRow) → is_over found ≡ true → serving kind found ≡ None
+over_hidden kind None over = refl
+over_hidden kind (Some row) over = by (kind_same row.kind kind) row.status over
+  where
+    by : (k : Bool) (status : RowStatus) → not (is_live status) ≡ true → cond (k && is_active status) (Some row) None ≡ None
+    by false status over = refl
+    by true Warming over = refl
+    by true Active over = absurd (false≢true over)
+    by true Draining over = refl
+    by true Dropped over = refl
+
+-- so that it goes changes nothing
+pub left-changed : (number : ℕ) (world : World) → IsSound world → HaveChanged [] world (record world { rows = without_over number world.rows })
+left-changed number world sound = by (is_over (row_in number world.rows)) refl
+  where
+    hidden : (kind : Kind) (n : ℕ) → is_over (row_in number world.rows) ≡ true → (b : Bool) → nat_eq number n ≡ b
+        → serving kind (cond b None (row_in n world.rows)) ≡ serving kind (row_in n world.rows)
+    hidden kind n over true is = sym (over_hidden kind (row_in n world.rows) ((λ i. is_over (row_in (sym (eqb-true number n is) i) world.rows)) ∙ over))
+    hidden kind n over false isnt = refl
+
+    rows : (kind : Kind) (n : ℕ) → is_over (row_in number world.rows) ≡ true → serving kind (row_in n (without_over number world.rows)) ≡ serving kind (row_in n world.rows)
+    rows kind n over =
+        (λ i. serving kind (row_in n (over-goes number world.rows sound.table.apart over i)))
+        ∙ ap (serving kind) (row_in-without number n world.rows)
+        ∙ hidden kind n over (nat_eq number n) refl
+
+    by : (b : Bool) → is_over (row_in number world.rows) ≡ b → HaveChanged [] world (record world { rows = without_over number world.rows })
+    by false isnt = quiet-changed [] world (record world { rows = without_over number world.rows }) (over-stays number world.rows sound.table.apart isnt) (λ k q. refl) refl refl
+    by true over = same-changed [] world (record world { rows = without_over number world.rows }) (record {
+      clusters = record { rows = λ n other. rows Cds n over; values = λ n row other at q needs. refl };
+      listeners = record { rows = λ n other. rows Lds n over; values = λ n row other at q needs. refl };
+      results = λ n row other at. results-stay world.results row.number (assignment_by world.arrivals row.content);
+      phase = refl;
+    })
+
+-- these numbers have those that are put first, and those that retired
+module _ (changed put : List ℕ) (retired : Retired) (m : Managers) (before after : World) (are : changed ≡ (put ++ retired.clusters) ++ retired.listeners)
+    (kept : AreKept m) (stand : StandFor m before) (sound : IsSound after) (have : HaveRetired retired before after) where
+  parts : (n : ℕ) → is_among changed n ≡ false → (is_among put n ≡ false) × (is_among retired.clusters n ≡ false) × (is_among retired.listeners n ≡ false)
+  parts n other =
+      let outer = none-of (put ++ retired.clusters) retired.listeners n ((λ i. is_among (sym are i) n) ∙ other) in
+      let inner = none-of put retired.clusters n outer.0 in
+      (inner.0, inner.1, outer.1)
+
+  -- behind a response, the dependents of each of its names
+  pub entered-changed : (kind : Kind) (verdicts : List Verdict) (response : ResponseParts) (names : List (List ℕ))
+      → after ≡ with_first kind names (add_items kind verdicts response.items (with_removals kind response before))
+      → put ≡ dependents_of m.clusters.state m.listeners.state kind response.items → HaveChanged changed before after
+  entered-changed kind verdicts response names leads told =
+      same-changed changed before after
+      (entered-same changed m.clusters.state m.listeners.state before after (clusters-are m before kept stand) (listeners-are m before kept stand)
+      stand.clusters.sound.table.apart sound.table.apart
+      (λ n other. sym (have.clusters n) ∙ (parts n other).1) (λ n other. sym (have.listeners n) ∙ (parts n other).2)
+      kind verdicts response names leads (λ n other. (λ i. is_among (sym told i) n) ∙ (parts n other).0))
+
+  -- behind the end of a resource, those of its name
+  pub ended-changed : (kind : Kind) (name : List ℕ) → after ≡ with_end kind name (forget_version kind name before)
+      → put ≡ dependents_in m.clusters.state m.listeners.state kind name → HaveChanged changed before after
+  ended-changed kind name leads told =
+      same-changed changed before after
+      (ended-same changed m.clusters.state m.listeners.state before after (clusters-are m before kept stand) (listeners-are m before kept stand)
+      stand.clusters.sound.table.apart sound.table.apart
+      (λ n other. sym (have.clusters n) ∙ (parts n other).1) (λ n other. sym (have.listeners n) ∙ (parts n other).2)
+      kind name leads (λ n other. (λ i. is_among (sym told i) n) ∙ (parts n other).0))
+
+-- behind a health result, the cluster that serves the name
+pub resulted-changed : (changed : List ℕ) (m : Managers) (name : List ℕ) (host : Host) (healthy : Bool) (world : World) → AreKept m
+    → StandFor m (with_results host healthy (rows_meant world.arrivals name host world.rows) world)
+    → changed ≡ numbers_where (serves name) m.clusters.state.table.rows
+    → HaveChanged changed world (with_results host healthy (rows_meant world.arrivals name host world.rows) world)
+resulted-changed changed m name host healthy world kept stand are =
+    same-changed changed world (with_results host healthy (rows_meant world.arrivals name host world.rows) world)
+    (resulted-same changed m.clusters.state name host healthy world (clusters-are m (with_results host healthy (rows_meant world.arrivals name host world.rows) world) kept stand) stand.clusters.sound.table.apart
+    (λ n other. (λ i. is_among (sym are i) n) ∙ other))
+
+-- what was told, what came to serve or began to drain, and the listeners that come to serve together
+module _ (old more all : List ℕ) (m after last : Managers) (before world : World) (kept : AreKept m) (kept_after : AreKept after) (kept_last : AreKept last)
+    (stand : StandFor m world) (stand_after : StandFor after (promoted world)) (stand_last : StandFor last (without_old_results (without_unwatched (promoted world))))
+    (moved : AreChanged old more m after) where
+  abbrev left : World
+  left = without_old_results (without_unwatched (promoted world))
+
+  told : (n : ℕ) → is_among more n ≡ false
+      → (is_among old n ≡ false)
+      × (is_moved n m.clusters.state.table.rows after.clusters.state.table.rows ≡ false)
+      × (is_moved n m.listeners.state.table.rows after.listeners.state.table.rows ≡ false)
+  told n other =
+      let outer = or_none (is_among old n) (is_moved n m.clusters.state.table.rows after.clusters.state.table.rows || is_moved n m.listeners.state.table.rows after.listeners.state.table.rows)
+      (sym (moved.told n) ∙ other) in
+      let inner = or_none (is_moved n m.clusters.state.table.rows after.clusters.state.table.rows) (is_moved n m.listeners.state.table.rows after.listeners.state.table.rows) outer.1 in
+      (outer.0, inner.0, inner.1)
+
+  -- of one kind
+  moved_of : (kind : Kind) (rows rows_after : List GenRow) (n : ℕ) → rows ≡ rows_of_kind kind world.rows → rows_after ≡ rows_of_kind kind (promoted world).rows
+      → is_moved n rows rows_after ≡ false
+      → (began_to_serve n (rows_of_kind kind world.rows) (rows_of_kind kind (promoted world).rows) ≡ false)
+      × (began_to_drain n (rows_of_kind kind world.rows) (rows_of_kind kind (promoted world).rows) ≡ false)
+  moved_of kind rows rows_after n of of_after none =
+      or_none (began_to_serve n (rows_of_kind kind world.rows) (rows_of_kind kind (promoted world).rows))
+      (began_to_drain n (rows_of_kind kind world.rows) (rows_of_kind kind (promoted world).rows)) ((λ i. is_moved n (sym of i) (sym of_after i)) ∙ none)
+
+  clusters_moved : (n : ℕ) → is_among more n ≡ false
+      → (began_to_serve n (rows_of_kind Cds world.rows) (rows_of_kind Cds (promoted world).rows) ≡ false)
+      × (began_to_drain n (rows_of_kind Cds world.rows) (rows_of_kind Cds (promoted world).rows) ≡ false)
+  clusters_moved n other =
+      moved_of Cds m.clusters.state.table.rows after.clusters.state.table.rows n (clusters-are m world kept stand) (clusters-are after (promoted world) kept_after stand_after) (told n other).1
+
+  listeners_moved : (n : ℕ) → is_among more n ≡ false
+      → (began_to_serve n (rows_of_kind Lds world.rows) (rows_of_kind Lds (promoted world).rows) ≡ false)
+      × (began_to_drain n (rows_of_kind Lds world.rows) (rows_of_kind Lds (promoted world).rows) ≡ false)
+  listeners_moved n other =
+      moved_of Lds m.listeners.state.table.rows after.listeners.state.table.rows n (listeners-are m world kept stand) (listeners-are after (promoted world) kept_after stand_after) (told n other).2
+
+  pub tidied-changed : all ≡ more ++ listeners_begun world.phase (phase_after left) last.listeners.state → HaveChanged old before world → HaveChanged all before (tidy world)
+  tidied-changed are have =
+      let fewer : (n : ℕ) → is_among all n ≡ false → is_among more n ≡ false = λ n other. (split n other).0 in
+      let none : (n : ℕ) → is_among all n ≡ false → is_among [] n ≡ false = λ n other. refl in
+      let first = changed-more old all before world (λ n other. (told n (fewer n other)).0) have in
+      let second = changed-more more all world (promoted world) fewer (same-changed more world (promoted world)
+      (promoted-same more world stand.clusters.sound.table.apart stand_after.clusters.sound.table.apart
+      (λ n other. (clusters_moved n other).0) (λ n other. (clusters_moved n other).1) (λ n other. (listeners_moved n other).0) (λ n other. (listeners_moved n other).1))) in
+      let third = changed-more [] all (promoted world) (without_unwatched (promoted world)) none
+      (same-changed [] (promoted world) (without_unwatched (promoted world)) (unwatched-same (promoted world))) in
+      let fourth = changed-more [] all (without_unwatched (promoted world)) left none
+      (same-changed [] (without_unwatched (promoted world)) left (old_results-same (without_unwatched (promoted world)))) in
+      let fifth = begun-changed all last.listeners.state left (listeners-are last left kept_last stand_last) stand_last.clusters.sound.table.apart
+      (λ n other. (split n other).1) in
+      changed-then all before world (tidy world) first
+      (changed-then all world (promoted world) (tidy world) second
+      (changed-then all (promoted world) (without_unwatched (promoted world)) (tidy world) third
+      (changed-then all (without_unwatched (promoted world)) left (tidy world) fourth fifth)))
+    where
+      split : (n : ℕ) → is_among all n ≡ false → (is_among more n ≡ false) × (is_among (listeners_begun world.phase (phase_after left) last.listeners.state) n ≡ false)
+      split n other = none-of more (listeners_begun world.phase (phase_after left) last.listeners.state) n ((λ i. is_among (sym are i) n) ∙ other)

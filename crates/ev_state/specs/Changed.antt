@@ -1,0 +1,35 @@
+-- Of which generations a picture may show something else than before an event.
+use Rattle.std.specs.Prelude.{◌≡◌, ℕ, false, not, ◌&&◌, if◌then◌else◌, List, []}
+use Rattle.std.specs.List.{flat_map}
+use Rattle.ev_types.specs.Items.{ItemParts}
+use Rattle.ev_types.specs.declared.contents.Kind.{Kind}
+use Rattle.ev_types.specs.declared.contents.Kind.TheVariants.{Cds, Eds, Lds, Rds}
+use Rattle.ev_types.specs.declared.rows.Phase.{Phase}
+use Rattle.ev_model.specs.World.{World}
+use Rattle.ev_model.specs.Phase.{is_serving}
+use Rattle.ev_generations.specs.Tables.{numbers_of}
+use Rattle.ev_warming.specs.declared.state.State.{State}
+use Rattle.ev_warming.specs.Due.{is_among}
+use Rattle.ev_warming.specs.Indexes.{depends_on, numbers_where}
+use Rattle.ev_warming.specs.Reads.{live_rows}
+use Rattle.ev_warming.specs.Shown.{cluster_at, listener_at}
+
+-- a picture shows the same of each other number before and after
+pub record HaveChanged (changed : List ℕ) (before after : World) : Type 0 where
+  pub clusters : (number : ℕ) → is_among changed number ≡ false → cluster_at after number ≡ cluster_at before number
+  pub listeners : (number : ℕ) → is_among changed number ≡ false → listener_at after number ≡ listener_at before number
+
+-- the numbers of the live generations that depend on this name of endpoints or of routes
+abbrev pub dependents_in : State → State → Kind → List ℕ → List ℕ
+dependents_in clusters listeners Cds name = []
+dependents_in clusters listeners Eds name = numbers_where (depends_on name) clusters.table.rows
+dependents_in clusters listeners Lds name = []
+dependents_in clusters listeners Rds name = numbers_where (depends_on name) listeners.table.rows
+
+-- the numbers of those that depend on the name of one of these resources
+abbrev pub dependents_of : State → State → Kind → List ItemParts → List ℕ
+dependents_of clusters listeners kind items = flat_map (λ (item : ItemParts). dependents_in clusters listeners kind item.name) items
+
+-- the numbers of the live listeners, where listeners serve in the second phase and not in the first
+abbrev pub listeners_begun : Phase → Phase → State → List ℕ
+listeners_begun before after listeners = if not (is_serving before) && is_serving after then numbers_of (live_rows listeners.table.rows) else []

@@ -1,0 +1,91 @@
+ghost use Rattle.std.specs.Prelude.{◌≡◌, ◌++◌, OnOk};
+ghost use Rattle.ev_warming.specs.Indexes.{numbers_where, serves};
+ghost use Rattle.ev_managers.specs.Managers.{AreKept};
+ghost use Rattle.ev_state.specs.Changed.{dependents_in, dependents_of, listeners_begun};
+
+use crate::state::State;
+use ev_managers::Retired;
+use ev_types::{Gen, Kind, Name, Phase, Response, Seq};
+use std::alloc::{AllocError, Global};
+
+impl State {
+    /// Puts the numbers of the live generations that depend on this name of endpoints or of routes to the others.
+    pub(crate) fn put_dependents(
+        &self,
+        kind: Kind,
+        name: &str,
+        changed: &mut Seq<Gen>,
+    ) -> Result<(), AllocError>
+        requires kept { AreKept self.now.managers }
+        ensures { OnOk result (changed.new ≡ changed.old ++ dependents_in self.now.managers.clusters.state self.now.managers.listeners.state kind name.now) }
+    {
+        match kind {
+            Kind::Eds => put_all(changed, self.managers.clusters.dependents(name)),
+            Kind::Rds => put_all(changed, self.managers.listeners.dependents(name)),
+            Kind::Cds | Kind::Lds => Ok(()),
+        }
+    }
+
+    /// The same for the name of each resource of a response of this kind.
+    pub(crate) fn put_all_dependents(
+        &self,
+        kind: Kind,
+        response: &Response,
+        changed: &mut Seq<Gen>,
+    ) -> Result<(), AllocError>
+        requires kept { AreKept self.now.managers }
+        ensures { OnOk result (changed.new ≡ changed.old ++ dependents_of self.now.managers.clusters.state self.now.managers.listeners.state kind response.now.items) }
+    {
+        for item in response.items.as_slice() {
+            self.put_dependents(kind, item.name.as_str(), changed)?;
+        }
+        Ok(())
+    }
+
+    /// Puts the number of the cluster that serves this name to the others, where there is one.
+    pub(crate) fn put_active(&self, name: &Name, changed: &mut Seq<Gen>) -> Result<(), AllocError>
+        requires kept { AreKept self.now.managers }
+        ensures { OnOk result (changed.new ≡ changed.old ++ numbers_where (serves name.now) self.now.managers.clusters.state.table.rows) }
+    {
+        if let Some(number) = self.managers.clusters.of_name(name).active {
+            changed.push(number)?;
+        }
+        Ok(())
+    }
+
+    /// Puts the numbers of the live listeners to the others, where listeners serve now and didn't in the phase before.
+    pub(crate) fn put_listeners(
+        &self,
+        alloc: Global,
+        before: Phase,
+        changed: &mut Seq<Gen>,
+    ) -> Result<(), AllocError>
+        ensures { OnOk result (changed.new ≡ changed.old ++ listeners_begun before self.now.targets.phase self.now.managers.listeners.state) }
+    {
+        match (before, self.targets.phase()) {
+            (Phase::Clusters | Phase::Listeners, Phase::Serving) => {
+                let numbers = self.managers.listeners.numbers_live(alloc)?;
+                put_all(changed, numbers.as_slice())
+            }
+            _ => Ok(()),
+        }
+    }
+}
+
+/// Puts the numbers of generations that retired to the others.
+pub(crate) fn put_retired(changed: &mut Seq<Gen>, retired: &Retired) -> Result<(), AllocError>
+    ensures { OnOk result (changed.new ≡ (changed.old ++ retired.now.clusters) ++ retired.now.listeners) }
+{
+    put_all(changed, retired.clusters.as_slice())?;
+    put_all(changed, retired.listeners.as_slice())
+}
+
+// Puts numbers to the others.
+fn put_all(numbers: &mut Seq<Gen>, more: &[Gen]) -> Result<(), AllocError>
+    ensures { OnOk result (numbers.new ≡ numbers.old ++ more.now) }
+{
+    for number in more {
+        numbers.push(*number)?;
+    }
+    Ok(())
+}
