@@ -1,18 +1,16 @@
-ghost use Rattle.std.specs.Prelude.{◌≡◌, if◌then◌else◌, [], option_copied, IfOk};
+ghost use Rattle.std.specs.Prelude.{◌≡◌, option_copied, IfOk};
 ghost use Rattle.ev_model.specs.World.{World};
-ghost use Rattle.ev_model.specs.Phase.{is_serving};
-ghost use Rattle.ev_model.specs.Picture.{served_listeners, shown_of};
 ghost use Rattle.ev_generations.specs.Tables.{row_in};
 ghost use Rattle.ev_warming.specs.Shown.{cluster_at, listener_at};
 ghost use Rattle.ev_managers.specs.Managers.{AreKept};
 
 use crate::state::State;
-use ev_model::{ServedCluster, ServedListener, Shown};
-use ev_types::{Gen, GenRow, Phase, Seq};
+use ev_model::{ServedCluster, ServedListener};
+use ev_types::{Gen, GenRow, Phase};
 use std::alloc::{AllocError, Global};
 
 impl State {
-    ghost use Rattle.ev_state.specs.States.{IsAt, StandsFor};
+    ghost use Rattle.ev_state.specs.States.{IsAt};
 
     /// How many numbers were drawn for generations.
     pub fn made(&self) -> u32
@@ -53,34 +51,6 @@ impl State {
                 Ok(served)
             }
             Phase::Clusters | Phase::Listeners => Ok(None),
-        }
-    }
-
-    /// What workers may serve now: each active cluster and, once listeners serve, each active listener. It goes over all generations.
-    pub fn shown(&self, alloc: Global) -> Result<Shown, AllocError>
-        ghost here: { World }
-        requires at { IsAt self.now here }
-        ensures { IfOk result (λ shown. shown ≡ shown_of here) }
-    {
-        let clusters = self.managers.clusters.shown(alloc)?;
-        let listeners = self.listeners_shown(alloc)?;
-        Ok(Shown {
-            clusters,
-            listeners,
-        })
-    }
-
-    // The listeners that workers may serve now: none before listeners serve.
-    fn listeners_shown(&self, alloc: Global) -> Result<Seq<ServedListener>, AllocError>
-        requires kept { AreKept self.now.managers }
-        ensures { IfOk result (λ listeners. (world : World) → StandsFor self.now world → listeners ≡ (if is_serving world.phase then served_listeners world.arrivals world.rows else [])) }
-    {
-        match self.targets.phase() {
-            Phase::Serving => {
-                let listeners = self.managers.listeners.shown(alloc)?;
-                Ok(listeners)
-            }
-            Phase::Clusters | Phase::Listeners => Ok(Seq::new(alloc)),
         }
     }
 }
