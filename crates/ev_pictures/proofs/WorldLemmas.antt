@@ -13,18 +13,19 @@ use Rattle.ev_model.specs.World.{World, last_version, nothing_shown, opening}
 use Rattle.ev_model.specs.Picture.{has_number, is_shown, numbers_shown, shown_of, shown_same}
 use Rattle.ev_model.specs.Dead.{last_picture, numbers_in_use, picture_at, picture_held, shown_at, shown_in_use}
 use Rattle.ev_model.specs.Publishing.{publish}
-use Rattle.ev_pictures.specs.Pictures.{PicturesParts, StandsFor, first_picture, is_shown_by, is_shown_in, next_version, published_answer, settled_on, with_settled, with_shown}
+use Rattle.ev_snapshot.specs.Changes.{empty_picture}
+use Rattle.ev_pictures.specs.Pictures.{PicturesParts, StandsFor, is_shown_by, is_shown_in, next_version, published_answer, settled_on, with_settled, with_shown}
 
 -- at the opening
 none_known : (n : ℕ) → AllByRecursion (λ version. version < 1) (replicate n 0)
 none_known zero = tt
 none_known (suc n) = (omega arith, none_known n)
 
-all_first : (node : List ℕ) (workers n : ℕ) → replicate n first_picture ≡ map (picture_at (opening workers node)) (replicate n 0)
+all_first : (node : List ℕ) (workers n : ℕ) → replicate n empty_picture ≡ map (picture_at (opening workers node)) (replicate n 0)
 all_first node workers zero = refl
-all_first node workers (suc n) = ap (λ ps. first_picture ∷ ps) (all_first node workers n)
+all_first node workers (suc n) = ap (λ ps. empty_picture ∷ ps) (all_first node workers n)
 
-pub opening_stands : (workers : ℕ) (node : List ℕ) → StandsFor (record { last = first_picture; held = replicate workers first_picture }) (opening workers node)
+pub opening_stands : (workers : ℕ) (node : List ℕ) → StandsFor (record { last = empty_picture; held = replicate workers empty_picture }) (opening workers node)
 opening_stands workers node = record {
   published = refl;
   last = refl;

@@ -6,9 +6,11 @@ use Rattle.ev_types.specs.declared.events.Answer.{Answer}
 use Rattle.ev_types.specs.declared.events.Answer.TheVariants.{Version, Unchanged}
 use Rattle.ev_model.specs.declared.pictures.Picture.{Picture}
 use Rattle.ev_model.specs.declared.pictures.Shown.{Shown}
-use Rattle.ev_model.specs.World.{World, nothing_shown, last_version}
+use Rattle.ev_model.specs.World.{World, last_version}
 use Rattle.ev_model.specs.Picture.{is_shown, shown_same}
 use Rattle.ev_model.specs.Dead.{last_picture, picture_at}
+use Rattle.ev_snapshot.specs.declared.changes.Changes.{Changes}
+use Rattle.ev_snapshot.specs.Changes.{shown_with}
 
 -- the picture that was published last, and the one that each worker holds
 pub record PicturesParts : Type 0 where
@@ -24,14 +26,13 @@ pub record IsUpTo (last picture : Picture) : Type 0 where
   pub version : picture.version ≤ last.version
   pub same : picture.version ≡ last.version → picture ≡ last
 
--- the last picture is kept as data too, and no worker holds a later one
-pub record AreKept (picture last : Picture) (held : List Picture) : Type 0 where
-  pub kept : picture ≡ last
-  pub earlier : AllByRecursion (IsUpTo last) held
+-- no worker holds a later picture than the last
+abbrev pub AreKept : Picture → List Picture → Type 0
+AreKept last held = AllByRecursion (IsUpTo last) held
 
--- the picture before the first
-abbrev pub first_picture : Picture
-first_picture = record { version = 0; shown = nothing_shown }
+-- what is shown after these changes of the last picture
+abbrev pub shown_after : Changes → PicturesParts → Shown
+shown_after changes pictures = shown_with changes pictures.last.shown
 
 -- the version of a publication: none where nothing else is shown than in the last picture
 abbrev pub next_version : Shown → Picture → Option ℕ

@@ -7,11 +7,12 @@ ghost use Rattle.ev_model.specs.Picture.{has_number, shown_of};
 ghost use Rattle.ev_model.specs.Choice.{choice_of};
 ghost use Rattle.ev_model.specs.Dead.{numbers_in_use, picture_held};
 ghost use Rattle.ev_model.specs.Publishing.{publish};
-ghost use Rattle.ev_pictures.specs.Pictures.{StandsFor, first_picture, is_shown_by, is_shown_in, next_version, published_answer, settled_on, version_showing, with_shown, with_settled};
+ghost use Rattle.ev_snapshot.specs.Changes.{IsOrdered, empty_picture};
+ghost use Rattle.ev_pictures.specs.Pictures.{StandsFor, is_shown_by, is_shown_in, next_version, published_answer, settled_on, shown_after, version_showing, with_shown, with_settled};
 
-use ev_model::{Choice, Picture, Shown};
-use ev_snapshot::Snapshot;
-use ev_types::{Ask, Gen, Seq};
+use ev_model::Choice;
+use ev_snapshot::{Changes, Snapshot};
+use ev_types::{Ask, Gen};
 use std::alloc::{AllocError, Global};
 use std::marker::Model;
 use std::sync::Arc;
@@ -19,8 +20,6 @@ use std::sync::Arc;
 /// What was published last, and the snapshot that each worker holds. Contracts see the pictures. Each snapshot is shared.
 #[derive(Drop)]
 pub struct Pictures {
-    /// The last picture as data, which the next one is compared with.
-    picture: Picture,
     last: Arc<Snapshot>,
     held: Vec<Arc<Snapshot>>,
 }
@@ -34,46 +33,38 @@ impl Model for Pictures {
 
     ghost view = { λ p. record { last = arc_value p.last; held = map arc_value p.held.items } };
 
-    ghost invariant = { λ p. AreKept p.picture (arc_value p.last) (map arc_value p.held.items) };
+    ghost invariant = { λ p. AreKept (arc_value p.last) (map arc_value p.held.items) };
 }
 
 impl Pictures {
     /// Nothing was published, and each of so many workers holds the empty picture.
     pub fn new(alloc: Global, workers: u32) -> Result<Pictures, AllocError>
-        ensures empty { IfOk result (λ pictures. pictures ≡ record { last = first_picture; held = replicate workers first_picture }) }
+        ensures empty { IfOk result (λ pictures. pictures ≡ record { last = empty_picture; held = replicate workers empty_picture }) }
         ensures world { IfOk result (λ pictures. (node : List ℕ) → StandsFor pictures (opening workers node)) }
     {
-        let picture = nothing(alloc);
-        let last = Snapshot::build(alloc, &picture)?;
+        let last = Snapshot::empty(alloc)?;
         let held = held_by_all(alloc, &last, workers)?;
-        Ok(Pictures {
-            picture,
-            last,
-            held,
-        })
+        Ok(Pictures { last, held })
     }
 
-    /// Publishes what workers may serve now, under the next version, which it answers; where it is what the last picture shows,
-    /// nothing is published, and there is no version. Clusters and listeners that are as in the last picture are shared with it.
-    /// Out of memory, all stays as it was; so where versions are used up.
-    pub fn publish(&mut self, alloc: Global, shown: Shown) -> Result<Option<u64>, AllocError>
-        ensures version { IfOk result (λ version. version ≡ next_version shown self.old.last) }
-        ensures published { OnOk result (self.new ≡ with_shown shown self.old) }
-        ensures answer { IfOk result (λ version. (world : World) → StandsFor self.old world → shown ≡ shown_of world → (publish world).1 ≡ published_answer version) }
-        ensures world { OnOk result ((world : World) → StandsFor self.old world → shown ≡ shown_of world → StandsFor self.new (publish world).0) }
+    /// Publishes what the last picture shows after these changes, under the next version, which it answers; where that is what the
+    /// last picture shows, nothing is published, and there is no version. It costs what changes: all else is shared with the last
+    /// picture. Out of memory, all stays as it was; so where versions are used up.
+    pub fn publish(&mut self, alloc: Global, changes: &Changes) -> Result<Option<u64>, AllocError>
+        ensures ordered { IsOrdered self.old.last.shown }
+        ensures version { IfOk result (λ version. version ≡ next_version (shown_after changes.now self.old) self.old.last) }
+        ensures published { OnOk result (self.new ≡ with_shown (shown_after changes.now self.old) self.old) }
+        ensures answer { IfOk result (λ version. (world : World) → StandsFor self.old world → shown_after changes.now self.old ≡ shown_of world → (publish world).1 ≡ published_answer version) }
+        ensures world { OnOk result ((world : World) → StandsFor self.old world → shown_after changes.now self.old ≡ shown_of world → StandsFor self.new (publish world).0) }
         ensures err { OnErr result (self.new ≡ self.old) }
     {
-        if shown == self.picture.shown {
+        let Ok(next) = Snapshot::next(alloc, &self.last, changes) else {
+            return Err(AllocError);
+        };
+        let Some(last) = next else {
             return Ok(None);
-        }
-        let Ok(version) = next(self.picture.version) else {
-            return Err(AllocError);
         };
-        let picture = Picture { version, shown };
-        let Ok(last) = Snapshot::build_from(alloc, &picture, &self.last) else {
-            return Err(AllocError);
-        };
-        self.picture = picture;
+        let version = last.version();
         self.last = last;
         Ok(Some(version))
     }
@@ -138,6 +129,7 @@ impl Pictures {
     pub fn leaving(&self, worker: u32) -> Option<u64>
         requires known { worker < length self.now.held }
         ensures none { IfNone result (slice_get self.now.held worker ≡ Some self.now.last) }
+        ensures last { option_map (λ p. p.version) (slice_get self.now.held worker) ≡ Some self.now.last.version → result ≡ None }
         ensures version { IfSome result (λ version. option_map (λ p. p.version) (slice_get self.now.held worker) ≡ Some version) }
     {
         let version = self.held[worker as usize].version();
@@ -166,29 +158,6 @@ impl Pictures {
         ensures count { result ≡ length self.now.held }
     {
         self.held.len()
-    }
-}
-
-// The version after this one, where there is one.
-fn next(version: u64) -> Result<u64, AllocError>
-    ensures { IfOk result (λ next. next ≡ version + 1) }
-{
-    match version.checked_add(1) {
-        Some(next) => Ok(next),
-        None => Err(AllocError),
-    }
-}
-
-// The picture before the first.
-fn nothing(alloc: Global) -> Picture
-    ensures { result ≡ first_picture }
-{
-    Picture {
-        version: 0,
-        shown: Shown {
-            clusters: Seq::new(alloc),
-            listeners: Seq::new(alloc),
-        },
     }
 }
 

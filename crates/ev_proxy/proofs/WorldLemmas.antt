@@ -150,6 +150,28 @@ batch_same format worker picture (line ∷ lines) world all =
     then_same world next _ (worked_same format world worker line.event (answered_working worker world line.event line.outcome all.0))
     (batch_same format worker picture lines next all.1)
 
+-- it publishes nothing
+worked_pictures : (format : Format) (world : World) (worker : ℕ) (event : Event) → is_working event ≡ true → (step format world (by_worker worker) event).0.pictures ≡ world.pictures
+worked_pictures format world worker Connect is = cc
+worked_pictures format world worker Disconnect is = cc
+worked_pictures format world worker (Response response) is = cc
+worked_pictures format world worker (Health cluster host healthy) is = cc
+worked_pictures format world worker (FetchTimeout timeout) is = cc
+worked_pictures format world worker (DrainTimeout listener) is = cc
+worked_pictures format world worker (TtlExpired kind name) is = cc
+worked_pictures format world worker Publish is = cc
+worked_pictures format world worker Reap is = cc
+worked_pictures format world worker (Accept ask) is = refl
+worked_pictures format world worker (Close connection) is = refl
+worked_pictures format world worker Settle is = refl
+
+pub batch_pictures : (format : Format) (worker : ℕ) (picture : Picture) (lines : List BatchLine) (world : World) → AreAnswered format worker world lines
+    → (world_after format world (entries_of worker picture lines)).pictures ≡ world.pictures
+batch_pictures format worker picture [] world all = refl
+batch_pictures format worker picture (line ∷ lines) world all =
+    let next : World = (step format world (by_worker worker) line.event).0 in
+    batch_pictures format worker picture lines next all.1 ∙ worked_pictures format world worker line.event (answered_working worker world line.event line.outcome all.0)
+
 -- a drain timeout for which no generation waits
 pub left_alone : (numbers : List ℕ) (world : World) → (expire numbers world).1 ≡ Ignored → record world { expired = world.expired ++ numbers } ≡ world
 left_alone [] world is = λ i. record world { expired = append-nil world.expired i }

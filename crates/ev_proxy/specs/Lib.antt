@@ -1,1 +1,2 @@
 pub mod Proxies
+pub mod Changing

@@ -13,11 +13,14 @@ use Rattle.ev_state.specs.States.{IsAt as ManagesAt, over_in, without_over}
 use Rattle.ev_retirement.specs.Holders.{StandsFor as HoldsFor}
 use Rattle.ev_retirement.specs.Retiring.{noted}
 use Rattle.ev_proxy.specs.declared.proxy.Proxy.{Proxy}
+use Rattle.ev_proxy.specs.Changing.{IsShownBut}
 
--- between two events: what the managers know, and what holds generations, is that of the world
+-- between two events: what the managers know, and what holds generations, is that of the world, and the numbers that changed are all of
+-- which the last picture doesn't show what is to be shown of them now
 pub record IsAt (p : Proxy) (world : World) : Type 0 where
   pub managed : ManagesAt p.state world
   pub held : HoldsFor p.holders world
+  pub shown : IsShownBut p.changed world
 
 -- the event is of a worker
 abbrev pub is_working : Event → Bool

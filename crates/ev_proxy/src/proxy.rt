@@ -15,6 +15,7 @@ ghost use Rattle.ev_worker.specs.Batches.{entries_of};
 ghost use Rattle.ev_worker.specs.Workers.{AreAnswered, IsToldBy};
 ghost use Rattle.ev_proxy.specs.Proxies.{AreRowsOf, IsAt, is_working, numbers_reaped};
 
+use crate::changed::Changed;
 use ev_drain::Deferred;
 use ev_retirement::Holders;
 use ev_snapshot::Snapshot;
@@ -30,6 +31,8 @@ use std::sync::Arc;
 pub struct Proxy {
     pub state: State,
     pub holders: Holders,
+    /// The generations of which the next publication may show something else than the last one.
+    pub changed: Changed,
     /// The rows that the last event of the main side reaped, for whoever drops them.
     pub deferred: Deferred,
 }
@@ -45,6 +48,7 @@ impl Proxy {
         Ok(Proxy {
             state,
             holders,
+            changed: Changed::none(alloc),
             deferred: Deferred::new(alloc),
         })
     }

@@ -6,17 +6,20 @@ ghost use Rattle.ev_model.specs.World.{World};
 ghost use Rattle.ev_model.specs.Publishing.{dead_numbers, publish, reap};
 ghost use Rattle.ev_model.specs.Signals.{drain_timeout};
 ghost use Rattle.ev_model.specs.Step.{step as machine_step};
+ghost use Rattle.ev_pictures.specs.Pictures.{published_answer};
 ghost use Rattle.ev_state.specs.Managed.{is_managed};
 ghost use Rattle.ev_proxy.specs.Proxies.{AreRowsOf, IsAt};
 
 use crate::Proxy;
+use crate::changed::Changed;
+use crate::changing::changes;
 use crate::noting::{note_each, remove_each};
 use ev_types::{Answer, Event, Format, Name, Seq};
 use std::alloc::{AllocError, Global};
 
 impl Proxy {
     /// What an event of the stream, the health checker or a timer does, but a drain timeout. The generations that it retired are noted
-    /// among those that drain.
+    /// among those that drain, and those of which it changed what is to be shown among those that changed.
     pub(crate) fn manage(&mut self, alloc: Global, event: &Event) -> Result<Answer, AllocError>
         ghost here: { World }
         requires at { IsAt self.old here }
@@ -27,6 +30,7 @@ impl Proxy {
         ensures deferred { OnOk result (self.new.deferred ≡ self.old.deferred) }
     {
         let stepped = self.state.step(alloc, event)?;
+        self.changed.put_all(stepped.changed.as_slice())?;
         let clusters = stepped.retired.clusters.as_slice();
         note_each(alloc, &mut self.holders, &self.state, clusters)?;
         let listeners = stepped.retired.listeners.as_slice();
@@ -50,23 +54,17 @@ impl Proxy {
         if !meant {
             return Ok(Answer::Ignored);
         }
-        let retired = self.state.tidy_up(alloc)?;
-        note_each(
-            alloc,
-            &mut self.holders,
-            &self.state,
-            retired.clusters.as_slice(),
-        )?;
-        note_each(
-            alloc,
-            &mut self.holders,
-            &self.state,
-            retired.listeners.as_slice(),
-        )?;
+        let altered = self.state.tidy_up(alloc)?;
+        self.changed.put_all(altered.changed.as_slice())?;
+        let clusters = altered.retired.clusters.as_slice();
+        note_each(alloc, &mut self.holders, &self.state, clusters)?;
+        let listeners = altered.retired.listeners.as_slice();
+        note_each(alloc, &mut self.holders, &self.state, listeners)?;
         Ok(Answer::Done)
     }
 
-    /// What workers may serve now is published, where it isn't what the last picture shows.
+    /// What workers may serve now is published, where it isn't what the last picture shows. Only the generations are looked at of
+    /// which it may show something else.
     pub(crate) fn publish(&mut self, alloc: Global) -> Result<Answer, AllocError>
         ghost here: { World }
         requires at { IsAt self.old here }
@@ -74,11 +72,10 @@ impl Proxy {
         ensures answer { IfOk result (λ answer. answer ≡ (publish here).1) }
         ensures deferred { OnOk result (self.new.deferred ≡ self.old.deferred) }
     {
-        let shown = self.state.shown(alloc)?;
-        match self.holders.publish(alloc, shown)? {
-            Some(version) => Ok(Answer::Version(version)),
-            None => Ok(Answer::Unchanged),
-        }
+        let changes = changes(alloc, &self.state, self.changed.numbers())?;
+        let version = self.holders.publish(alloc, &changes)?;
+        self.changed = Changed::none(alloc);
+        Ok(answer_to(version))
     }
 
     /// All generations that nothing holds any more are named, and go; their rows are deferred, where none was before.
@@ -95,5 +92,15 @@ impl Proxy {
         remove_each(&mut self.state, dead.as_slice(), &mut self.deferred);
         self.holders.remove_all(dead.as_slice());
         Ok(Answer::Reaped(Seq::from_vec(dead)))
+    }
+}
+
+// The answer to a publication, by its version.
+fn answer_to(version: Option<u64>) -> Answer
+    ensures { result ≡ published_answer version }
+{
+    match version {
+        Some(version) => Answer::Version(version),
+        None => Answer::Unchanged,
     }
 }

@@ -6,7 +6,8 @@ ghost use Rattle.ev_model.specs.World.{World, opening};
 ghost use Rattle.ev_model.specs.Picture.{shown_of};
 ghost use Rattle.ev_model.specs.Publishing.{publish, dead_numbers, without_dead};
 ghost use Rattle.ev_model.specs.Signals.{drain_timeout};
-ghost use Rattle.ev_pictures.specs.Pictures.{published_answer};
+ghost use Rattle.ev_snapshot.specs.Changes.{IsOrdered};
+ghost use Rattle.ev_pictures.specs.Pictures.{published_answer, shown_after};
 ghost use Rattle.ev_drain.specs.Retired.{has_row};
 ghost use Rattle.ev_types.specs.declared.journals.Format.{Format};
 ghost use Rattle.ev_retirement.specs.Retiring.{noted};
@@ -16,9 +17,8 @@ use crate::asking::Asking;
 use crate::retiring::is_dropped;
 use ev_drain::Drain;
 use ev_ledger::Ledger;
-use ev_model::Shown;
 use ev_pictures::Pictures;
-use ev_snapshot::Snapshot;
+use ev_snapshot::{Changes, Snapshot};
 use ev_types::{Format, Gen, GenRow, Kind, Name};
 use std::alloc::{AllocError, Global};
 use std::marker::Model;
@@ -60,18 +60,20 @@ impl Holders {
         })
     }
 
-    /// Publishes what workers may serve now, under the next version, which it answers; where it is what the last picture shows,
-    /// nothing is published, and there is no version. Out of memory, all stays as it was; so where versions are used up.
-    pub fn publish(&mut self, alloc: Global, shown: Shown) -> Result<Option<u64>, AllocError>
-        ensures answer { IfOk result (λ version. (world : World) → StandsFor self.old world → shown ≡ shown_of world → (publish world).1 ≡ published_answer version) }
-        ensures world { OnOk result ((world : World) → StandsFor self.old world → shown ≡ shown_of world → StandsFor self.new (publish world).0) }
+    /// Publishes what the last picture shows after these changes, under the next version, which it answers; where that is what the
+    /// last picture shows, nothing is published, and there is no version. It costs what changes. Out of memory, all stays as it
+    /// was; so where versions are used up.
+    pub fn publish(&mut self, alloc: Global, changes: &Changes) -> Result<Option<u64>, AllocError>
+        ensures ordered { OnOk result (IsOrdered self.old.pictures.last.shown) }
+        ensures answer { IfOk result (λ version. (world : World) → StandsFor self.old world → shown_after changes.now self.old.pictures ≡ shown_of world → (publish world).1 ≡ published_answer version) }
+        ensures world { OnOk result ((world : World) → StandsFor self.old world → shown_after changes.now self.old.pictures ≡ shown_of world → StandsFor self.new (publish world).0) }
         ensures err { OnErr result (self.new ≡ self.old) }
     {
         // Where nothing is published, the last picture shows only what still serves, and none is set aside under it.
         let Ok(_) = self.asking.recall(alloc, self.pictures.version()) else {
             return Err(AllocError);
         };
-        self.pictures.publish(alloc, shown)
+        self.pictures.publish(alloc, changes)
     }
 
     /// The drain timeout of a listener's old generations: it came for those of this name that drain. It answers whether there

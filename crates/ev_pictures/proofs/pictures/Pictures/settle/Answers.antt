@@ -25,8 +25,5 @@ pub invariant_of-self : goal.invariant_of-self
 invariant_of-self c =
     let last : Picture = arc_value c.self.inside.last in
     let given : arc_value c.in-Ok.kept ≡ last = c.in-Ok.ensures.last ∙ sym (ap (λ (v : PicturesParts). v.last) c.self.view_is) in
-    record {
-      kept = c.self.invariant.kept;
-      earlier = subst (AllByRecursion (IsUpTo last)) (sym (map-set arc_value c.self.inside.held.items c.args.worker c.in-Ok.kept))
-          (all_set (IsUpTo last) (arc_value c.in-Ok.kept) (map arc_value c.self.inside.held.items) c.args.worker (subst (IsUpTo last) (sym given) (is_itself last)) c.self.invariant.earlier);
-    }
+    subst (AllByRecursion (IsUpTo last)) (sym (map-set arc_value c.self.inside.held.items c.args.worker c.in-Ok.kept))
+    (all_set (IsUpTo last) (arc_value c.in-Ok.kept) (map arc_value c.self.inside.held.items) c.args.worker (subst (IsUpTo last) (sym given) (is_itself last)) c.self.invariant)

@@ -1,4 +1,4 @@
 use Rattle.ev_proxy.proofs.proxy.Proxy.publish.Given as goal
 
-abbrev pub ghost-shown : goal.ghost-shown
-ghost-shown g a = g.here
+abbrev pub ghost-changes : goal.ghost-changes
+ghost-changes g a = g.here

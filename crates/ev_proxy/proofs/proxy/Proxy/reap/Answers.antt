@@ -6,6 +6,7 @@ use Rattle.ev_proxy.specs.Proxies.{AreRowsOf, rows_gone, without_each}
 use Rattle.ev_proxy.proofs.NotingLemmas.{at-numbered}
 use Rattle.ev_proxy.proofs.ReapedLemmas.{dead_rows}
 use Rattle.ev_proxy.proofs.ReapingLemmas.{dead_gone}
+use Rattle.ev_proxy.proofs.ShownLemmas.{reaped_shown}
 use Rattle.ev_proxy.proofs.WorldLemmas.{reaped_same}
 use Rattle.ev_proxy.proofs.proxy.Proxy.reap.Goals as goal
 
@@ -20,6 +21,7 @@ returns-clause-at g c =
           (ap (λ (ns : List ℕ). without_each ns g.here.rows) (c.as_slice.ensures.value ∙ dead) ∙ dead_gone c.args.format g.here apart))
           (c.remove_each.ensures.at g.here c.requires.0.managed);
       held = c.remove_all.ensures.reaped c.args.format g.here (subst (λ (holders : HoldersParts). HoldsFor holders g.here) (sym c.dead.ensures.same) c.requires.0.held) apart (c.as_slice-2.ensures.value ∙ dead);
+      shown = reaped_shown c.args.format c.args.self.now.changed g.here apart c.requires.0.shown;
     }
 
 pub returns-clause-deferred : goal.returns-clause-deferred

@@ -1,5 +1,6 @@
 use Rattle.std.proofs.Common.{sym, ap, ◌∙◌, subst}
 use Rattle.std.proofs.lemmas.Result.{on_ok_weaker}
+use Rattle.ev_pictures.specs.Pictures.{shown_after}
 use Rattle.ev_retirement.specs.Asking.{is_aside}
 use Rattle.ev_retirement.specs.Holders.{HoldersParts, StandsFor}
 use Rattle.ev_retirement.proofs.AskLemmas.{more_kept, publish_kept}
@@ -12,7 +13,7 @@ invariant_of-self c = more_kept c.self.inside.asking c.recall.new.self _ c.recal
 pub invariant_of-self-2 : goal.invariant_of-self-2
 invariant_of-self-2 c =
     let holders : HoldersParts = record { pictures = c.self.inside.pictures; ledger = c.self.inside.ledger; drain = c.self.inside.drain } in
-    publish_kept c.publish.result c.args.shown c.recall.new.self holders c.publish.new.self c.publish.ensures.published c.publish.ensures.err
+    publish_kept c.publish.result (shown_after c.args.changes.now c.self.inside.pictures) c.recall.new.self holders c.publish.new.self c.publish.ensures.published c.publish.ensures.err
     (λ number. ap (λ v. is_aside c.recall.new.self v number) (sym c.version.ensures.last) ∙ c.in-Ok.ensures.none number)
     (more_kept c.self.inside.asking c.recall.new.self holders c.recall.ensures.more c.self.invariant)
 
@@ -21,4 +22,4 @@ returns-clause-world c =
     on_ok_weaker c.publish.result
     (λ has world stands shown.
     let here : StandsFor _ world = subst (λ (v : HoldersParts). StandsFor v world) (sym c.self.view_is) stands in
-    publish_stands _ c.publish.new.self world here (has world here.pictures shown)) c.publish.ensures.world
+    publish_stands _ c.publish.new.self world here (has world here.pictures (ap (λ (v : HoldersParts). shown_after c.args.changes.now v.pictures) c.self.view_is ∙ shown))) c.publish.ensures.world

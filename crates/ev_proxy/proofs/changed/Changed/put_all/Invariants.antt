@@ -1,0 +1,6 @@
+use Rattle.std.proofs.Common.{◌≡◌, ◌||◌, ℕ, take}
+use Rattle.ev_warming.specs.Due.{is_among}
+use Rattle.ev_proxy.proofs.changed.Changed.put_all.Given as goal
+
+abbrev pub invariant-loop-number : goal.invariant-loop-number
+invariant-loop-number l = (n : ℕ) → is_among l.self n ≡ (is_among l.initial.self n || is_among (take l.number-index l.numbers) n)

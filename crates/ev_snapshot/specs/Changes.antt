@@ -1,0 +1,91 @@
+-- What a publication changes. It names the generations of which a picture shows something else than the last one; of all others
+-- it shows the same. So a publication costs what it changes, and not what it shows.
+use Rattle.std.specs.Prelude.{ℕ, ◌≡◌, ◌+◌, ◌==◌, ◌||◌, Bool, true, not, ⊤, if◌then◌else◌, List, [], ◌∷◌, filter, map, Option, Some, None}
+use Rattle.std.specs.List.{AllByRecursion}
+use Rattle.std.specs.Str.{bytes_eq}
+use Rattle.ev_model.specs.Picture.{has_number, shown_same}
+use Rattle.ev_model.specs.Sorted.{put_by}
+use Rattle.ev_model.specs.Versions.{is_before}
+use Rattle.ev_model.specs.World.{nothing_shown}
+use Rattle.ev_model.specs.declared.pictures.Picture.{Picture}
+use Rattle.ev_model.specs.declared.pictures.ServedCluster.{ServedCluster}
+use Rattle.ev_model.specs.declared.pictures.ServedListener.{ServedListener}
+use Rattle.ev_model.specs.declared.pictures.Shown.{Shown}
+use Rattle.ev_snapshot.specs.declared.changes.Changes.{Changes}
+use Rattle.ev_snapshot.specs.declared.changes.ClusterChange.{ClusterChange}
+use Rattle.ev_snapshot.specs.declared.changes.ListenerChange.{ListenerChange}
+
+-- the elements without those of these numbers
+abbrev pub without : {X : Type 0} → (X → ℕ) → List ℕ → List X → List X
+without number numbers xs = filter (λ x. not (has_number (number x) numbers)) xs
+
+-- the elements with this one in the order of names, in place of those of its number or its name
+abbrev pub put_in : {X : Type 0} → (X → ℕ) → (X → List ℕ) → X → List X → List X
+put_in number name x xs =
+    put_by (λ one other. is_before (name one) (name other)) x
+    (filter (λ other. not ((number other == number x) || bytes_eq (name other) (name x))) xs)
+
+-- the clusters with this one, if there is one
+abbrev pub put_cluster : Option ServedCluster → List ServedCluster → List ServedCluster
+put_cluster None clusters = clusters
+put_cluster (Some cluster) clusters = put_in (λ (c : ServedCluster). c.number) (λ (c : ServedCluster). c.name) cluster clusters
+
+-- the listeners with this one, if there is one
+abbrev pub put_listener : Option ServedListener → List ServedListener → List ServedListener
+put_listener None listeners = listeners
+put_listener (Some listener) listeners = put_in (λ (l : ServedListener). l.number) (λ (l : ServedListener). l.name) listener listeners
+
+-- the clusters with those that changed and serve now, one after the other
+abbrev pub put_clusters : List ClusterChange → List ServedCluster → List ServedCluster
+put_clusters [] clusters = clusters
+put_clusters (change ∷ changes) clusters = put_clusters changes (put_cluster change.served clusters)
+
+-- the listeners with those that changed and serve now, one after the other
+abbrev pub put_listeners : List ListenerChange → List ServedListener → List ServedListener
+put_listeners [] listeners = listeners
+put_listeners (change ∷ changes) listeners = put_listeners changes (put_listener change.served listeners)
+
+-- the clusters after these changes: first the numbers that changed go, then those that serve now are put in
+abbrev pub clusters_with : List ClusterChange → List ServedCluster → List ServedCluster
+clusters_with changes clusters =
+    put_clusters changes (without (λ (c : ServedCluster). c.number) (map (λ (change : ClusterChange). change.number) changes) clusters)
+
+-- the listeners after these changes: first the numbers that changed go, then those that serve now are put in
+abbrev pub listeners_with : List ListenerChange → List ServedListener → List ServedListener
+listeners_with changes listeners =
+    put_listeners changes (without (λ (l : ServedListener). l.number) (map (λ (change : ListenerChange). change.number) changes) listeners)
+
+-- what is shown after these changes
+abbrev pub shown_with : Changes → Shown → Shown
+shown_with changes shown = record {
+  clusters = clusters_with changes.clusters shown.clusters;
+  listeners = listeners_with changes.listeners shown.listeners;
+}
+
+-- the picture before the first
+abbrev pub empty_picture : Picture
+empty_picture = record { version = 0; shown = nothing_shown }
+
+-- the next picture after these changes
+abbrev pub next_picture : Changes → Picture → Picture
+next_picture changes picture = record { version = picture.version + 1; shown = shown_with changes picture.shown }
+
+-- the next picture, where it shows something else
+abbrev pub picture_after : Changes → Picture → Option Picture
+picture_after changes picture =
+    if shown_same (shown_with changes picture.shown) picture.shown then None else Some (next_picture changes picture)
+
+-- the test is true of each element and each one behind it
+abbrev pub IsPairwise : {X : Type 0} → (X → X → Bool) → List X → Type 0
+IsPairwise test [] = ⊤
+IsPairwise test (x ∷ xs) = AllByRecursion (λ other. test x other ≡ true) xs × IsPairwise test xs
+
+-- each name stands before the names behind it, and no number stands twice
+pub record IsInOrder {X : Type 0} (number : X → ℕ) (name : X → List ℕ) (xs : List X) : Type 0 where
+  pub names : IsPairwise (λ one other. is_before (name one) (name other)) xs
+  pub numbers : IsPairwise (λ one other. not (number one == number other)) xs
+
+-- clusters and listeners are in the order of their names, and no number stands twice
+pub record IsOrdered (shown : Shown) : Type 0 where
+  pub clusters : IsInOrder (λ (c : ServedCluster). c.number) (λ (c : ServedCluster). c.name) shown.clusters
+  pub listeners : IsInOrder (λ (l : ServedListener). l.number) (λ (l : ServedListener). l.name) shown.listeners
