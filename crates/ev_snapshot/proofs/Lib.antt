@@ -7,3 +7,4 @@ pub mod Patterns
 pub mod Named
 pub mod Lowest
 pub mod Eligible
+pub mod Maps

@@ -3,3 +3,4 @@ pub mod Tables
 pub mod Chosen
 pub mod Weighed
 pub mod Changes
+pub mod Layers

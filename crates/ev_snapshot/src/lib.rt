@@ -13,6 +13,7 @@ mod names;
 mod routed;
 mod routes;
 mod snapshot;
+mod table;
 mod targets;
 mod texts;
 mod weighed;
