@@ -8,3 +8,6 @@ pub mod Named
 pub mod Lowest
 pub mod Eligible
 pub mod Maps
+pub mod Order
+pub mod Steps
+pub mod Covers

@@ -4,3 +4,5 @@ pub mod Chosen
 pub mod Weighed
 pub mod Changes
 pub mod Layers
+pub mod Rows
+pub mod Groups

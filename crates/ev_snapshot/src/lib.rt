@@ -3,14 +3,16 @@
 
 mod addresses;
 mod changes;
-mod clusters;
+
 mod domain_table;
 mod domains;
+mod groups;
 mod host_texts;
 mod hosts;
 mod listeners;
 mod names;
 mod routed;
+mod rows;
 mod routes;
 mod snapshot;
 mod table;

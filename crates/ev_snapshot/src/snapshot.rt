@@ -10,10 +10,11 @@ ghost use Rattle.ev_snapshot.specs.Changes.{IsOrdered, empty_picture, picture_af
 ghost use Rattle.ev_snapshot.specs.Chosen.{TakesEligible, TakesLowest, host_of, names_shown};
 
 use crate::changes::Changes;
-use crate::clusters::Clusters;
+
 use crate::listeners::Listeners;
 use crate::routed::RoutedListener;
 use crate::routes::route_for;
+use crate::rows::Rows;
 use crate::targets::{target_name, target_weight};
 use crate::weighed::WeighedCluster;
 use ev_model::{Choice, Routing};
@@ -27,7 +28,7 @@ use std::sync::Arc;
 #[derive(Drop)]
 pub struct Snapshot {
     version: u64,
-    clusters: Clusters,
+    clusters: Rows<WeighedCluster>,
     listeners: Listeners,
 }
 
@@ -49,8 +50,8 @@ impl Snapshot {
     {
         let empty = Snapshot {
             version: 0,
-            clusters: Clusters::new(alloc),
-            listeners: Listeners::new(alloc),
+            clusters: Rows::new(alloc)?,
+            listeners: Listeners::new(alloc)?,
         };
         Ok(Arc::new(alloc, empty)?)
     }

@@ -1,9 +1,10 @@
 ghost use Rattle.std.specs.Prelude.{◌≡◌, IfOk};
 ghost use Rattle.ev_model.specs.Choice.{host_place};
 
+use crate::names::Row;
 use crate::hosts::{lowest_priority, place_above, weight_sum};
 use ev_model::ServedCluster;
-use ev_types::TryCopy;
+use ev_types::{Gen, TryCopy};
 use std::alloc::{AllocError, Global};
 use std::marker::Model;
 
@@ -59,5 +60,21 @@ impl WeighedCluster {
             return None;
         }
         place_above(hosts, self.priority, pick % self.sum)
+    }
+}
+
+impl Row for WeighedCluster {
+    ghost use Rattle.ev_model.specs.declared.pictures.ServedCluster.{ServedCluster};
+
+    ghost number_of = { λ (c : ServedCluster). c.number };
+
+    ghost name_of = { λ (c : ServedCluster). c.name };
+
+    fn number(&self) -> Gen {
+        self.served.number
+    }
+
+    fn name(&self) -> &str {
+        self.served.name.as_str()
     }
 }
