@@ -11,3 +11,6 @@ pub mod Maps
 pub mod Order
 pub mod Steps
 pub mod Covers
+pub mod Touched
+pub mod Grouped
+pub mod Shown

@@ -6,3 +6,4 @@ pub mod Changes
 pub mod Layers
 pub mod Rows
 pub mod Groups
+pub mod Kept

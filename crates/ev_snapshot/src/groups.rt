@@ -79,7 +79,7 @@ fn group_without(
     group: Option<&Group>,
     number: Gen,
 ) -> Result<Seq<Shared<RoutedListener>>, AllocError>
-    ensures { IfOk result (λ new. new ≡ without_number (λ (l : ServedListener). l.number) number (group_of (option_copied group))) }
+    ensures { IfOk result (λ new. new ≡ without_number (λ (l : ServedListener). l.number) number (group_of (option_copied group.entry))) }
 {
     let mut group = copy_of(alloc, group)?;
     group.retain(|listener| listener.get().number() != number);
@@ -92,7 +92,7 @@ fn group_with(
     group: Option<&Group>,
     listener: &Shared<RoutedListener>,
 ) -> Result<Seq<Shared<RoutedListener>>, AllocError>
-    ensures { IfOk result (λ new. new ≡ put_before (λ (l : ServedListener). l.name) listener.now (group_of (option_copied group))) }
+    ensures { IfOk result (λ new. new ≡ put_before (λ (l : ServedListener). l.name) listener.now (group_of (option_copied group.entry))) }
 {
     let mut group = copy_of(alloc, group)?;
     match place_in(group.as_slice(), listener.get()) {
@@ -116,7 +116,7 @@ fn copy_of(
     alloc: Global,
     group: Option<&Group>,
 ) -> Result<Seq<Shared<RoutedListener>>, AllocError>
-    ensures { IfOk result (λ copied. copied ≡ group_of (option_copied group)) }
+    ensures { IfOk result (λ copied. copied ≡ group_of (option_copied group.entry)) }
 {
     match group {
         Some(group) => group.get().copy(alloc),

@@ -11,6 +11,7 @@ mod host_texts;
 mod hosts;
 mod listeners;
 mod names;
+mod parts;
 mod routed;
 mod rows;
 mod routes;

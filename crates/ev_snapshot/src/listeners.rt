@@ -1,9 +1,10 @@
 ghost use Rattle.std.specs.Prelude.{◌≡◌, [], None, IfOk, map};
 ghost use Rattle.std.specs.Option.{option_copied};
 ghost use Rattle.ev_model.specs.Choice.{listener_at};
-ghost use Rattle.ev_model.specs.Picture.{has_number};
+ghost use Rattle.ev_model.specs.Picture.{has_number, served_listener_same};
 ghost use Rattle.ev_model.specs.declared.pictures.ServedListener.{ServedListener};
 ghost use Rattle.ev_snapshot.specs.Changes.{IsInOrder, put_in};
+ghost use Rattle.ev_snapshot.specs.Kept.{keeps_name, keeps_number};
 ghost use Rattle.ev_snapshot.specs.Rows.{named, numbered, put_before, without_name, without_number};
 
 use crate::groups::{Groups, with_listener, without_listener};
@@ -63,7 +64,8 @@ impl Listeners {
 
     /// The listener of this name.
     pub(crate) fn named(&self, name: &str) -> Option<&RoutedListener>
-        ensures { option_copied result ≡ named (λ (l : ServedListener). l.name) self.now name.now }
+        ensures order { IsInOrder (λ (l : ServedListener). l.number) (λ (l : ServedListener). l.name) self.now }
+        ensures row { option_copied result ≡ named (λ (l : ServedListener). l.name) self.now name.now }
     {
         self.rows.named(name)
     }
@@ -81,6 +83,20 @@ impl Listeners {
         ensures { result ≡ has_number number (map (λ (l : ServedListener). l.number) self.now) }
     {
         self.rows.has(number)
+    }
+
+    /// Whether the listener of this name is the same here as in listeners after them, if there is one.
+    pub(crate) fn keeps_name(&self, after: &Listeners, name: &str) -> bool
+        ensures { result ≡ keeps_name (λ (l : ServedListener). l.name) served_listener_same self.now after.now name.now }
+    {
+        self.rows.keeps_name(&after.rows, name)
+    }
+
+    /// Whether the name that this number has here has the same listener in listeners after them.
+    pub(crate) fn keeps_number(&self, after: &Listeners, number: Gen) -> bool
+        ensures { result ≡ keeps_number (λ (l : ServedListener). l.number) (λ (l : ServedListener). l.name) served_listener_same self.now after.now number }
+    {
+        self.rows.keeps_number(&after.rows, number)
     }
 
     /// The listeners without that of this number.
@@ -147,8 +163,7 @@ impl Listeners {
 
     /// The same listeners, in tables of which none has too much over its base.
     pub(crate) fn settled(self, alloc: Global) -> Result<Listeners, AllocError>
-        ensures same { IfOk result (λ listeners. listeners ≡ self) }
-        ensures order { IfOk result (λ listeners. IsInOrder (λ (l : ServedListener). l.number) (λ (l : ServedListener). l.name) listeners) }
+        ensures { IfOk result (λ listeners. listeners ≡ self) }
     {
         let rows = self.rows.settled(alloc)?;
         let groups = self.groups.settled(alloc)?;

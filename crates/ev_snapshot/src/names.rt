@@ -1,4 +1,4 @@
-ghost use Rattle.std.specs.Prelude.{◌≡◌, ℕ, List};
+ghost use Rattle.std.specs.Prelude.{◌≡◌, ℕ, Bool, List};
 
 use ev_types::{Gen, Shared, TryCopy};
 use indexmap::Equivalent;
@@ -12,6 +12,8 @@ pub(crate) trait Row: Drop {
 
     ghost name_of: { Self → List ℕ };
 
+    ghost same: { Self → Self → Bool };
+
     /// The number of its generation.
     fn number(&self) -> Gen
         ensures { result ≡ number_of self.now };
@@ -19,6 +21,10 @@ pub(crate) trait Row: Drop {
     /// Its name.
     fn name(&self) -> &str
         ensures { result.now ≡ name_of self.now };
+
+    /// Whether it is the same as another.
+    fn is_same(&self, other: &Self) -> bool
+        ensures { result ≡ same self.now other.now };
 }
 
 /// A row as the key of its name.

@@ -133,11 +133,14 @@ fn lower_case(alloc: Global, text: &Text) -> Result<Text, AllocError>
 }
 
 impl Row for RoutedListener {
+    ghost use Rattle.ev_model.specs.Picture.{served_listener_same};
     ghost use Rattle.ev_model.specs.declared.pictures.ServedListener.{ServedListener};
 
     ghost number_of = { λ (l : ServedListener). l.number };
 
     ghost name_of = { λ (l : ServedListener). l.name };
+
+    ghost same = { served_listener_same };
 
     fn number(&self) -> Gen {
         self.served.number
@@ -145,5 +148,9 @@ impl Row for RoutedListener {
 
     fn name(&self) -> &str {
         self.served.name.as_str()
+    }
+
+    fn is_same(&self, other: &RoutedListener) -> bool {
+        self.served == other.served
     }
 }

@@ -2,6 +2,7 @@ ghost use Rattle.std.specs.Prelude.{◌≡◌, [], None, IfOk, map};
 ghost use Rattle.std.specs.Option.{option_copied};
 ghost use Rattle.ev_model.specs.Picture.{has_number};
 ghost use Rattle.ev_snapshot.specs.Changes.{IsInOrder, put_in};
+ghost use Rattle.ev_snapshot.specs.Kept.{keeps_name, keeps_number};
 ghost use Rattle.ev_snapshot.specs.Rows.{named, numbered, put_before, without_name, without_number};
 
 use crate::names::{NameOf, Row};
@@ -71,6 +72,27 @@ impl<T: Row> Rows<T> {
         }
     }
 
+    /// Whether the row of this name is the same here as in rows after them, if there is one.
+    pub(crate) fn keeps_name(&self, after: &Rows<T>, name: &str) -> bool
+        ensures { result ≡ keeps_name T.name_of T.same self.now after.now name.now }
+    {
+        match (self.named(name), after.named(name)) {
+            (Some(row), Some(other)) => row.is_same(other),
+            (None, None) => true,
+            _ => false,
+        }
+    }
+
+    /// Whether the name that this number has here has the same row in rows after them.
+    pub(crate) fn keeps_number(&self, after: &Rows<T>, number: Gen) -> bool
+        ensures { result ≡ keeps_number T.number_of T.name_of T.same self.now after.now number }
+    {
+        match self.numbered(number) {
+            Some(row) => self.keeps_name(after, row.get().name()),
+            None => true,
+        }
+    }
+
     /// The rows without that of this number.
     pub(crate) fn without(self, number: Gen) -> Result<Rows<T>, AllocError>
         ensures { IfOk result (λ rows. rows ≡ without_number T.number_of number self) }
@@ -133,8 +155,7 @@ impl<T: Row> Rows<T> {
 
     /// The same rows, in tables of which neither has too much over its base.
     pub(crate) fn settled(self, alloc: Global) -> Result<Rows<T>, AllocError>
-        ensures same { IfOk result (λ rows. rows ≡ self) }
-        ensures order { IfOk result (λ rows. IsInOrder T.number_of T.name_of rows) }
+        ensures { IfOk result (λ rows. rows ≡ self) }
     {
         let by_name = self.by_name.settled(alloc)?;
         let by_number = self.by_number.settled(alloc)?;

@@ -64,11 +64,14 @@ impl WeighedCluster {
 }
 
 impl Row for WeighedCluster {
+    ghost use Rattle.ev_model.specs.Picture.{served_cluster_same};
     ghost use Rattle.ev_model.specs.declared.pictures.ServedCluster.{ServedCluster};
 
     ghost number_of = { λ (c : ServedCluster). c.number };
 
     ghost name_of = { λ (c : ServedCluster). c.name };
+
+    ghost same = { served_cluster_same };
 
     fn number(&self) -> Gen {
         self.served.number
@@ -76,5 +79,9 @@ impl Row for WeighedCluster {
 
     fn name(&self) -> &str {
         self.served.name.as_str()
+    }
+
+    fn is_same(&self, other: &WeighedCluster) -> bool {
+        self.served == other.served
     }
 }

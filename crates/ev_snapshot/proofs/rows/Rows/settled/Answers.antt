@@ -13,17 +13,10 @@ invariant_of-result g c =
         (keys_in c.in_ok-by_name.by_name) (listing g.T.Row.name_of (found bytes_eq c.self.inside.by_name) (keys_in c.self.inside.by_name)) c.self.invariant
         c.in_ok-by_name.ensures c.in_ok-by_number.ensures (λ m. table_covers (bytes_eq m) c.in_ok-by_name.by_name)).1
 
-pub returns-clause-same : goal.returns-clause-same
-returns-clause-same g c =
+pub returns : goal.returns
+returns g c =
     (row_same g.T.Row.number_of g.T.Row.name_of
         (found bytes_eq c.self.inside.by_name) (found bytes_eq c.in_ok-by_name.by_name) (found nat_eq c.self.inside.by_number) (found nat_eq c.in_ok-by_number.by_number)
         (keys_in c.in_ok-by_name.by_name) (listing g.T.Row.name_of (found bytes_eq c.self.inside.by_name) (keys_in c.self.inside.by_name)) c.self.invariant
         c.in_ok-by_name.ensures c.in_ok-by_number.ensures (λ m. table_covers (bytes_eq m) c.in_ok-by_name.by_name)).0
     ∙ c.self.view_is
-
-pub returns-clause-order : goal.returns-clause-order
-returns-clause-order g c =
-    (row_same g.T.Row.number_of g.T.Row.name_of
-        (found bytes_eq c.self.inside.by_name) (found bytes_eq c.in_ok-by_name.by_name) (found nat_eq c.self.inside.by_number) (found nat_eq c.in_ok-by_number.by_number)
-        (keys_in c.in_ok-by_name.by_name) (listing g.T.Row.name_of (found bytes_eq c.self.inside.by_name) (keys_in c.self.inside.by_name)) c.self.invariant
-        c.in_ok-by_name.ensures c.in_ok-by_number.ensures (λ m. table_covers (bytes_eq m) c.in_ok-by_name.by_name)).1.order
