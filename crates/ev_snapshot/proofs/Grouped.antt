@@ -3,11 +3,15 @@ use Rattle.std.proofs.Common.{◌≡◌, ◌∙◌, ℕ, ◌+◌, ◌==◌, not,
 use Rattle.std.specs.List.{AllByRecursion, position_or_len}
 use Rattle.std.specs.Str.{bytes_eq}
 use Rattle.ev_types.specs.Same.{numbers_decide}
+use Rattle.ev_types.specs.SameHosts.{host_decides, host_same}
+use Rattle.ev_types.specs.declared.hosts.Host.{Host}
 use Rattle.ev_model.specs.Sorted.{put_by}
 use Rattle.ev_model.specs.Versions.{is_before}
+use Rattle.ev_model.specs.declared.pictures.ServedListener.{ServedListener}
+use Rattle.ev_snapshot.specs.Groups.{those_at}
 use Rattle.ev_snapshot.specs.Changes.{IsInOrder, IsPairwise}
 use Rattle.ev_snapshot.specs.Rows.{named, numbered, put_before, without_number}
-use Rattle.ev_snapshot.proofs.Order.{before_then, every_kept, every_so, kept_whole, same_kept}
+use Rattle.ev_snapshot.proofs.Order.{before_then, every_kept, every_so, found_passes}
 
 -- the first of a group is what a search finds
 pub first_found : {X : Type 0} (p : X → Bool) (xs : List X) → slice_get (filter p xs) 0 ≡ find p xs
@@ -134,3 +138,42 @@ placed b x ys place e =
 
 pub unplaced : {X : Type 0} (b : X → X → Bool) (x : X) (ys : List X) → position (b x) ys ≡ None → ys ++ x ∷ [] ≡ put_by b x ys
 unplaced b x ys e = put_last b x ys (unplaced_by (nat_lt (position_or_len (b x) ys) (length ys)) (position_or_len (b x) ys) e)
+
+-- ---- listeners by their addresses
+module _ (address : Host) where
+  abbrev at : ServedListener → Bool
+  at l = host_same l.address address
+
+  abbrev number : ServedListener → ℕ
+  number l = l.number
+
+  abbrev name : ServedListener → List ℕ
+  name l = l.name
+
+  pub group_put : (l : ServedListener) (ls : List ServedListener) → IsInOrder number name ls
+      → cond (host_same l.address address) (put_before name l (those_at address ls)) (those_at address ls) ≡ those_at address (put_before name l ls)
+  group_put l ls o = by (host_same l.address address) refl
+    where
+      by : (b : Bool) → host_same l.address address ≡ b → cond b (put_before name l (those_at address ls)) (those_at address ls) ≡ those_at address (put_before name l ls)
+      by true e = put_seen name at l ls o.names e
+      by false e = sym (put_blind at (λ one other. is_before (name one) (name other)) l ls e)
+
+  pub group_less : (n : ℕ) (c : ServedListener) (ls : List ServedListener) → IsInOrder number name ls → numbered number ls n ≡ Some c
+      → cond (host_same c.address address) (without_number number c.number (those_at address ls)) (those_at address ls) ≡ those_at address (without_number number n ls)
+  group_less n c ls o found =
+      (λ i. cond (host_same c.address address) (without_number number ((numbers_decide c.number n).0 (found_passes (λ (l : ServedListener). l.number == n) ls c found) i) (those_at address ls)) (those_at address ls))
+      ∙ by (host_same c.address address) refl
+    where
+      by : (b : Bool) → host_same c.address address ≡ b → cond b (without_number number n (those_at address ls)) (those_at address ls) ≡ those_at address (without_number number n ls)
+      by true e = sym (filters_turn at (λ l. not (number l == n)) ls)
+      by false e =
+          sym (filter_blind at (λ l. not (number l == n)) ls
+              (every_so (λ l. not (number l == n) ≡ false → l ≡ c) (λ l. not (number l == n) ≡ false → at l ≡ false) ls (λ l one gone. ap at (one gone) ∙ e) (only_one number n ls c o.numbers found)))
+
+-- what is under an address is under one that is the same
+pub same_address : {A : Type 0} (f : Host → A) (a b : Host) (rest : A) → cond (host_same a b) (f a) rest ≡ cond (host_same a b) (f b) rest
+same_address f a b rest = by (host_same a b) refl
+  where
+    by : (t : Bool) → host_same a b ≡ t → cond t (f a) rest ≡ cond t (f b) rest
+    by true e = ap f ((host_decides a b).0 e)
+    by false e = refl

@@ -1,5 +1,6 @@
 -- Changes that keep what each name that they touch had keep all.
-use Rattle.std.proofs.Common.{◌≡◌, ◌∙◌, ℕ, ◌==◌, ◌||◌, ◌&&◌, ◌+◌, suc, zero, not, Bool, true, false, cond, List, [], ◌∷◌, filter, find, map, drop, slice_get, Option, Some, None, refl, sym, ap, subst, true≢false, arith}
+use Rattle.std.proofs.Common.{◌≡◌, ◌∙◌, ℕ, ◌==◌, ◌||◌, ◌&&◌, ◌+◌, ◌<◌, suc, not, Bool, true, false, cond, List, [], ◌∷◌, filter, find, map, drop, length, get_or, Option, Some, None, refl, sym, ap, subst, true≢false, arith}
+use Rattle.std.proofs.Math.Seq.{drop-cons}
 use Rattle.std.specs.Bool.{Decides}
 use Rattle.std.specs.List.{AllByRecursion, list_any, list_all}
 use Rattle.std.specs.Str.{bytes_eq}
@@ -232,10 +233,9 @@ module _ {C X : Type 0} (number : X → ℕ) (name : X → List ℕ) (changed : 
   without_none (x ∷ xs) = ap (λ ys. x ∷ ys) (without_none xs)
 
 -- what stands at a place is the first of what is left from there on
-pub drop_at : {A : Type 0} (xs : List A) (i : ℕ) (x : A) → slice_get xs i ≡ Some x → drop i xs ≡ x ∷ drop (i + 1) xs
-drop_at [] i x e = absurd cc
-drop_at (y ∷ ys) zero x e = let one : y ≡ x = cc in ap (λ z. z ∷ ys) one
-drop_at (y ∷ ys) (suc i) x e = drop_at ys i x e ∙ ap (λ n. x ∷ drop n (y ∷ ys)) (next i)
+pub drop_at : {A : Type 0} (xs : List A) (i : ℕ) (x : A) → i < length xs → x ≡ get_or xs i x → drop i xs ≡ x ∷ drop (i + 1) xs
+drop_at xs i x within is =
+    drop-cons xs i x within ∙ ap (λ n. get_or xs i x ∷ drop n xs) (next i) ∙ ap (λ (y : _). y ∷ drop (i + 1) xs) (sym is)
   where
-    next : (j : ℕ) → suc (j + 1) ≡ suc j + 1
+    next : (j : ℕ) → suc j ≡ j + 1
     next j = omega arith

@@ -1,4 +1,4 @@
-ghost use Rattle.std.specs.Prelude.{◌≡◌, cond, position, Some, IfOk};
+ghost use Rattle.std.specs.Prelude.{◌≡◌, ◌==◌, cond, not, position, IfOk};
 ghost use Rattle.std.specs.Option.{option_copied};
 ghost use Rattle.ev_types.specs.SameHosts.{host_same};
 ghost use Rattle.ev_types.specs.declared.hosts.Host.{Host};
@@ -34,7 +34,8 @@ pub(crate) fn without_listener(
         groups.get(&listener.get().served().address),
         listener.get().number(),
     )?;
-    set_group(alloc, groups, listener, group)
+    let new = set_group(alloc, groups, listener, group)?;
+    Ok(new)
 }
 
 /// The groups with one more listener.
@@ -50,7 +51,8 @@ pub(crate) fn with_listener(
         groups.get(&listener.get().served().address),
         listener,
     )?;
-    set_group(alloc, groups, listener, group)
+    let new = set_group(alloc, groups, listener, group)?;
+    Ok(new)
 }
 
 // The groups with this one at a listener's address.
@@ -82,8 +84,15 @@ fn group_without(
     ensures { IfOk result (λ new. new ≡ without_number (λ (l : ServedListener). l.number) number (group_of (option_copied group.entry))) }
 {
     let mut group = copy_of(alloc, group)?;
-    group.retain(|listener| listener.get().number() != number);
+    group.retain(|listener| is_other(listener, number));
     Ok(group)
+}
+
+// Whether a listener has another number.
+fn is_other(listener: &Shared<RoutedListener>, number: Gen) -> bool
+    ensures { result ≡ not (listener.now.number == number) }
+{
+    listener.get().number() != number
 }
 
 // A group with one more listener.
@@ -95,10 +104,11 @@ fn group_with(
     ensures { IfOk result (λ new. new ≡ put_before (λ (l : ServedListener). l.name) listener.now (group_of (option_copied group.entry))) }
 {
     let mut group = copy_of(alloc, group)?;
-    match place_in(group.as_slice(), listener.get()) {
-        Some(place) => group.insert(place, listener.share()?)?,
-        None => group.push(listener.share()?)?,
-    }
+    let Some(place) = place_in(group.as_slice(), listener.get()) else {
+        group.push(listener.share()?)?;
+        return Ok(group);
+    };
+    group.insert(place, listener.share()?)?;
     Ok(group)
 }
 

@@ -1,4 +1,4 @@
-ghost use Rattle.std.specs.Prelude.{◌≡◌, [], None, IfOk, map};
+ghost use Rattle.std.specs.Prelude.{◌≡◌, [], None, IfOk, map, slice_get};
 ghost use Rattle.std.specs.Option.{option_copied};
 ghost use Rattle.ev_model.specs.Choice.{listener_at};
 ghost use Rattle.ev_model.specs.Picture.{has_number, served_listener_same};
@@ -53,13 +53,10 @@ impl Listeners {
         ensures { option_copied result ≡ listener_at self.now address.now }
     {
         let _ = &self.rows;
-        match self.groups.get(address) {
-            Some(group) => match group.get().as_slice().first() {
-                Some(listener) => Some(listener.get()),
-                None => None,
-            },
-            None => None,
-        }
+        let Some(group) = self.groups.get(address) else {
+            return None;
+        };
+        first_of(group.get().as_slice())
     }
 
     /// The listener of this name.
@@ -168,5 +165,15 @@ impl Listeners {
         let rows = self.rows.settled(alloc)?;
         let groups = self.groups.settled(alloc)?;
         Ok(Listeners { rows, groups })
+    }
+}
+
+// The first listener of a group.
+fn first_of(group: &[Shared<RoutedListener>]) -> Option<&RoutedListener>
+    ensures { option_copied result ≡ slice_get group.now 0 }
+{
+    match group.first() {
+        Some(listener) => Some(listener.get()),
+        None => None,
     }
 }

@@ -123,7 +123,8 @@ impl<T: Row> Rows<T> {
     pub(crate) fn with(self, row: Shared<T>) -> Result<Rows<T>, AllocError>
         requires name { named T.name_of self (T.name_of row) ≡ None }
         requires number { numbered T.number_of self (T.number_of row) ≡ None }
-        ensures { IfOk result (λ rows. rows ≡ put_before T.name_of row self) }
+        ensures rows { IfOk result (λ rows. rows ≡ put_before T.name_of row self) }
+        ensures order { IsInOrder T.number_of T.name_of self }
     {
         let name = NameOf::new(row.share()?);
         let number = row.get().number();

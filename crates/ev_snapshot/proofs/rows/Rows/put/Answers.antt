@@ -27,4 +27,4 @@ returns g c =
         ∙ (λ i. without_name g.T.Row.name_of ((c.name.ensures ∙ ap g.T.Row.name_of c.get-2.ensures.value) i)
             ((c.in_ok-rows.ensures ∙ (λ j. without_number g.T.Row.number_of ((c.number.ensures ∙ ap g.T.Row.number_of c.get.ensures.value) j) c.args.self)) i)))
         ∙ put_both g.T.Row.number_of g.T.Row.name_of c.args.row c.args.self)
-    c.with.ensures
+    c.with.ensures.rows

@@ -1,5 +1,6 @@
-use Rattle.std.proofs.Common.{◌≡◌, ◌∙◌, ap, cond, nat_eq, Some}
+use Rattle.std.proofs.Common.{◌≡◌, ◌∙◌, ap, cond, nat_eq, subst, Some}
 use Rattle.std.specs.Str.{bytes_eq}
+use Rattle.ev_snapshot.specs.Changes.{IsInOrder}
 use Rattle.ev_snapshot.specs.Layers.{found, keys_in}
 use Rattle.ev_snapshot.specs.Rows.{listing, named, numbered, put_before}
 use Rattle.ev_snapshot.proofs.Covers.{table_covers}
@@ -19,8 +20,8 @@ invariant_of-result g c =
             ∙ (λ i. cond (nat_eq ((c.number-number.ensures ∙ ap g.T.Row.number_of c.get.ensures.value) i) m) (Some c.args.row) (found nat_eq c.self.inside.by_number m)))
         (λ m. table_covers (bytes_eq m) c.set.new.self)).1
 
-pub returns : goal.returns
-returns g c =
+pub returns-clause-rows : goal.returns-clause-rows
+returns-clause-rows g c =
     (row_in g.T.Row.number_of g.T.Row.name_of
         (found bytes_eq c.self.inside.by_name) (found bytes_eq c.set.new.self) (found nat_eq c.self.inside.by_number) (found nat_eq c.set-2.new.self)
         (keys_in c.set.new.self) (listing g.T.Row.name_of (found bytes_eq c.self.inside.by_name) (keys_in c.self.inside.by_name)) c.args.row c.self.invariant
@@ -32,3 +33,6 @@ returns g c =
             ∙ (λ i. cond (nat_eq ((c.number-number.ensures ∙ ap g.T.Row.number_of c.get.ensures.value) i) m) (Some c.args.row) (found nat_eq c.self.inside.by_number m)))
         (λ m. table_covers (bytes_eq m) c.set.new.self)).0
     ∙ ap (put_before g.T.Row.name_of c.args.row) c.self.view_is
+
+pub returns-clause-order : goal.returns-clause-order
+returns-clause-order g c = subst (IsInOrder g.T.Row.number_of g.T.Row.name_of) c.self.view_is c.self.invariant.order
