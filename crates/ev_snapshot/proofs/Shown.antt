@@ -1,14 +1,15 @@
 -- Changes go one after the other, and whether they leave all as it was shows under the names that they touch.
-use Rattle.std.proofs.Common.{◌≡◌, ◌∙◌, ℕ, ◌+◌, ◌&&◌, Bool, List, [], ◌∷◌, map, drop, slice_get, Option, Some, None, refl, sym, ap, subst}
+use Rattle.std.proofs.Common.{◌≡◌, ◌∙◌, ℕ, ◌+◌, ◌&&◌, Bool, true, false, cond, List, [], ◌∷◌, map, drop, slice_get, Option, Some, None, refl, sym, ap, subst}
 use Rattle.std.specs.Cmp.{both_ways}
 use Rattle.std.specs.List.{list_all}
 use lib.Pointwise.{pointwise, pointwise_decides}
 use Rattle.ev_model.specs.Picture.{served_cluster_same, served_cluster_decides, served_listener_same, served_listener_decides, shown_same}
+use Rattle.ev_model.specs.declared.pictures.Picture.{Picture}
 use Rattle.ev_model.specs.declared.pictures.ServedCluster.{ServedCluster}
 use Rattle.ev_model.specs.declared.pictures.ServedListener.{ServedListener}
 use Rattle.ev_model.specs.declared.pictures.Shown.{Shown}
-use Rattle.ev_snapshot.specs.Changes.{IsInOrder, IsOrdered, clusters_with, listeners_with, put_cluster, put_clusters, put_listener, put_listeners, shown_with, without}
-use Rattle.ev_snapshot.specs.Kept.{keeps}
+use Rattle.ev_snapshot.specs.Changes.{IsInOrder, IsOrdered, clusters_with, listeners_with, next_picture, picture_after, put_cluster, put_clusters, put_listener, put_listeners, shown_with, without}
+use Rattle.ev_snapshot.specs.Kept.{clusters_keep, listeners_keep}
 use Rattle.ev_snapshot.specs.declared.changes.Changes.{Changes}
 use Rattle.ev_snapshot.specs.declared.changes.ClusterChange.{ClusterChange}
 use Rattle.ev_snapshot.specs.declared.changes.ListenerChange.{ListenerChange}
@@ -34,10 +35,6 @@ clusters_put (c ∷ cs) xs = clusters_put cs (put_cluster c.served xs) ∙ ap (p
     by : (s : Option ServedCluster) → put_cluster s xs ≡ put_one number name changed served s xs
     by None = refl
     by (Some x) = refl
-
--- whether each change keeps the clusters
-abbrev pub clusters_keep : List ServedCluster → List ServedCluster → ClusterChange → Bool
-clusters_keep before after change = keeps number name served_cluster_same before after change.number change.served
 
 pub clusters_order : (changes : List ClusterChange) (xs ys : List ServedCluster) → IsInOrder number name xs → ys ≡ clusters_with changes xs → IsInOrder number name ys
 clusters_order changes xs ys o e =
@@ -73,10 +70,6 @@ listeners_put (c ∷ cs) xs = listeners_put cs (put_listener c.served xs) ∙ ap
     by None = refl
     by (Some x) = refl
 
--- whether each change keeps the listeners
-abbrev pub listeners_keep : List ServedListener → List ServedListener → ListenerChange → Bool
-listeners_keep before after change = keeps l_number l_name served_listener_same before after change.number change.served
-
 pub listeners_order : (changes : List ListenerChange) (xs ys : List ServedListener) → IsInOrder l_number l_name xs → ys ≡ listeners_with changes xs → IsInOrder l_number l_name ys
 listeners_order changes xs ys o e =
     subst (IsInOrder l_number l_name) (sym (listeners_put changes (without l_number (map l_changed changes) xs)) ∙ sym e) (changes_keep_order l_number l_name l_changed l_served changes xs o)
@@ -105,3 +98,20 @@ order_stays changes shown clusters listeners o c l = record {
   clusters = clusters_order changes.clusters shown.clusters clusters o.clusters c;
   listeners = listeners_order changes.listeners shown.listeners listeners o.listeners l;
 }
+
+-- ---- the next picture
+pub next_none : (changes : Changes) (picture : Picture) (clusters : List ServedCluster) (listeners : List ServedListener) (kept : Bool) → IsOrdered picture.shown
+    → clusters ≡ clusters_with changes.clusters picture.shown.clusters → listeners ≡ listeners_with changes.listeners picture.shown.listeners
+    → kept ≡ (list_all (clusters_keep picture.shown.clusters clusters) changes.clusters && list_all (listeners_keep picture.shown.listeners listeners) changes.listeners)
+    → kept ≡ true → None ≡ picture_after changes picture
+next_none changes picture clusters listeners kept o c l is e =
+    λ i. cond ((sym e ∙ is ∙ sym (all_same changes picture.shown clusters listeners o c l)) i) None (Some (next_picture changes picture))
+
+pub next_some : (changes : Changes) (picture : Picture) (clusters : List ServedCluster) (listeners : List ServedListener) (kept : Bool) (new : Picture) → IsOrdered picture.shown
+    → clusters ≡ clusters_with changes.clusters picture.shown.clusters → listeners ≡ listeners_with changes.listeners picture.shown.listeners
+    → kept ≡ (list_all (clusters_keep picture.shown.clusters clusters) changes.clusters && list_all (listeners_keep picture.shown.listeners listeners) changes.listeners)
+    → kept ≡ false → new.version ≡ picture.version + 1 → new.shown.clusters ≡ clusters → new.shown.listeners ≡ listeners
+    → Some new ≡ picture_after changes picture
+next_some changes picture clusters listeners kept new o c l is e v cs ls =
+    let next : new ≡ next_picture changes picture = λ i. record { version = v i; shown = record { clusters = (cs ∙ c) i; listeners = (ls ∙ l) i } } in
+    ap Some next ∙ (λ i. cond ((sym e ∙ is ∙ sym (all_same changes picture.shown clusters listeners o c l)) i) None (Some (next_picture changes picture)))

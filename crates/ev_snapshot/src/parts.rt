@@ -1,14 +1,14 @@
-ghost use Rattle.std.specs.Prelude.{◌≡◌, IfOk, map};
+ghost use Rattle.std.specs.Prelude.{◌≡◌, ◌&&◌, IfOk, map};
 ghost use Rattle.std.specs.List.{list_all};
 ghost use Rattle.ev_model.specs.Picture.{served_cluster_same, served_listener_same};
 ghost use Rattle.ev_model.specs.declared.pictures.ServedCluster.{ServedCluster};
 ghost use Rattle.ev_model.specs.declared.pictures.ServedListener.{ServedListener};
 ghost use Rattle.ev_snapshot.specs.Changes.{clusters_with, listeners_with, put_cluster, put_clusters, put_listener, put_listeners, without};
-ghost use Rattle.ev_snapshot.specs.Kept.{keeps, keeps_served};
+ghost use Rattle.ev_snapshot.specs.Kept.{clusters_keep, keeps_served, listeners_keep};
 ghost use Rattle.ev_snapshot.specs.declared.changes.ClusterChange.{ClusterChange};
 ghost use Rattle.ev_snapshot.specs.declared.changes.ListenerChange.{ListenerChange};
 
-use crate::changes::{ClusterChange, ListenerChange};
+use crate::changes::{Changes, ClusterChange, ListenerChange};
 use crate::listeners::Listeners;
 use crate::routed::RoutedListener;
 use crate::rows::Rows;
@@ -90,13 +90,13 @@ fn shared_cluster(
     Shared::new(alloc, WeighedCluster::new(alloc, cluster)?)
 }
 
-/// Whether these changes leave the clusters under each name that they touch.
-pub(crate) fn keep_clusters(
+// Whether these changes leave the clusters under each name that they touch.
+fn keep_clusters(
     before: &Rows<WeighedCluster>,
     after: &Rows<WeighedCluster>,
     changes: &[ClusterChange],
 ) -> bool
-    ensures { result ≡ list_all (λ (change : ClusterChange). keeps (λ (c : ServedCluster). c.number) (λ (c : ServedCluster). c.name) served_cluster_same before.now after.now change.number change.served) changes.now }
+    ensures { result ≡ list_all (clusters_keep before.now after.now) changes.now }
 {
     changes
         .iter()
@@ -109,7 +109,7 @@ fn keeps_cluster(
     after: &Rows<WeighedCluster>,
     change: &ClusterChange,
 ) -> bool
-    ensures { result ≡ keeps (λ (c : ServedCluster). c.number) (λ (c : ServedCluster). c.name) served_cluster_same before.now after.now change.now.number change.now.served }
+    ensures { result ≡ clusters_keep before.now after.now change.now }
 {
     before.keeps_number(after, change.number) && keeps_served_cluster(before, after, change)
 }
@@ -205,13 +205,13 @@ fn shared_listener(
     Shared::new(alloc, RoutedListener::new(alloc, listener)?)
 }
 
-/// Whether these changes leave the listeners under each name that they touch.
-pub(crate) fn keep_listeners(
+// Whether these changes leave the listeners under each name that they touch.
+fn keep_listeners(
     before: &Listeners,
     after: &Listeners,
     changes: &[ListenerChange],
 ) -> bool
-    ensures { result ≡ list_all (λ (change : ListenerChange). keeps (λ (l : ServedListener). l.number) (λ (l : ServedListener). l.name) served_listener_same before.now after.now change.number change.served) changes.now }
+    ensures { result ≡ list_all (listeners_keep before.now after.now) changes.now }
 {
     changes
         .iter()
@@ -224,7 +224,7 @@ fn keeps_listener(
     after: &Listeners,
     change: &ListenerChange,
 ) -> bool
-    ensures { result ≡ keeps (λ (l : ServedListener). l.number) (λ (l : ServedListener). l.name) served_listener_same before.now after.now change.now.number change.now.served }
+    ensures { result ≡ listeners_keep before.now after.now change.now }
 {
     before.keeps_number(after, change.number) && keeps_served_listener(before, after, change)
 }
@@ -244,4 +244,18 @@ fn keeps_served_listener(
         }
         None => true,
     }
+}
+
+/// Whether changes leave the clusters and the listeners under each name that they touch.
+pub(crate) fn keep_all(
+    clusters: &Rows<WeighedCluster>,
+    clusters_after: &Rows<WeighedCluster>,
+    listeners: &Listeners,
+    listeners_after: &Listeners,
+    changes: &Changes,
+) -> bool
+    ensures { result ≡ (list_all (clusters_keep clusters.now clusters_after.now) changes.now.clusters && list_all (listeners_keep listeners.now listeners_after.now) changes.now.listeners) }
+{
+    keep_clusters(clusters, clusters_after, changes.clusters.as_slice())
+        && keep_listeners(listeners, listeners_after, changes.listeners.as_slice())
 }

@@ -12,7 +12,7 @@ ghost use Rattle.ev_snapshot.specs.Chosen.{TakesEligible, TakesLowest, host_of, 
 use crate::changes::Changes;
 
 use crate::listeners::Listeners;
-use crate::parts::{clusters_with, keep_clusters, keep_listeners, listeners_with};
+use crate::parts::{clusters_with, keep_all, listeners_with};
 use crate::routed::RoutedListener;
 use crate::routes::route_for;
 use crate::rows::Rows;
@@ -81,9 +81,13 @@ impl Snapshot {
     {
         let clusters = clusters_with(alloc, &self.clusters, changes.clusters.as_slice())?;
         let listeners = listeners_with(alloc, &self.listeners, changes.listeners.as_slice())?;
-        if keep_clusters(&self.clusters, &clusters, changes.clusters.as_slice())
-            && keep_listeners(&self.listeners, &listeners, changes.listeners.as_slice())
-        {
+        if keep_all(
+            &self.clusters,
+            &clusters,
+            &self.listeners,
+            &listeners,
+            changes,
+        ) {
             return Ok(None);
         }
         let version = version_after(self.version)?;
