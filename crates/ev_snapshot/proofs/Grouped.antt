@@ -67,10 +67,12 @@ only_one number n (x ∷ xs) c s e = by (number x == n) refl e (only_one number 
         → (numbered number xs n ≡ Some c → AllByRecursion (λ y. not (number y == n) ≡ false → y ≡ c) xs)
         → AllByRecursion (λ y. not (number y == n) ≡ false → y ≡ c) (x ∷ xs)
     by true f h rest =
-        let one : x ≡ c = cc in
-        ((λ g. one), every_so (λ y. not (number x == number y) ≡ true) (λ y. not (number y == n) ≡ false → y ≡ c) xs
-            (λ y far g. absurd (true≢false (sym far ∙ ap not ((numbers_decide (number x) (number y)).1
-                ((numbers_decide (number x) n).0 f ∙ sym ((numbers_decide (number y) n).0 (negated (number y == n) g))))))) s.0)
+        let one : x ≡ c = cc in (
+          (λ g. one),
+          every_so (λ y. not (number x == number y) ≡ true) (λ y. not (number y == n) ≡ false → y ≡ c) xs
+              (λ y far g. absurd (true≢false (sym far ∙ ap not ((numbers_decide (number x) (number y)).1
+              ((numbers_decide (number x) n).0 f ∙ sym ((numbers_decide (number y) n).0 (negated (number y == n) g))))))) s.0,
+        )
     by false f h rest = ((λ g. absurd (true≢false (sym (negated (number x == n) g) ∙ f))), rest h)
 
 module _ {X : Type 0} (name : X → List ℕ) (p : X → Bool) where
@@ -88,7 +90,7 @@ module _ {X : Type 0} (name : X → List ℕ) (p : X → Bool) where
           → put_before name x (cond a (y ∷ filter p ys) (filter p ys)) ≡ filter p (cond t (x ∷ y ∷ ys) (y ∷ put_before name x ys))
       by true a f g rest =
           let behind : AllByRecursion (λ z. is_before (name x) (name z) ≡ true) (y ∷ ys) =
-              (f, every_so (λ z. is_before (name y) (name z) ≡ true) (λ z. is_before (name x) (name z) ≡ true) ys (λ z h. before_then (name x) (name y) (name z) f h) s.0) in
+          (f, every_so (λ z. is_before (name y) (name z) ≡ true) (λ z. is_before (name x) (name z) ≡ true) ys (λ z h. before_then (name x) (name y) (name z) f h) s.0) in
           (λ i. put_before name x (cond (sym g i) (y ∷ filter p ys) (filter p ys)))
           ∙ first_put x (filter p (y ∷ ys)) (every_kept (λ z. is_before (name x) (name z) ≡ true) p (y ∷ ys) behind)
           ∙ (λ i. cond (sym e i) (x ∷ filter p (y ∷ ys)) (filter p (y ∷ ys)))
@@ -168,7 +170,7 @@ module _ (address : Host) where
       by true e = sym (filters_turn at (λ l. not (number l == n)) ls)
       by false e =
           sym (filter_blind at (λ l. not (number l == n)) ls
-              (every_so (λ l. not (number l == n) ≡ false → l ≡ c) (λ l. not (number l == n) ≡ false → at l ≡ false) ls (λ l one gone. ap at (one gone) ∙ e) (only_one number n ls c o.numbers found)))
+          (every_so (λ l. not (number l == n) ≡ false → l ≡ c) (λ l. not (number l == n) ≡ false → at l ≡ false) ls (λ l one gone. ap at (one gone) ∙ e) (only_one number n ls c o.numbers found)))
 
 -- what is under an address is under one that is the same
 pub same_address : {A : Type 0} (f : Host → A) (a b : Host) (rest : A) → cond (host_same a b) (f a) rest ≡ cond (host_same a b) (f b) rest

@@ -142,7 +142,7 @@ module _ {X : Type 0} (name : X → List ℕ) where
       by false false h k = absurd (
           once (name x) (name y) (found_so (λ z. comes_before x z ≡ true) (λ z. bytes_eq (name z) (name y)) xs y s.0 k)
           (found_so (λ z. comes_before y z ≡ true) (λ z. bytes_eq (name z) (name x)) ys x t.0 h)
-      )
+          )
 
   tails_same : (x : X) (xs ys : List X) → AllByRecursion (λ z. comes_before x z ≡ true) xs → AllByRecursion (λ z. comes_before x z ≡ true) ys
       → (n : List ℕ) → named name (x ∷ xs) n ≡ named name (x ∷ ys) n → named name xs n ≡ named name ys n

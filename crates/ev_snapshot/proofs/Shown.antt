@@ -46,8 +46,8 @@ clusters_same changes xs ys o e =
     both_ways (pointwise served_cluster_same ys xs) (list_all (clusters_keep xs ys) changes)
     (λ h. kept_only number name changed served served_cluster_same served_cluster_decides xs ys changes ((pointwise_decides served_cluster_decides ys xs).0 h))
     (λ k. (pointwise_decides served_cluster_decides ys xs).1
-        (kept_all number name changed served served_cluster_same served_cluster_decides xs ys changes o (clusters_order changes xs ys o e)
-            (e ∙ clusters_put changes (without number (map changed changes) xs)) k))
+    (kept_all number name changed served served_cluster_same served_cluster_decides xs ys changes o (clusters_order changes xs ys o e)
+    (e ∙ clusters_put changes (without number (map changed changes) xs)) k))
 
 -- ---- listeners
 abbrev l_number : ServedListener → ℕ
@@ -80,8 +80,8 @@ listeners_same changes xs ys o e =
     both_ways (pointwise served_listener_same ys xs) (list_all (listeners_keep xs ys) changes)
     (λ h. kept_only l_number l_name l_changed l_served served_listener_same served_listener_decides xs ys changes ((pointwise_decides served_listener_decides ys xs).0 h))
     (λ k. (pointwise_decides served_listener_decides ys xs).1
-        (kept_all l_number l_name l_changed l_served served_listener_same served_listener_decides xs ys changes o (listeners_order changes xs ys o e)
-            (e ∙ listeners_put changes (without l_number (map l_changed changes) xs)) k))
+    (kept_all l_number l_name l_changed l_served served_listener_same served_listener_decides xs ys changes o (listeners_order changes xs ys o e)
+    (e ∙ listeners_put changes (without l_number (map l_changed changes) xs)) k))
 
 -- ---- both
 pub all_same : (changes : Changes) (shown : Shown) (clusters : List ServedCluster) (listeners : List ServedListener) → IsOrdered shown

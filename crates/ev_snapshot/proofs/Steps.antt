@@ -81,9 +81,9 @@ module _ {X : Type 0} (number : X → ℕ) (name : X → List ℕ) where
           → AllByRecursion (λ y. not (number y == number x) ≡ not (bytes_eq (name y) (name x))) ys
       tail [] s t = tt
       tail (y ∷ ys) s t = (
-          ap not (both_fail (number y == number x) (bytes_eq (name y) (name x)) (other_way (λ a b. a == b) numbers_decide number (number x) (number y) (far y t.0)) (behind (name x) (name y) (name x) s.0 (own_name (name x)))),
-          tail ys s.1 t.1,
-        )
+        ap not (both_fail (number y == number x) (bytes_eq (name y) (name x)) (other_way (λ a b. a == b) numbers_decide number (number x) (number y) (far y t.0)) (behind (name x) (name y) (name x) s.0 (own_name (name x)))),
+        tail ys s.1 t.1,
+      )
 
       first : (ys : List X) → find p ys ≡ Some c → AllByRecursion (λ y. precedes x y ≡ true) ys → AllByRecursion (λ y. not (number x == number y) ≡ true) ys
           → not (number x == number c) ≡ not (bytes_eq (name x) (name c))
@@ -128,8 +128,11 @@ module _ {X : Type 0} (number : X → ℕ) (name : X → List ℕ) where
   put_numbers x [] apart s = (tt, tt)
   put_numbers x (y ∷ ys) apart s =
       cond_both (precedes x y) (x ∷ y ∷ ys) (y ∷ put_by precedes x ys) (IsPairwise (λ a b. not (number a == number b)))
-      (λ e. (every_so (λ w. (number w == number x) ≡ false) (λ w. not (number x == number w) ≡ true) (y ∷ ys)
-          (λ w h. ap not (other_way (λ a b. a == b) numbers_decide number (number w) (number x) h)) apart, s))
+      (λ e. (
+        every_so (λ w. (number w == number x) ≡ false) (λ w. not (number x == number w) ≡ true) (y ∷ ys)
+            (λ w h. ap not (other_way (λ a b. a == b) numbers_decide number (number w) (number x) h)) apart,
+        s,
+      ))
       (λ e. (every_put (λ w. not (number y == number w) ≡ true) precedes x ys (ap not apart.0) s.0, put_numbers x ys apart.1 s.1))
 
   pub put_order : (x : X) (ys : List X) → named name ys (name x) ≡ None → numbered number ys (number x) ≡ None → IsInOrder number name ys → IsInOrder number name (put_by precedes x ys)
@@ -221,11 +224,11 @@ module _ {X : Type 0} (number : X → ℕ) (name : X → List ℕ) where
       let search : numbered number xs n ≡ Some c = sym (found.at_number n) ∙ at in
       let is : number c ≡ n = (numbers_decide (number c) n).0 (found_passes (λ x. number x == n) xs c search) in
       let same : without_number number n xs ≡ without_name name (name c) xs =
-          (λ i. without_number number (sym is i) xs) ∙ same_without (λ x. number x == n) xs c found.order search in
+      (λ i. without_number number (sym is i) xs) ∙ same_without (λ x. number x == n) xs c found.order search in
       table_shows g k ns (without_number number n xs) (record {
-          order = kept_order (λ x. not (number x == n)) xs found.order;
-          at_name = λ m. names m ∙ ap (cond (bytes_eq (name c) m) None) (found.at_name m) ∙ sym (find_without bytes_eq bytes_decide name (name c) xs m) ∙ ap (λ ys. named name ys m) (sym same);
-          at_number = λ m. numbers m ∙ ap (cond (n == m) None) (found.at_number m) ∙ sym (find_without (λ a b. a == b) numbers_decide number n xs m);
+        order = kept_order (λ x. not (number x == n)) xs found.order;
+        at_name = λ m. names m ∙ ap (cond (bytes_eq (name c) m) None) (found.at_name m) ∙ sym (find_without bytes_eq bytes_decide name (name c) xs m) ∙ ap (λ ys. named name ys m) (sym same);
+        at_number = λ m. numbers m ∙ ap (cond (n == m) None) (found.at_number m) ∙ sym (find_without (λ a b. a == b) numbers_decide number n xs m);
       }) covered
 
   pub row_in : (f g : List ℕ → Option X) (h k : ℕ → Option X) (ns : List (List ℕ)) (xs : List X) (x : X) → AreFound number name xs f h
@@ -235,9 +238,9 @@ module _ {X : Type 0} (number : X → ℕ) (name : X → List ℕ) where
       → (listing name g ns ≡ put_before name x xs) × AreFound number name (listing name g ns) g k
   row_in f g h k ns xs x found no_name no_number names numbers covered =
       table_shows g k ns (put_before name x xs) (record {
-          order = put_order x xs no_name no_number found.order;
-          at_name = λ m. names m ∙ ap (cond (bytes_eq (name x) m) (Some x)) (found.at_name m) ∙ sym (find_put bytes_eq bytes_decide name precedes x xs m no_name);
-          at_number = λ m. numbers m ∙ ap (cond (number x == m) (Some x)) (found.at_number m) ∙ sym (find_put (λ a b. a == b) numbers_decide number precedes x xs m no_number);
+        order = put_order x xs no_name no_number found.order;
+        at_name = λ m. names m ∙ ap (cond (bytes_eq (name x) m) (Some x)) (found.at_name m) ∙ sym (find_put bytes_eq bytes_decide name precedes x xs m no_name);
+        at_number = λ m. numbers m ∙ ap (cond (number x == m) (Some x)) (found.at_number m) ∙ sym (find_put (λ a b. a == b) numbers_decide number precedes x xs m no_number);
       }) covered
 
   -- a list without a name is the list without the number that has the name
@@ -261,8 +264,8 @@ module _ {X : Type 0} (number : X → ℕ) (name : X → List ℕ) where
   no_number_left xs m n =
       none_found (λ x. number x == n) (without_name name m (without_number number n xs))
       (every_kept (λ x. (number x == n) ≡ false) (λ x. not (bytes_eq (name x) m)) (without_number number n xs)
-          (all_fail (λ x. number x == n) (without_number number n xs)
-          (find_without (λ a b. a == b) numbers_decide number n xs n ∙ (λ i. cond ((numbers_decide n n).1 refl i) None (numbered number xs n)))))
+      (all_fail (λ x. number x == n) (without_number number n xs)
+      (find_without (λ a b. a == b) numbers_decide number n xs n ∙ (λ i. cond ((numbers_decide n n).1 refl i) None (numbered number xs n)))))
 
   pub put_both : (x : X) (xs : List X) → put_before name x (without_name name (name x) (without_number number (number x) xs)) ≡ put_in number name x xs
   put_both x xs = ap (put_before name x) (both xs)

@@ -167,7 +167,7 @@ module _ {C X : Type 0} (number : X → ℕ) (name : X → List ℕ) (changed : 
         let here = both_true (keeps_number number name same xs ys (changed c)) (keeps_served number name same xs ys (served c)) parts.0 in
         either_true (touches xs m c) (list_any (touches xs m) cs) e
         (λ f. either_true (touches_of m (numbered number xs (changed c))) (touches_served xs m (served c)) f
-            (name_of_kept xs ys m (numbered number xs (changed c)) here.0) (served_kept xs ys m (served c) here.1))
+        (name_of_kept xs ys m (numbered number xs (changed c)) here.0) (served_kept xs ys m (served c) here.1))
         (any_kept xs ys m cs parts.1)
 
     -- the list is as before, where it is so under the names that the changes touch
@@ -201,7 +201,7 @@ module _ {C X : Type 0} (number : X → ℕ) (name : X → List ℕ) (changed : 
       let fewer = without_number number (number x) xs in
       subst (IsInOrder number name) (put_both number name x xs)
       (put_order number name x (without_name name (name x) fewer) (no_name_left number name fewer (name x)) (no_number_left number name xs (name x) (number x))
-          (kept_order number name (λ y. not (bytes_eq (name y) (name x))) fewer (kept_order number name (λ y. not (number y == number x)) xs o)))
+      (kept_order number name (λ y. not (bytes_eq (name y) (name x))) fewer (kept_order number name (λ y. not (number y == number x)) xs o)))
 
   puts_keep_order : (cs : List C) (xs : List X) → IsInOrder number name xs → IsInOrder number name (put_all cs xs)
   puts_keep_order [] xs o = o

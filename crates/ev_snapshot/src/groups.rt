@@ -122,10 +122,7 @@ fn place_in(group: &[Shared<RoutedListener>], listener: &RoutedListener) -> Opti
 }
 
 // The listeners of a group, or else none.
-fn copy_of(
-    alloc: Global,
-    group: Option<&Group>,
-) -> Result<Seq<Shared<RoutedListener>>, AllocError>
+fn copy_of(alloc: Global, group: Option<&Group>) -> Result<Seq<Shared<RoutedListener>>, AllocError>
     ensures { IfOk result (λ copied. copied ≡ group_of (option_copied group.entry)) }
 {
     match group {

@@ -3,7 +3,6 @@
 
 mod addresses;
 mod changes;
-
 mod domain_table;
 mod domains;
 mod groups;
@@ -13,8 +12,8 @@ mod listeners;
 mod names;
 mod parts;
 mod routed;
-mod rows;
 mod routes;
+mod rows;
 mod snapshot;
 mod table;
 mod targets;

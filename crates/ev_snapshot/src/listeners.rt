@@ -121,11 +121,7 @@ impl Listeners {
     }
 
     // The listeners with one more, which has another name and number than each.
-    fn with(
-        self,
-        alloc: Global,
-        listener: Shared<RoutedListener>,
-    ) -> Result<Listeners, AllocError>
+    fn with(self, alloc: Global, listener: Shared<RoutedListener>) -> Result<Listeners, AllocError>
         requires name { named (λ (l : ServedListener). l.name) self listener.name ≡ None }
         requires number { numbered (λ (l : ServedListener). l.number) self listener.number ≡ None }
         ensures { IfOk result (λ listeners. listeners ≡ put_before (λ (l : ServedListener). l.name) listener self) }

@@ -206,11 +206,7 @@ fn shared_listener(
 }
 
 // Whether these changes leave the listeners under each name that they touch.
-fn keep_listeners(
-    before: &Listeners,
-    after: &Listeners,
-    changes: &[ListenerChange],
-) -> bool
+fn keep_listeners(before: &Listeners, after: &Listeners, changes: &[ListenerChange]) -> bool
     ensures { result ≡ list_all (listeners_keep before.now after.now) changes.now }
 {
     changes
@@ -219,22 +215,14 @@ fn keep_listeners(
 }
 
 // Whether a change leaves the listeners under each name that it touches.
-fn keeps_listener(
-    before: &Listeners,
-    after: &Listeners,
-    change: &ListenerChange,
-) -> bool
+fn keeps_listener(before: &Listeners, after: &Listeners, change: &ListenerChange) -> bool
     ensures { result ≡ listeners_keep before.now after.now change.now }
 {
     before.keeps_number(after, change.number) && keeps_served_listener(before, after, change)
 }
 
 // Whether the listener of a change leaves the listeners under each name that it touches.
-fn keeps_served_listener(
-    before: &Listeners,
-    after: &Listeners,
-    change: &ListenerChange,
-) -> bool
+fn keeps_served_listener(before: &Listeners, after: &Listeners, change: &ListenerChange) -> bool
     ensures { result ≡ keeps_served (λ (l : ServedListener). l.number) (λ (l : ServedListener). l.name) served_listener_same before.now after.now change.now.served }
 {
     match &change.served {

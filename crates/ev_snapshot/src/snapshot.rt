@@ -10,7 +10,6 @@ ghost use Rattle.ev_snapshot.specs.Changes.{IsOrdered, empty_picture, picture_af
 ghost use Rattle.ev_snapshot.specs.Chosen.{TakesEligible, TakesLowest, host_of, names_shown};
 
 use crate::changes::Changes;
-
 use crate::listeners::Listeners;
 use crate::parts::{clusters_with, keep_all, listeners_with};
 use crate::routed::RoutedListener;

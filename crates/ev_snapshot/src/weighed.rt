@@ -1,8 +1,8 @@
 ghost use Rattle.std.specs.Prelude.{◌≡◌, IfOk};
 ghost use Rattle.ev_model.specs.Choice.{host_place};
 
-use crate::names::Row;
 use crate::hosts::{lowest_priority, place_above, weight_sum};
+use crate::names::Row;
 use ev_model::ServedCluster;
 use ev_types::{Gen, TryCopy};
 use std::alloc::{AllocError, Global};

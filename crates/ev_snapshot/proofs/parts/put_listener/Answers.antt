@@ -7,5 +7,5 @@ pub returns-in_ok-shared_listener-in-Some : goal.returns-in_ok-shared_listener-i
 returns-in_ok-shared_listener-in-Some c =
     subst (λ ys. IfOk c.put.result (λ new. new ≡ ys))
     (ap (λ l. put_in (λ (l : ServedListener). l.number) (λ (l : ServedListener). l.name) l c.args.listeners) c.in_ok-shared_listener-in-Some.ensures
-        ∙ ap (λ s. put_listener s c.args.listeners) (sym c.in-Some.is))
+    ∙ ap (λ s. put_listener s c.args.listeners) (sym c.in-Some.is))
     c.put.ensures

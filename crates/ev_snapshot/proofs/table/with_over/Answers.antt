@@ -13,8 +13,7 @@ loop-key-preserved g c =
     let key = c.in-Some.key.now in
     let value = c.in-Some.value.now in
     let full : c.args.over.now.entries ≡ done ++ (key, value) ∷ rest = sym c.loop-key.invariant.1 ∙ (λ i. done ++ c.in-Some.ensures.steps i) in
-    let apart = subst (λ es. IsDistinct eq (keys_of es)) full c.into_iter-key-iterator.ensures.into_iter_gives.4 in
-    (
+    let apart = subst (λ es. IsDistinct eq (keys_of es)) full c.into_iter-key-iterator.ensures.into_iter_gives.4 in (
       done ++ (key, value) ∷ [],
       push_front done (key, value) rest ∙ sym full,
       λ q. c.in_ok-put_or_remove.ensures q

@@ -13,6 +13,6 @@ pub returns : goal.returns
 returns c =
     subst (λ ys. IfOk c.without.result (λ listeners. listeners ≡ ys))
     ((λ i. without_number (λ (l : ServedListener). l.number) (c.number-number.ensures i) c.args.self)
-        ∙ subst (λ ls. without_number (λ (l : ServedListener). l.number) c.in-Some.listener.now.number ls ≡ without_name (λ (l : ServedListener). l.name) c.args.name.now ls) c.self.view_is
-        (name_out (λ (l : ServedListener). l.number) (λ (l : ServedListener). l.name) c.self.inside.rows c.args.name.now c.in-Some.listener.now c.in-Some.ensures.order (sym c.in-Some.ensures.row)))
+    ∙ subst (λ ls. without_number (λ (l : ServedListener). l.number) c.in-Some.listener.now.number ls ≡ without_name (λ (l : ServedListener). l.name) c.args.name.now ls) c.self.view_is
+    (name_out (λ (l : ServedListener). l.number) (λ (l : ServedListener). l.name) c.self.inside.rows c.args.name.now c.in-Some.listener.now c.in-Some.ensures.order (sym c.in-Some.ensures.row)))
     c.without.ensures

@@ -9,14 +9,14 @@ use Rattle.ev_snapshot.proofs.rows.Rows.settled.Goals as goal
 pub invariant_of-result : goal.invariant_of-result
 invariant_of-result g c =
     (row_same g.T.Row.number_of g.T.Row.name_of
-        (found bytes_eq c.self.inside.by_name) (found bytes_eq c.in_ok-by_name.by_name) (found nat_eq c.self.inside.by_number) (found nat_eq c.in_ok-by_number.by_number)
-        (keys_in c.in_ok-by_name.by_name) (listing g.T.Row.name_of (found bytes_eq c.self.inside.by_name) (keys_in c.self.inside.by_name)) c.self.invariant
-        c.in_ok-by_name.ensures c.in_ok-by_number.ensures (λ m. table_covers (bytes_eq m) c.in_ok-by_name.by_name)).1
+    (found bytes_eq c.self.inside.by_name) (found bytes_eq c.in_ok-by_name.by_name) (found nat_eq c.self.inside.by_number) (found nat_eq c.in_ok-by_number.by_number)
+    (keys_in c.in_ok-by_name.by_name) (listing g.T.Row.name_of (found bytes_eq c.self.inside.by_name) (keys_in c.self.inside.by_name)) c.self.invariant
+    c.in_ok-by_name.ensures c.in_ok-by_number.ensures (λ m. table_covers (bytes_eq m) c.in_ok-by_name.by_name)).1
 
 pub returns : goal.returns
 returns g c =
     (row_same g.T.Row.number_of g.T.Row.name_of
-        (found bytes_eq c.self.inside.by_name) (found bytes_eq c.in_ok-by_name.by_name) (found nat_eq c.self.inside.by_number) (found nat_eq c.in_ok-by_number.by_number)
-        (keys_in c.in_ok-by_name.by_name) (listing g.T.Row.name_of (found bytes_eq c.self.inside.by_name) (keys_in c.self.inside.by_name)) c.self.invariant
-        c.in_ok-by_name.ensures c.in_ok-by_number.ensures (λ m. table_covers (bytes_eq m) c.in_ok-by_name.by_name)).0
+    (found bytes_eq c.self.inside.by_name) (found bytes_eq c.in_ok-by_name.by_name) (found nat_eq c.self.inside.by_number) (found nat_eq c.in_ok-by_number.by_number)
+    (keys_in c.in_ok-by_name.by_name) (listing g.T.Row.name_of (found bytes_eq c.self.inside.by_name) (keys_in c.self.inside.by_name)) c.self.invariant
+    c.in_ok-by_name.ensures c.in_ok-by_number.ensures (λ m. table_covers (bytes_eq m) c.in_ok-by_name.by_name)).0
     ∙ c.self.view_is

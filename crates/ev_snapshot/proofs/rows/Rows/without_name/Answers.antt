@@ -10,5 +10,5 @@ pub returns : goal.returns
 returns g c =
     subst (λ ys. IfOk c.without.result (λ rows. rows ≡ ys))
     ((λ i. without_number g.T.Row.number_of (c.number-number.ensures i) c.args.self)
-        ∙ name_out g.T.Row.number_of g.T.Row.name_of c.args.self c.args.name.now c.in-Some.row.now c.in-Some.ensures.order (sym c.in-Some.ensures.row))
+    ∙ name_out g.T.Row.number_of g.T.Row.name_of c.args.self c.args.name.now c.in-Some.row.now c.in-Some.ensures.order (sym c.in-Some.ensures.row))
     c.without.ensures
