@@ -1,7 +1,6 @@
 -- The group of what passes a test, when one element goes out or comes in.
-use Rattle.std.proofs.Common.{◌≡◌, ◌∙◌, ℕ, ◌+◌, ◌==◌, not, Bool, true, false, cond, List, [], ◌∷◌, ◌++◌, filter, find, position, slice_get, insert, length, nat_lt, suc, arith, Option, Some, None, refl, sym, ap, subst, true≢false}
+use Rattle.std.proofs.Common.{◌≡◌, ◌∙◌, ℕ, ◌+◌, ◌==◌, not, Bool, true, false, cond, List, [], ◌∷◌, ◌++◌, filter, find, position, slice_get, insert, length, nat_lt, suc, arith, Some, None, refl, sym, ap, true≢false}
 use Rattle.std.specs.List.{AllByRecursion, position_or_len}
-use Rattle.std.specs.Str.{bytes_eq}
 use Rattle.ev_types.specs.Same.{numbers_decide}
 use Rattle.ev_types.specs.SameHosts.{host_decides, host_same}
 use Rattle.ev_types.specs.declared.hosts.Host.{Host}
@@ -10,7 +9,7 @@ use Rattle.ev_model.specs.Versions.{is_before}
 use Rattle.ev_model.specs.declared.pictures.ServedListener.{ServedListener}
 use Rattle.ev_snapshot.specs.Groups.{those_at}
 use Rattle.ev_snapshot.specs.Changes.{IsInOrder, IsPairwise}
-use Rattle.ev_snapshot.specs.Rows.{named, numbered, put_before, without_number}
+use Rattle.ev_snapshot.specs.Rows.{numbered, put_before, without_number}
 use Rattle.ev_snapshot.proofs.Order.{before_then, every_kept, every_so, found_passes}
 
 -- the first of a group is what a search finds

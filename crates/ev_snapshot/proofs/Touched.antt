@@ -9,8 +9,8 @@ use Rattle.ev_model.specs.Picture.{has_number}
 use Rattle.ev_model.specs.Versions.{is_before}
 use Rattle.ev_snapshot.specs.Changes.{IsInOrder, IsPairwise, put_in, without}
 use Rattle.ev_snapshot.specs.Kept.{found_same, keeps, keeps_name, keeps_name_of, keeps_number, keeps_served}
-use Rattle.ev_snapshot.specs.Rows.{named, numbered, put_before, without_name, without_number}
-use Rattle.ev_snapshot.proofs.Order.{every_so, found_passes, one_list, own_name, same_name}
+use Rattle.ev_snapshot.specs.Rows.{named, numbered, without_name, without_number}
+use Rattle.ev_snapshot.proofs.Order.{found_passes, one_list, same_name}
 use Rattle.ev_snapshot.proofs.Steps.{find_put, find_without, kept_order, no_name_left, no_number_left, other_way, put_both, put_order}
 
 both_true : (a b : Bool) → a && b ≡ true → (a ≡ true) × (b ≡ true)

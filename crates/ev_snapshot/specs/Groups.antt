@@ -1,5 +1,5 @@
 -- The listeners at an address. Pictures with several at one are allowed: the first in the order of names takes the connections.
-use Rattle.std.specs.Prelude.{◌≡◌, Bool, List, [], filter, Option, Some, None}
+use Rattle.std.specs.Prelude.{◌≡◌, List, [], filter, Option, Some, None}
 use Rattle.ev_types.specs.SameHosts.{host_same}
 use Rattle.ev_types.specs.declared.hosts.Host.{Host}
 use Rattle.ev_model.specs.declared.pictures.ServedListener.{ServedListener}

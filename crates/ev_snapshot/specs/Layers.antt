@@ -1,5 +1,5 @@
 -- A table in two layers: a base, which many snapshots share, and over it what is another entry since the base was made.
-use Rattle.std.specs.Prelude.{Bool, List, ◌++◌, map, Option, Some, None}
+use Rattle.std.specs.Prelude.{Bool, List, ◌++◌, Option, Some, None}
 use Rattle.std.specs.Arc.{arc_value}
 use Rattle.indexmap.specs.IndexMap.{get_by, keys}
 use Rattle.ev_snapshot.specs.declared.table.Table.{Table}

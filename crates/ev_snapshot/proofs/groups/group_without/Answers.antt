@@ -1,4 +1,4 @@
-use Rattle.std.proofs.Common.{◌≡◌, ◌∙◌, ◌==◌, not, ap, rules}
+use Rattle.std.proofs.Common.{◌∙◌, ◌==◌, not, ap, rules}
 use Rattle.std.proofs.lemmas.Fn.{filter_same}
 use Rattle.ev_model.specs.declared.pictures.ServedListener.{ServedListener}
 use Rattle.ev_snapshot.specs.Rows.{without_number}

@@ -1,10 +1,10 @@
-use Rattle.std.proofs.Common.{◌≡◌, ◌∙◌, cond, ap}
+use Rattle.std.proofs.Common.{◌∙◌, cond, ap}
 use Rattle.std.specs.Option.{option_copied}
 use Rattle.ev_types.specs.SameHosts.{host_same}
 use Rattle.ev_model.specs.declared.pictures.ServedListener.{ServedListener}
 use Rattle.ev_snapshot.specs.Groups.{group_of}
 use Rattle.ev_snapshot.specs.Layers.{found}
-use Rattle.ev_snapshot.specs.Rows.{put_before, without_number}
+use Rattle.ev_snapshot.specs.Rows.{without_number}
 use Rattle.ev_snapshot.proofs.Grouped.{same_address}
 use Rattle.ev_snapshot.proofs.groups.without_listener.Goals as goal
 

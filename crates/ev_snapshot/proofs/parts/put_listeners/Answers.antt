@@ -1,4 +1,4 @@
-use Rattle.std.proofs.Common.{◌≡◌, ◌∙◌, ◌+◌, drop, sym, ap}
+use Rattle.std.proofs.Common.{◌∙◌, ◌+◌, drop, sym, ap}
 use Rattle.std.proofs.lemmas.List.{drop_all}
 use Rattle.ev_snapshot.specs.Changes.{put_listeners}
 use Rattle.ev_snapshot.proofs.Touched.{drop_at}

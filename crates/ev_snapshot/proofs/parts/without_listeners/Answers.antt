@@ -1,4 +1,4 @@
-use Rattle.std.proofs.Common.{◌≡◌, ◌∙◌, ◌+◌, map, drop, sym, ap}
+use Rattle.std.proofs.Common.{◌∙◌, ◌+◌, map, drop, sym, ap}
 use Rattle.std.proofs.lemmas.List.{drop_all}
 use Rattle.ev_model.specs.declared.pictures.ServedListener.{ServedListener}
 use Rattle.ev_snapshot.specs.Changes.{without}

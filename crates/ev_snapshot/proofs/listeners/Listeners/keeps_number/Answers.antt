@@ -1,4 +1,4 @@
-use Rattle.std.proofs.Common.{◌≡◌, ◌∙◌}
+use Rattle.std.proofs.Common.{◌∙◌}
 use Rattle.ev_model.specs.Picture.{served_listener_same}
 use Rattle.ev_model.specs.declared.pictures.ServedListener.{ServedListener}
 use Rattle.ev_snapshot.specs.Kept.{keeps_number}

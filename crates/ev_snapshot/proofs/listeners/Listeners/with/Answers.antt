@@ -1,4 +1,4 @@
-use Rattle.std.proofs.Common.{◌≡◌, ◌∙◌, cond, sym, ap}
+use Rattle.std.proofs.Common.{◌∙◌, cond, sym, ap}
 use Rattle.ev_types.specs.SameHosts.{host_same}
 use Rattle.ev_model.specs.declared.pictures.ServedListener.{ServedListener}
 use Rattle.ev_snapshot.specs.Groups.{those_at}

@@ -1,4 +1,4 @@
-use Rattle.std.proofs.Common.{◌≡◌, sym, ap, ◌∙◌}
+use Rattle.std.proofs.Common.{sym, ap, ◌∙◌}
 use Rattle.std.specs.Option.{is_some, option_copied}
 use Rattle.ev_snapshot.proofs.Numbered.{found_number}
 use Rattle.ev_snapshot.proofs.rows.Rows.has.Goals as goal

@@ -1,4 +1,4 @@
-use Rattle.std.proofs.Common.{◌≡◌, ◌∙◌, ap, cond, nat_eq, subst, Some}
+use Rattle.std.proofs.Common.{◌∙◌, ap, cond, nat_eq, subst, Some}
 use Rattle.std.specs.Str.{bytes_eq}
 use Rattle.ev_snapshot.specs.Changes.{IsInOrder}
 use Rattle.ev_snapshot.specs.Layers.{found, keys_in}

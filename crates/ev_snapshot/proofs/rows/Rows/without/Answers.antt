@@ -1,4 +1,4 @@
-use Rattle.std.proofs.Common.{◌≡◌, ◌∙◌, ap, sym, cond, nat_eq, None}
+use Rattle.std.proofs.Common.{◌∙◌, ap, sym, cond, nat_eq, None}
 use Rattle.std.specs.Str.{bytes_eq}
 use Rattle.ev_snapshot.specs.Layers.{found, keys_in}
 use Rattle.ev_snapshot.specs.Rows.{listing, numbered, without_number}

@@ -1,4 +1,4 @@
-use Rattle.std.proofs.Common.{◌≡◌, ◌∙◌, ap}
+use Rattle.std.proofs.Common.{◌∙◌, ap}
 use Rattle.ev_snapshot.specs.Changes.{clusters_with, listeners_with, picture_after}
 use Rattle.ev_snapshot.proofs.Shown.{next_none, next_some, order_stays}
 use Rattle.ev_snapshot.proofs.snapshot.Snapshot.after.Goals as goal

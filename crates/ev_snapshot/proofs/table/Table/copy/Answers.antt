@@ -1,5 +1,3 @@
-use Rattle.std.proofs.Common.{◌≡◌, arith}
-use Rattle.std.proofs.lemmas.Grind.{common_steps}
 use Rattle.ev_snapshot.proofs.table.Table.copy.Goals as goal
 
 pub returns : goal.returns
