@@ -7,3 +7,10 @@ pub mod Patterns
 pub mod Named
 pub mod Lowest
 pub mod Eligible
+pub mod Maps
+pub mod Order
+pub mod Steps
+pub mod Covers
+pub mod Touched
+pub mod Grouped
+pub mod Shown

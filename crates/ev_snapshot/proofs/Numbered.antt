@@ -8,7 +8,7 @@ use Rattle.ev_model.specs.declared.pictures.ServedCluster.{ServedCluster}
 use Rattle.ev_model.specs.declared.pictures.ServedListener.{ServedListener}
 use Rattle.ev_snapshot.specs.Tables.{cluster_numbered, listener_numbered}
 
-found_number : {X : Type 0} (number : X → ℕ) (n : ℕ) (xs : List X) → is_some (find (λ x. number x == n) xs) ≡ has_number n (map number xs)
+pub found_number : {X : Type 0} (number : X → ℕ) (n : ℕ) (xs : List X) → is_some (find (λ x. number x == n) xs) ≡ has_number n (map number xs)
 found_number number n [] = refl
 found_number number n (x ∷ xs) = by (number x == n) (found_number number n xs)
   where

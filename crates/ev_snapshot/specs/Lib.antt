@@ -3,3 +3,7 @@ pub mod Tables
 pub mod Chosen
 pub mod Weighed
 pub mod Changes
+pub mod Layers
+pub mod Rows
+pub mod Groups
+pub mod Kept

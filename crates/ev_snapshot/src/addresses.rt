@@ -1,8 +1,9 @@
 ghost use Rattle.std.specs.Prelude.{◌≡◌};
 
 use crate::routed::RoutedListener;
-use ev_types::{Host, Shared};
+use ev_types::{Host, Shared, TryCopy};
 use indexmap::Equivalent;
+use std::alloc::{AllocError, Global};
 use std::hash::{Hash, Hasher};
 use std::marker::Model;
 
@@ -33,6 +34,14 @@ impl ListenerAddress {
         ensures { result.now ≡ self.now }
     {
         &self.listener.get().served().address
+    }
+}
+
+impl TryCopy for ListenerAddress {
+    fn copy(&self, _alloc: Global) -> Result<ListenerAddress, AllocError> {
+        Ok(ListenerAddress {
+            listener: self.listener.share()?,
+        })
     }
 }
 

@@ -3,16 +3,19 @@
 
 mod addresses;
 mod changes;
-mod clusters;
 mod domain_table;
 mod domains;
+mod groups;
 mod host_texts;
 mod hosts;
 mod listeners;
 mod names;
+mod parts;
 mod routed;
 mod routes;
+mod rows;
 mod snapshot;
+mod table;
 mod targets;
 mod texts;
 mod weighed;

@@ -1,66 +1,50 @@
-ghost use Rattle.std.specs.Prelude.{◌≡◌, [], ◌∷◌, ◌++◌, IfOk, ℕ, map, nat_eq};
-ghost use Rattle.std.specs.Option.{option_copied, option_or};
-ghost use Rattle.indexmap.specs.IndexMap.{get};
-ghost use Rattle.ev_types.specs.SameHosts.{host_same};
-ghost use Rattle.ev_types.specs.declared.hosts.Host.{Host};
+ghost use Rattle.std.specs.Prelude.{◌≡◌, [], None, IfOk, map, slice_get};
+ghost use Rattle.std.specs.Option.{option_copied};
 ghost use Rattle.ev_model.specs.Choice.{listener_at};
-ghost use Rattle.ev_model.specs.Picture.{has_number};
+ghost use Rattle.ev_model.specs.Picture.{has_number, served_listener_same};
 ghost use Rattle.ev_model.specs.declared.pictures.ServedListener.{ServedListener};
-ghost use Rattle.ev_snapshot.specs.Tables.{listener_numbered};
+ghost use Rattle.ev_snapshot.specs.Changes.{IsInOrder, put_in};
+ghost use Rattle.ev_snapshot.specs.Kept.{keeps_name, keeps_number};
+ghost use Rattle.ev_snapshot.specs.Rows.{named, numbered, put_before, without_name, without_number};
 
-use crate::addresses::ListenerAddress;
+use crate::groups::{Groups, with_listener, without_listener};
+use crate::names::Row;
 use crate::routed::RoutedListener;
-use ev_types::{Gen, Host, Seq, Shared};
-use indexmap::IndexMap;
+use crate::rows::Rows;
+use crate::table::Table;
+use ev_types::{Gen, Host, Shared};
 use std::alloc::{AllocError, Global};
 use std::marker::Model;
 
-/// The listeners of a picture, in order, with tables by address and by number. Contracts see the list. Each listener is shared.
+/// The listeners of a picture, with tables by name, by number and by address. Contracts see the list, in the order of names.
 #[derive(Drop)]
 pub(crate) struct Listeners {
-    list: Seq<Shared<RoutedListener>>,
-    by_address: IndexMap<ListenerAddress, Shared<RoutedListener>>,
-    by_number: IndexMap<u32, Shared<RoutedListener>>,
+    rows: Rows<RoutedListener>,
+    groups: Groups,
 }
 
 impl Model for Listeners {
-    ghost use Rattle.std.specs.Prelude.{List, nat_eq};
-    ghost use Rattle.indexmap.specs.IndexMap.{get};
+    ghost use Rattle.std.specs.Prelude.{List};
     ghost use Rattle.ev_types.specs.SameHosts.{host_same};
     ghost use Rattle.ev_model.specs.declared.pictures.ServedListener.{ServedListener};
-    ghost use Rattle.ev_snapshot.specs.Tables.{AreIndexed};
+    ghost use Rattle.ev_snapshot.specs.Groups.{AreGrouped};
+    ghost use Rattle.ev_snapshot.specs.Layers.{found};
 
     ghost Value = { List ServedListener };
 
-    ghost view = { λ l. l.list };
+    ghost view = { λ l. l.rows };
 
-    ghost invariant = { λ l. AreIndexed l.list (get host_same l.by_address) (get nat_eq l.by_number) };
+    ghost invariant = { λ l. AreGrouped l.rows (found host_same l.groups) };
 }
 
 impl Listeners {
-    /// No listener. It takes no memory.
-    pub(crate) fn new(alloc: Global) -> Listeners
-        ensures { result ≡ [] }
+    /// No listener.
+    pub(crate) fn new(alloc: Global) -> Result<Listeners, AllocError>
+        ensures { IfOk result (λ listeners. listeners ≡ []) }
     {
-        Listeners {
-            list: Seq::new(alloc),
-            by_address: IndexMap::new(alloc),
-            by_number: IndexMap::new(alloc),
-        }
-    }
-
-    /// The listeners with one more at the end. A table keeps the first of an address, and of a number.
-    pub(crate) fn with(self, listener: Shared<RoutedListener>) -> Result<Listeners, AllocError>
-        ensures { IfOk result (λ listeners. listeners ≡ self ++ listener ∷ []) }
-    {
-        let mut list = self.list;
-        let by_address = with_address(self.by_address, &listener)?;
-        let by_number = with_number(self.by_number, &listener)?;
-        list.push(listener)?;
         Ok(Listeners {
-            list,
-            by_address,
-            by_number,
+            rows: Rows::new(alloc)?,
+            groups: Table::new(alloc)?,
         })
     }
 
@@ -68,64 +52,124 @@ impl Listeners {
     pub(crate) fn at(&self, address: &Host) -> Option<&RoutedListener>
         ensures { option_copied result ≡ listener_at self.now address.now }
     {
-        let _ = &self.list;
-        match self.by_address.get(address) {
-            Some(listener) => Some(listener.get()),
-            None => None,
-        }
+        let _ = &self.rows;
+        let Some(group) = self.groups.get(address) else {
+            return None;
+        };
+        first_of(group.get().as_slice())
     }
 
-    /// The first listener of this number.
-    pub(crate) fn numbered(&self, number: Gen) -> Option<&Shared<RoutedListener>>
-        ensures { option_copied result ≡ listener_numbered self.now number }
+    /// The listener of this name.
+    pub(crate) fn named(&self, name: &str) -> Option<&RoutedListener>
+        ensures order { IsInOrder (λ (l : ServedListener). l.number) (λ (l : ServedListener). l.name) self.now }
+        ensures row { option_copied result ≡ named (λ (l : ServedListener). l.name) self.now name.now }
     {
-        let _ = &self.list;
-        self.by_number.get(&number.number())
+        self.rows.named(name)
+    }
+
+    /// The listener of this number.
+    pub(crate) fn numbered(&self, number: Gen) -> Option<&Shared<RoutedListener>>
+        ensures row { option_copied result ≡ numbered (λ (l : ServedListener). l.number) self.now number }
+        ensures order { IsInOrder (λ (l : ServedListener). l.number) (λ (l : ServedListener). l.name) self.now }
+    {
+        self.rows.numbered(number)
     }
 
     /// Whether there is one of this number. It looks at no other.
     pub(crate) fn has(&self, number: Gen) -> bool
         ensures { result ≡ has_number number (map (λ (l : ServedListener). l.number) self.now) }
     {
-        match self.numbered(number) {
-            Some(_) => true,
-            None => false,
-        }
+        self.rows.has(number)
+    }
+
+    /// Whether the listener of this name is the same here as in listeners after them, if there is one.
+    pub(crate) fn keeps_name(&self, after: &Listeners, name: &str) -> bool
+        ensures { result ≡ keeps_name (λ (l : ServedListener). l.name) served_listener_same self.now after.now name.now }
+    {
+        self.rows.keeps_name(&after.rows, name)
+    }
+
+    /// Whether the name that this number has here has the same listener in listeners after them.
+    pub(crate) fn keeps_number(&self, after: &Listeners, number: Gen) -> bool
+        ensures { result ≡ keeps_number (λ (l : ServedListener). l.number) (λ (l : ServedListener). l.name) served_listener_same self.now after.now number }
+    {
+        self.rows.keeps_number(&after.rows, number)
+    }
+
+    /// The listeners without that of this number.
+    pub(crate) fn without(self, alloc: Global, number: Gen) -> Result<Listeners, AllocError>
+        ensures { IfOk result (λ listeners. listeners ≡ without_number (λ (l : ServedListener). l.number) number self) }
+    {
+        let Some(listener) = self.rows.numbered(number) else {
+            return Ok(self);
+        };
+        let listener = listener.share()?;
+        let groups = without_listener(alloc, self.groups, &listener)?;
+        let rows = self.rows.without(number)?;
+        Ok(Listeners { rows, groups })
+    }
+
+    // The listeners without that of this name.
+    fn without_name(self, alloc: Global, name: &str) -> Result<Listeners, AllocError>
+        ensures { IfOk result (λ listeners. listeners ≡ without_name (λ (l : ServedListener). l.name) name.now self) }
+    {
+        let Some(listener) = self.rows.named(name) else {
+            return Ok(self);
+        };
+        let number = listener.number();
+        self.without(alloc, number)
+    }
+
+    // The listeners with one more, which has another name and number than each.
+    fn with(self, alloc: Global, listener: Shared<RoutedListener>) -> Result<Listeners, AllocError>
+        requires name { named (λ (l : ServedListener). l.name) self listener.name ≡ None }
+        requires number { numbered (λ (l : ServedListener). l.number) self listener.number ≡ None }
+        ensures { IfOk result (λ listeners. listeners ≡ put_before (λ (l : ServedListener). l.name) listener self) }
+    {
+        let groups = with_listener(alloc, self.groups, &listener)?;
+        let rows = self.rows.with(listener)?;
+        Ok(Listeners { rows, groups })
+    }
+
+    /// The listeners with this one in the place of those of its number and its name.
+    pub(crate) fn put(
+        self,
+        alloc: Global,
+        listener: Shared<RoutedListener>,
+    ) -> Result<Listeners, AllocError>
+        ensures { IfOk result (λ listeners. listeners ≡ put_in (λ (l : ServedListener). l.number) (λ (l : ServedListener). l.name) listener self) }
+    {
+        let listeners = self.without(alloc, listener.get().number())?;
+        let listeners = listeners.without_name(alloc, listener.get().name())?;
+        listeners.with(alloc, listener)
+    }
+
+    /// The same listeners, each shared with these.
+    pub(crate) fn copy(&self, alloc: Global) -> Result<Listeners, AllocError>
+        ensures { IfOk result (λ listeners. listeners ≡ self.now) }
+    {
+        Ok(Listeners {
+            rows: self.rows.copy(alloc)?,
+            groups: self.groups.copy(alloc)?,
+        })
+    }
+
+    /// The same listeners, in tables of which none has too much over its base.
+    pub(crate) fn settled(self, alloc: Global) -> Result<Listeners, AllocError>
+        ensures { IfOk result (λ listeners. listeners ≡ self) }
+    {
+        let rows = self.rows.settled(alloc)?;
+        let groups = self.groups.settled(alloc)?;
+        Ok(Listeners { rows, groups })
     }
 }
 
-// The table by address with one more listener, which is kept where it is the first of its address.
-fn with_address(
-    table: IndexMap<ListenerAddress, Shared<RoutedListener>>,
-    listener: &Shared<RoutedListener>,
-) -> Result<IndexMap<ListenerAddress, Shared<RoutedListener>>, AllocError>
-    ensures { IfOk result (λ new. (address : Host) → get host_same new address ≡ option_or (get host_same table address) (listener_at (listener.now ∷ []) address)) }
+// The first listener of a group.
+fn first_of(group: &[Shared<RoutedListener>]) -> Option<&RoutedListener>
+    ensures { option_copied result ≡ slice_get group.now 0 }
 {
-    let mut table = table;
-    let address = ListenerAddress::new(listener.share()?);
-    if table.contains_key(&address) {
-        return Ok(table);
+    match group.first() {
+        Some(listener) => Some(listener.get()),
+        None => None,
     }
-    let Ok(_) = table.insert(address, listener.share()?) else {
-        return Err(AllocError);
-    };
-    Ok(table)
-}
-
-// The table by number with one more listener, which is kept where it is the first of its number.
-fn with_number(
-    table: IndexMap<u32, Shared<RoutedListener>>,
-    listener: &Shared<RoutedListener>,
-) -> Result<IndexMap<u32, Shared<RoutedListener>>, AllocError>
-    ensures { IfOk result (λ new. (number : ℕ) → get nat_eq new number ≡ option_or (get nat_eq table number) (listener_numbered (listener.now ∷ []) number)) }
-{
-    let mut table = table;
-    let number = listener.get().served().number.number();
-    if table.contains_key(&number) {
-        return Ok(table);
-    }
-    let Ok(_) = table.insert(number, listener.share()?) else {
-        return Err(AllocError);
-    };
-    Ok(table)
 }

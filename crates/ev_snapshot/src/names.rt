@@ -1,42 +1,71 @@
-ghost use Rattle.std.specs.Prelude.{◌≡◌};
+ghost use Rattle.std.specs.Prelude.{◌≡◌, ℕ, Bool, List};
 
-use crate::weighed::WeighedCluster;
-use ev_types::Shared;
+use ev_types::{Gen, Shared, TryCopy};
 use indexmap::Equivalent;
+use std::alloc::{AllocError, Global};
 use std::hash::{Hash, Hasher};
 use std::marker::Model;
 
-/// A cluster as the key of its name.
-#[derive(Drop)]
-pub(crate) struct ClusterName {
-    cluster: Shared<WeighedCluster>,
+/// A cluster or a listener of a picture: the generation of a number, under a name.
+pub(crate) trait Row: Drop {
+    ghost number_of: { Self → ℕ };
+
+    ghost name_of: { Self → List ℕ };
+
+    ghost same: { Self → Self → Bool };
+
+    /// The number of its generation.
+    fn number(&self) -> Gen
+        ensures { result ≡ number_of self.now };
+
+    /// Its name.
+    fn name(&self) -> &str
+        ensures { result.now ≡ name_of self.now };
+
+    /// Whether it is the same as another.
+    fn is_same(&self, other: &Self) -> bool
+        ensures { result ≡ same self.now other.now };
 }
 
-impl Model for ClusterName {
+/// A row as the key of its name.
+#[derive(Drop)]
+pub(crate) struct NameOf<T: Row> {
+    row: Shared<T>,
+}
+
+impl<T: Row> Model for NameOf<T> {
     ghost use Rattle.std.specs.Prelude.{List, ℕ};
 
     ghost Value = { List ℕ };
 
-    ghost view = { λ n. n.cluster.name };
+    ghost view = { λ n. T.name_of n.row };
 }
 
-impl ClusterName {
-    /// The key of this cluster's name.
-    pub(crate) fn new(cluster: Shared<WeighedCluster>) -> ClusterName
-        ensures { result ≡ cluster.name }
+impl<T: Row> NameOf<T> {
+    /// The key of this row's name.
+    pub(crate) fn new(row: Shared<T>) -> NameOf<T>
+        ensures { result ≡ T.name_of row }
     {
-        ClusterName { cluster }
+        NameOf { row }
     }
 
     /// The name.
     pub(crate) fn as_str(&self) -> &str
         ensures { result.now ≡ self.now }
     {
-        self.cluster.get().served().name.as_str()
+        self.row.get().name()
     }
 }
 
-impl PartialEq for ClusterName {
+impl<T: Row> TryCopy for NameOf<T> {
+    fn copy(&self, _alloc: Global) -> Result<NameOf<T>, AllocError> {
+        Ok(NameOf {
+            row: self.row.share()?,
+        })
+    }
+}
+
+impl<T: Row> PartialEq for NameOf<T> {
     ghost use Rattle.std.specs.Str.{bytes_eq};
     ghost use Rattle.std.specs.Cmp.Rules.{comparing};
     ghost use Rattle.std.proofs.Common.{rules};
@@ -45,19 +74,19 @@ impl PartialEq for ClusterName {
 
     ghost laws = { Prim.search (comparing, rules) };
 
-    fn eq(&self, other: &ClusterName) -> bool {
+    fn eq(&self, other: &NameOf<T>) -> bool {
         self.as_str() == other.as_str()
     }
 }
 
-impl Eq for ClusterName {
+impl<T: Row> Eq for NameOf<T> {
     ghost use Rattle.std.specs.Cmp.Rules.{comparing};
     ghost use Rattle.std.proofs.Common.{rules};
 
     ghost laws = { Prim.search (comparing, rules) };
 }
 
-impl Hash for ClusterName {
+impl<T: Row> Hash for NameOf<T> {
     ghost use Rattle.std.specs.Cmp.Rules.{hashing};
     ghost use Rattle.std.specs.Hash as fed;
     ghost use Rattle.std.proofs.Common.{rules};
@@ -71,7 +100,7 @@ impl Hash for ClusterName {
     }
 }
 
-impl Equivalent<ClusterName> for &str {
+impl<T: Row> Equivalent<NameOf<T>> for &str {
     ghost use Rattle.std.specs.Str.{bytes_eq};
     ghost use Rattle.std.specs.Cmp.Lexicographic.{bytes_decides, nat_list_eq_equiv};
     ghost use Rattle.std.specs.Hash as fed;
@@ -83,7 +112,7 @@ impl Equivalent<ClusterName> for &str {
 
     ghost respects_eq = { λ q x y. nat_list_eq_equiv.congr q.now x y };
 
-    fn equivalent(&self, key: &ClusterName) -> bool {
+    fn equivalent(&self, key: &NameOf<T>) -> bool {
         *self == key.as_str()
     }
 }

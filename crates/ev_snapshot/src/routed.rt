@@ -6,8 +6,9 @@ ghost use Rattle.ev_snapshot.specs.Domains.{domains_in, host_at};
 
 use crate::domain_table::Domains;
 use crate::domains::Domain;
+use crate::names::Row;
 use ev_model::{Routing, ServedListener};
-use ev_types::{RouteTable, Shared, Text, TryCopy, VirtualHost};
+use ev_types::{Gen, RouteTable, Shared, Text, TryCopy, VirtualHost};
 use std::alloc::{AllocError, Global};
 use std::marker::Model;
 
@@ -129,4 +130,27 @@ fn lower_case(alloc: Global, text: &Text) -> Result<Text, AllocError>
     let mut lower = String::from_str(alloc, text.as_str())?;
     lower.make_ascii_lowercase();
     Text::new(alloc, lower.as_str())
+}
+
+impl Row for RoutedListener {
+    ghost use Rattle.ev_model.specs.Picture.{served_listener_same};
+    ghost use Rattle.ev_model.specs.declared.pictures.ServedListener.{ServedListener};
+
+    ghost number_of = { λ (l : ServedListener). l.number };
+
+    ghost name_of = { λ (l : ServedListener). l.name };
+
+    ghost same = { served_listener_same };
+
+    fn number(&self) -> Gen {
+        self.served.number
+    }
+
+    fn name(&self) -> &str {
+        self.served.name.as_str()
+    }
+
+    fn is_same(&self, other: &RoutedListener) -> bool {
+        self.served == other.served
+    }
 }

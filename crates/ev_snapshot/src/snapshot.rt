@@ -1,4 +1,4 @@
-ghost use Rattle.std.specs.Prelude.{◌≡◌, true, IfOk};
+ghost use Rattle.std.specs.Prelude.{◌≡◌, ◌+◌, true, IfOk};
 ghost use Rattle.std.specs.Arc.{arc_value};
 ghost use Rattle.std.specs.Option.{option_copied, option_map};
 ghost use Rattle.ev_model.specs.Choice.{by_host, by_route, by_routing, choice_in, choice_of, forwarded};
@@ -10,10 +10,11 @@ ghost use Rattle.ev_snapshot.specs.Changes.{IsOrdered, empty_picture, picture_af
 ghost use Rattle.ev_snapshot.specs.Chosen.{TakesEligible, TakesLowest, host_of, names_shown};
 
 use crate::changes::Changes;
-use crate::clusters::Clusters;
 use crate::listeners::Listeners;
+use crate::parts::{clusters_with, keep_all, listeners_with};
 use crate::routed::RoutedListener;
 use crate::routes::route_for;
+use crate::rows::Rows;
 use crate::targets::{target_name, target_weight};
 use crate::weighed::WeighedCluster;
 use ev_model::{Choice, Routing};
@@ -27,7 +28,7 @@ use std::sync::Arc;
 #[derive(Drop)]
 pub struct Snapshot {
     version: u64,
-    clusters: Clusters,
+    clusters: Rows<WeighedCluster>,
     listeners: Listeners,
 }
 
@@ -49,8 +50,8 @@ impl Snapshot {
     {
         let empty = Snapshot {
             version: 0,
-            clusters: Clusters::new(alloc),
-            listeners: Listeners::new(alloc),
+            clusters: Rows::new(alloc)?,
+            listeners: Listeners::new(alloc)?,
         };
         Ok(Arc::new(alloc, empty)?)
     }
@@ -66,8 +67,36 @@ impl Snapshot {
         ensures ordered { IsOrdered (arc_value before.now).shown }
     {
         let before: &Snapshot = &**before;
-        let _ = &before.version;
-        Err(AllocError)
+        match before.after(alloc, changes)? {
+            Some(next) => Ok(Some(Arc::new(alloc, next)?)),
+            None => Ok(None),
+        }
+    }
+
+    // The next snapshot, where it shows something else.
+    fn after(&self, alloc: Global, changes: &Changes) -> Result<Option<Snapshot>, AllocError>
+        ensures picture { IfOk result (λ next. next ≡ picture_after changes.now self.now) }
+        ensures ordered { IsOrdered self.now.shown }
+    {
+        let clusters = clusters_with(alloc, &self.clusters, changes.clusters.as_slice())?;
+        let listeners = listeners_with(alloc, &self.listeners, changes.listeners.as_slice())?;
+        if keep_all(
+            &self.clusters,
+            &clusters,
+            &self.listeners,
+            &listeners,
+            changes,
+        ) {
+            return Ok(None);
+        }
+        let version = version_after(self.version)?;
+        let clusters = clusters.settled(alloc)?;
+        let listeners = listeners.settled(alloc)?;
+        Ok(Some(Snapshot {
+            version,
+            clusters,
+            listeners,
+        }))
     }
 
     /// The version of the picture.
@@ -171,6 +200,16 @@ impl Snapshot {
     {
         let cluster = self.clusters.named(target_name(target, pick));
         choose_host(listener, cluster, pick / target_weight(target))
+    }
+}
+
+// The version after this one, where there is one.
+fn version_after(version: u64) -> Result<u64, AllocError>
+    ensures { IfOk result (λ next. next ≡ version + 1) }
+{
+    match version.checked_add(1) {
+        Some(next) => Ok(next),
+        None => Err(AllocError),
     }
 }
 

@@ -2,8 +2,9 @@ ghost use Rattle.std.specs.Prelude.{◌≡◌, IfOk};
 ghost use Rattle.ev_model.specs.Choice.{host_place};
 
 use crate::hosts::{lowest_priority, place_above, weight_sum};
+use crate::names::Row;
 use ev_model::ServedCluster;
-use ev_types::TryCopy;
+use ev_types::{Gen, TryCopy};
 use std::alloc::{AllocError, Global};
 use std::marker::Model;
 
@@ -59,5 +60,28 @@ impl WeighedCluster {
             return None;
         }
         place_above(hosts, self.priority, pick % self.sum)
+    }
+}
+
+impl Row for WeighedCluster {
+    ghost use Rattle.ev_model.specs.Picture.{served_cluster_same};
+    ghost use Rattle.ev_model.specs.declared.pictures.ServedCluster.{ServedCluster};
+
+    ghost number_of = { λ (c : ServedCluster). c.number };
+
+    ghost name_of = { λ (c : ServedCluster). c.name };
+
+    ghost same = { served_cluster_same };
+
+    fn number(&self) -> Gen {
+        self.served.number
+    }
+
+    fn name(&self) -> &str {
+        self.served.name.as_str()
+    }
+
+    fn is_same(&self, other: &WeighedCluster) -> bool {
+        self.served == other.served
     }
 }

@@ -6,10 +6,10 @@
 mod pictures;
 
 use anyhow::Result;
-use ev_model::{Choice, Picture};
-use ev_snapshot::Snapshot;
+use ev_model::Choice;
+use ev_snapshot::{Changes, Snapshot};
 use ev_types::Ask;
-use pictures::{ask, picture};
+use pictures::{all_shown, ask, first_weighs};
 use std::alloc::{AllocError, Global};
 use std::rt::Env;
 use std::sync::Arc;
@@ -26,9 +26,10 @@ struct Plan {
 fn main(rt: HostRuntime) -> Result<()> {
     let plan = read_plan(&rt)?;
     let alloc = rt.alloc();
-    let first = picture(alloc, plan.size, plan.hosts, 1)?;
-    let second = picture(alloc, plan.size, plan.hosts, 2)?;
-    let snapshot = Snapshot::build(alloc, &first)?;
+    let all = all_shown(alloc, plan.size, plan.hosts)?;
+    let first = first_weighs(alloc, plan.hosts, 2)?;
+    let second = first_weighs(alloc, plan.hosts, 1)?;
+    let snapshot = after(alloc, Snapshot::empty(alloc)?, &all)?;
     let served = served_of(&snapshot, &ask(alloc, plan.size, plan.hosts)?, plan.asks);
     let version = published(alloc, snapshot, &first, &second, plan.publications)?.version();
     println!(rt; "{served} served, version {version}")?;
@@ -68,18 +69,30 @@ fn served_of(snapshot: &Snapshot, ask: &Ask, asks: u32) -> u32 {
     served
 }
 
-// The snapshot after so many publications, of which every other one shows the first picture.
+// The snapshot after these changes, which is the same where they change nothing.
+fn after(
+    alloc: Global,
+    snapshot: Arc<Snapshot>,
+    changes: &Changes,
+) -> Result<Arc<Snapshot>, AllocError> {
+    match Snapshot::next(alloc, &snapshot, changes)? {
+        Some(next) => Ok(next),
+        None => Ok(snapshot),
+    }
+}
+
+// The snapshot after so many publications, of which every other one undoes what the one before changed.
 fn published(
     alloc: Global,
     snapshot: Arc<Snapshot>,
-    first: &Picture,
-    second: &Picture,
+    first: &Changes,
+    second: &Changes,
     publications: u32,
 ) -> Result<Arc<Snapshot>, AllocError> {
     let mut last = snapshot;
     for turn in 0..publications {
-        let next = if turn % 2 == 0 { second } else { first };
-        last = Snapshot::build_from(alloc, next, &last)?;
+        let changes = if turn % 2 == 0 { first } else { second };
+        last = after(alloc, last, changes)?;
     }
     Ok(last)
 }

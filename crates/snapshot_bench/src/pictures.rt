@@ -1,25 +1,45 @@
 use anyhow::{Result, anyhow};
-use ev_model::{Picture, Routing, ServedCluster, ServedListener, Shown};
+use ev_model::{Routing, ServedCluster, ServedListener};
+use ev_snapshot::{Changes, ClusterChange, ListenerChange};
 use ev_types::{Ask, Assignment, Gen, Host, HostRow, Name, Seq, Target, Text};
 use std::alloc::Global;
 
-/// A picture of so many clusters, each with so many hosts, and as many listeners, each with a cluster of its own. Its version is
-/// also the weight of the hosts of the first cluster, so that two versions differ in that cluster alone.
-pub(crate) fn picture(alloc: Global, size: u16, hosts: u16, version: u32) -> Result<Picture> {
+/// The changes after which so many clusters are shown, each with so many hosts, and as many listeners, each with a cluster of its
+/// own.
+pub(crate) fn all_shown(alloc: Global, size: u16, hosts: u16) -> Result<Changes> {
     let mut clusters = Seq::new(alloc);
     let mut listeners = Seq::new(alloc);
     for place in 0..size {
-        let weight = if place == 0 { version } else { 1 };
-        clusters.push(cluster(alloc, place, hosts, weight)?)?;
-        listeners.push(listener(alloc, size, place)?)?;
+        clusters.push(cluster_change(alloc, place, hosts, 1)?)?;
+        listeners.push(listener_change(alloc, size, place)?)?;
     }
-    let shown = Shown {
+    Ok(Changes {
         clusters,
         listeners,
-    };
-    Ok(Picture {
-        version: u64::from(version),
-        shown,
+    })
+}
+
+/// A change of the first cluster alone, whose hosts have this weight from then on.
+pub(crate) fn first_weighs(alloc: Global, hosts: u16, weight: u32) -> Result<Changes> {
+    let mut clusters = Seq::new(alloc);
+    clusters.push(cluster_change(alloc, 0, hosts, weight)?)?;
+    Ok(Changes {
+        clusters,
+        listeners: Seq::new(alloc),
+    })
+}
+
+fn cluster_change(alloc: Global, place: u16, hosts: u16, weight: u32) -> Result<ClusterChange> {
+    Ok(ClusterChange {
+        number: Gen::new(u32::from(place) + 1),
+        served: Some(cluster(alloc, place, hosts, weight)?),
+    })
+}
+
+fn listener_change(alloc: Global, size: u16, place: u16) -> Result<ListenerChange> {
+    Ok(ListenerChange {
+        number: Gen::new(u32::from(size) + u32::from(place) + 1),
+        served: Some(listener(alloc, size, place)?),
     })
 }
 

@@ -1,0 +1,22 @@
+use Rattle.std.proofs.Common.{◌∙◌, ◌+◌, map, drop, sym, ap}
+use Rattle.std.proofs.lemmas.List.{drop_all}
+use Rattle.ev_model.specs.declared.pictures.ServedCluster.{ServedCluster}
+use Rattle.ev_snapshot.specs.Changes.{without}
+use Rattle.ev_snapshot.specs.declared.changes.ClusterChange.{ClusterChange}
+use Rattle.ev_snapshot.proofs.Touched.{drop_at, without_more, without_none}
+use Rattle.ev_snapshot.proofs.parts.without_clusters.Goals as goal
+
+pub loop-change-preserved : goal.loop-change-preserved
+loop-change-preserved c =
+    let left = drop (c.loop-change.change-index + 1) c.args.changes.now in
+    ap (without (λ (x : ServedCluster). x.number) (map (λ (change : ClusterChange). change.number) left)) c.in_ok-left.ensures
+    ∙ without_more (λ (x : ServedCluster). x.number) (λ (x : ServedCluster). x.name) (λ (change : ClusterChange). change.number) (λ (change : ClusterChange). change.served) c.change-item.result left c.loop-change.left
+    ∙ ap (λ changes. without (λ (x : ServedCluster). x.number) (map (λ (change : ClusterChange). change.number) changes) c.loop-change.left)
+    (sym (drop_at c.args.changes.now c.loop-change.change-index c.change-item.result c.loop-change-test.true c.change-item.is))
+    ∙ c.loop-change.invariant
+
+pub returns : goal.returns
+returns c =
+    sym (without_none (λ (x : ServedCluster). x.number) (λ (x : ServedCluster). x.name) (λ (change : ClusterChange). change.number) (λ (change : ClusterChange). change.served) c.loop-change.left)
+    ∙ ap (λ changes. without (λ (x : ServedCluster). x.number) (map (λ (change : ClusterChange). change.number) changes) c.loop-change.left) (sym (drop_all c.loop-change.change-index c.args.changes.now c.loop-change-test.false))
+    ∙ c.loop-change.invariant

@@ -1,0 +1,22 @@
+-- A table in two layers: a base, which many snapshots share, and over it what is another entry since the base was made.
+use Rattle.std.specs.Prelude.{Bool, List, ◌++◌, Option, Some, None}
+use Rattle.std.specs.Arc.{arc_value}
+use Rattle.indexmap.specs.IndexMap.{get_by, keys}
+use Rattle.ev_snapshot.specs.declared.table.Table.{Table}
+
+-- what stands over a base, or else what the base has
+abbrev pub over_base : {V : Type 0} → Option (Option V) → Option V → Option V
+over_base None below = below
+over_base (Some entry) below = entry
+
+-- what the table has under the key that passes the test
+abbrev pub found_by : {K V : Type 0} → (K → Bool) → Table K V → Option V
+found_by test table = over_base (get_by test table.over) (get_by test (arc_value table.base))
+
+-- what the table has under a key
+abbrev pub found : {K V : Type 0} → (K → K → Bool) → Table K V → K → Option V
+found eq table key = found_by (eq key) table
+
+-- the keys of both layers
+abbrev pub keys_in : {K V : Type 0} → Table K V → List K
+keys_in table = keys table.over ++ keys (arc_value table.base)

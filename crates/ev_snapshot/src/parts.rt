@@ -1,0 +1,249 @@
+ghost use Rattle.std.specs.Prelude.{◌≡◌, ◌&&◌, IfOk, map};
+ghost use Rattle.std.specs.List.{list_all};
+ghost use Rattle.ev_model.specs.Picture.{served_cluster_same, served_listener_same};
+ghost use Rattle.ev_model.specs.declared.pictures.ServedCluster.{ServedCluster};
+ghost use Rattle.ev_model.specs.declared.pictures.ServedListener.{ServedListener};
+ghost use Rattle.ev_snapshot.specs.Changes.{clusters_with, listeners_with, put_cluster, put_clusters, put_listener, put_listeners, without};
+ghost use Rattle.ev_snapshot.specs.Kept.{clusters_keep, keeps_served, listeners_keep};
+ghost use Rattle.ev_snapshot.specs.declared.changes.ClusterChange.{ClusterChange};
+ghost use Rattle.ev_snapshot.specs.declared.changes.ListenerChange.{ListenerChange};
+
+use crate::changes::{Changes, ClusterChange, ListenerChange};
+use crate::listeners::Listeners;
+use crate::routed::RoutedListener;
+use crate::rows::Rows;
+use crate::weighed::WeighedCluster;
+use ev_model::{ServedCluster, ServedListener};
+use ev_types::Shared;
+use std::alloc::{AllocError, Global};
+
+/// The clusters after these changes. Each that is as before is shared with those before.
+pub(crate) fn clusters_with(
+    alloc: Global,
+    before: &Rows<WeighedCluster>,
+    changes: &[ClusterChange],
+) -> Result<Rows<WeighedCluster>, AllocError>
+    ensures { IfOk result (λ clusters. clusters ≡ clusters_with changes.now before.now) }
+{
+    let clusters = without_clusters(before.copy(alloc)?, changes)?;
+    put_clusters(alloc, clusters, before, changes)
+}
+
+// The clusters without those of the numbers that changed.
+fn without_clusters(
+    clusters: Rows<WeighedCluster>,
+    changes: &[ClusterChange],
+) -> Result<Rows<WeighedCluster>, AllocError>
+    ensures { IfOk result (λ new. new ≡ without (λ (c : ServedCluster). c.number) (map (λ (change : ClusterChange). change.number) changes.now) clusters) }
+{
+    let mut left = clusters;
+    for change in changes {
+        left = left.without(change.number)?;
+    }
+    Ok(left)
+}
+
+// The clusters with those that changed and serve now.
+fn put_clusters(
+    alloc: Global,
+    clusters: Rows<WeighedCluster>,
+    before: &Rows<WeighedCluster>,
+    changes: &[ClusterChange],
+) -> Result<Rows<WeighedCluster>, AllocError>
+    ensures { IfOk result (λ new. new ≡ put_clusters changes.now clusters) }
+{
+    let mut all = clusters;
+    for change in changes {
+        all = put_cluster(alloc, all, before, change)?;
+    }
+    Ok(all)
+}
+
+// The clusters with that of a change, if it serves now.
+fn put_cluster(
+    alloc: Global,
+    clusters: Rows<WeighedCluster>,
+    before: &Rows<WeighedCluster>,
+    change: &ClusterChange,
+) -> Result<Rows<WeighedCluster>, AllocError>
+    ensures { IfOk result (λ new. new ≡ put_cluster change.now.served clusters) }
+{
+    match &change.served {
+        Some(cluster) => clusters.put(shared_cluster(alloc, cluster, before)?),
+        None => Ok(clusters),
+    }
+}
+
+// The cluster, shared with those before where that of its number is the same.
+fn shared_cluster(
+    alloc: Global,
+    cluster: &ServedCluster,
+    before: &Rows<WeighedCluster>,
+) -> Result<Shared<WeighedCluster>, AllocError>
+    ensures { IfOk result (λ shared. shared ≡ cluster.now) }
+{
+    if let Some(held) = before.numbered(cluster.number) {
+        if *held.get().served() == *cluster {
+            return held.share();
+        }
+    }
+    Shared::new(alloc, WeighedCluster::new(alloc, cluster)?)
+}
+
+// Whether these changes leave the clusters under each name that they touch.
+fn keep_clusters(
+    before: &Rows<WeighedCluster>,
+    after: &Rows<WeighedCluster>,
+    changes: &[ClusterChange],
+) -> bool
+    ensures { result ≡ list_all (clusters_keep before.now after.now) changes.now }
+{
+    changes
+        .iter()
+        .all(|change| keeps_cluster(before, after, change))
+}
+
+// Whether a change leaves the clusters under each name that it touches.
+fn keeps_cluster(
+    before: &Rows<WeighedCluster>,
+    after: &Rows<WeighedCluster>,
+    change: &ClusterChange,
+) -> bool
+    ensures { result ≡ clusters_keep before.now after.now change.now }
+{
+    before.keeps_number(after, change.number) && keeps_served_cluster(before, after, change)
+}
+
+// Whether the cluster of a change leaves the clusters under each name that it touches.
+fn keeps_served_cluster(
+    before: &Rows<WeighedCluster>,
+    after: &Rows<WeighedCluster>,
+    change: &ClusterChange,
+) -> bool
+    ensures { result ≡ keeps_served (λ (c : ServedCluster). c.number) (λ (c : ServedCluster). c.name) served_cluster_same before.now after.now change.now.served }
+{
+    match &change.served {
+        Some(cluster) => {
+            before.keeps_number(after, cluster.number)
+                && before.keeps_name(after, cluster.name.as_str())
+        }
+        None => true,
+    }
+}
+
+/// The listeners after these changes. Each that is as before is shared with those before.
+pub(crate) fn listeners_with(
+    alloc: Global,
+    before: &Listeners,
+    changes: &[ListenerChange],
+) -> Result<Listeners, AllocError>
+    ensures { IfOk result (λ listeners. listeners ≡ listeners_with changes.now before.now) }
+{
+    let listeners = without_listeners(alloc, before.copy(alloc)?, changes)?;
+    put_listeners(alloc, listeners, before, changes)
+}
+
+// The listeners without those of the numbers that changed.
+fn without_listeners(
+    alloc: Global,
+    listeners: Listeners,
+    changes: &[ListenerChange],
+) -> Result<Listeners, AllocError>
+    ensures { IfOk result (λ new. new ≡ without (λ (l : ServedListener). l.number) (map (λ (change : ListenerChange). change.number) changes.now) listeners) }
+{
+    let mut left = listeners;
+    for change in changes {
+        left = left.without(alloc, change.number)?;
+    }
+    Ok(left)
+}
+
+// The listeners with those that changed and serve now.
+fn put_listeners(
+    alloc: Global,
+    listeners: Listeners,
+    before: &Listeners,
+    changes: &[ListenerChange],
+) -> Result<Listeners, AllocError>
+    ensures { IfOk result (λ new. new ≡ put_listeners changes.now listeners) }
+{
+    let mut all = listeners;
+    for change in changes {
+        all = put_listener(alloc, all, before, change)?;
+    }
+    Ok(all)
+}
+
+// The listeners with that of a change, if it serves now.
+fn put_listener(
+    alloc: Global,
+    listeners: Listeners,
+    before: &Listeners,
+    change: &ListenerChange,
+) -> Result<Listeners, AllocError>
+    ensures { IfOk result (λ new. new ≡ put_listener change.now.served listeners) }
+{
+    match &change.served {
+        Some(listener) => listeners.put(alloc, shared_listener(alloc, listener, before)?),
+        None => Ok(listeners),
+    }
+}
+
+// The listener, shared with those before where that of its number is the same.
+fn shared_listener(
+    alloc: Global,
+    listener: &ServedListener,
+    before: &Listeners,
+) -> Result<Shared<RoutedListener>, AllocError>
+    ensures { IfOk result (λ shared. shared ≡ listener.now) }
+{
+    if let Some(held) = before.numbered(listener.number) {
+        if *held.get().served() == *listener {
+            return held.share();
+        }
+    }
+    Shared::new(alloc, RoutedListener::new(alloc, listener)?)
+}
+
+// Whether these changes leave the listeners under each name that they touch.
+fn keep_listeners(before: &Listeners, after: &Listeners, changes: &[ListenerChange]) -> bool
+    ensures { result ≡ list_all (listeners_keep before.now after.now) changes.now }
+{
+    changes
+        .iter()
+        .all(|change| keeps_listener(before, after, change))
+}
+
+// Whether a change leaves the listeners under each name that it touches.
+fn keeps_listener(before: &Listeners, after: &Listeners, change: &ListenerChange) -> bool
+    ensures { result ≡ listeners_keep before.now after.now change.now }
+{
+    before.keeps_number(after, change.number) && keeps_served_listener(before, after, change)
+}
+
+// Whether the listener of a change leaves the listeners under each name that it touches.
+fn keeps_served_listener(before: &Listeners, after: &Listeners, change: &ListenerChange) -> bool
+    ensures { result ≡ keeps_served (λ (l : ServedListener). l.number) (λ (l : ServedListener). l.name) served_listener_same before.now after.now change.now.served }
+{
+    match &change.served {
+        Some(listener) => {
+            before.keeps_number(after, listener.number)
+                && before.keeps_name(after, listener.name.as_str())
+        }
+        None => true,
+    }
+}
+
+/// Whether changes leave the clusters and the listeners under each name that they touch.
+pub(crate) fn keep_all(
+    clusters: &Rows<WeighedCluster>,
+    clusters_after: &Rows<WeighedCluster>,
+    listeners: &Listeners,
+    listeners_after: &Listeners,
+    changes: &Changes,
+) -> bool
+    ensures { result ≡ (list_all (clusters_keep clusters.now clusters_after.now) changes.now.clusters && list_all (listeners_keep listeners.now listeners_after.now) changes.now.listeners) }
+{
+    keep_clusters(clusters, clusters_after, changes.clusters.as_slice())
+        && keep_listeners(listeners, listeners_after, changes.listeners.as_slice())
+}

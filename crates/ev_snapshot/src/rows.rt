@@ -1,0 +1,165 @@
+ghost use Rattle.std.specs.Prelude.{◌≡◌, [], None, IfOk, map};
+ghost use Rattle.std.specs.Option.{option_copied};
+ghost use Rattle.ev_model.specs.Picture.{has_number};
+ghost use Rattle.ev_snapshot.specs.Changes.{IsInOrder, put_in};
+ghost use Rattle.ev_snapshot.specs.Kept.{keeps_name, keeps_number};
+ghost use Rattle.ev_snapshot.specs.Rows.{named, numbered, put_before, without_name, without_number};
+
+use crate::names::{NameOf, Row};
+use crate::table::Table;
+use ev_types::{Gen, Shared};
+use std::alloc::{AllocError, Global};
+use std::marker::Model;
+
+/// The clusters or the listeners of a picture, with tables by name and by number. Contracts see the list, in the order of names.
+/// Each row is shared.
+#[derive(Drop)]
+pub(crate) struct Rows<T: Row> {
+    by_name: Table<NameOf<T>, Shared<T>>,
+    by_number: Table<Gen, Shared<T>>,
+}
+
+impl<T: Row> Model for Rows<T> {
+    ghost use Rattle.std.specs.Prelude.{List, nat_eq};
+    ghost use Rattle.std.specs.Str.{bytes_eq};
+    ghost use Rattle.ev_snapshot.specs.Layers.{found, keys_in};
+    ghost use Rattle.ev_snapshot.specs.Rows.{AreFound, listing};
+
+    ghost Value = { List T };
+
+    ghost view = { λ r. listing T.name_of (found bytes_eq r.by_name) (keys_in r.by_name) };
+
+    ghost invariant = { λ r. AreFound T.number_of T.name_of (listing T.name_of (found bytes_eq r.by_name) (keys_in r.by_name)) (found bytes_eq r.by_name) (found nat_eq r.by_number) };
+}
+
+impl<T: Row> Rows<T> {
+    /// No row.
+    pub(crate) fn new(alloc: Global) -> Result<Rows<T>, AllocError>
+        ensures { IfOk result (λ rows. rows ≡ []) }
+    {
+        Ok(Rows {
+            by_name: Table::new(alloc)?,
+            by_number: Table::new(alloc)?,
+        })
+    }
+
+    /// The row of this name.
+    pub(crate) fn named(&self, name: &str) -> Option<&T>
+        ensures row { option_copied result ≡ named T.name_of self.now name.now }
+        ensures order { IsInOrder T.number_of T.name_of self.now }
+    {
+        match self.by_name.get(name) {
+            Some(row) => Some(row.get()),
+            None => None,
+        }
+    }
+
+    /// The row of this number.
+    pub(crate) fn numbered(&self, number: Gen) -> Option<&Shared<T>>
+        ensures row { option_copied result ≡ numbered T.number_of self.now number }
+        ensures order { IsInOrder T.number_of T.name_of self.now }
+    {
+        self.by_number.get(&number)
+    }
+
+    /// Whether there is one of this number. It looks at no other.
+    pub(crate) fn has(&self, number: Gen) -> bool
+        ensures { result ≡ has_number number (map T.number_of self.now) }
+    {
+        match self.numbered(number) {
+            Some(_) => true,
+            None => false,
+        }
+    }
+
+    /// Whether the row of this name is the same here as in rows after them, if there is one.
+    pub(crate) fn keeps_name(&self, after: &Rows<T>, name: &str) -> bool
+        ensures { result ≡ keeps_name T.name_of T.same self.now after.now name.now }
+    {
+        match (self.named(name), after.named(name)) {
+            (Some(row), Some(other)) => row.is_same(other),
+            (None, None) => true,
+            _ => false,
+        }
+    }
+
+    /// Whether the name that this number has here has the same row in rows after them.
+    pub(crate) fn keeps_number(&self, after: &Rows<T>, number: Gen) -> bool
+        ensures { result ≡ keeps_number T.number_of T.name_of T.same self.now after.now number }
+    {
+        match self.numbered(number) {
+            Some(row) => self.keeps_name(after, row.get().name()),
+            None => true,
+        }
+    }
+
+    /// The rows without that of this number.
+    pub(crate) fn without(self, number: Gen) -> Result<Rows<T>, AllocError>
+        ensures { IfOk result (λ rows. rows ≡ without_number T.number_of number self) }
+    {
+        let Some(row) = self.numbered(number) else {
+            return Ok(self);
+        };
+        let name = NameOf::new(row.share()?);
+        let mut by_name = self.by_name;
+        let mut by_number = self.by_number;
+        by_name.set(name, None)?;
+        by_number.set(number, None)?;
+        Ok(Rows { by_name, by_number })
+    }
+
+    // The rows without that of this name.
+    fn without_name(self, name: &str) -> Result<Rows<T>, AllocError>
+        ensures { IfOk result (λ rows. rows ≡ without_name T.name_of name.now self) }
+    {
+        let Some(row) = self.named(name) else {
+            return Ok(self);
+        };
+        let number = row.number();
+        self.without(number)
+    }
+
+    /// The rows with one more, which has another name and number than each.
+    pub(crate) fn with(self, row: Shared<T>) -> Result<Rows<T>, AllocError>
+        requires name { named T.name_of self (T.name_of row) ≡ None }
+        requires number { numbered T.number_of self (T.number_of row) ≡ None }
+        ensures rows { IfOk result (λ rows. rows ≡ put_before T.name_of row self) }
+        ensures order { IsInOrder T.number_of T.name_of self }
+    {
+        let name = NameOf::new(row.share()?);
+        let number = row.get().number();
+        let mut by_name = self.by_name;
+        let mut by_number = self.by_number;
+        by_name.set(name, Some(row.share()?))?;
+        by_number.set(number, Some(row))?;
+        Ok(Rows { by_name, by_number })
+    }
+
+    /// The rows with this one in the place of those of its number and its name.
+    pub(crate) fn put(self, row: Shared<T>) -> Result<Rows<T>, AllocError>
+        ensures { IfOk result (λ rows. rows ≡ put_in T.number_of T.name_of row self) }
+    {
+        let rows = self.without(row.get().number())?;
+        let rows = rows.without_name(row.get().name())?;
+        rows.with(row)
+    }
+
+    /// The same rows, each shared with these.
+    pub(crate) fn copy(&self, alloc: Global) -> Result<Rows<T>, AllocError>
+        ensures { IfOk result (λ rows. rows ≡ self.now) }
+    {
+        Ok(Rows {
+            by_name: self.by_name.copy(alloc)?,
+            by_number: self.by_number.copy(alloc)?,
+        })
+    }
+
+    /// The same rows, in tables of which neither has too much over its base.
+    pub(crate) fn settled(self, alloc: Global) -> Result<Rows<T>, AllocError>
+        ensures { IfOk result (λ rows. rows ≡ self) }
+    {
+        let by_name = self.by_name.settled(alloc)?;
+        let by_number = self.by_number.settled(alloc)?;
+        Ok(Rows { by_name, by_number })
+    }
+}
