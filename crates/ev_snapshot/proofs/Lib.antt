@@ -1,7 +1,6 @@
 pub mod Fronts
 pub mod Places
 pub mod Priorities
-pub mod Indexes
 pub mod Numbered
 pub mod Patterns
 pub mod Named
