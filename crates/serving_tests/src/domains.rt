@@ -1,5 +1,5 @@
 //! Where connections go: the worked rows on domains, and what they leave out.
-use crate::fixtures::{ask, listener, picture, snapshot_of};
+use crate::fixtures::{ask, listener, snapshot_of};
 use ev_model::{Choice, Routing, ServedListener};
 use ev_snapshot::Snapshot;
 use ev_types::{Action, Gen, PathMatch, Route, RouteTable, Seq, Shared, Target, Text, VirtualHost};
@@ -99,7 +99,7 @@ fn listeners(alloc: Global) -> Result<Seq<ServedListener>, Fail> {
 
 fn snapshot(alloc: Global) -> Result<Arc<Snapshot>, Fail> {
     let listeners = listeners(alloc)?;
-    snapshot_of(alloc, picture(1, Seq::new(alloc), listeners))
+    snapshot_of(alloc, Seq::new(alloc), listeners)
 }
 
 fn local(status: u16) -> Choice {

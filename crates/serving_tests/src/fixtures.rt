@@ -1,6 +1,6 @@
 //! What the tests build.
-use ev_model::{Picture, Routing, ServedCluster, ServedListener, Shown};
-use ev_snapshot::Snapshot;
+use ev_model::{Routing, ServedCluster, ServedListener};
+use ev_snapshot::{Changes, ClusterChange, ListenerChange, Snapshot};
 use ev_types::{Ask, Assignment, Gen, Host, HostRow, Name, Seq, Text};
 use std::alloc::Global;
 use std::mem::drop;
@@ -26,14 +26,15 @@ pub(crate) fn cluster(
     })
 }
 
-/// A listener at 10.1.0.1 and this port.
+/// A listener at 10.1.0.1 and this port, which is its name too.
 pub(crate) fn listener(
     alloc: Global,
     number: Gen,
     port: u16,
     routing: Routing,
 ) -> Result<ServedListener, Fail> {
-    let name = Name::new(alloc, "in")?;
+    let text = format!(in alloc; "{port}")?;
+    let name = Name::new(alloc, text.as_str())?;
     let address = host(alloc, "10.1.0.1", port)?;
     Ok(ServedListener {
         number,
@@ -77,22 +78,70 @@ pub(crate) fn cluster_of_one(alloc: Global) -> Result<ServedCluster, Fail> {
     cluster(alloc, Gen::new(1), "c", Assignment::new(rows))
 }
 
-/// The snapshot of this picture.
-pub(crate) fn snapshot_of(alloc: Global, picture: Picture) -> Result<Arc<Snapshot>, Fail> {
-    let snapshot = Snapshot::build(alloc, &picture);
-    drop(picture);
-    Ok(snapshot?)
-}
-
-/// A picture of these clusters and listeners.
-pub(crate) fn picture(
-    version: u64,
+/// The first snapshot in which these clusters and listeners serve.
+pub(crate) fn snapshot_of(
+    alloc: Global,
     clusters: Seq<ServedCluster>,
     listeners: Seq<ServedListener>,
-) -> Picture {
-    let shown = Shown {
-        clusters,
-        listeners,
-    };
-    Picture { version, shown }
+) -> Result<Arc<Snapshot>, Fail> {
+    let changes = all_new(alloc, clusters, listeners)?;
+    let nothing = Snapshot::empty(alloc)?;
+    let snapshot = after(alloc, &nothing, &changes);
+    drop(nothing);
+    drop(changes);
+    snapshot
+}
+
+/// The snapshot after changes that change something.
+pub(crate) fn after(
+    alloc: Global,
+    before: &Arc<Snapshot>,
+    changes: &Changes,
+) -> Result<Arc<Snapshot>, Fail> {
+    match Snapshot::next(alloc, before, changes)? {
+        Some(snapshot) => Ok(snapshot),
+        None => Err(Fail::new("nothing changed")),
+    }
+}
+
+/// The changes after which these serve, each under its number.
+pub(crate) fn all_new(
+    alloc: Global,
+    clusters: Seq<ServedCluster>,
+    listeners: Seq<ServedListener>,
+) -> Result<Changes, Fail> {
+    Ok(Changes {
+        clusters: cluster_changes(alloc, clusters)?,
+        listeners: listener_changes(alloc, listeners)?,
+    })
+}
+
+fn cluster_changes(
+    alloc: Global,
+    clusters: Seq<ServedCluster>,
+) -> Result<Seq<ClusterChange>, Fail> {
+    let mut changes = Seq::new(alloc);
+    for served in clusters.into_vec() {
+        let number = served.number;
+        changes.push(ClusterChange {
+            number,
+            served: Some(served),
+        })?;
+    }
+    Ok(changes)
+}
+
+fn listener_changes(
+    alloc: Global,
+    listeners: Seq<ServedListener>,
+) -> Result<Seq<ListenerChange>, Fail> {
+    let mut changes = Seq::new(alloc);
+    for served in listeners.into_vec() {
+        let number = served.number;
+        changes.push(ListenerChange {
+            number,
+            served: Some(served),
+        })?;
+    }
+    Ok(changes)
 }

@@ -1,26 +1,22 @@
 //! One way through the calls of published pictures: two workers, of which one settles on a picture that shows a cluster.
 use crate::fixtures::cluster;
-use ev_model::{ServedCluster, Shown};
 use ev_pictures::Pictures;
+use ev_snapshot::{Changes, ClusterChange};
 use ev_types::{Assignment, Gen, Seq};
 use std::alloc::Global;
 use std::mem::drop;
 use std::test::Fail;
 
-// One cluster of this number.
-fn clusters(alloc: Global, number: Gen) -> Result<Seq<ServedCluster>, Fail> {
-    let cluster = cluster(alloc, number, "c", Assignment::new(Seq::new(alloc)))?;
-    Ok(Seq::from_vec(vec![in alloc; cluster]?))
-}
-
-// One cluster of this number, or nothing.
-fn shown(alloc: Global, number: Option<Gen>) -> Result<Shown, Fail> {
-    let clusters = match number {
-        Some(number) => clusters(alloc, number)?,
-        None => Seq::new(alloc),
-    };
-    Ok(Shown {
-        clusters,
+// A change of cluster 1: it serves from now on, or goes.
+fn change(alloc: Global, serves: bool) -> Result<Changes, Fail> {
+    let number = Gen::new(1);
+    let mut served = None;
+    if serves {
+        served = Some(cluster(alloc, number, "c", Assignment::new(Seq::new(alloc)))?);
+    }
+    let change = ClusterChange { number, served };
+    Ok(Changes {
+        clusters: Seq::from_vec(vec![in alloc; change]?),
         listeners: Seq::new(alloc),
     })
 }
@@ -44,22 +40,19 @@ fn last_version(pictures: &Pictures) -> Result<u64, Fail> {
     Ok(version)
 }
 
-// The version under which this cluster, or nothing, is published.
-fn publish(
-    alloc: Global,
-    pictures: &mut Pictures,
-    number: Option<Gen>,
-) -> Result<Option<u64>, Fail> {
-    let shown = shown(alloc, number)?;
-    Ok(pictures.publish(alloc, shown)?)
+// The version under which it is published that cluster 1 serves, or that it went.
+fn publish(alloc: Global, pictures: &mut Pictures, serves: bool) -> Result<Option<u64>, Fail> {
+    let changes = change(alloc, serves)?;
+    let version = pictures.publish(alloc, &changes);
+    drop(changes);
+    Ok(version?)
 }
 
 // What is new is published, and only then.
 fn publishes(alloc: Global, pictures: &mut Pictures) -> Result<bool, Fail> {
-    let cluster = Some(Gen::new(1));
-    let nothing = publish(alloc, pictures, None)?;
-    let first = publish(alloc, pictures, cluster)?;
-    let again = publish(alloc, pictures, cluster)?;
+    let nothing = publish(alloc, pictures, false)?;
+    let first = publish(alloc, pictures, true)?;
+    let again = publish(alloc, pictures, true)?;
     let shows = pictures.shows(Gen::new(1)) && !pictures.shows(Gen::new(2));
     Ok(nothing.is_none() && first == Some(1) && again.is_none() && shows)
 }
@@ -67,7 +60,7 @@ fn publishes(alloc: Global, pictures: &mut Pictures) -> Result<bool, Fail> {
 // A picture is in use until its last worker settles on another.
 fn holds(alloc: Global, pictures: &mut Pictures) -> Result<bool, Fail> {
     let first = settle(pictures, 1)?;
-    let next = publish(alloc, pictures, None)?;
+    let next = publish(alloc, pictures, false)?;
     let last = last_version(pictures)?;
     let held = pictures.shows(Gen::new(1));
     let second = settle(pictures, 1)?;

@@ -1,8 +1,9 @@
 //! One way through the calls of what holds generations: a listener that drains while a worker's connection is open on it, until
 //! its drain timeout came.
 use crate::fixtures::{ask, listener};
-use ev_model::{Routing, ServedListener, Shown};
+use ev_model::{Routing, ServedListener};
 use ev_retirement::{Holders, answer_of};
+use ev_snapshot::{Changes, ListenerChange};
 use ev_types::{Answer, Format, Gen, Kind, Name, Seq, Target, Text};
 use ev_worker::{Outcome, Worker};
 use std::alloc::Global;
@@ -10,29 +11,32 @@ use std::mem::drop;
 use std::process::Abort;
 use std::test::Fail;
 
-// One listener of this number.
-fn listeners(alloc: Global, number: Gen) -> Result<Seq<ServedListener>, Fail> {
+// Listener 1.
+fn one(alloc: Global) -> Result<ServedListener, Fail> {
     let routing = Routing::Tcp(Target::One(Text::new(alloc, "c")?));
-    let listener = listener(alloc, number, 8080, routing)?;
-    Ok(Seq::from_vec(vec![in alloc; listener]?))
+    listener(alloc, Gen::new(1), 8080, routing)
 }
 
-// One listener of this number, or nothing.
-fn shown(alloc: Global, number: Option<Gen>) -> Result<Shown, Fail> {
-    let listeners = match number {
-        Some(number) => listeners(alloc, number)?,
-        None => Seq::new(alloc),
-    };
-    Ok(Shown {
+// A change of listener 1: it serves from now on, or goes.
+fn change(alloc: Global, serves: bool) -> Result<Changes, Fail> {
+    let mut served = None;
+    if serves {
+        served = Some(one(alloc)?);
+    }
+    let number = Gen::new(1);
+    let change = ListenerChange { number, served };
+    Ok(Changes {
         clusters: Seq::new(alloc),
-        listeners,
+        listeners: Seq::from_vec(vec![in alloc; change]?),
     })
 }
 
-// The version under which this listener, or nothing, is published.
-fn publish(alloc: Global, holders: &mut Holders, number: Option<Gen>) -> Result<Option<u64>, Fail> {
-    let shown = shown(alloc, number)?;
-    Ok(holders.publish(alloc, shown)?)
+// The version under which it is published that listener 1 serves, or that it went.
+fn publish(alloc: Global, holders: &mut Holders, serves: bool) -> Result<Option<u64>, Fail> {
+    let changes = change(alloc, serves)?;
+    let version = holders.publish(alloc, &changes);
+    drop(changes);
+    Ok(version?)
 }
 
 // A connection that comes to a worker whose batch has room.
@@ -105,7 +109,7 @@ fn settle(rt: &impl Abort, alloc: Global, holders: &mut Holders) -> Result<(), F
 fn drain(rt: &impl Abort, alloc: Global, holders: &mut Holders) -> Result<(), Fail> {
     let name = Name::new(alloc, "in")?;
     retire(alloc, holders, Gen::new(1), &name)?;
-    assert_eq!(rt; publish(alloc, holders, None)?, Some(2));
+    assert_eq!(rt; publish(alloc, holders, false)?, Some(2));
     assert_eq!(rt; count_dead(alloc, holders, Format::One)?, 0);
     let first = holders.drain_timeout(&name)?;
     let again = holders.drain_timeout(&name)?;
@@ -125,7 +129,7 @@ fn go_out(rt: &impl Abort, alloc: Global, holders: &mut Holders) -> Result<(), F
 }
 
 fn go(rt: &impl Abort, alloc: Global, holders: &mut Holders) -> Result<(), Fail> {
-    assert_eq!(rt; publish(alloc, holders, Some(Gen::new(1)))?, Some(1));
+    assert_eq!(rt; publish(alloc, holders, true)?, Some(1));
     serve(rt, alloc, holders)?;
     drain(rt, alloc, holders)?;
     go_out(rt, alloc, holders)

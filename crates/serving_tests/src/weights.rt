@@ -1,8 +1,8 @@
 //! Where connections go: the worked rows on weights and clusters without hosts, and what they leave out.
 ghost use Rattle.std.specs.Prelude.{◌≡◌, ◌≤◌, IfOk};
 
-use crate::fixtures::{ask, cluster, host, listener, picture, snapshot_of};
-use ev_model::{Choice, Picture, Routing, ServedCluster, ServedListener};
+use crate::fixtures::{after, all_new, ask, cluster, host, listener, snapshot_of};
+use ev_model::{Choice, Routing, ServedCluster, ServedListener};
 use ev_snapshot::Snapshot;
 use ev_types::{Assignment, Gen, HostRow, Seq, Target, Text, WeightedCluster, WeightedClusters};
 use std::alloc::{AllocError, Global};
@@ -84,23 +84,21 @@ fn listeners(alloc: Global) -> Result<Seq<ServedListener>, Fail> {
 }
 
 // The three clusters, a listener of two of them and one of the third.
-fn by_weight(alloc: Global, version: u64) -> Result<Picture, Fail> {
+fn first_snapshot(alloc: Global) -> Result<Arc<Snapshot>, Fail> {
     let clusters = clusters(alloc)?;
     let listeners = listeners(alloc)?;
-    Ok(picture(version, clusters, listeners))
+    snapshot_of(alloc, clusters, listeners)
 }
 
-fn first_snapshot(alloc: Global) -> Result<Arc<Snapshot>, Fail> {
-    let picture = by_weight(alloc, 1)?;
-    snapshot_of(alloc, picture)
-}
-
-// The same picture, built after that snapshot.
+// The same after that snapshot, with one more cluster.
 fn next_snapshot(alloc: Global, before: &Arc<Snapshot>) -> Result<Arc<Snapshot>, Fail> {
-    let picture = by_weight(alloc, 2)?;
-    let snapshot = Snapshot::build_from(alloc, &picture, before);
-    drop(picture);
-    Ok(snapshot?)
+    let more = cluster(alloc, Gen::new(6), "w", Assignment::new(Seq::new(alloc)))?;
+    let mut clusters = clusters(alloc)?;
+    clusters.push(more)?;
+    let changes = all_new(alloc, clusters, listeners(alloc)?)?;
+    let snapshot = after(alloc, before, &changes);
+    drop(changes);
+    snapshot
 }
 
 // A snapshot that was built after another.

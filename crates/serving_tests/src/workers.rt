@@ -1,7 +1,7 @@
 //! The worked rows on numbers in use and on a batch of 256, at a worker.
-use crate::fixtures::{ask, cluster_of_one, listener, picture, snapshot_of};
-use ev_model::{Choice, Picture, Routing};
-use ev_snapshot::Snapshot;
+use crate::fixtures::{after, ask, cluster_of_one, listener, snapshot_of};
+use ev_model::{Choice, Routing};
+use ev_snapshot::{Changes, ClusterChange, ListenerChange, Snapshot};
 use ev_types::{Gen, Seq, Target, Text};
 use ev_worker::{Accepted, Closed, Settled, Worker};
 use std::alloc::Global;
@@ -11,18 +11,32 @@ use std::sync::Arc;
 use std::test::Fail;
 
 // A listener and a cluster.
-fn both(alloc: Global) -> Result<Picture, Fail> {
+fn snapshot_of_both(alloc: Global) -> Result<Arc<Snapshot>, Fail> {
     let routing = Routing::Tcp(Target::One(Text::new(alloc, "c")?));
     let listener = listener(alloc, Gen::new(2), 8080, routing)?;
     let listeners = Seq::from_vec(vec![in alloc; listener]?);
     let cluster = cluster_of_one(alloc)?;
     let clusters = Seq::from_vec(vec![in alloc; cluster]?);
-    Ok(picture(1, clusters, listeners))
+    snapshot_of(alloc, clusters, listeners)
 }
 
-fn snapshot_of_both(alloc: Global) -> Result<Arc<Snapshot>, Fail> {
-    let picture = both(alloc)?;
-    snapshot_of(alloc, picture)
+// The snapshot after both went.
+fn snapshot_of_neither(alloc: Global, both: &Arc<Snapshot>) -> Result<Arc<Snapshot>, Fail> {
+    let cluster = ClusterChange {
+        number: Gen::new(1),
+        served: None,
+    };
+    let listener = ListenerChange {
+        number: Gen::new(2),
+        served: None,
+    };
+    let changes = Changes {
+        clusters: Seq::from_vec(vec![in alloc; cluster]?),
+        listeners: Seq::from_vec(vec![in alloc; listener]?),
+    };
+    let snapshot = after(alloc, both, &changes);
+    drop(changes);
+    snapshot
 }
 
 // A worker with this number that serves from a listener and a cluster.
@@ -67,8 +81,10 @@ fn open_and_close(rt: &impl Abort, alloc: Global, worker: &mut Worker) -> Result
 fn settle_on_nothing(alloc: Global, worker: &mut Worker) -> Result<(), Fail> {
     worker.prepare()?;
     let closed = Seq::from_vec(vec![in alloc; 5]?);
-    let nothing = picture(2, Seq::new(alloc), Seq::new(alloc));
-    let snapshot = snapshot_of(alloc, nothing)?;
+    let both = snapshot_of_both(alloc)?;
+    let snapshot = snapshot_of_neither(alloc, &both);
+    drop(both);
+    let snapshot = snapshot?;
     worker.adopt(Settled {
         closed,
         version: 2,
