@@ -1,4 +1,5 @@
-"""The rules in words, and what to do: short forms of docs/RULES.md, for tools/explain."""
+"""The rules in words, what to do, and whose they are: short forms of docs/RULES.md, for the tools."""
+import re
 
 WORDS = {
     1: 'the body is missing, is no object, or its @type isn\'t that of the response',
@@ -34,3 +35,43 @@ ADVICE = {
     5: 'either update the name or remove it',
     15: 'remove the other listener in the same response, or use another port',
 }
+
+ENVOY, PROFILE, UNKNOWN = 'Envoy too', 'profile', 'not known'
+
+# Whose a rule is: that of each complaint of it whose words or path the pattern fits, the first that does. Made from documentation and
+# memory, and not checked on Envoy: docs/RULES.md, which `tools/check` holds against this table, and docs/ENVOY.md.
+WHOSE = [
+    (1, r'@type', ENVOY), (1, r'', UNKNOWN),
+    (2, r' bytes, and ', UNKNOWN), (2, r'', ENVOY),
+    (3, r'', UNKNOWN), (5, r'', UNKNOWN), (6, r'', UNKNOWN),
+    (7, r'', PROFILE), (8, r'', ENVOY), (9, r'', ENVOY),
+    (10, r'is given: only ads and self', PROFILE), (10, r'negative', UNKNOWN), (10, r'', ENVOY),
+    (11, r'', ENVOY),
+    (12, r'socket address|portValue is missing', PROFILE), (12, r'', ENVOY),
+    (13, r'', ENVOY),
+    (14, r'UDP|socket address|portValue is missing', PROFILE), (14, r'', ENVOY),
+    (15, r'', ENVOY),
+    (16, r'has 0 chains', ENVOY), (16, r'', PROFILE),
+    (17, r'has 0 ', PROFILE), (17, r'', ENVOY),
+    (18, r'scopedRoutes|scoped_routes', PROFILE), (18, r'', ENVOY),
+    (19, r'', ENVOY), (20, r'', ENVOY),
+    (21, r'has 0 of', ENVOY), (21, r'', PROFILE),
+    (22, r'is given', PROFILE), (22, r'', ENVOY),
+    (23, r'', ENVOY), (24, r'', ENVOY), (25, r'', UNKNOWN),
+]
+
+# Complaints that something is missing, which are no complaints where another member in its place is given.
+MISSING = r'has 0 of|has neither'
+
+
+def whose(rule, kind, complaints):
+    """Whether Envoy refuses a resource of this kind too that this rule refuses: `Envoy too`, `profile` (this profile alone does) or
+    `not known`. The complaints are those of this rule, each a path and words."""
+    if rule == 4:
+        return ENVOY if kind in ('cds', 'lds') else UNKNOWN
+    given = any(words.startswith('is given') for _, words in complaints)
+    found = set()
+    for path, words in complaints or [('', '')]:
+        if not (given and re.search(MISSING, words)):
+            found.add(next((of for number, pattern, of in WHOSE if number == rule and re.search(pattern, f'{path} {words}')), UNKNOWN))
+    return next((of for of in (ENVOY, UNKNOWN, PROFILE) if of in found), UNKNOWN)

@@ -1,18 +1,26 @@
 //! The worked rows: scripts with what the program has to write of them, as files. Each name in `rows` is a row: its exit
 //! status, with the line and the kind of the fault where the input is no script, and its arguments. Its input is in
 //! `NAME.in`, and the output that is wanted in `NAME.out`; long ones are made of the pieces in `NAME.in.parts` and
-//! `NAME.out.parts`. The program runs each over memory, compares, and prints a line a row and the sum.
+//! `NAME.out.parts`. The program runs each over memory, compares, and prints a line a row and the sum. Then it reads inputs of
+//! scripts, and texts of rows and of journals, which stand as files too.
 #![tactic(auto)]
 
+mod cuts;
 mod inputs;
+mod journals;
 mod row;
+mod row_texts;
+mod script_ends;
+mod script_inputs;
 
 use crate::inputs::read_bytes;
 use crate::row::{Row, read_row};
+use crate::row_texts::{try_journals, try_texts};
+use crate::script_inputs::{try_cuts, try_inputs};
 use ev_app::{Status, run_program};
 use ev_io::{MemSink, MemSource};
 use std::alloc::Global;
-use std::rt::Files;
+use std::rt::{Files, Print};
 use std::{fs, io};
 
 /// The room for an output, in bytes, beyond that of the one that is wanted.
@@ -27,17 +35,29 @@ const PIECES: [usize; 5] = [1, 2, 3, 7, 1_000];
 /// The most bytes of an input that is read in small pieces.
 const SHORT: usize = 20_000;
 
-/// The most bytes of an input of which each read fails in turn.
+/// The most bytes of an input of which each read fails in turn, and each write.
 const SHORTEST: usize = 300;
 
+/// How many bytes a write takes at most where one fails.
+const WRITTEN: usize = 10;
+
 fn main(rt: HostRuntime) -> io::Result<()> {
-    let list = fs::read_to_string(&rt, "rows")?;
+    try_rows(&rt)?;
+    try_inputs(&rt)?;
+    try_cuts(&rt)?;
+    try_texts(&rt)?;
+    try_journals(&rt)
+}
+
+// Runs each row, and prints a line a row, and the sum.
+fn try_rows<R: Files + Print + AllocGlobal>(rt: &R) -> io::Result<()> {
+    let list = fs::read_to_string(rt, "rows")?;
     let mut passed = 0u32;
     let mut failed = 0u32;
     for line in list.lines() {
         let row = read_row(rt.alloc(), line)?;
         let name = row.name.as_str();
-        if passes(&rt, &row)? {
+        if passes(rt, &row)? {
             println!(rt; "{name}: passed")?;
             passed = passed.saturating_add(1);
         } else {
@@ -49,7 +69,7 @@ fn main(rt: HostRuntime) -> io::Result<()> {
 }
 
 // Whether the program ends a row with its status and writes its output, in whatever pieces its input is read, and whether
-// a read that fails is told, whichever it is.
+// a read that fails is told, whichever it is, and so a write.
 fn passes<R: Files + AllocGlobal>(rt: &R, row: &Row) -> io::Result<bool> {
     let alloc = rt.alloc();
     let name = row.name.as_str();
@@ -71,6 +91,7 @@ fn passes<R: Files + AllocGlobal>(rt: &R, row: &Row) -> io::Result<bool> {
                 return Ok(false);
             }
         }
+        return tells_lost_writes(alloc, row, input.as_slice(), wanted.as_slice());
     }
     Ok(true)
 }
@@ -105,4 +126,33 @@ fn tells_failure(alloc: Global, row: &Row, input: &[u8], number: u64) -> io::Res
     let status = run_program(alloc, row.arguments.as_slice(), &mut source, &mut sink);
     let told = status == Status::ReadFault || (status != Status::Done && row.is_end(status));
     Ok(told && sink.as_bytes().is_empty())
+}
+
+// Whether the program tells of each write of a row's output that it fails, with what was written before it in the sink.
+fn tells_lost_writes(alloc: Global, row: &Row, input: &[u8], wanted: &[u8]) -> io::Result<bool> {
+    for (place, _) in wanted.chunks(WRITTEN).enumerate() {
+        let written = place.saturating_mul(WRITTEN).min(wanted.len());
+        let number = (place as u64).saturating_add(1);
+        if !tells_lost_write(alloc, row, input, &wanted[..written], number)? {
+            return Ok(false);
+        }
+    }
+    Ok(true)
+}
+
+// Whether the program, of whose writes each takes ten bytes, tells that the write of this number fails, behind these bytes.
+fn tells_lost_write(
+    alloc: Global,
+    row: &Row,
+    input: &[u8],
+    written: &[u8],
+    number: u64,
+) -> io::Result<bool> {
+    let mut fails = Vec::new(alloc);
+    fails.push(number)?;
+    let mut source = MemSource::new(input.to_vec(alloc)?, PIECE, Vec::new(alloc));
+    let room = written.len().saturating_add(ROOM);
+    let mut sink = MemSink::new(alloc, room, WRITTEN, fails)?;
+    let status = run_program(alloc, row.arguments.as_slice(), &mut source, &mut sink);
+    Ok(status == Status::WriteFault && sink.as_bytes() == written)
 }

@@ -1,5 +1,0 @@
-use Rattle.ev_clusters.specs.Clusters.{AreKept}
-use Rattle.clusters_bench.proofs.warm_all.Given as goal
-
-abbrev pub invariant-loop-place : goal.invariant-loop-place
-invariant-loop-place g l = AreKept l.clusters

@@ -1,5 +1,0 @@
-use Rattle.ev_listeners.specs.Listeners.{AreKept}
-use Rattle.listeners_bench.proofs.warm_all.Given as goal
-
-abbrev pub invariant-loop-place : goal.invariant-loop-place
-invariant-loop-place g l = AreKept l.listeners

@@ -1,0 +1,138 @@
+//! Warms clusters one by one: a response brings so many, each of which waits for the endpoints of a name of its own; then the endpoints
+//! of so many of them come, each time followed by a promotion and a forgetting.
+
+ghost use Rattle.std.specs.Prelude.{◌≡◌, length, OnOk};
+ghost use Rattle.ev_clusters.specs.Clusters.{AreKept};
+
+mod responses;
+mod survey;
+
+use anyhow::{Result, anyhow};
+use ev_clusters::Clusters;
+use ev_generations::Steps;
+use crate::names::news;
+use responses::{endpoints, response, service};
+use std::alloc::Global;
+use std::marker::Brand;
+use std::mem::drop;
+use std::rt::Print;
+use std::sync::ledger::{Blank, Ledger};
+use survey::{Counts, survey};
+
+/// Prints how many clusters came to serve, and what is told of all of them.
+///
+/// # Errors
+/// Those of printing, and out of memory.
+pub(crate) fn print_run<R: Print + AllocGlobal>(rt: &R, size: u16, arrivals: u16) -> Result<()> {
+    let (served, survey) = measured(rt.alloc(), size, arrivals)?;
+    println!(rt; "{served} of {size} serve")?;
+    let Counts {
+        live,
+        shown,
+        copied,
+        goes,
+    } = survey;
+    println!(rt; "{live} are live, {shown} are shown, {copied} are live in a copy")?;
+    println!(rt; "the first goes: {goes}")?;
+    Ok(())
+}
+
+// How many of so many clusters come to serve as the endpoints of so many come, and what the manager tells of all of them then.
+fn measured(alloc: Global, size: u16, arrivals: u16) -> Result<(u32, Counts)> {
+    run::<Brand>(alloc, Blank::new(1), size, arrivals)
+}
+
+// The same, with a counter of look-ups.
+fn run<L: Ledger>(alloc: Global, blank: Blank, size: u16, arrivals: u16) -> Result<(u32, Counts)>
+    requires name { blank.name ≡ L.name }
+    requires parts { blank.parts ≡ L.parts }
+    requires one { L.parts ≡ 1 }
+{
+    let mut steps = Steps::<L>::new(blank);
+    let mut clusters = Clusters::new(alloc);
+    let told = go(alloc, &mut clusters, size, arrivals, &mut steps);
+    drop(clusters);
+    told
+}
+
+// The same, of clusters of which there are none yet. What is large is dropped by hand: each way on which it goes by itself costs the
+// proof of all that it has.
+fn go<L: Ledger>(
+    alloc: Global,
+    clusters: &mut Clusters,
+    size: u16,
+    arrivals: u16,
+    steps: &mut Steps<L>,
+) -> Result<(u32, Counts)>
+    requires { AreKept clusters.old }
+{
+    take_all(alloc, clusters, size, steps)?;
+    let served = warm_all(alloc, clusters, arrivals, steps)?;
+    let survey = survey(alloc, clusters, steps)?;
+    Ok((served, survey))
+}
+
+// The endpoints of so many clusters come. Answers how many came to serve.
+fn warm_all<L: Ledger>(
+    alloc: Global,
+    clusters: &mut Clusters,
+    arrivals: u16,
+    steps: &mut Steps<L>,
+) -> Result<u32>
+    requires { AreKept clusters.old }
+    ensures { OnOk result (AreKept clusters.new) }
+{
+    let mut served = 0u32;
+    for place in 0..arrivals {
+        if warm(alloc, clusters, place, steps)? {
+            served = served.saturating_add(1);
+        }
+    }
+    Ok(served)
+}
+
+// A response brings so many clusters.
+fn take_all<L: Ledger>(
+    alloc: Global,
+    clusters: &mut Clusters,
+    size: u16,
+    steps: &mut Steps<L>,
+) -> Result<()>
+    requires { AreKept clusters.old }
+    ensures { OnOk result (AreKept clusters.new) }
+{
+    if clusters.made() > 0 {
+        return Err(anyhow!("numbers were drawn before"));
+    }
+    let verdicts = news(alloc, size)?;
+    let response = response(alloc, size)?;
+    let applied = clusters.apply(alloc, &response, verdicts.as_slice(), steps);
+    drop(response);
+    drop(applied?);
+    Ok(())
+}
+
+// The endpoints of one cluster come. Answers whether it came to serve.
+fn warm<L: Ledger>(
+    alloc: Global,
+    clusters: &mut Clusters,
+    place: u16,
+    steps: &mut Steps<L>,
+) -> Result<bool>
+    requires { AreKept clusters.old }
+    ensures { OnOk result (AreKept clusters.new) }
+{
+    let name = service(alloc, place)?;
+    if !clusters.is_watched(name.as_str()) {
+        return Ok(false);
+    }
+    let arrival = endpoints(alloc)?;
+    let arrived = clusters.arrival(alloc, &name, &arrival, steps);
+    drop(arrival);
+    arrived?;
+    let promoted = clusters.promote(alloc, steps)?;
+    let serves = !promoted.served.is_empty();
+    drop(promoted);
+    clusters.forget(alloc, steps)?;
+    Ok(serves)
+}

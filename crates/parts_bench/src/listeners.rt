@@ -1,0 +1,164 @@
+//! Takes listeners in, asks for those that hold an address, and warms them one by one: a response brings so many, each of which has an
+//! address of its own and waits for the routes of a name of its own; of so many of them the address is asked; and of so many the
+//! routes come, each time followed by a promotion and a forgetting.
+
+ghost use Rattle.std.specs.Prelude.{◌≡◌, length, OnOk};
+ghost use Rattle.ev_listeners.specs.Listeners.{AreKept};
+
+mod endings;
+mod responses;
+
+use anyhow::{Result, anyhow};
+use endings::end_first;
+use ev_generations::Steps;
+use ev_listeners::Listeners;
+use crate::names::news;
+use responses::{address, response, routes, routes_name};
+use std::alloc::Global;
+use std::marker::Brand;
+use std::mem::drop;
+use std::rt::Print;
+use std::sync::ledger::{Blank, Ledger};
+
+/// What a run does.
+#[derive(Clone, Copy)]
+pub(crate) struct Plan {
+    pub(crate) size: u16,
+    pub(crate) asks: u16,
+    pub(crate) arrivals: u16,
+}
+
+/// What a run tells: at how many addresses a listener was found, how many came to serve, and whether the first one goes once its
+/// time to live has ended.
+#[derive(Clone, Copy)]
+struct Told {
+    held: u32,
+    served: u32,
+    goes: bool,
+}
+
+/// Prints how many hold an address that was asked, how many came to serve, and whether the first goes.
+///
+/// # Errors
+/// Those of printing, and out of memory.
+pub(crate) fn print_run<R: Print + AllocGlobal>(rt: &R, plan: Plan) -> Result<()> {
+    let told = measured(rt.alloc(), plan)?;
+    let Told { held, served, goes } = told;
+    println!(rt; "{held} hold an address, {served} serve")?;
+    println!(rt; "the first goes: {goes}")?;
+    Ok(())
+}
+
+// What a run by this plan tells.
+fn measured(alloc: Global, plan: Plan) -> Result<Told> {
+    run::<Brand>(alloc, Blank::new(1), plan)
+}
+
+// The same, with a counter of look-ups.
+fn run<L: Ledger>(alloc: Global, blank: Blank, plan: Plan) -> Result<Told>
+    requires name { blank.name ≡ L.name }
+    requires parts { blank.parts ≡ L.parts }
+    requires one { L.parts ≡ 1 }
+{
+    let mut steps = Steps::<L>::new(blank);
+    let mut listeners = Listeners::new(alloc);
+    let told = go(alloc, &mut listeners, plan, &mut steps);
+    drop(listeners);
+    told
+}
+
+// The same, of listeners of which there are none yet. What is large is dropped by hand: each way on which it goes by itself costs the
+// proof of all that it has.
+fn go<L: Ledger>(
+    alloc: Global,
+    listeners: &mut Listeners,
+    plan: Plan,
+    steps: &mut Steps<L>,
+) -> Result<Told>
+    requires { AreKept listeners.old }
+{
+    take_all(alloc, listeners, plan.size, steps)?;
+    let held = ask_all(alloc, listeners, plan.asks)?;
+    let served = warm_all(alloc, listeners, plan.arrivals, steps)?;
+    let goes = end_first(alloc, listeners, steps)?;
+    Ok(Told { held, served, goes })
+}
+
+// A response brings so many listeners.
+fn take_all<L: Ledger>(
+    alloc: Global,
+    listeners: &mut Listeners,
+    size: u16,
+    steps: &mut Steps<L>,
+) -> Result<()>
+    requires { AreKept listeners.old }
+    ensures { OnOk result (AreKept listeners.new) }
+{
+    if listeners.made() > 0 {
+        return Err(anyhow!("numbers were drawn before"));
+    }
+    let verdicts = news(alloc, size)?;
+    let response = response(alloc, size)?;
+    let applied = listeners.apply(alloc, &response, verdicts.as_slice(), steps);
+    drop(response);
+    drop(applied?);
+    Ok(())
+}
+
+// The addresses of so many listeners are asked. Answers at how many a listener is found.
+fn ask_all(alloc: Global, listeners: &Listeners, asks: u16) -> Result<u32>
+    requires { AreKept listeners.now }
+{
+    let mut held = 0u32;
+    for place in 0..asks {
+        let address = address(alloc, place)?;
+        if !listeners.holders(alloc, &address)?.is_empty() {
+            held = held.saturating_add(1);
+        }
+    }
+    Ok(held)
+}
+
+// The routes of so many listeners come. Answers how many came to serve.
+fn warm_all<L: Ledger>(
+    alloc: Global,
+    listeners: &mut Listeners,
+    arrivals: u16,
+    steps: &mut Steps<L>,
+) -> Result<u32>
+    requires { AreKept listeners.old }
+    ensures { OnOk result (AreKept listeners.new) }
+{
+    let mut served = 0u32;
+    for place in 0..arrivals {
+        if warm(alloc, listeners, place, steps)? {
+            served = served.saturating_add(1);
+        }
+    }
+    Ok(served)
+}
+
+// The routes of one listener come. Answers whether it came to serve.
+fn warm<L: Ledger>(
+    alloc: Global,
+    listeners: &mut Listeners,
+    place: u16,
+    steps: &mut Steps<L>,
+) -> Result<bool>
+    requires { AreKept listeners.old }
+    ensures { OnOk result (AreKept listeners.new) }
+{
+    let name = routes_name(alloc, place)?;
+    if !listeners.is_watched(name.as_str()) {
+        return Ok(false);
+    }
+    let arrival = routes(alloc)?;
+    let arrived = listeners.arrival(alloc, &name, &arrival, steps);
+    drop(arrival);
+    arrived?;
+    let promoted = listeners.promote(alloc, steps)?;
+    let serves = !promoted.served.is_empty();
+    drop(promoted);
+    listeners.forget(alloc, steps)?;
+    Ok(serves)
+}
