@@ -3,6 +3,7 @@ use Rattle.std.specs.Prelude.{ℕ, ◌==◌, List, [], ◌∷◌, map, Bool, fal
 use Rattle.std.specs.List.{flat_map, zip}
 use Rattle.std.specs.Char.{to_ascii_uppercase, encode_utf8}
 
+-- the byte is an underscore
 abbrev pub is_underscore : ℕ → Bool
 is_underscore b = b == 95
 

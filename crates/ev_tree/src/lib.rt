@@ -2,6 +2,24 @@
 //! name, and its value as a text, a number, a boolean, a duration, an object, a list or an enum.
 //!
 //! A field that is `null` is absent. A field that stands in both spellings has the wrong form.
+//!
+//! # Choices
+//!
+//! - The readers require nothing of their object: what is no object has no fields, so the answer is that the field is
+//!   absent. A caller owes no proof that it holds an object.
+//! - A u32 is a number that JSON writes without point and exponent. `80.0` and `8e1` have the wrong form, though
+//!   protobuf's own reader takes them: `serde_json` reads them as floats.
+//! - `_` before a character that is no letter falls away too, as in protobuf. No name that is read has one.
+//! - The lowerCamelCase spelling is made each time that a field is looked up, which takes memory for a short text; so
+//!   each reader can answer `OutOfMemory`.
+//! - Beside the eight readers, which stop at the first wrong form, stands the module `member`, for callers that go on
+//!   and report the least rule: it gives an outcome instead of an error.
+//! - Socket addresses and config sources are read here, since hosts, clusters and listeners share them.
+//! - The broken rules of a body are a struct with a field a rule, in place of a list or of bits: a part's definition
+//!   then has a line for each rule that it breaks, and a rule to come costs a line. V4, V5 and V15 have no field,
+//!   since they aren't rules of form.
+//! - The limit of a name stands here and in ev_types, since neither crate stands on the other; all other limits stand
+//!   once.
 #![tactic(auto)]
 
 mod addresses;

@@ -1,5 +1,36 @@
 //! The types that the crates of warmgate share: plain structs and enums, texts and lists.
 //! A type that holds text or lists has `copy`, and a copy equals its source.
+//!
+//! # Choices
+//!
+//! - The type of lists in fields is `Seq`, a `Vec` whose room isn't looked at: two lists with the same elements are
+//!   equal for clauses, whatever their room. So no clause of `Seq` can ask for room, and `push_reserved` isn't a call
+//!   of `Seq`: `reserve` turns the list into a `Reserved`, which clauses see as its elements and how many more have
+//!   room, `push_reserved` is a call of that with no failing case, and `into_seq` turns it back. `reserve` gives the
+//!   list back where there is no memory. A list in a field is taken out for it and put back.
+//! - Contents are shared: the variants of `Content` and `Serve::Inline` hold `Shared<..>`, a count over one value, so
+//!   a copy of a content takes no memory. Clauses and definitions see what is held: the types that definitions match
+//!   on are as before. `share` can be refused, since the kit's `Arc` stops at 2^63 - 1 owners and says so; so it
+//!   answers a `Result`, as `copy` does.
+//! - Names and texts are copied, not shared: most are short, and a shared one would take two allocations to make.
+//! - `copy` is a trait, `TryCopy`, so that lists, pairs and options copy what they hold.
+//! - Equality of contents is a test by cases in the definitions; that it holds of equal values alone is a lemma for
+//!   each type. It isn't derived. A derive of `PartialEq` on `PathMatch`, whose variants hide no field, was tried:
+//!   the definition that it makes (`eq-value`) can be imported, but its type is a name that can't be unfolded
+//!   (`eq-type PathMatch`), so no definition can apply it to two values (`path_match_same a b = eq-value a b` is
+//!   refused: not a function). A definition of its own beside the derive would need a lemma that both are the same,
+//!   in place of the impl.
+//! - `Kind` compares by `kind_same` for the same reason, so that clauses of a map with keys of a kind and a name can
+//!   say which test finds a key.
+//! - A map keyed by `Name`, `Host`, `Gen`, a pair of a kind and a name, or a struct of both, was tried against the
+//!   kit's `indexmap`: after `insert` the look-up by `bytes_eq`, `host_same`, `nat_eq` and so on gives what was
+//!   inserted. That shared contents, rows and responses may cross threads (`Send` and `Sync`) was proved there too.
+//! - A limit is a constant of the code in `limits`, and definitions cite it. The bounds that a type of number has by
+//!   itself (a port, a priority) have no constant.
+//! - An assignment that is read has an index of its hosts, so that a health result finds its host without a walk. The
+//!   index belongs to the value and not to the managers: a value never changes, so the index needs no upkeep, and the
+//!   generations that share the value share it. Lists of at most 16 rows have none, since walking them costs no more;
+//!   nor have those of served clusters, in which no host is looked up.
 #![tactic(auto)]
 
 mod clusters;

@@ -7,15 +7,14 @@ ghost use Rattle.ev_clusters.specs.Clusters.{AreKept};
 mod responses;
 mod survey;
 
+use crate::names::news;
 use anyhow::{Result, anyhow};
 use ev_clusters::Clusters;
 use ev_generations::Steps;
-use crate::names::news;
 use responses::{endpoints, response, service};
 use std::alloc::Global;
 use std::marker::Brand;
 use std::mem::drop;
-use std::rt::Print;
 use std::sync::ledger::{Blank, Ledger};
 use survey::{Counts, survey};
 

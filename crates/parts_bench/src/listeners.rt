@@ -8,16 +8,15 @@ ghost use Rattle.ev_listeners.specs.Listeners.{AreKept};
 mod endings;
 mod responses;
 
+use crate::names::news;
 use anyhow::{Result, anyhow};
 use endings::end_first;
 use ev_generations::Steps;
 use ev_listeners::Listeners;
-use crate::names::news;
 use responses::{address, response, routes, routes_name};
 use std::alloc::Global;
 use std::marker::Brand;
 use std::mem::drop;
-use std::rt::Print;
 use std::sync::ledger::{Blank, Ledger};
 
 /// What a run does.

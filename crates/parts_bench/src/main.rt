@@ -12,13 +12,15 @@ mod names;
 mod snapshots;
 
 use anyhow::Result;
-use std::rt::{Env, Print};
+use std::rt::Env;
 
 fn main(rt: HostRuntime) -> Result<()> {
     let mut words = std::env::args(&rt)?.skip(1);
     let part = words.next();
     let part = part.as_deref().unwrap_or("");
-    let numbers = words.map(|word| number(&word)).collect::<Vec<u32>>(rt.alloc())?;
+    let numbers = words
+        .map(|word| number(&word))
+        .collect::<Vec<u32>>(rt.alloc())?;
     let numbers = numbers.as_slice();
     if part == "clusters" || part == "all" {
         run_clusters(&rt, numbers)?;

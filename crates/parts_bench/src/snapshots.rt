@@ -9,7 +9,6 @@ use ev_snapshot::{Changes, Snapshot};
 use ev_types::Ask;
 use pictures::{all_shown, ask, first_weighs};
 use std::alloc::{AllocError, Global};
-use std::rt::Print;
 use std::sync::Arc;
 
 /// What a run does.

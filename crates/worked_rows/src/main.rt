@@ -20,7 +20,7 @@ use crate::script_inputs::{try_cuts, try_inputs};
 use ev_app::{Status, run_program};
 use ev_io::{MemSink, MemSource};
 use std::alloc::Global;
-use std::rt::{Files, Print};
+use std::rt::Files;
 use std::{fs, io};
 
 /// The room for an output, in bytes, beyond that of the one that is wanted.

@@ -7,7 +7,7 @@ use crate::journals::is_read;
 use ev_journal::write_row;
 use ev_journal_read::{RowError, read_row};
 use std::alloc::Global;
-use std::rt::{Files, Print};
+use std::rt::Files;
 use std::{fs, io};
 
 /// Reads each of the texts of rows, and prints what fails, and the sum.

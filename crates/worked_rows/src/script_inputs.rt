@@ -5,7 +5,7 @@
 use crate::cuts::is_told;
 use crate::script_ends::{script_end, trees_end};
 use std::alloc::Global;
-use std::rt::{Files, Print};
+use std::rt::Files;
 use std::{fs, io};
 
 /// Reads each of the inputs, and prints what fails, and the sum.

@@ -6,7 +6,7 @@ use crate::names::named;
 use anyhow::Result;
 use ev_types::{
     Arrival, Assignment, Body, Cluster, Content, Discovery, Host, HostRow, Item, Kind, Name,
-    Response, Seq, Shared, Text, 
+    Response, Seq, Shared, Text,
 };
 use std::alloc::Global;
 

@@ -6,7 +6,7 @@ use crate::names::named;
 use anyhow::Result;
 use ev_types::{
     Arrival, Body, Content, Host, Item, Kind, Listener, Name, Response, RouteTable, Seq, Serve,
-    Shared, Text, 
+    Shared, Text,
 };
 use std::alloc::Global;
 
