@@ -1,0 +1,1 @@
+"""Trials of single tools. Each module has `run(check)`; tools/check calls them all."""

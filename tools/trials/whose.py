@@ -1,0 +1,29 @@
+"""Whose rule a refusal is, by the rule and by what breaks it."""
+from shared import rules
+
+CASES = [
+    (1, 'cds', [('resource.@type', 'is that of a listener')], rules.ENVOY),
+    (1, 'cds', [('resource', 'is missing')], rules.UNKNOWN),
+    (4, 'lds', [], rules.ENVOY),
+    (4, 'eds', [], rules.UNKNOWN),
+    (7, 'cds', [('type', 'is LOGICAL_DNS: only STATIC and EDS are read')], rules.PROFILE),
+    (10, 'cds', [('edsConfig', 'has neither ads nor self')], rules.ENVOY),
+    (10, 'cds', [('edsConfig', 'has neither ads nor self'), ('edsConfig.apiConfigSource', 'is given: only ads and self are read')], rules.PROFILE),
+    (12, 'eds', [('address.portValue', 'is 70000, and 65535 is the most')], rules.ENVOY),
+    (14, 'lds', [('address.socketAddress.protocol', 'is UDP')], rules.PROFILE),
+    (16, 'lds', [('filterChains', 'has 2 chains: exactly one is read')], rules.PROFILE),
+    (16, 'lds', [('filterChains', 'has 0 chains: exactly one is read')], rules.ENVOY),
+    (18, 'lds', [('hcm', 'has neither rds nor routeConfig'), ('hcm.scopedRoutes', 'is given')], rules.PROFILE),
+    (21, 'rds', [('match', 'has 0 of prefix, path and pathSeparatedPrefix: exactly one is wanted'), ('match.safeRegex', 'is given')], rules.PROFILE),
+    (21, 'rds', [('match', 'has 0 of prefix, path and pathSeparatedPrefix: exactly one is wanted')], rules.ENVOY),
+    (22, 'rds', [('directResponse.status', 'is 99: 200 to 599 are read')], rules.ENVOY),
+    (25, 'eds', [('ttl', 'is given and not positive')], rules.UNKNOWN),
+]
+
+
+def run(check):
+    for rule, kind, complaints, wanted in CASES:
+        found = rules.whose(rule, kind, complaints)
+        check(found == wanted, f'V{rule} of {kind} by {complaints} is told as {found}, not {wanted}')
+    for rule in rules.WORDS:
+        check(rule == 4 or any(number == rule and not pattern for number, pattern, _ in rules.WHOSE), f'V{rule} has no last case')
