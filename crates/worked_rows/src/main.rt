@@ -91,7 +91,10 @@ fn passes<R: Files + AllocGlobal>(rt: &R, row: &Row) -> io::Result<bool> {
                 return Ok(false);
             }
         }
-        return tells_lost_writes(alloc, row, input.as_slice(), wanted.as_slice());
+        return Ok(
+            reads_no_further(alloc, row, input.as_slice(), wanted.as_slice())?
+                && tells_lost_writes(alloc, row, input.as_slice(), wanted.as_slice())?,
+        );
     }
     Ok(true)
 }
@@ -126,6 +129,17 @@ fn tells_failure(alloc: Global, row: &Row, input: &[u8], number: u64) -> io::Res
     let status = run_program(alloc, row.arguments.as_slice(), &mut source, &mut sink);
     let told = status == Status::ReadFault || (status != Status::Done && row.is_end(status));
     Ok(told && sink.as_bytes().is_empty())
+}
+
+// Whether the program, which reads one byte at once, ends a row as it has to where each read behind the end of the input fails.
+fn reads_no_further(alloc: Global, row: &Row, input: &[u8], wanted: &[u8]) -> io::Result<bool> {
+    let mut fails = Vec::new(alloc);
+    fails.push((input.len() as u64).saturating_add(2))?;
+    let mut source = MemSource::new(input.to_vec(alloc)?, 1, fails);
+    let room = wanted.len().saturating_add(ROOM);
+    let mut sink = MemSink::new(alloc, room, PIECE, Vec::new(alloc))?;
+    let status = run_program(alloc, row.arguments.as_slice(), &mut source, &mut sink);
+    Ok(row.is_end(status) && sink.as_bytes() == wanted)
 }
 
 // Whether the program tells of each write of a row's output that it fails, with what was written before it in the sink.
