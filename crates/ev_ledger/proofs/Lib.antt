@@ -2,3 +2,4 @@ pub mod OrderLemmas
 pub mod PlaceLemmas
 pub mod EntryLemmas
 pub mod HasLemmas
+pub mod IndexLemmas
