@@ -17,6 +17,7 @@ ghost use Rattle.ev_retirement.specs.Retiring.{noted};
 ghost use Rattle.ev_retirement.specs.Holders.{AreNumbered, StandsFor, timed_out, timeout_answer, with_expired, with_retired, without_generation, without_generations};
 
 use crate::asking::Asking;
+use crate::closing::{Closing, enter_on_each};
 use crate::retiring::is_dropped;
 use ev_drain::Drain;
 use ev_ledger::Ledger;
@@ -36,17 +37,19 @@ pub struct Holders {
     pub(crate) drain: Drain,
     // Each generation that nothing holds is among those to be asked about.
     pub(crate) asking: Asking,
+    // Each connection that the next settle of its worker closes is among those that it looks at.
+    pub(crate) closing: Closing,
 }
 
 impl Model for Holders {
-    ghost use Rattle.ev_retirement.specs.Asking.{AreKept};
+    ghost use Rattle.ev_retirement.specs.Closing.{AreTracked};
     ghost use Rattle.ev_retirement.specs.Holders.{HoldersParts};
 
     ghost Value = { HoldersParts };
 
     ghost view = { λ h. record { pictures = h.pictures; ledger = h.ledger; drain = h.drain } };
 
-    ghost invariant = { λ h. AreKept h.asking (record { pictures = h.pictures; ledger = h.ledger; drain = h.drain }) };
+    ghost invariant = { λ h. AreTracked h.asking h.closing (record { pictures = h.pictures; ledger = h.ledger; drain = h.drain }) };
 }
 
 impl Holders {
@@ -60,6 +63,7 @@ impl Holders {
             ledger: Ledger::new(alloc),
             drain: Drain::new(alloc),
             asking: Asking::new(alloc),
+            closing: Closing::new(alloc),
         })
     }
 
@@ -82,13 +86,17 @@ impl Holders {
     /// The drain timeout of a listener's old generations: it came for those of this name that drain. It answers whether there
     /// was one for which it hadn't come; where there was none, the machine ignores it, and else the world is to be tidied. Out
     /// of memory, all stays as it was.
-    pub fn drain_timeout(&mut self, _alloc: Global, name: &Name) -> Result<bool, AllocError>
+    pub fn drain_timeout(&mut self, alloc: Global, name: &Name) -> Result<bool, AllocError>
         ensures answer { IfOk result (λ meant. (world : World) → StandsFor self.old world → (drain_timeout name.now world).1 ≡ timeout_answer meant) }
         ensures machine { IfOk result (λ meant. (world : World) → StandsFor self.old world → (drain_timeout name.now world).0 ≡ timed_out meant name.now world) }
         ensures world { OnOk result ((world : World) → StandsFor self.old world → StandsFor self.new (with_expired name.now world)) }
         ensures err { OnErr result (self.new ≡ self.old) }
     {
-        let Ok(_) = self.asking.ask_each(self.drain.waiting(name)) else {
+        let waiting = self.drain.waiting(name);
+        let Ok(_) = self.asking.ask_each(waiting) else {
+            return Err(AllocError);
+        };
+        let Ok(_) = enter_on_each(alloc, &mut self.closing, &self.ledger, waiting) else {
             return Err(AllocError);
         };
         Ok(self.drain.expire(name))

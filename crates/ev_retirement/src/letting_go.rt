@@ -5,9 +5,10 @@ ghost use Rattle.ev_model.specs.Dead.{is_forwarded_to};
 ghost use Rattle.ev_ledger.specs.Members.{StandsFor as HasOpened};
 ghost use Rattle.ev_drain.specs.Retired.{has_row};
 ghost use Rattle.ev_retirement.specs.Asking.{AreAskedOn, AsksMore, LetsGo, MayLeave, is_asked};
-ghost use Rattle.ev_retirement.specs.Closing.{is_among};
+ghost use Rattle.ev_retirement.specs.Closing.{AreFound, is_among};
 
 use crate::asking::Asking;
+use crate::closing::Closing;
 use ev_drain::Drain;
 use ev_ledger::Ledger;
 use ev_pictures::Pictures;
@@ -18,6 +19,7 @@ use std::alloc::{AllocError, Global};
 /// of memory, it stays open.
 pub(crate) fn close_one(
     asking: &mut Asking,
+    closing: &mut Closing,
     drain: &Drain,
     ledger: &mut Ledger,
     worker: u32,
@@ -26,11 +28,13 @@ pub(crate) fn close_one(
     ensures answer { IfOk result (λ answer. (opened : List OpenMember) → HasOpened ledger.old opened → answer ≡ is_open opened worker conn) }
     ensures world { OnOk result ((opened : List OpenMember) → HasOpened ledger.old opened → HasOpened ledger.new (closed conn worker opened).opened) }
     ensures goes { LetsGo drain.now asking.old asking.new ledger.old ledger.new }
+    ensures found { AreFound closing.old drain.now ledger.old → AreFound closing.new drain.now ledger.new }
     ensures err { OnErr result (ledger.new ≡ ledger.old) }
 {
     let Ok(_) = ask_on(asking, drain, ledger, worker, conn) else {
         return Err(AllocError);
     };
+    closing.leave(worker, conn);
     Ok(ledger.close(worker, conn))
 }
 

@@ -28,7 +28,8 @@ impl Holders {
         ensures world { OnOk result ((world : World) → StandsFor self.old world → StandsFor self.new (settle worker world).0) }
         ensures err { OnErr result (self.new ≡ self.old) }
     {
-        let Ok(closed) = numbers_closing(alloc, &self.ledger, &self.drain, worker) else {
+        let Ok(closed) = numbers_closing(alloc, &self.closing, &self.ledger, &self.drain, worker)
+        else {
             return Err(AllocError);
         };
         let numbers = closed.as_slice();
@@ -42,6 +43,7 @@ impl Holders {
             return Err(AllocError);
         };
         close_all(&mut self.ledger, worker, numbers);
+        self.closing.leave_each(worker, numbers);
         Ok(Settled {
             closed: Seq::from_vec(closed),
             version: snapshot.version(),
@@ -56,6 +58,7 @@ impl Holders {
     {
         take_lines(
             &mut self.asking,
+            &mut self.closing,
             &self.drain,
             &mut self.ledger,
             batch.worker(),
@@ -76,7 +79,14 @@ impl Holders {
         let Ok(answer) = answer_of(alloc, self.pictures.held(worker), &outcome) else {
             return Err(AllocError);
         };
-        let Ok(_) = take_accept(&mut self.ledger, worker, ask.conn, &outcome) else {
+        let Ok(_) = take_accept(
+            &mut self.closing,
+            &self.drain,
+            &mut self.ledger,
+            worker,
+            ask.conn,
+            &outcome,
+        ) else {
             return Err(AllocError);
         };
         Ok(answer)
@@ -91,6 +101,7 @@ impl Holders {
     {
         let Ok(was_open) = close_one(
             &mut self.asking,
+            &mut self.closing,
             &self.drain,
             &mut self.ledger,
             worker,

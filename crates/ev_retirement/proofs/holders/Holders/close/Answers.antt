@@ -16,7 +16,13 @@ returns-clause-world c world stands =
     close_stands c.args.conn c.args.worker _ c.close_one.new.ledger world here (c.in-Ok.ensures.world world.opened here.opened)
 
 pub invariant_of-self : goal.invariant_of-self
-invariant_of-self c = go_kept c.self.inside.asking c.close_one.new.asking _ c.close_one.new.ledger c.close_one.ensures.goes c.self.invariant
+invariant_of-self c = record {
+  asked = go_kept c.self.inside.asking c.close_one.new.asking _ c.close_one.new.ledger c.close_one.ensures.goes c.self.invariant.asked;
+  found = c.close_one.ensures.found c.self.invariant.found;
+}
 
 pub invariant_of-self-2 : goal.invariant_of-self-2
-invariant_of-self-2 c = go_kept c.self.inside.asking c.close_one.new.asking _ c.close_one.new.ledger c.close_one.ensures.goes c.self.invariant
+invariant_of-self-2 c = record {
+  asked = go_kept c.self.inside.asking c.close_one.new.asking _ c.close_one.new.ledger c.close_one.ensures.goes c.self.invariant.asked;
+  found = c.close_one.ensures.found c.self.invariant.found;
+}
