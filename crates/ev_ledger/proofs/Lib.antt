@@ -1,3 +1,5 @@
 pub mod OrderLemmas
 pub mod PlaceLemmas
 pub mod EntryLemmas
+pub mod HasLemmas
+pub mod IndexLemmas

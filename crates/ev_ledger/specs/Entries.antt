@@ -1,8 +1,10 @@
 -- What the ledger's two maps hold.
-use Rattle.std.specs.Prelude.{◌≡◌, ℕ, Bool, ◌||◌, ◌==◌, if◌then◌else◌, List, map, Option}
+use Rattle.std.specs.Prelude.{◌≡◌, ◌≢◌, ℕ, Bool, ◌||◌, ◌==◌, false, if◌then◌else◌, List, map, Option, None, Some}
+use Rattle.std.specs.BTreeMap.{is_at}
+use Rattle.std.specs.BTreeSet.{BTreeSet, contains}
 use Rattle.std.specs.Option.{unwrap_or}
 use Rattle.std.specs.List.{sum_by}
-use Rattle.std.specs.Map.{values_of}
+use Rattle.std.specs.Map.{lookup, values_of}
 use Rattle.std.specs.Ordering.{ordering_then, nat_cmp}
 use Rattle.std.specs.declared.cmp.Ordering.{Ordering}
 use Rattle.std.specs.Prelude.{nat_eq}
@@ -30,9 +32,41 @@ weight number on = if (on.0 == number || is_forwarded_to number on.1) then 1 els
 abbrev pub counted : {S : Type 0} → IndexMap ℕ ℕ S → ℕ → ℕ
 counted counts number = unwrap_or (get nat_eq counts number) 0
 
+-- keys of the index compare by listener, and those of one listener by worker and number
+abbrev pub place_on_order : ℕ × (ℕ × ℕ) → ℕ × (ℕ × ℕ) → Ordering
+place_on_order one other = ordering_then (nat_cmp one.0 other.0) (key_order one.1 other.1)
+
+-- the key is of this listener
+abbrev pub stands_on : ℕ → ℕ × (ℕ × ℕ) → Bool
+stands_on listener key = key.0 == listener
+
+-- the worker and the number of a key
+abbrev pub place_of : ℕ × (ℕ × ℕ) → ℕ × ℕ
+place_of key = key.1
+
+-- what an entry has is on this listener
+abbrev pub is_on : ℕ → Option (ℕ × Option ℕ) → Bool
+is_on listener None = false
+is_on listener (Some on) = on.0 == listener
+
+-- the index has exactly the entries, each under its listener
+abbrev pub AreIndexed : BTreeSet (ℕ × (ℕ × ℕ)) → List ((ℕ × ℕ) × (ℕ × Option ℕ)) → Type 0
+AreIndexed places entries =
+    (listener : ℕ) (place : ℕ × ℕ) → contains place_on_order places (listener, place) ≡ is_on listener (lookup (is_at (key_order place)) entries)
+
+-- no number has a count of 0: without a connection it has no entry
+abbrev pub HasNoZero : {S : Type 0} → IndexMap ℕ ℕ S → Type 0
+HasNoZero counts = (number : ℕ) → get nat_eq counts number ≢ Some 0
+
 -- the counts are those of the entries
 abbrev pub AreCounts : {S : Type 0} → IndexMap ℕ ℕ S → List ((ℕ × ℕ) × (ℕ × Option ℕ)) → Type 0
 AreCounts counts entries = (number : ℕ) → counted counts number ≡ sum_by (weight number) (values_of entries)
+
+-- what a ledger keeps: the counts and the index are those of its entries
+pub record AreKept {S : Type 0} (counts : IndexMap ℕ ℕ S) (places : BTreeSet (ℕ × (ℕ × ℕ))) (entries : List ((ℕ × ℕ) × (ℕ × Option ℕ))) : Type 0 where
+  pub counted : AreCounts counts entries
+  pub none_zero : HasNoZero counts
+  pub indexed : AreIndexed places entries
 
 -- the entry is of this worker
 abbrev pub is_at_worker : ℕ → (ℕ × ℕ) × (ℕ × Option ℕ) → Bool

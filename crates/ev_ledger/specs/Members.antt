@@ -1,5 +1,7 @@
 -- The open connections as the ledger has them: in one order, by worker and number, so that those of a worker stand together.
-use Rattle.std.specs.Prelude.{◌≡◌, ℕ, Bool, false, ⊤, ◌==◌, List, [], ◌∷◌, length, filter, find, map, Option}
+use Rattle.std.specs.Prelude.{◌≡◌, ℕ, Bool, false, ⊤, ◌&&◌, ◌==◌, List, [], ◌∷◌, length, filter, find, map, Option}
+use Rattle.std.specs.List.{list_any}
+use Rattle.std.specs.List.Sorted.{IsStrictlySortedBy}
 use Rattle.std.specs.Option.{option_map}
 use Rattle.std.specs.Ordering.{ordering_then, nat_cmp, is_le}
 use Rattle.std.specs.declared.cmp.Ordering.{Ordering}
@@ -32,6 +34,19 @@ count_of number opened = length (filter (is_open_on number) opened)
 -- cluster
 abbrev pub on_in : ℕ → ℕ → List OpenMember → Option (ℕ × Option ℕ)
 on_in worker connection members = option_map (λ (m : OpenMember). (m.listener, m.cluster)) (find (is_member worker connection) members)
+
+-- a connection of this worker and number is among these, and stands on this listener
+abbrev pub is_open_at : ℕ → ℕ → ℕ → List OpenMember → Bool
+is_open_at listener worker connection members =
+    list_any (λ (m : OpenMember). is_member worker connection m && (m.listener == listener)) members
+
+-- one of these places is of this worker and number
+abbrev pub has_place : ℕ → ℕ → List (ℕ × ℕ) → Bool
+has_place worker connection places = list_any (λ (p : ℕ × ℕ). (p.0 == worker) && (p.1 == connection)) places
+
+-- the connections stand in the order of their workers and numbers, and no two have one
+abbrev pub AreInOrder : List OpenMember → Type 0
+AreInOrder members = IsStrictlySortedBy place_order members
 
 -- no two of these connections are of one worker and number
 abbrev pub AreApart : List OpenMember → Type 0

@@ -1,9 +1,10 @@
-ghost use Rattle.std.specs.Prelude.{◌≡◌, ℕ, ◌+◌, ◌-◌, ◌<◌, ◌≤◌, ◌^◌, ◌==◌, ◌≢◌, if◌then◌else◌};
+ghost use Rattle.std.specs.Prelude.{◌≡◌, ℕ, ◌+◌, ◌-◌, ◌<◌, ◌≤◌, ◌^◌, ◌==◌, ◌≢◌, if◌then◌else◌, IfOk};
 ghost use Rattle.indexmap.specs.IndexMap.{spare, get};
-ghost use Rattle.ev_ledger.specs.Entries.{weight, counted};
+ghost use Rattle.ev_ledger.specs.Entries.{HasNoZero, weight, counted};
 
 use ev_types::Gen;
 use indexmap::IndexMap;
+use std::alloc::AllocError;
 
 /// The count of a number. It takes no memory.
 pub(crate) fn count_in(counts: &IndexMap<u32, u64>, number: u32) -> u64
@@ -20,6 +21,7 @@ pub(crate) fn raise(counts: &mut IndexMap<u32, u64>, number: u32)
     requires room { 0 < spare counts.old }
     requires fits { counted counts.old number + 1 < 2 ^ 64 }
     ensures counts { (n : ℕ) → counted counts.new n ≡ counted counts.old n + (if number == n then 1 else 0) }
+    ensures none_zero { HasNoZero counts.old → HasNoZero counts.new }
     ensures room { spare counts.old ≤ spare counts.new + 1 }
 {
     let count = count_in(counts, number);
@@ -31,7 +33,8 @@ pub(crate) fn raise(counts: &mut IndexMap<u32, u64>, number: u32)
 /// Counts one less of a number; a count of none leaves no entry. It takes no memory.
 pub(crate) fn lower(counts: &mut IndexMap<u32, u64>, number: u32)
     requires { 0 < counted counts.old number }
-    ensures { (n : ℕ) → counted counts.new n + (if number == n then 1 else 0) ≡ counted counts.old n }
+    ensures counts { (n : ℕ) → counted counts.new n + (if number == n then 1 else 0) ≡ counted counts.old n }
+    ensures none_zero { HasNoZero counts.old → HasNoZero counts.new }
 {
     let count = count_in(counts, number);
     if count == 1 {
@@ -47,7 +50,8 @@ pub(crate) fn lower(counts: &mut IndexMap<u32, u64>, number: u32)
 pub(crate) fn raise_on(counts: &mut IndexMap<u32, u64>, on: (Gen, Option<Gen>))
     requires room { 2 ≤ spare counts.old }
     requires fits { (n : ℕ) → counted counts.old n + 1 < 2 ^ 64 }
-    ensures { (n : ℕ) → counted counts.new n ≡ counted counts.old n + weight n on }
+    ensures counts { (n : ℕ) → counted counts.new n ≡ counted counts.old n + weight n on }
+    ensures none_zero { HasNoZero counts.old → HasNoZero counts.new }
 {
     let (listener, cluster) = on;
     raise(counts, listener.number());
@@ -64,7 +68,8 @@ pub(crate) fn raise_on(counts: &mut IndexMap<u32, u64>, on: (Gen, Option<Gen>))
 /// Counts one less connection on a listener and, where it was forwarded, on a cluster. It takes no memory.
 pub(crate) fn lower_on(counts: &mut IndexMap<u32, u64>, on: (Gen, Option<Gen>))
     requires { (n : ℕ) → weight n on ≤ counted counts.old n }
-    ensures { (n : ℕ) → counted counts.new n + weight n on ≡ counted counts.old n }
+    ensures counts { (n : ℕ) → counted counts.new n + weight n on ≡ counted counts.old n }
+    ensures none_zero { HasNoZero counts.old → HasNoZero counts.new }
 {
     let (listener, cluster) = on;
     lower(counts, listener.number());
@@ -76,4 +81,11 @@ pub(crate) fn lower_on(counts: &mut IndexMap<u32, u64>, on: (Gen, Option<Gen>))
         }
         None => {}
     }
+}
+
+/// The same counts, in memory of their own.
+pub(crate) fn copy_counts(counts: &IndexMap<u32, u64>) -> Result<IndexMap<u32, u64>, AllocError>
+    ensures { IfOk result (λ copied. copied.entries ≡ counts.now.entries) }
+{
+    counts.clone()
 }

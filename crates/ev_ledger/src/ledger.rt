@@ -1,15 +1,17 @@
-ghost use Rattle.std.specs.Prelude.{◌≡◌, false, List, [], ◌∷◌, ◌++◌, OnOk, OnErr, IfOk};
+ghost use Rattle.std.specs.Prelude.{◌≡◌, ℕ, false, List, [], ◌∷◌, ◌++◌, OnOk, OnErr, IfOk};
 ghost use Rattle.ev_model.specs.World.{OpenMember};
 ghost use Rattle.ev_model.specs.Sorted.{put_by};
 ghost use Rattle.ev_model.specs.Connections.{is_open, member_on, closed};
-ghost use Rattle.ev_ledger.specs.Members.{comes_before, in_order, AreApart, StandsFor, count_of, held_of, on_in};
+ghost use Rattle.std.specs.List.{list_any};
+ghost use Rattle.ev_ledger.specs.Members.{comes_before, in_order, has_place, is_of_worker, is_open_at, AreApart, AreInOrder, StandsFor, count_of, held_of, on_in};
 
-use crate::counts::{count_in, lower_on, raise_on};
-use crate::members::{Members, found, held, is_there, put, take};
+use crate::counts::{copy_counts, count_in, lower_on, raise_on};
+use crate::members::{Members, copy_members, found, has_any, held, is_there, put, take};
+use crate::places::{Places, copy_places, enter, leave, places_on};
 use ev_types::{Gen, TryCopy};
 use indexmap::IndexMap;
 use std::alloc::{AllocError, Global};
-use std::collections::BTreeMap;
+use std::collections::{BTreeMap, BTreeSet};
 use std::marker::Model;
 
 /// The connections that workers have open, seen by contracts as the list of them by worker and number.
@@ -18,18 +20,19 @@ pub struct Ledger {
     members: Members,
     // How many of them are open on a generation, by its number.
     counts: IndexMap<u32, u64>,
+    places: Places,
 }
 
 impl Model for Ledger {
     ghost use Rattle.std.specs.Prelude.{List};
     ghost use Rattle.ev_model.specs.World.{OpenMember};
-    ghost use Rattle.ev_ledger.specs.Entries.{members_of, AreCounts};
+    ghost use Rattle.ev_ledger.specs.Entries.{members_of, AreKept};
 
     ghost Value = { List OpenMember };
 
     ghost view = { λ l. members_of l.members.entries };
 
-    ghost invariant = { λ l. AreCounts l.counts l.members.entries };
+    ghost invariant = { λ l. AreKept l.counts l.places l.members.entries };
 }
 
 impl Ledger {
@@ -41,6 +44,7 @@ impl Ledger {
         Ledger {
             members: BTreeMap::new(alloc),
             counts: IndexMap::new(alloc),
+            places: BTreeSet::new(alloc),
         }
     }
 
@@ -69,12 +73,14 @@ impl Ledger {
         let Ok(_) = self.counts.reserve(2) else {
             return Err(AllocError);
         };
+        let place = (worker as u64, conn);
+        let key = (listener.number() as u64, place);
+        let Ok(_) = enter(&mut self.places, key) else {
+            return Err(AllocError);
+        };
         let forwarded = cluster;
-        let Ok(_) = put(
-            &mut self.members,
-            (worker as u64, conn),
-            (listener, forwarded),
-        ) else {
+        let Ok(_) = put(&mut self.members, place, (listener, forwarded)) else {
+            leave(&mut self.places, key);
             return Err(AllocError);
         };
         raise_on(&mut self.counts, (listener, cluster));
@@ -89,9 +95,11 @@ impl Ledger {
         ensures answer_by_world { (opened : List OpenMember) → StandsFor self.old opened → result ≡ is_open opened worker conn }
         ensures world { (opened : List OpenMember) → StandsFor self.old opened → StandsFor self.new (closed conn worker opened).opened }
     {
-        let Some(on) = take(&mut self.members, (worker as u64, conn)) else {
+        let place = (worker as u64, conn);
+        let Some(on) = take(&mut self.members, place) else {
             return false;
         };
+        leave(&mut self.places, (on.0.number() as u64, place));
         lower_on(&mut self.counts, on);
         true
     }
@@ -109,8 +117,26 @@ impl Ledger {
     pub fn on(&self, worker: u32, conn: u64) -> Option<(Gen, Option<Gen>)>
         ensures on { result ≡ on_in worker conn self.now }
         ensures apart { AreApart self.now }
+        ensures ordered { AreInOrder self.now }
     {
         found(&self.members, (worker as u64, conn))
+    }
+
+    /// The worker and the number of each connection on a listener. It looks at no other.
+    pub fn places_on(&self, alloc: Global, number: Gen) -> Result<Vec<(u64, u64)>, AllocError>
+        ensures places { IfOk result (λ places. (worker connection : ℕ) → has_place worker connection places.items ≡ is_open_at number worker connection self.now) }
+    {
+        // No two are of one worker and number.
+        let _ = self.members.len();
+        places_on(alloc, &self.places, number.number() as u64)
+    }
+
+    /// Whether a worker has a connection open. It is a look-up.
+    pub fn has_any(&self, worker: u32) -> bool
+        ensures any { result ≡ list_any (is_of_worker worker) self.now }
+        ensures world { (opened : List OpenMember) → StandsFor self.now opened → result ≡ list_any (is_of_worker worker) opened }
+    {
+        has_any(&self.members, worker as u64)
     }
 
     /// The connections that a worker has open, each with its listener, by their numbers from the least.
@@ -126,8 +152,9 @@ impl Ledger {
 impl TryCopy for Ledger {
     fn copy(&self, _alloc: Global) -> Result<Ledger, AllocError> {
         Ok(Ledger {
-            members: self.members.clone()?,
-            counts: self.counts.clone()?,
+            members: copy_members(&self.members)?,
+            counts: copy_counts(&self.counts)?,
+            places: copy_places(&self.places)?,
         })
     }
 }

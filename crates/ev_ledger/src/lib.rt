@@ -4,5 +4,6 @@
 mod counts;
 mod ledger;
 mod members;
+mod places;
 
 pub use ledger::Ledger;

@@ -1,4 +1,5 @@
-ghost use Rattle.std.specs.Prelude.{◌≡◌, ◌<◌, ◌^◌, ◌+◌, ◌==◌, length, map, filter, is_some, IfOk, OnOk, OnErr};
+ghost use Rattle.std.specs.Prelude.{◌≡◌, ℕ, ◌<◌, ◌^◌, ◌+◌, ◌==◌, cond, None, Some, length, map, filter, is_some, IfOk, OnOk, OnErr};
+ghost use Rattle.std.specs.List.{list_any};
 ghost use Rattle.std.specs.Map.{lookup, remove_entry};
 ghost use Rattle.std.specs.BTreeMap.{insert_entry, is_at, IsOrdered};
 ghost use Rattle.ev_ledger.specs.Entries.{key_order, held_at, is_at_worker};
@@ -18,6 +19,7 @@ pub(crate) fn put(
     on: (Gen, Option<Gen>),
 ) -> Result<(), AllocError>
     ensures entries { OnOk result (members.new.entries ≡ insert_entry key_order members.old.entries place on) }
+    ensures found { OnOk result ((q : ℕ × ℕ) → lookup (is_at (key_order q)) members.new.entries ≡ cond (is_at (key_order place) q) (Some on) (lookup (is_at (key_order q)) members.old.entries)) }
     ensures err { OnErr result (members.new.entries ≡ members.old.entries) }
     ensures few { length members.old.entries < 2 ^ 63 }
     ensures ordered { IsOrdered key_order members.old }
@@ -34,6 +36,7 @@ pub(crate) fn put(
 pub(crate) fn take(members: &mut Members, place: (u64, u64)) -> Option<(Gen, Option<Gen>)>
     ensures found { result ≡ lookup (is_at (key_order place)) members.old.entries }
     ensures entries { members.new.entries ≡ remove_entry (is_at (key_order place)) members.old.entries }
+    ensures left { (q : ℕ × ℕ) → lookup (is_at (key_order q)) members.new.entries ≡ cond (is_at (key_order place) q) None (lookup (is_at (key_order q)) members.old.entries) }
     ensures ordered { IsOrdered key_order members.old }
 {
     // They stand in the order of their places.
@@ -58,6 +61,14 @@ pub(crate) fn is_there(members: &Members, place: (u64, u64)) -> bool
     members.contains_key(&place)
 }
 
+/// Whether a worker has a connection. It looks at one at most.
+pub(crate) fn has_any(members: &Members, worker: u64) -> bool
+    requires { worker + 1 < 2 ^ 64 }
+    ensures { result ≡ list_any (is_at_worker worker) members.now.entries }
+{
+    members.range((worker, 0)..(worker + 1, 0)).next().is_some()
+}
+
 /// The numbers of a worker's connections, each with its listener.
 pub(crate) fn held(
     alloc: Global,
@@ -74,4 +85,11 @@ pub(crate) fn held(
         .range((worker, 0)..(worker + 1, 0))
         .map(|(place, on)| (place.1, on.0))
         .collect(alloc)
+}
+
+/// The same connections, in memory of their own.
+pub(crate) fn copy_members(members: &Members) -> Result<Members, AllocError>
+    ensures { IfOk result (λ copied. copied.entries ≡ members.now.entries) }
+{
+    members.clone()
 }

@@ -28,11 +28,11 @@ pub all_so : {X : Type 0} (P Q : X → Type 0) → ((x : X) → P x → Q x) →
 all_so P Q so [] all = tt
 all_so P Q so (x ∷ xs) all = (so x all.0, all_so P Q so xs all.1)
 
-all_two : {X : Type 0} (P Q R : X → Type 0) → ((x : X) → P x → Q x → R x) → (xs : List X) → AllByRecursion P xs → AllByRecursion Q xs → AllByRecursion R xs
+pub all_two : {X : Type 0} (P Q R : X → Type 0) → ((x : X) → P x → Q x → R x) → (xs : List X) → AllByRecursion P xs → AllByRecursion Q xs → AllByRecursion R xs
 all_two P Q R so [] first second = tt
 all_two P Q R so (x ∷ xs) first second = (so x first.0 second.0, all_two P Q R so xs first.1 second.1)
 
-all_put : {X : Type 0} (le : X → X → Bool) (P : X → Type 0) (x : X) (ys : List X) → P x → AllByRecursion P ys → AllByRecursion P (put_by le x ys)
+pub all_put : {X : Type 0} (le : X → X → Bool) (P : X → Type 0) (x : X) (ys : List X) → P x → AllByRecursion P ys → AllByRecursion P (put_by le x ys)
 all_put le P x [] here all = (here, tt)
 all_put le P x (y ∷ ys) here all = by (le x y) (all_put le P x ys here all.1)
   where
@@ -127,7 +127,7 @@ more_kept before after holders more kept = record {
 }
 
 -- connections close
-own_number : (n : ℕ) → (n == n) ≡ true
+pub own_number : (n : ℕ) → (n == n) ≡ true
 own_number n = grind (arith, nat_tests)
 
 all_there : (drain : List Retired) → AllByRecursion (λ (row : Retired). has_row drain row.number ≡ true) drain

@@ -7,3 +7,5 @@ pub mod CloseLemmas
 pub mod LineLemmas
 pub mod ReapLemmas
 pub mod RetireLemmas
+pub mod FoundLemmas
+pub mod SettleLemmas

@@ -1,12 +1,15 @@
 ghost use Rattle.std.specs.Prelude.{◌≡◌, ◌<◌, ◌++◌, ◌∷◌, ℕ, List, true, false, length, IfOk, OnOk, OnErr};
 ghost use Rattle.std.specs.Arc.{arc_value};
+ghost use Rattle.std.specs.List.{list_any};
 ghost use Rattle.ev_types.specs.Statuses.{is_live};
 ghost use Rattle.ev_types.specs.declared.rows.GenRow.{GenRow};
 ghost use Rattle.ev_model.specs.World.{World, opening};
+ghost use Rattle.ev_model.specs.Dead.{last_picture};
 ghost use Rattle.ev_model.specs.Picture.{shown_of};
 ghost use Rattle.ev_model.specs.Publishing.{publish, dead_numbers, without_dead};
 ghost use Rattle.ev_model.specs.Signals.{drain_timeout};
 ghost use Rattle.ev_snapshot.specs.Changes.{IsOrdered};
+ghost use Rattle.ev_ledger.specs.Members.{count_of, is_of_worker};
 ghost use Rattle.ev_pictures.specs.Pictures.{published_answer, shown_after};
 ghost use Rattle.ev_drain.specs.Retired.{has_row};
 ghost use Rattle.ev_types.specs.declared.journals.Format.{Format};
@@ -14,6 +17,7 @@ ghost use Rattle.ev_retirement.specs.Retiring.{noted};
 ghost use Rattle.ev_retirement.specs.Holders.{AreNumbered, StandsFor, timed_out, timeout_answer, with_expired, with_retired, without_generation, without_generations};
 
 use crate::asking::Asking;
+use crate::closing::{Closing, enter_on_each};
 use crate::retiring::is_dropped;
 use ev_drain::Drain;
 use ev_ledger::Ledger;
@@ -33,17 +37,19 @@ pub struct Holders {
     pub(crate) drain: Drain,
     // Each generation that nothing holds is among those to be asked about.
     pub(crate) asking: Asking,
+    // Each connection that the next settle of its worker closes is among those that it looks at.
+    pub(crate) closing: Closing,
 }
 
 impl Model for Holders {
-    ghost use Rattle.ev_retirement.specs.Asking.{AreKept};
+    ghost use Rattle.ev_retirement.specs.Closing.{AreTracked};
     ghost use Rattle.ev_retirement.specs.Holders.{HoldersParts};
 
     ghost Value = { HoldersParts };
 
     ghost view = { λ h. record { pictures = h.pictures; ledger = h.ledger; drain = h.drain } };
 
-    ghost invariant = { λ h. AreKept h.asking (record { pictures = h.pictures; ledger = h.ledger; drain = h.drain }) };
+    ghost invariant = { λ h. AreTracked h.asking h.closing (record { pictures = h.pictures; ledger = h.ledger; drain = h.drain }) };
 }
 
 impl Holders {
@@ -57,6 +63,7 @@ impl Holders {
             ledger: Ledger::new(alloc),
             drain: Drain::new(alloc),
             asking: Asking::new(alloc),
+            closing: Closing::new(alloc),
         })
     }
 
@@ -79,13 +86,17 @@ impl Holders {
     /// The drain timeout of a listener's old generations: it came for those of this name that drain. It answers whether there
     /// was one for which it hadn't come; where there was none, the machine ignores it, and else the world is to be tidied. Out
     /// of memory, all stays as it was.
-    pub fn drain_timeout(&mut self, name: &Name) -> Result<bool, AllocError>
+    pub fn drain_timeout(&mut self, alloc: Global, name: &Name) -> Result<bool, AllocError>
         ensures answer { IfOk result (λ meant. (world : World) → StandsFor self.old world → (drain_timeout name.now world).1 ≡ timeout_answer meant) }
         ensures machine { IfOk result (λ meant. (world : World) → StandsFor self.old world → (drain_timeout name.now world).0 ≡ timed_out meant name.now world) }
         ensures world { OnOk result ((world : World) → StandsFor self.old world → StandsFor self.new (with_expired name.now world)) }
         ensures err { OnErr result (self.new ≡ self.old) }
     {
-        let Ok(_) = self.asking.ask_each(self.drain.waiting(name)) else {
+        let waiting = self.drain.waiting(name);
+        let Ok(_) = self.asking.ask_each(waiting) else {
+            return Err(AllocError);
+        };
+        let Ok(_) = enter_on_each(alloc, &mut self.closing, &self.ledger, waiting) else {
             return Err(AllocError);
         };
         Ok(self.drain.expire(name))
@@ -173,6 +184,30 @@ impl Holders {
         ensures { result ≡ has_row self.now.drain number }
     {
         self.drain.kind(number).is_some()
+    }
+
+    /// Whether a worker has a connection open. It is a look-up.
+    pub fn has_open(&self, worker: u32) -> bool
+        ensures parts { result ≡ list_any (is_of_worker worker) self.now.ledger }
+        ensures world { (world : World) → StandsFor self.now world → result ≡ list_any (is_of_worker worker) world.opened }
+    {
+        self.ledger.has_any(worker)
+    }
+
+    /// How many connections are open on a generation, as their listener or their cluster. It is a look-up.
+    pub fn count(&self, number: Gen) -> u64
+        ensures parts { result ≡ count_of number self.now.ledger }
+        ensures world { (world : World) → StandsFor self.now world → result ≡ count_of number world.opened }
+    {
+        self.ledger.count(number)
+    }
+
+    /// The version of the last picture.
+    pub fn version(&self) -> u64
+        ensures parts { result ≡ self.now.pictures.last.version }
+        ensures world { (world : World) → StandsFor self.now world → result ≡ (last_picture world).version }
+    {
+        self.pictures.version()
     }
 
     /// How many workers there are.

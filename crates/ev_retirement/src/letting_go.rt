@@ -1,36 +1,41 @@
-ghost use Rattle.std.specs.Prelude.{◌≡◌, ◌<◌, ◌||◌, ◌==◌, ℕ, true, false, List, length, OnOk, OnErr};
+ghost use Rattle.std.specs.Prelude.{◌≡◌, ◌<◌, ◌||◌, ◌==◌, ℕ, true, false, List, length, IfOk, OnOk, OnErr};
 ghost use Rattle.ev_model.specs.World.{OpenMember};
-ghost use Rattle.ev_model.specs.Connections.{closed, is_member};
+ghost use Rattle.ev_model.specs.Connections.{closed, is_member, is_open};
 ghost use Rattle.ev_model.specs.Dead.{is_forwarded_to};
 ghost use Rattle.ev_ledger.specs.Members.{StandsFor as HasOpened};
 ghost use Rattle.ev_drain.specs.Retired.{has_row};
 ghost use Rattle.ev_retirement.specs.Asking.{AreAskedOn, AsksMore, LetsGo, MayLeave, is_asked};
-ghost use Rattle.ev_retirement.specs.Closing.{is_among};
+ghost use Rattle.ev_retirement.specs.Closing.{AreFound, is_among};
 
 use crate::asking::Asking;
+use crate::closing::Closing;
 use ev_drain::Drain;
 use ev_ledger::Ledger;
 use ev_pictures::Pictures;
 use ev_types::Gen;
 use std::alloc::{AllocError, Global};
 
-/// Closes a worker's connection; what it was open on is to be asked about, where it was retired. Out of memory, it stays open.
+/// Closes a worker's connection, and answers whether it was open; what it was open on is to be asked about, where it was retired. Out
+/// of memory, it stays open.
 pub(crate) fn close_one(
     asking: &mut Asking,
+    closing: &mut Closing,
     drain: &Drain,
     ledger: &mut Ledger,
     worker: u32,
     conn: u64,
-) -> Result<(), AllocError>
+) -> Result<bool, AllocError>
+    ensures answer { IfOk result (λ answer. (opened : List OpenMember) → HasOpened ledger.old opened → answer ≡ is_open opened worker conn) }
     ensures world { OnOk result ((opened : List OpenMember) → HasOpened ledger.old opened → HasOpened ledger.new (closed conn worker opened).opened) }
     ensures goes { LetsGo drain.now asking.old asking.new ledger.old ledger.new }
+    ensures found { AreFound closing.old drain.now ledger.old → AreFound closing.new drain.now ledger.new }
     ensures err { OnErr result (ledger.new ≡ ledger.old) }
 {
     let Ok(_) = ask_on(asking, drain, ledger, worker, conn) else {
         return Err(AllocError);
     };
-    ledger.close(worker, conn);
-    Ok(())
+    closing.leave(worker, conn);
+    Ok(ledger.close(worker, conn))
 }
 
 /// What a worker's connections of these numbers are open on is to be asked about, where it was retired. Out of memory, some of it is.

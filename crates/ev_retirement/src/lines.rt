@@ -1,17 +1,19 @@
 ghost use Rattle.std.specs.Prelude.{◌≡◌, ◌<◌, ℕ, true, length, List, IfOk, OnOk, OnErr};
 ghost use Rattle.std.specs.List.{list_any};
 ghost use Rattle.ev_model.specs.World.{OpenMember, World};
-ghost use Rattle.ev_model.specs.Connections.{answer_of, is_open, served_by};
+ghost use Rattle.ev_model.specs.Connections.{answer_of, closed, is_open, served_by};
 ghost use Rattle.ev_model.specs.Dead.{is_open_on, picture_held};
 ghost use Rattle.ev_pictures.specs.Pictures.{StandsFor as HasPictures};
 ghost use Rattle.ev_snapshot.specs.Chosen.{host_of};
 ghost use Rattle.ev_ledger.specs.Members.{StandsFor as HasOpened};
-ghost use Rattle.ev_worker.specs.Batches.{outcome_answer, accepted_answer, accepted_as, closed_answer};
+ghost use Rattle.ev_worker.specs.Batches.{outcome_answer, accepted_answer, accepted_as, closed_answer, closed_as};
 ghost use Rattle.ev_worker.specs.declared.lines.Outcome.TheVariants.{Accepted as by_accept};
 ghost use Rattle.ev_retirement.specs.Asking.{LetsGo};
+ghost use Rattle.ev_retirement.specs.Closing.{AreFound};
 ghost use Rattle.ev_retirement.specs.Lines.{accept_leaves, event_leaves, lines_leave, opened_on};
 
 use crate::asking::Asking;
+use crate::closing::{Closing, enter_where_expired};
 use crate::letting_go::close_one;
 use ev_drain::Drain;
 use ev_ledger::Ledger;
@@ -26,6 +28,7 @@ use std::alloc::{AllocError, Global};
 /// about, where it was retired. Out of memory, some of the first are taken.
 pub(crate) fn take_lines(
     asking: &mut Asking,
+    closing: &mut Closing,
     drain: &Drain,
     ledger: &mut Ledger,
     worker: u32,
@@ -33,9 +36,10 @@ pub(crate) fn take_lines(
 ) -> Result<(), AllocError>
     ensures opened { OnOk result ((opened : List OpenMember) → HasOpened ledger.old opened → HasOpened ledger.new (lines_leave worker lines.now opened)) }
     ensures goes { LetsGo drain.now asking.old asking.new ledger.old ledger.new }
+    ensures found { AreFound closing.old drain.now ledger.old → AreFound closing.new drain.now ledger.new }
 {
     for line in lines {
-        take_line(asking, drain, ledger, worker, line)?;
+        take_line(asking, closing, drain, ledger, worker, line)?;
     }
     Ok(())
 }
@@ -43,6 +47,7 @@ pub(crate) fn take_lines(
 // Opens or closes what a line opened or closed.
 fn take_line(
     asking: &mut Asking,
+    closing: &mut Closing,
     drain: &Drain,
     ledger: &mut Ledger,
     worker: u32,
@@ -50,12 +55,30 @@ fn take_line(
 ) -> Result<(), AllocError>
     ensures opened { OnOk result ((opened : List OpenMember) → HasOpened ledger.old opened → HasOpened ledger.new (event_leaves worker line.now.event line.now.outcome opened)) }
     ensures goes { LetsGo drain.now asking.old asking.new ledger.old ledger.new }
+    ensures found { AreFound closing.old drain.now ledger.old → AreFound closing.new drain.now ledger.new }
 {
     match &line.event {
-        Event::Accept(ask) => take_accept(ledger, worker, ask.conn, &line.outcome),
-        Event::Close(conn) => close_one(asking, drain, ledger, worker, *conn),
+        Event::Accept(ask) => take_accept(closing, drain, ledger, worker, ask.conn, &line.outcome),
+        Event::Close(conn) => take_close(asking, closing, drain, ledger, worker, *conn),
         _ => Ok(()),
     }
+}
+
+// Closes what a close closed.
+fn take_close(
+    asking: &mut Asking,
+    closing: &mut Closing,
+    drain: &Drain,
+    ledger: &mut Ledger,
+    worker: u32,
+    conn: u64,
+) -> Result<(), AllocError>
+    ensures opened { OnOk result ((opened : List OpenMember) → HasOpened ledger.old opened → HasOpened ledger.new (closed conn worker opened).opened) }
+    ensures goes { LetsGo drain.now asking.old asking.new ledger.old ledger.new }
+    ensures found { AreFound closing.old drain.now ledger.old → AreFound closing.new drain.now ledger.new }
+{
+    let _ = close_one(asking, closing, drain, ledger, worker, conn)?;
+    Ok(())
 }
 
 /// How the machine answers a worker's accept, by the snapshot that the worker holds and by its connections that are open.
@@ -66,11 +89,13 @@ pub(crate) fn answer_accept(pictures: &Pictures, ledger: &Ledger, worker: u32, a
     if ledger.is_open(worker, ask.conn) {
         return Outcome::Accepted(Accepted::InUse);
     }
-    Outcome::Accepted(Accepted::Chosen(pictures.choose(worker, ask)))
+    Outcome::Accepted(Accepted::Chosen(pictures.held(worker).choose(ask)))
 }
 
 /// Opens what an accept opened. Out of memory, all stays as it was.
 pub(crate) fn take_accept(
+    closing: &mut Closing,
+    drain: &Drain,
     ledger: &mut Ledger,
     worker: u32,
     conn: u64,
@@ -78,16 +103,21 @@ pub(crate) fn take_accept(
 ) -> Result<(), AllocError>
     ensures opened { OnOk result ((opened : List OpenMember) → HasOpened ledger.old opened → HasOpened ledger.new (accept_leaves worker conn outcome.now opened)) }
     ensures kept { (number : ℕ) → list_any (is_open_on number) ledger.old ≡ true → list_any (is_open_on number) ledger.new ≡ true }
+    ensures found { AreFound closing.old drain.now ledger.old → AreFound closing.new drain.now ledger.new }
     ensures err { OnErr result (ledger.new ≡ ledger.old) }
 {
     match outcome {
-        Outcome::Accepted(accepted) => open_on(ledger, worker, conn, on_of(accepted)),
+        Outcome::Accepted(accepted) => {
+            open_on(closing, drain, ledger, worker, conn, on_of(accepted))
+        }
         Outcome::Closed(_) => Ok(()),
     }
 }
 
 // Opens a connection on a listener and, where it is forwarded, on a cluster, where none of its number is open.
 fn open_on(
+    closing: &mut Closing,
+    drain: &Drain,
     ledger: &mut Ledger,
     worker: u32,
     conn: u64,
@@ -95,6 +125,7 @@ fn open_on(
 ) -> Result<(), AllocError>
     ensures opened { OnOk result ((opened : List OpenMember) → HasOpened ledger.old opened → HasOpened ledger.new (opened_on worker conn on opened)) }
     ensures kept { (number : ℕ) → list_any (is_open_on number) ledger.old ≡ true → list_any (is_open_on number) ledger.new ≡ true }
+    ensures found { AreFound closing.old drain.now ledger.old → AreFound closing.new drain.now ledger.new }
     ensures err { OnErr result (ledger.new ≡ ledger.old) }
 {
     let Some(on) = on else {
@@ -103,6 +134,9 @@ fn open_on(
     if ledger.is_open(worker, conn) {
         return Ok(());
     }
+    let Ok(_) = enter_where_expired(closing, drain, worker, conn, on.0) else {
+        return Err(AllocError);
+    };
     ledger.open(worker, conn, on.0, on.1)
 }
 
@@ -128,6 +162,17 @@ fn closed_answer(closed: Closed) -> Answer
     match closed {
         Closed::Done => Answer::Done,
         Closed::NotOpen => Answer::NotOpen,
+    }
+}
+
+/// The answer to a close, by whether the connection was open.
+pub(crate) fn close_answer(was_open: bool) -> Answer
+    ensures { result ≡ closed_answer (closed_as was_open) }
+{
+    if was_open {
+        Answer::Done
+    } else {
+        Answer::NotOpen
     }
 }
 

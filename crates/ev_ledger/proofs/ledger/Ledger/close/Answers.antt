@@ -3,6 +3,7 @@ use Rattle.std.specs.Option.{is_some}
 use Rattle.ev_model.specs.Connections.{is_open, closed}
 use Rattle.ev_ledger.specs.Entries.{members_of}
 use Rattle.ev_ledger.proofs.EntryLemmas.{found_open, closed_members, sum_taken}
+use Rattle.ev_ledger.proofs.IndexLemmas.{none_taken, taken_left}
 use Rattle.ev_ledger.proofs.PlaceLemmas.{close_stands, closed_gone, answer_stands}
 use Rattle.ev_ledger.proofs.ledger.Ledger.close.Goals as goal
 
@@ -27,10 +28,15 @@ closed_some c =
     ∙ ap (λ ms. (closed c.args.conn c.args.worker ms).opened) c.self.view_is
 
 pub invariant_of-self : goal.invariant_of-self
-invariant_of-self c number =
-    let sums = sum_taken number (c.args.worker, c.args.conn) c.take.result c.self.inside.members.entries c.take.new.members.entries None c.take.ensures.found c.take.ensures.entries c.in_default.is in
-    let counts = c.self.invariant number in
-    omega (arith, sums, counts)
+invariant_of-self c = record {
+  counted = λ number.
+      let sums = sum_taken number (c.args.worker, c.args.conn) c.take.result c.self.inside.members.entries c.take.new.members.entries None c.take.ensures.found c.take.ensures.entries c.in_default.is in
+      let counts = c.self.invariant.counted number in
+      omega (arith, sums, counts);
+  none_zero = c.self.invariant.none_zero;
+  indexed = none_taken c.self.inside.places (c.args.worker, c.args.conn) c.self.inside.members.entries c.take.new.members.entries
+      (sym c.take.ensures.found ∙ c.in_default.is) c.take.ensures.left c.self.invariant.indexed;
+}
 
 pub returns-in_default-clause-answer : goal.returns-in_default-clause-answer
 returns-in_default-clause-answer c = answer_none c
@@ -47,15 +53,20 @@ returns-in_default-clause-world c opened stands = closed_none c ∙ close_stands
 pub lower_on-requires : goal.lower_on-requires
 lower_on-requires c number =
     let sums = sum_taken number (c.args.worker, c.args.conn) c.take.result c.self.inside.members.entries c.take.new.members.entries (Some c.in-Some.on) c.take.ensures.found c.take.ensures.entries c.in-Some.is in
-    let counts = c.self.invariant number in
+    let counts = c.self.invariant.counted number in
     omega (arith, sums, counts)
 
 pub invariant_of-self-2 : goal.invariant_of-self-2
-invariant_of-self-2 c number =
-    let sums = sum_taken number (c.args.worker, c.args.conn) c.take.result c.self.inside.members.entries c.take.new.members.entries (Some c.in-Some.on) c.take.ensures.found c.take.ensures.entries c.in-Some.is in
-    let counts = c.self.invariant number in
-    let lowered = c.lower_on.ensures number in
-    omega (arith, sums, counts, lowered)
+invariant_of-self-2 c = record {
+  counted = λ number.
+      let sums = sum_taken number (c.args.worker, c.args.conn) c.take.result c.self.inside.members.entries c.take.new.members.entries (Some c.in-Some.on) c.take.ensures.found c.take.ensures.entries c.in-Some.is in
+      let counts = c.self.invariant.counted number in
+      let lowered = c.lower_on.ensures.counts number in
+      omega (arith, sums, counts, lowered);
+  none_zero = c.lower_on.ensures.none_zero c.self.invariant.none_zero;
+  indexed = taken_left c.self.inside.places c.leave.new.places (c.args.worker, c.args.conn) c.number.result c.in-Some.on c.self.inside.members.entries c.take.new.members.entries
+      c.number.ensures.number (sym c.take.ensures.found ∙ c.in-Some.is) c.leave.ensures c.take.ensures.left c.self.invariant.indexed;
+}
 
 pub returns-clause-answer : goal.returns-clause-answer
 returns-clause-answer c = answer_some c

@@ -6,7 +6,7 @@ use Rattle.ev_ledger.proofs.ledger.Ledger.count.Goals as goal
 
 of_members : goal.returns-clause-count
 of_members c =
-    c.count_in.ensures ∙ c.self.invariant c.number.result ∙ count_members c.number.result c.self.inside.members.entries
+    c.count_in.ensures ∙ c.self.invariant.counted c.number.result ∙ count_members c.number.result c.self.inside.members.entries
     ∙ ap (count_of c.number.result) c.self.view_is ∙ ap (λ n. count_of n c.args.self.now) c.number.ensures.number
 
 pub returns-clause-count : goal.returns-clause-count

@@ -1,31 +1,37 @@
-use Rattle.std.proofs.Common.{◌+◌, nat_eq, sym, ap, ◌∙◌, arith}
+use Rattle.std.proofs.Common.{◌+◌, nat_eq, sym, ap, ◌∙◌, subst, arith}
 use Rattle.std.specs.Option.{unwrap_or}
 use Rattle.std.specs.Map.{lookup, values_of}
 use Rattle.std.specs.List.{sum_by}
 use Rattle.ev_model.specs.Sorted.{put_by}
 use Rattle.ev_model.specs.Connections.{is_open, member_on}
 use Rattle.ev_ledger.specs.Members.{comes_before}
-use Rattle.ev_ledger.specs.Entries.{members_of, weight}
+use Rattle.ev_ledger.specs.Entries.{AreIndexed, members_of, weight}
 use Rattle.ev_ledger.proofs.EntryLemmas.{found_open, put_members, sum_put, sum_few}
+use Rattle.ev_ledger.proofs.IndexLemmas.{entered, entered_left, none_there}
 use Rattle.ev_ledger.proofs.PlaceLemmas.{open_stands}
 use Rattle.ev_ledger.proofs.ledger.Ledger.open.Goals as goal
 
 pub raise_on-requires-clause-fits : goal.raise_on-requires-clause-fits
 raise_on-requires-clause-fits c number =
     let same = ap (λ es. unwrap_or (lookup (nat_eq number) es) 0) c.reserve.ensures.entries in
-    let counts = c.self.invariant number in
+    let counts = c.self.invariant.counted number in
     let few = c.put.ensures.few in
     let sums = sum_few number c.self.inside.members.entries in
     omega (arith, same, counts, few, sums)
 
 pub invariant_of-self-2 : goal.invariant_of-self-2
-invariant_of-self-2 c number =
+invariant_of-self-2 c =
     let none = found_open c.args.worker c.args.conn c.self.inside.members.entries ∙ ap (λ ms. is_open ms c.args.worker c.args.conn) c.self.view_is ∙ c.requires.apart in
-    c.raise_on.ensures number
-    ∙ ap (λ es. unwrap_or (lookup (nat_eq number) es) 0 + weight number (c.args.listener, c.args.cluster)) c.reserve.ensures.entries
-    ∙ ap (λ n. n + weight number (c.args.listener, c.args.cluster)) (c.self.invariant number)
-    ∙ sym (sum_put number (c.args.worker, c.args.conn) (c.args.listener, c.args.cluster) c.self.inside.members.entries c.put.ensures.ordered none)
-    ∙ ap (λ es. sum_by (weight number) (values_of es)) (sym c.in-Ok-put.ensures.entries)
+    record {
+      counted = λ number. c.raise_on.ensures.counts number
+          ∙ ap (λ es. unwrap_or (lookup (nat_eq number) es) 0 + weight number (c.args.listener, c.args.cluster)) c.reserve.ensures.entries
+          ∙ ap (λ n. n + weight number (c.args.listener, c.args.cluster)) (c.self.invariant.counted number)
+          ∙ sym (sum_put number (c.args.worker, c.args.conn) (c.args.listener, c.args.cluster) c.self.inside.members.entries c.put.ensures.ordered none)
+          ∙ ap (λ es. sum_by (weight number) (values_of es)) (sym c.in-Ok-put.ensures.entries);
+      none_zero = c.raise_on.ensures.none_zero (λ number h. c.self.invariant.none_zero number (sym (ap (lookup (nat_eq number)) c.reserve.ensures.entries) ∙ h));
+      indexed = entered c.self.inside.places c.enter.new.places (c.args.worker, c.args.conn) c.number.result (c.args.listener, c.args.cluster) c.self.inside.members.entries c.put.new.members.entries
+          c.number.ensures.number (none_there _ none) c.in-Ok-enter.ensures.entered c.in-Ok-put.ensures.found c.self.invariant.indexed;
+    }
 
 opened : goal.returns-clause-opened
 opened c =
@@ -40,3 +46,15 @@ returns-clause-opened c = opened c
 pub returns-clause-world : goal.returns-clause-world
 returns-clause-world c world stands =
     opened c ∙ open_stands c.args.worker c.args.conn c.args.listener c.args.cluster c.args.self.now world c.requires.apart stands
+
+pub invariant_of-self-in_default-put : goal.invariant_of-self-in_default-put
+invariant_of-self-in_default-put c =
+    let none = found_open c.args.worker c.args.conn c.self.inside.members.entries ∙ ap (λ ms. is_open ms c.args.worker c.args.conn) c.self.view_is ∙ c.requires.apart in
+    record {
+      counted = λ number. ap (λ es. unwrap_or (lookup (nat_eq number) es) 0) c.reserve.ensures.entries ∙ c.self.invariant.counted number
+          ∙ ap (λ es. sum_by (weight number) (values_of es)) (sym c.in_default-put.ensures.err);
+      none_zero = λ number h. c.self.invariant.none_zero number (sym (ap (lookup (nat_eq number)) c.reserve.ensures.entries) ∙ h);
+      indexed = subst (AreIndexed c.leave.new.places) (sym c.in_default-put.ensures.err)
+          (entered_left c.self.inside.places c.enter.new.places c.leave.new.places (c.args.worker, c.args.conn) c.number.result c.self.inside.members.entries
+          (none_there _ none) c.in-Ok-enter.ensures.entered c.leave.ensures c.self.invariant.indexed);
+    }

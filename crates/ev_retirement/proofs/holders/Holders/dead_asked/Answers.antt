@@ -17,6 +17,6 @@ returns-clause-dead c =
     c.loop-number.invariant.dead
     ∙ ap (filter (is_dead_now c.args.self.now)) (take_all c.loop-number.number-index numbers past ∙ c.as_slice-number-items.ensures.value ∙ c.in_ok-numbers.ensures.numbers)
     ∙ ap (λ (v : HoldersParts). filter (is_dead_now v) c.self.inside.asking.asked.keys) (sym c.self.view_is)
-    ∙ all_dead (is_dead_row Two (λ n. is_shown_by n holders.pictures) holders.ledger) c.self.inside.asking.asked holders.drain c.numbers.ensures.ordered c.self.invariant.ordered
-    (dead_asked c.self.inside.asking holders c.self.invariant.asked)
+    ∙ all_dead (is_dead_row Two (λ n. is_shown_by n holders.pictures) holders.ledger) c.self.inside.asking.asked holders.drain c.numbers.ensures.ordered c.self.invariant.asked.ordered
+    (dead_asked c.self.inside.asking holders c.self.invariant.asked.asked)
     ∙ ap (λ (v : HoldersParts). dead_of Two (λ n. is_shown_by n v.pictures) v.ledger v.drain) c.self.view_is

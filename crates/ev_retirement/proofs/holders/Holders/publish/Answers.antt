@@ -8,14 +8,20 @@ use Rattle.ev_retirement.proofs.HoldLemmas.{publish_stands}
 use Rattle.ev_retirement.proofs.holders.Holders.publish.Goals as goal
 
 pub invariant_of-self : goal.invariant_of-self
-invariant_of-self c = more_kept c.self.inside.asking c.recall.new.self _ c.recall.ensures.more c.self.invariant
+invariant_of-self c = record {
+  asked = more_kept c.self.inside.asking c.recall.new.self _ c.recall.ensures.more c.self.invariant.asked;
+  found = c.self.invariant.found;
+}
 
 pub invariant_of-self-2 : goal.invariant_of-self-2
 invariant_of-self-2 c =
     let holders : HoldersParts = record { pictures = c.self.inside.pictures; ledger = c.self.inside.ledger; drain = c.self.inside.drain } in
-    publish_kept c.publish.result (shown_after c.args.changes.now c.self.inside.pictures) c.recall.new.self holders c.publish.new.self c.publish.ensures.published c.publish.ensures.err
-    (λ number. ap (λ v. is_aside c.recall.new.self v number) (sym c.version.ensures.last) ∙ c.in-Ok.ensures.none number)
-    (more_kept c.self.inside.asking c.recall.new.self holders c.recall.ensures.more c.self.invariant)
+    record {
+      asked = publish_kept c.publish.result (shown_after c.args.changes.now c.self.inside.pictures) c.recall.new.self holders c.publish.new.self c.publish.ensures.published c.publish.ensures.err
+          (λ number. ap (λ v. is_aside c.recall.new.self v number) (sym c.version.ensures.last) ∙ c.in-Ok.ensures.none number)
+          (more_kept c.self.inside.asking c.recall.new.self holders c.recall.ensures.more c.self.invariant.asked);
+      found = c.self.invariant.found;
+    }
 
 pub returns-clause-world : goal.returns-clause-world
 returns-clause-world c =

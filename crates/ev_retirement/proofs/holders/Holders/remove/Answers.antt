@@ -4,6 +4,7 @@ use Rattle.ev_retirement.proofs.HoldLemmas.{remove_stands}
 use Rattle.ev_drain.specs.Retired.{Retired}
 use Rattle.ev_retirement.specs.Asking.{AreKept}
 use Rattle.ev_retirement.proofs.AskLemmas.{removed_kept}
+use Rattle.ev_retirement.proofs.FoundLemmas.{removed_found}
 use Rattle.ev_retirement.proofs.holders.Holders.remove.Goals as goal
 
 pub returns : goal.returns
@@ -16,5 +17,8 @@ returns c = record {
 pub invariant_of-self : goal.invariant_of-self
 invariant_of-self c =
     let holders : HoldersParts = record { pictures = c.self.inside.pictures; ledger = c.self.inside.ledger; drain = c.self.inside.drain } in
-    subst (λ (drain : List Retired). AreKept c.forget.new.self (record holders { drain = drain })) (sym c.remove.ensures.removed)
-    (removed_kept c.args.number c.self.inside.asking c.forget.new.self holders c.forget.ensures c.self.invariant)
+    record {
+      asked = subst (λ (drain : List Retired). AreKept c.forget.new.self (record holders { drain = drain })) (sym c.remove.ensures.removed)
+          (removed_kept c.args.number c.self.inside.asking c.forget.new.self holders c.forget.ensures c.self.invariant.asked);
+      found = removed_found c.args.number c.self.inside.closing c.self.inside.drain c.remove.new.self c.self.inside.ledger c.remove.ensures.removed c.self.invariant.found;
+    }

@@ -1,4 +1,4 @@
-use Rattle.std.proofs.Common.{◌≡◌, ℕ, List, sym, ap, ◌∙◌, subst}
+use Rattle.std.proofs.Common.{◌≡◌, ℕ, List, not, sym, ap, ◌∙◌, subst}
 use Rattle.std.specs.Arc.{arc_value}
 use Rattle.ev_types.specs.declared.events.Answer.TheVariants.{Settled}
 use Rattle.ev_model.specs.World.{last_version}
@@ -9,8 +9,9 @@ use Rattle.ev_retirement.proofs.CloseLemmas.{settle_stands, settle_told}
 use Rattle.ev_pictures.specs.Pictures.{PicturesParts}
 use Rattle.ev_retirement.specs.declared.asking.Asking.{Asking}
 use Rattle.ev_retirement.specs.Asking.{AreKept, LetsGo}
-use Rattle.ev_retirement.specs.Closing.{is_among}
+use Rattle.ev_retirement.specs.Closing.{AreFound, is_among}
 use Rattle.ev_retirement.proofs.AskLemmas.{go_kept, more_kept, settled_kept}
+use Rattle.ev_retirement.proofs.FoundLemmas.{found_left}
 use Rattle.ev_retirement.proofs.GoLemmas.{asked_go, more_on}
 use Rattle.ev_retirement.proofs.MoreLemmas.{same_more}
 use Rattle.ev_retirement.proofs.holders.Holders.settle.Goals as goal
@@ -38,19 +39,27 @@ returns-clause-world c world stands =
     (c.in-Ok-settle.ensures.world world here.pictures)
 
 pub invariant_of-self : goal.invariant_of-self
-invariant_of-self c = more_kept c.self.inside.asking c.ask_on_each.new.asking _ c.ask_on_each.ensures.more c.self.invariant
+invariant_of-self c = record {
+  asked = more_kept c.self.inside.asking c.ask_on_each.new.asking _ c.ask_on_each.ensures.more c.self.invariant.asked;
+  found = c.self.invariant.found;
+}
 
 pub invariant_of-self-in_default-recall_left : goal.invariant_of-self-in_default-recall_left
-invariant_of-self-in_default-recall_left c =
-    more_kept c.ask_on_each.new.asking c.recall_left.new.asking _ c.recall_left.ensures.more
-    (more_kept c.self.inside.asking c.ask_on_each.new.asking _ c.ask_on_each.ensures.more c.self.invariant)
+invariant_of-self-in_default-recall_left c = record {
+  asked = more_kept c.ask_on_each.new.asking c.recall_left.new.asking _ c.recall_left.ensures.more
+      (more_kept c.self.inside.asking c.ask_on_each.new.asking _ c.ask_on_each.ensures.more c.self.invariant.asked);
+  found = c.self.invariant.found;
+}
 
 pub invariant_of-self-in_default-settle : goal.invariant_of-self-in_default-settle
 invariant_of-self-in_default-settle c =
     let holders : HoldersParts = record { pictures = c.self.inside.pictures; ledger = c.self.inside.ledger; drain = c.self.inside.drain } in
-    subst (λ (pictures : PicturesParts). AreKept c.recall_left.new.asking (record holders { pictures = pictures })) (sym c.in_default-settle.ensures.err)
-    (more_kept c.ask_on_each.new.asking c.recall_left.new.asking holders c.recall_left.ensures.more
-    (more_kept c.self.inside.asking c.ask_on_each.new.asking holders c.ask_on_each.ensures.more c.self.invariant))
+    record {
+      asked = subst (λ (pictures : PicturesParts). AreKept c.recall_left.new.asking (record holders { pictures = pictures })) (sym c.in_default-settle.ensures.err)
+          (more_kept c.ask_on_each.new.asking c.recall_left.new.asking holders c.recall_left.ensures.more
+          (more_kept c.self.inside.asking c.ask_on_each.new.asking holders c.ask_on_each.ensures.more c.self.invariant.asked));
+      found = c.self.invariant.found;
+    }
 
 pub invariant_of-self-2 : goal.invariant_of-self-2
 invariant_of-self-2 c =
@@ -59,12 +68,17 @@ invariant_of-self-2 c =
     let worker : ℕ = c.args.worker in
     let kept : AreKept asking holders =
     more_kept c.ask_on_each.new.asking asking holders c.recall_left.ensures.more
-    (more_kept c.self.inside.asking c.ask_on_each.new.asking holders c.ask_on_each.ensures.more c.self.invariant) in
+    (more_kept c.self.inside.asking c.ask_on_each.new.asking holders c.ask_on_each.ensures.more c.self.invariant.asked) in
     let settled : AreKept asking (record holders { pictures = c.settle.new.self }) =
     subst (λ (pictures : PicturesParts). AreKept asking (record holders { pictures = pictures })) (sym c.in-Ok-settle.ensures.settled)
     (settled_kept worker asking holders c.in-Ok-recall_left.ensures.left kept) in
-    go_kept asking asking (record holders { pictures = c.settle.new.self }) c.close_all.new.ledger
-    (subst (LetsGo holders.drain asking asking holders.ledger) (sym c.close_all.ensures)
-    (asked_go (is_among worker c.as_slice-numbers.result.now) holders.drain asking asking holders.ledger (same_more asking)
-    (more_on c.ask_on_each.new.asking asking (is_among worker c.as_slice-numbers.result.now) holders.drain holders.ledger c.recall_left.ensures.more c.in-Ok-ask_on_each.ensures.asked)))
-    settled
+    record {
+      asked = go_kept asking asking (record holders { pictures = c.settle.new.self }) c.close_all.new.ledger
+          (subst (LetsGo holders.drain asking asking holders.ledger) (sym c.close_all.ensures)
+          (asked_go (is_among worker c.as_slice-numbers.result.now) holders.drain asking asking holders.ledger (same_more asking)
+          (more_on c.ask_on_each.new.asking asking (is_among worker c.as_slice-numbers.result.now) holders.drain holders.ledger c.recall_left.ensures.more c.in-Ok-ask_on_each.ensures.asked)))
+          settled;
+      found = subst (AreFound c.leave_each.new.self holders.drain) (sym c.close_all.ensures)
+          (found_left (λ m. not (is_among worker c.as_slice-numbers.result.now m)) c.self.inside.closing c.leave_each.new.self holders.drain (λ m. c.leave_each.ensures m.worker m.connection)
+          holders.ledger c.self.invariant.found);
+    }

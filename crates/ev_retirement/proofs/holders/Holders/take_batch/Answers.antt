@@ -20,4 +20,7 @@ returns c = record {
 }
 
 pub invariant_of-self : goal.invariant_of-self
-invariant_of-self c = go_kept c.self.inside.asking c.take_lines.new.asking _ c.take_lines.new.ledger c.take_lines.ensures.goes c.self.invariant
+invariant_of-self c = record {
+  asked = go_kept c.self.inside.asking c.take_lines.new.asking _ c.take_lines.new.ledger c.take_lines.ensures.goes c.self.invariant.asked;
+  found = c.take_lines.ensures.found c.self.invariant.found;
+}

@@ -1,0 +1,51 @@
+ghost use Rattle.std.specs.Prelude.{◌≡◌, ℕ, ◌<◌, ◌^◌, ◌+◌, ◌==◌, true, false, cond, map, filter, IfOk, OnOk, OnErr};
+ghost use Rattle.std.specs.BTreeSet.{contains};
+ghost use Rattle.std.specs.BTreeMap.{is_at};
+ghost use Rattle.ev_ledger.specs.Entries.{place_of, place_on_order, stands_on};
+
+use std::alloc::{AllocError, Global};
+use std::collections::BTreeSet;
+
+/// The open connections by their listener: its number, and each one's worker and number. A listener's number has 64 bits here, so
+/// that there is one above each.
+pub(crate) type Places = BTreeSet<(u64, (u64, u64))>;
+
+/// Puts a connection among those of its listener. Out of memory, they stay as they were.
+pub(crate) fn enter(places: &mut Places, key: (u64, (u64, u64))) -> Result<(), AllocError>
+    ensures entered { OnOk result ((q : ℕ × (ℕ × ℕ)) → contains place_on_order places.new q ≡ cond (is_at (place_on_order key) q) true (contains place_on_order places.old q)) }
+    ensures err { OnErr result ((q : ℕ × (ℕ × ℕ)) → contains place_on_order places.new q ≡ contains place_on_order places.old q) }
+{
+    let Ok(_) = places.insert(key) else {
+        return Err(AllocError);
+    };
+    Ok(())
+}
+
+/// Takes a connection out of those of its listener. It takes no memory.
+pub(crate) fn leave(places: &mut Places, key: (u64, (u64, u64)))
+    ensures { (q : ℕ × (ℕ × ℕ)) → contains place_on_order places.new q ≡ cond (is_at (place_on_order key) q) false (contains place_on_order places.old q) }
+{
+    places.remove(&key);
+}
+
+/// The worker and the number of each connection on a listener.
+pub(crate) fn places_on(
+    alloc: Global,
+    places: &Places,
+    listener: u64,
+) -> Result<Vec<(u64, u64)>, AllocError>
+    requires { listener + 1 < 2 ^ 64 }
+    ensures { IfOk result (λ on. on.items ≡ map place_of (filter (stands_on listener) places.now.keys)) }
+{
+    places
+        .range((listener, (0, 0))..(listener + 1, (0, 0)))
+        .map(|key| key.1)
+        .collect(alloc)
+}
+
+/// The same connections, in memory of their own.
+pub(crate) fn copy_places(places: &Places) -> Result<Places, AllocError>
+    ensures { IfOk result (λ copied. copied.keys ≡ places.now.keys) }
+{
+    places.clone()
+}

@@ -1,0 +1,173 @@
+-- Those that a settle looks at and that are on listeners whose drain timeout came are all that it closes.
+use Rattle.std.proofs.Common.{◌≡◌, ℕ, ◌+◌, Bool, true, false, ◌&&◌, ◌||◌, ◌==◌, cond, List, [], ◌∷◌, filter, map, find, Option, Some, None, refl, sym, ap, ◌∙◌, arith}
+use Rattle.std.specs.List.{list_any, AllByRecursion}
+use Rattle.std.specs.List.Sorted.{IsStrictlySortedBy}
+use Rattle.std.specs.Option.{option_map, unwrap_or}
+use Rattle.std.specs.Ordering.{is_eq, nat_cmp}
+use Rattle.std.specs.declared.cmp.Ordering.{Ordering}
+use Rattle.std.specs.declared.cmp.Ordering.TheVariants.{Less}
+use Rattle.std.specs.BTreeMap.{is_at}
+use Rattle.std.specs.BTreeMap.Range.{range_contains}
+use Rattle.std.specs.BTreeSet.{BTreeSet, IsOrdered, keys_between}
+use Rattle.std.specs.declared.ops.Bound.TheVariants.{Included, Excluded}
+use Rattle.std.proofs.lemmas.Bool.{false≢true}
+use Rattle.std.proofs.lemmas.Bool.Decides.{nat_tests}
+use Rattle.std.proofs.lemmas.Cmp.{nat_cmp_total}
+use Rattle.std.proofs.lemmas.List.Kept.{IsStrictlySortedBy-filter}
+use Rattle.std.proofs.lemmas.Map.Lookups.{btree_set_from_contains, exact_unsigned}
+use Rattle.std.proofs.lemmas.Map.Views.{any-filter_same}
+use Rattle.ev_model.specs.World.{OpenMember}
+use Rattle.ev_model.specs.Connections.{is_member}
+use Rattle.ev_ledger.specs.Entries.{key_order}
+use Rattle.ev_ledger.specs.Members.{AreApart, AreInOrder, connection_of, held_of, is_of_worker, place_order}
+use Rattle.ev_ledger.proofs.IndexLemmas.{found_any}
+use Rattle.ev_ledger.proofs.PlaceLemmas.{same_place}
+use Rattle.ev_drain.specs.Retired.{Retired, is_expired}
+use Rattle.ev_retirement.specs.declared.closing.Closing.{Closing}
+use Rattle.ev_retirement.specs.Closing.{AreFound, closes_at, is_found, is_on_expired, is_place_of, number_of, numbers_closing, numbers_found}
+use Rattle.ev_retirement.proofs.MoreLemmas.{same_number}
+
+-- the places from a worker's first on and before the next worker's are the worker's
+range_is : (w : ℕ) (k : ℕ × ℕ) → range_contains key_order (Included (w, 0)) (Excluded (w + 1, 0)) k ≡ (k.0 == w)
+range_is w k = grind (arith, nat_tests)
+
+pub range_of_worker : (w : ℕ) (places : BTreeSet (ℕ × ℕ)) → keys_between key_order (Included (w, 0)) (Excluded (w + 1, 0)) places ≡ filter (is_place_of w) places.keys
+range_of_worker w places = λ i. filter (λ k. range_is w k i) places.keys
+
+-- numbers of some elements of an ordered list, which ascend where these do
+module _ {X : Type 0} (R : X → X → Ordering) (p : X → Bool) (f : X → ℕ) (up : (x y : X) → p x ≡ true → p y ≡ true → R x y ≡ Less → nat_cmp (f x) (f y) ≡ Less) where
+  above : (x : X) → p x ≡ true → (ys : List X) → AllByRecursion (λ y. R x y ≡ Less) ys → AllByRecursion (λ n. nat_cmp (f x) n ≡ Less) (map f (filter p ys))
+  above x here [] all = tt
+  above x here (y ∷ ys) all = by (p y) refl (above x here ys all.1)
+    where
+      by : (t : Bool) → p y ≡ t → AllByRecursion (λ n. nat_cmp (f x) n ≡ Less) (map f (filter p ys))
+          → AllByRecursion (λ n. nat_cmp (f x) n ≡ Less) (map f (cond t (y ∷ filter p ys) (filter p ys)))
+      by true at rest = (up x y here at all.0, rest)
+      by false at rest = rest
+
+  ascend : (xs : List X) → IsStrictlySortedBy R xs → IsStrictlySortedBy nat_cmp (map f (filter p xs))
+  unfolding IsStrictlySortedBy
+  ascend [] sorted = tt
+  ascend (x ∷ xs) sorted = by (p x) refl (ascend xs sorted.1)
+    where
+      by : (t : Bool) → p x ≡ t → IsStrictlySortedBy nat_cmp (map f (filter p xs)) → IsStrictlySortedBy nat_cmp (map f (cond t (x ∷ filter p xs) (filter p xs)))
+      by true at rest = (above x at xs sorted.0, rest)
+      by false at rest = rest
+
+abbrev set_of : List ℕ → BTreeSet ℕ
+set_of numbers = record { keys = numbers }
+
+same_test : (number other : ℕ) → is_eq (nat_cmp number other) ≡ (other == number)
+same_test number other = grind (arith, nat_tests)
+
+place_up : (w a b x y : ℕ) → (a == w) ≡ true → (b == w) ≡ true → key_order (a, x) (b, y) ≡ Less → nat_cmp x y ≡ Less
+place_up w a b x y first second less = grind (arith, nat_tests)
+
+and_first : (a b : Bool) → (a && b) ≡ true → a ≡ true
+and_first true b h = refl
+and_first false b h = h
+
+and_so : (a b : Bool) → (a ≡ true → b ≡ true) → (a && b) ≡ a
+and_so true b so = so refl
+and_so false b so = refl
+
+module _ (worker : ℕ) (drain : List Retired) where
+  abbrev leaves : OpenMember → Bool
+  leaves m = is_of_worker worker m && is_expired drain m.listener
+
+  abbrev leaves_at : ℕ → OpenMember → Bool
+  leaves_at n m = is_member worker n m && is_expired drain m.listener
+
+  -- the numbers of those that close
+  numbers_are : (ms : List OpenMember) → map (λ (m : OpenMember). m.connection) (filter leaves ms) ≡ numbers_closing drain (held_of worker ms)
+  numbers_are [] = refl
+  numbers_are (m ∷ ms) = by (is_of_worker worker m) (is_expired drain m.listener) refl (numbers_are ms)
+    where
+      by : (a b : Bool) → is_expired drain m.listener ≡ b → map (λ (x : OpenMember). x.connection) (filter leaves ms) ≡ numbers_closing drain (held_of worker ms)
+          → map (λ (x : OpenMember). x.connection) (cond (a && b) (m ∷ filter leaves ms) (filter leaves ms))
+          ≡ numbers_closing drain (map connection_of (cond a (m ∷ filter (is_of_worker worker) ms) (filter (is_of_worker worker) ms)))
+      by true true is rest = simp is (ap (λ ns. m.connection ∷ ns) rest)
+      by true false is rest = simp is rest
+      by false b is rest = rest
+
+  -- a number is among them
+  among : (n : ℕ) (ms : List OpenMember) → list_any (is_at (nat_cmp n)) (map (λ (m : OpenMember). m.connection) (filter leaves ms)) ≡ list_any (leaves_at n) ms
+  among n [] = refl
+  among n (m ∷ ms) = by (is_of_worker worker m) (is_expired drain m.listener) (among n ms)
+    where
+      and_none : (a : Bool) → (a && false) ≡ false
+      and_none true = refl
+      and_none false = refl
+
+      and_own : (a : Bool) → (a && true) ≡ a
+      and_own true = refl
+      and_own false = refl
+
+      by : (a b : Bool) → list_any (is_at (nat_cmp n)) (map (λ (x : OpenMember). x.connection) (filter leaves ms)) ≡ list_any (leaves_at n) ms
+          → list_any (is_at (nat_cmp n)) (map (λ (x : OpenMember). x.connection) (cond (a && b) (m ∷ filter leaves ms) (filter leaves ms)))
+          ≡ (((a && (m.connection == n)) && b) || list_any (leaves_at n) ms)
+      by true true rest =
+          ap (λ b. b || list_any (is_at (nat_cmp n)) (map (λ (x : OpenMember). x.connection) (filter leaves ms))) (same_test n m.connection ∙ sym (and_own (m.connection == n)))
+          ∙ ap (λ b. ((m.connection == n) && true) || b) rest
+      by true false rest = rest ∙ sym (ap (λ b. b || list_any (leaves_at n) ms) (and_none (m.connection == n)))
+      by false b rest = rest
+
+  -- and closes where the ledger is asked
+  at_one : (n : ℕ) (ms : List OpenMember) → AreApart ms → closes_at worker ms drain n ≡ list_any (leaves_at n) ms
+  at_one n ms apart = by (find (is_member worker n) ms) ∙ found_any (λ m. is_expired drain m.listener) worker n ms apart
+    where
+      by : (found : Option OpenMember) → is_on_expired drain (option_map (λ (m : OpenMember). (m.listener, m.cluster)) found)
+          ≡ unwrap_or (option_map (λ (m : OpenMember). is_expired drain m.listener) found) false
+      by None = refl
+      by (Some m) = refl
+
+  -- one that closes is looked at
+  member_numbers : (m : OpenMember) (n : ℕ) → is_member worker n m ≡ true → (m.worker ≡ worker) × (m.connection ≡ n)
+  member_numbers m n at = by (m.worker == worker) (m.connection == n) refl refl at
+    where
+      by : (a b : Bool) → (m.worker == worker) ≡ a → (m.connection == n) ≡ b → (a && b) ≡ true → (m.worker ≡ worker) × (m.connection ≡ n)
+      by true b one two h = (same_number m.worker worker one, same_number m.connection n (two ∙ h))
+      by false b one two h = absurd (false≢true h)
+
+  looked_at : (closing : Closing) (n : ℕ) (ms : List OpenMember) → AreFound closing drain ms → list_any (leaves_at n) ms ≡ true → is_found closing worker n ≡ true
+  looked_at closing n [] found h = absurd (false≢true h)
+  looked_at closing n (m ∷ ms) found h = by (is_member worker n m) refl (is_expired drain m.listener) refl h (looked_at closing n ms found.1)
+    where
+      by : (a : Bool) → is_member worker n m ≡ a → (b : Bool) → is_expired drain m.listener ≡ b → ((a && b) || list_any (leaves_at n) ms) ≡ true
+          → (list_any (leaves_at n) ms ≡ true → is_found closing worker n ≡ true) → is_found closing worker n ≡ true
+      by true at true is h rest =
+          let same = member_numbers m n at in
+          ap (λ w. is_found closing w n) (sym same.0) ∙ ap (is_found closing m.worker) (sym same.1) ∙ found.0 is
+      by true at false is h rest = rest h
+      by false at b is h rest = rest h
+
+  in_numbers : (n : ℕ) (places : List (ℕ × ℕ)) → list_any (is_at (key_order (worker, n))) places ≡ list_any (is_at (nat_cmp n)) (map number_of (filter (is_place_of worker) places))
+  in_numbers n [] = refl
+  in_numbers n (place ∷ places) =
+      ap (λ b. b || list_any (is_at (key_order (worker, n))) places) (same_place worker n place.0 place.1) ∙ by (is_place_of worker place) (in_numbers n places)
+    where
+      by : (a : Bool) → list_any (is_at (key_order (worker, n))) places ≡ list_any (is_at (nat_cmp n)) (map number_of (filter (is_place_of worker) places))
+          → ((a && (place.1 == n)) || list_any (is_at (key_order (worker, n))) places)
+          ≡ list_any (is_at (nat_cmp n)) (map number_of (cond a (place ∷ filter (is_place_of worker) places) (filter (is_place_of worker) places)))
+      by true rest = ap (λ b. b || list_any (is_at (key_order (worker, n))) places) (sym (same_test n place.1)) ∙ ap (λ b. is_at (nat_cmp n) place.1 || b) rest
+      by false rest = rest
+
+  pub all_closing : (closing : Closing) (ledger : List OpenMember) → IsOrdered key_order closing.places → AreInOrder ledger → AreApart ledger → AreFound closing drain ledger
+      → filter (closes_at worker ledger drain) (numbers_found worker closing) ≡ numbers_closing drain (held_of worker ledger)
+  all_closing closing ledger ordered up apart found =
+      btree_set_from_contains nat_cmp_total (set_of (filter (closes_at worker ledger drain) (numbers_found worker closing)))
+      (set_of (map (λ (m : OpenMember). m.connection) (filter leaves ledger)))
+      (IsStrictlySortedBy-filter nat_cmp (closes_at worker ledger drain) (numbers_found worker closing)
+      (ascend key_order (is_place_of worker) number_of (λ x y first second less. place_up worker x.0 y.0 x.1 y.1 first second less) closing.places.keys ordered))
+      (ascend place_order leaves (λ (m : OpenMember). m.connection)
+      (λ x y first second less.
+      place_up worker x.worker y.worker x.connection y.connection
+      (and_first (is_of_worker worker x) (is_expired drain x.listener) first) (and_first (is_of_worker worker y) (is_expired drain y.listener) second) less) ledger up)
+      (λ n.
+      any-filter_same (is_at (nat_cmp n)) (closes_at worker ledger drain) (closes_at worker ledger drain n)
+      (λ k at. ap (closes_at worker ledger drain) (same_number k n (sym (same_test n k) ∙ at))) (numbers_found worker closing)
+      ∙ and_so (closes_at worker ledger drain n) (list_any (is_at (nat_cmp n)) (numbers_found worker closing))
+      (λ h. sym (in_numbers n closing.places.keys) ∙ looked_at closing n ledger found (sym (at_one n ledger apart) ∙ h))
+      ∙ at_one n ledger apart ∙ sym (among n ledger))
+      exact_unsigned
+      ∙ numbers_are ledger
