@@ -18,9 +18,9 @@ ghost use Rattle.ev_warming.specs.Shown.{cluster_at, cluster_shown_in};
 ghost use Rattle.ev_warming.specs.Worlds.{StandsFor};
 
 use crate::Clusters;
+use ev_mentions::LiveRow;
 use ev_model::ServedCluster;
 use ev_types::{Gen, GenRow, Name, Seq, TryCopy};
-use ev_verdicts::LiveRow;
 use ev_warming::Standing;
 use std::alloc::{AllocError, Global};
 

@@ -22,7 +22,7 @@ use Rattle.ev_model.specs.Signals.{is_draining, ended_status, rows_ended}
 use Rattle.ev_model.specs.Tidy.{status_by}
 use Rattle.ev_model.specs.Verdicts.{listening_address, shares_address}
 use Rattle.ev_generations.specs.Tables.{row_in, numbers_of, without_row}
-use Rattle.ev_verdicts.specs.Known.{is_at}
+use Rattle.ev_mentions.specs.Lives.{is_at}
 use Rattle.ev_warming.specs.Due.{is_among}
 use Rattle.ev_warming.specs.Changes.{has_retired, is_over, began_to_drain}
 use Rattle.ev_warming.specs.Indexes.{numbers_where, status_in, serves, warms}

@@ -16,7 +16,7 @@ use Rattle.ev_model.specs.Tidy.{promoted, promoted_status, has_successor}
 use Rattle.ev_model.specs.Warming.{is_ready_by}
 use Rattle.ev_generations.specs.Tables.{is_after, row_in, numbers_of, without_row}
 use Rattle.ev_generations.proofs.TableLemmas.{below_next}
-use Rattle.ev_verdicts.specs.Known.{is_at}
+use Rattle.ev_mentions.specs.Lives.{is_at}
 use Rattle.ev_warming.specs.Due.{is_among}
 use Rattle.ev_warming.specs.Changes.{has_retired, is_over, began_to_drain}
 use Rattle.ev_warming.specs.Indexes.{numbers_where, serves, warms}

@@ -3,14 +3,14 @@ ghost use Rattle.ev_types.specs.declared.hosts.Host as declared;
 ghost use Rattle.ev_model.specs.World.{World};
 ghost use Rattle.ev_model.specs.Live.{live_of, lives_of};
 ghost use Rattle.ev_generations.specs.Tables.{row_in};
-ghost use Rattle.ev_verdicts.specs.Known.{is_at};
+ghost use Rattle.ev_mentions.specs.Lives.{is_at};
 ghost use Rattle.ev_listeners.specs.Addresses.{lives_numbered, numbers_at};
 
 use crate::Listeners;
 use crate::addresses::Addresses;
 use ev_generations::Generations;
+use ev_mentions::LiveRow;
 use ev_types::{Gen, Host};
-use ev_verdicts::LiveRow;
 use std::alloc::{AllocError, Global};
 
 impl Listeners {

@@ -17,9 +17,9 @@ ghost use Rattle.ev_warming.specs.Reads.{live_rows, names_watched, is_timeout_du
 ghost use Rattle.ev_warming.specs.Shown.{listener_shown, listener_shown_in};
 
 use crate::Listeners;
+use ev_mentions::LiveRow;
 use ev_model::ServedListener;
 use ev_types::{Gen, GenRow, Name, Seq, TryCopy};
-use ev_verdicts::LiveRow;
 use std::alloc::{AllocError, Global};
 
 impl Listeners {

@@ -15,8 +15,8 @@ ghost use Rattle.ev_warming.specs.Arrivals.{IsOnValue, AreOnValues, told_where};
 
 use crate::Manager;
 use ev_generations::Steps;
+use ev_mentions::Mentions;
 use ev_types::{Arrival, Body, Item, Name, NameError, Response, Text, TryCopy, Verdict};
-use ev_verdicts::Mentions;
 use std::alloc::{AllocError, Global};
 use std::sync::ledger::Ledger;
 

@@ -9,7 +9,6 @@ mod forgetting;
 pub mod frames;
 mod health;
 mod hosts;
-mod keys;
 mod manager;
 mod moved;
 mod names;

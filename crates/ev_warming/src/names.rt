@@ -5,7 +5,7 @@ ghost use Rattle.ev_warming.specs.Kept.{Sets};
 ghost use Rattle.ev_warming.specs.Standings.{nobody, standing_in};
 
 use crate::copies::copy_map;
-use crate::keys::TextKey;
+use ev_mentions::NameKey;
 use ev_types::{Gen, Name, TryCopy};
 use indexmap::IndexMap;
 use std::alloc::{AllocError, Global};
@@ -53,7 +53,7 @@ impl Names {
     pub fn standing_of(&self, text: &str) -> Standing
         ensures { result ≡ standing_in self.now text.now }
     {
-        match self.names.get(&TextKey::new(text)) {
+        match self.names.get(&NameKey::new(text)) {
             Some(standing) => *standing,
             None => Standing {
                 active: None,

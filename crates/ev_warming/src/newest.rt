@@ -9,8 +9,8 @@ ghost use Rattle.ev_warming.specs.Worlds.{StandsFor};
 
 use crate::{Standing, State};
 use ev_generations::Generations;
+use ev_mentions::LiveRow;
 use ev_types::Gen;
-use ev_verdicts::LiveRow;
 
 impl State {
     /// The newest live generation of a name. It costs a look-up of the name, and one of the generation where one is live.

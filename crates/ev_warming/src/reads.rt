@@ -14,8 +14,8 @@ ghost use Rattle.ev_warming.specs.Worlds.{StandsFor, needs_of};
 
 use crate::{State, Watch};
 use ev_generations::Generations;
+use ev_mentions::LiveRow;
 use ev_types::{Gen, GenRow, Name, Seq};
-use ev_verdicts::LiveRow;
 use std::alloc::{AllocError, Global};
 
 impl State {

@@ -14,8 +14,8 @@ ghost use Rattle.ev_warming.specs.Managers.{IsKept};
 use crate::Manager;
 use crate::state::put_one;
 use ev_generations::Steps;
+use ev_mentions::Mentions;
 use ev_types::{Body, Content, Gen, Item, Name, NameError, Response, Seq, Text, TryCopy, Verdict};
-use ev_verdicts::Mentions;
 use std::alloc::{AllocError, Global};
 use std::sync::ledger::Ledger;
 

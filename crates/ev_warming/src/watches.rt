@@ -6,7 +6,7 @@ ghost use Rattle.ev_warming.specs.Kept.{Sets};
 ghost use Rattle.ev_warming.specs.Watched.{unwatched, watch_in, watched_too, watched_less, with_arrival, without_number};
 
 use crate::copies::copy_map;
-use crate::keys::TextKey;
+use ev_mentions::NameKey;
 use ev_types::{Arrival, Content, Gen, Name, Seq, TryCopy};
 use indexmap::IndexMap;
 use std::alloc::{AllocError, Global};
@@ -58,7 +58,7 @@ impl Watches {
     pub fn get_text(&self, text: &str) -> Option<&Watch>
         ensures { option_copied result ≡ lookup (bytes_eq text.now) self.now }
     {
-        self.watches.get(&TextKey::new(text))
+        self.watches.get(&NameKey::new(text))
     }
 
     /// One more generation depends on the name. Without memory nothing is promised.

@@ -5,37 +5,37 @@ use indexmap::Equivalent;
 use std::hash::{Hash, Hasher};
 use std::marker::Model;
 
-/// A text by which a name is looked up: it stands for the name of the same bytes, and there may be none.
+/// A text as a key, among texts and among names: it stands for the name of the same bytes, and there may be none.
 #[derive(Drop)]
-pub(crate) struct TextKey<'a> {
-    text: &'a str,
+pub struct NameKey<'a> {
+    name: &'a str,
 }
 
-impl<'a> Model for TextKey<'a> {
+impl<'a> Model for NameKey<'a> {
     ghost use Rattle.std.specs.Prelude.{List, ℕ};
 
     ghost Value = { List ℕ };
 
-    ghost view = { λ k. k.text.now };
+    ghost view = { λ k. k.name.now };
 }
 
-impl<'a> TextKey<'a> {
+impl<'a> NameKey<'a> {
     /// The key of this text.
-    pub(crate) fn new(text: &'a str) -> TextKey<'a>
-        ensures { result ≡ text.now }
+    pub fn new(name: &'a str) -> NameKey<'a>
+        ensures { result ≡ name.now }
     {
-        TextKey { text }
+        NameKey { name }
     }
 
     /// The text.
-    pub(crate) fn as_str(&self) -> &'a str
+    pub fn as_str(&self) -> &'a str
         ensures { result.now ≡ self.now }
     {
-        self.text
+        self.name
     }
 }
 
-impl<'a> PartialEq for TextKey<'a> {
+impl<'a> PartialEq for NameKey<'a> {
     ghost use Rattle.std.specs.Str.{bytes_eq};
     ghost use Rattle.std.specs.Cmp.Rules.{comparing};
     ghost use Rattle.std.proofs.Common.{rules};
@@ -44,19 +44,19 @@ impl<'a> PartialEq for TextKey<'a> {
 
     ghost laws = { Prim.search (comparing, rules) };
 
-    fn eq(&self, other: &TextKey<'a>) -> bool {
+    fn eq(&self, other: &NameKey<'a>) -> bool {
         self.as_str() == other.as_str()
     }
 }
 
-impl<'a> Eq for TextKey<'a> {
+impl<'a> Eq for NameKey<'a> {
     ghost use Rattle.std.specs.Cmp.Rules.{comparing};
     ghost use Rattle.std.proofs.Common.{rules};
 
     ghost laws = { Prim.search (comparing, rules) };
 }
 
-impl<'a> Hash for TextKey<'a> {
+impl<'a> Hash for NameKey<'a> {
     ghost use Rattle.std.specs.Cmp.Rules.{hashing};
     ghost use Rattle.std.specs.Hash as fed;
     ghost use Rattle.std.proofs.Common.{rules};
@@ -70,7 +70,7 @@ impl<'a> Hash for TextKey<'a> {
     }
 }
 
-impl<'a> Equivalent<Name> for &TextKey<'a> {
+impl<'a> Equivalent<Name> for &NameKey<'a> {
     ghost use Rattle.std.specs.Str.{bytes_eq};
     ghost use Rattle.std.specs.Hash as fed;
     ghost use Rattle.std.specs.Cmp.Lexicographic.{bytes_decides, nat_list_eq_equiv};

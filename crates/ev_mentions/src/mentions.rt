@@ -23,7 +23,7 @@ impl<'a> Model for Mentions<'a> {
     ghost use Rattle.std.specs.Str.{bytes_eq};
     ghost use Rattle.indexmap.specs.IndexSet.{contains};
     ghost use Rattle.ev_types.specs.Items.{ResponseParts};
-    ghost use Rattle.ev_verdicts.specs.Mentions.{AreFound};
+    ghost use Rattle.ev_mentions.specs.Mentions.{AreFound};
 
     ghost Value = { ResponseParts };
 
