@@ -4,7 +4,7 @@
 
 ghost use Rattle.std.specs.Prelude.{◌≡◌, ◌+◌, ◌*◌, ◌^◌, ◌≤◌, ◌<◌, [], ◌∷◌, ◌++◌, ℕ, List, Some, true, EachIndex, slice_index, length, option_to_list, IfOk, OnOk};
 ghost use Rattle.std.specs.List.{list_any};
-ghost use Rattle.ev_types.specs.declared.contents.Kind.TheVariants.{Cds, Eds, Lds};
+ghost use Rattle.ev_types.specs.declared.contents.Kind.TheVariants.{Cds, Eds};
 ghost use Rattle.ev_model.specs.World.{World, opening};
 ghost use Rattle.ev_model.specs.Rows.{arrived, with_removals, add_items};
 ghost use Rattle.ev_model.specs.Signals.{rows_ended};
@@ -16,7 +16,6 @@ ghost use Rattle.ev_warming.specs.Indexes.{depends_on, serves, warms, numbers_wh
 ghost use Rattle.ev_warming.specs.Reads.{names_watched};
 ghost use Rattle.ev_warming.specs.Worlds.{StandsFor};
 ghost use Rattle.ev_warming.specs.Changes.{began_to_serve, began_to_drain, has_retired, is_over};
-ghost use Rattle.ev_warming.specs.Frames.{PassesResponses};
 
 mod arrivals;
 mod health;
@@ -189,8 +188,6 @@ impl Clusters {
         ensures rows { self.new.state.table.rows ≡ self.old.state.table.rows }
         // Whatever world they stood for, they stand for that world with so many numbers drawn.
         ensures stands { (world : World) → StandsFor self.old.state world → StandsFor self.new.state (record world { made = made }) }
-        // And for that world once a response of listeners is in, where the listeners' numbers lead up to this one.
-        ensures passes { PassesResponses Lds self.old.state self.new.state made }
     {
         self.manager.advance(made);
     }

@@ -128,13 +128,6 @@ removal-stands l m number world kept over is same stands part = record {
       ∙ ap (numbers_where (holds a)) (sym is);
 }
 
--- where the rows and the index stay
-pub same-stands : (l m : ListenersKept) (world after : World) → m.state.table.rows ≡ l.state.table.rows → m.addresses ≡ l.addresses → StandsFor l world → HasPart m.state after → StandsFor m after
-same-stands l m world after rows same stands part = record {
-  part = part;
-  addresses = λ a. (λ i. numbers_at (same i) a) ∙ stands.addresses a ∙ ap (numbers_where (holds a)) (sym rows);
-}
-
 -- what the index has at an address is what the world has there
 pub holders-world : (l : ListenersKept) (world : World) (address : Host) → AreKept l → StandsFor l world → holders_in l address ≡ filter (is_at address) (lives_of world)
 holders-world l world address kept stands =

@@ -10,7 +10,7 @@ use Rattle.ev_types.specs.Statuses.{is_warming, is_live}
 use Rattle.ev_types.specs.declared.hosts.Host.{Host}
 use Rattle.ev_types.specs.declared.rows.GenRow.{GenRow}
 use Rattle.ev_model.specs.Warming.{is_checked}
-use Rattle.ev_endpoints.specs.Results.{ResultsKept, result_in, Forgets, Trims}
+use Rattle.ev_endpoints.specs.Results.{ResultsKept, result_in}
 use Rattle.ev_generations.specs.Tables.{row_in, numbers_of}
 use Rattle.ev_generations.proofs.TableLemmas.{number-row_in}
 use Rattle.ev_warming.specs.declared.watches.Watch.{Watch}
@@ -76,14 +76,6 @@ results-same old new n (h ∷ hosts) all = λ i. is_some (all.0 i) && results-sa
 
 agrees-same : (old new : WatchesKept) (q : List ℕ) → watch_in new q ≡ watch_in old q → Agrees old new q
 agrees-same old new q e = record { told = λ i. (e i).told; timed = λ i. (e i).timed; value = λ i. (e i).value }
-
--- forgetting all results leaves none of hosts outside an assignment without hosts
-pub forgets-trims : (old new : ResultsKept) (number : ℕ) → Forgets old new number → Trims old new number []
-forgets-trims old new number forgets n h = forgets n h ∙ by (nat_eq number n)
-  where
-    by : (b : Bool) → cond b None (result_in old n h) ≡ cond (b && true) None (result_in old n h)
-    by true = refl
-    by false = refl
 
 -- names go that no live row depends on
 module _ (rows : List GenRow) (old new : WatchesKept) (test : List ℕ → Bool)

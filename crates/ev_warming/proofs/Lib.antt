@@ -26,7 +26,7 @@ pub mod ShownLemmas
 pub mod FoundLemmas
 pub mod AbsenceLemmas
 pub mod NewestLemmas
-pub mod FrameLemmas
+pub mod SeenLemmas
 pub mod JudgedLemmas
 pub mod QuietLemmas
 pub mod MovedLemmas

@@ -44,12 +44,6 @@ contents-of s world stands =
     subst (AllByRecursion (λ (r : GenRow). content_kind r.content ≡ s.kind)) (sym stands.rows)
     (all-rows_of_kind (λ (r : GenRow). content_kind r.content ≡ r.kind) (λ (r : GenRow). content_kind r.content ≡ s.kind) s.kind (λ r typed own. typed ∙ own) world.rows stands.sound.typed)
 
--- and names of 1 to 512 bytes
-pub named-of : (s : State) (world : World) → StandsFor s world → AllByRecursion (λ (r : GenRow). IsName r.name) s.table.rows
-named-of s world stands =
-    subst (AllByRecursion (λ (r : GenRow). IsName r.name)) (sym stands.rows)
-    (all-rows_of_kind (λ (r : GenRow). IsName r.name) (λ (r : GenRow). IsName r.name) s.kind (λ r named own. named) world.rows stands.sound.named)
-
 pub sound-with_statuses : (world : World) (f : GenRow → RowStatus) → IsSound world → IsSound (record world { rows = with_statuses f world.rows })
 sound-with_statuses world f sound = record {
   table = record {

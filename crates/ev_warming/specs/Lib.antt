@@ -15,4 +15,3 @@ pub mod Health
 pub mod Reads
 pub mod Shown
 pub mod Newest
-pub mod Frames

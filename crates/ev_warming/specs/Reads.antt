@@ -1,5 +1,5 @@
 -- What is read of a state, by searches of its rows: the machine's words, where what came is looked up.
-use Rattle.std.specs.Prelude.{◌≡◌, ℕ, Bool, false, not, ◌&&◌, ◌||◌, List, [], ◌∷◌, filter, map, option_to_list, unwrap_or}
+use Rattle.std.specs.Prelude.{ℕ, Bool, false, not, ◌&&◌, ◌||◌, List, [], ◌∷◌, filter, map, option_to_list, unwrap_or}
 use Rattle.std.specs.List.{list_any, flat_map}
 use Rattle.ev_types.specs.Hosts.{HostRowParts}
 use Rattle.ev_types.specs.Statuses.{is_live, is_active}
@@ -14,14 +14,11 @@ use Rattle.ev_model.specs.declared.pictures.ServedCluster.{ServedCluster}
 use Rattle.ev_model.specs.declared.pictures.ServedListener.{ServedListener}
 use Rattle.ev_model.specs.Picture.{by_name, table_in}
 use Rattle.ev_model.specs.Warming.{is_checked}
-use Rattle.ev_model.specs.World.{World}
-use Rattle.ev_model.specs.Watching.{is_by_name, sorted_names, watched_of}
+use Rattle.ev_model.specs.Watching.{sorted_names}
 use Rattle.ev_endpoints.specs.Results.{ResultsKept, result_in}
 use Rattle.ev_warming.specs.Watched.{WatchesKept, watch_in}
 use Rattle.ev_warming.specs.Ready.{name_needed, assignment_in}
-use Rattle.ev_warming.specs.declared.state.State.{State}
 use Rattle.ev_warming.specs.Indexes.{waits_limited}
-use Rattle.ev_warming.specs.Worlds.{needs_of, StandsFor}
 
 -- the live ones of these rows
 abbrev pub live_rows : List GenRow → List GenRow
@@ -73,7 +70,3 @@ listener_in watches row (routes table) = []
 -- the active listeners, in the order of their names
 abbrev pub listeners_in : WatchesKept → List GenRow → List ServedListener
 listeners_in watches rows = flat_map (λ (row : GenRow). listener_in watches row row.content) (active_by_name rows)
-
--- the names that are watched in a world are those of the rows of a state that stands for it
-abbrev pub WatchesNames : Type 0
-WatchesNames = (s : State) (world : World) → is_by_name s.kind ≡ false → StandsFor s world → watched_of world (needs_of s.kind) ≡ names_watched s.table.rows

@@ -6,7 +6,6 @@ mod arrivals;
 mod copies;
 mod due;
 mod forgetting;
-pub mod frames;
 mod health;
 mod hosts;
 mod manager;
