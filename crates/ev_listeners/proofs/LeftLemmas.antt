@@ -7,9 +7,9 @@ use Rattle.std.proofs.Math.Bool.{or-false}
 use Rattle.ev_types.specs.declared.hosts.Host.{Host}
 use Rattle.ev_types.specs.declared.rows.GenRow.{GenRow}
 use Rattle.ev_generations.specs.Tables.{by_number, numbers_of, row_in}
-use Rattle.ev_warming.specs.Due.{is_among}
-use Rattle.ev_warming.specs.Indexes.{numbers_where}
-use Rattle.ev_warming.specs.Watched.{without_number}
+use Rattle.ev_indexes.specs.Due.{is_among}
+use Rattle.ev_indexes.specs.Indexes.{numbers_where}
+use Rattle.ev_indexes.specs.Watched.{without_number}
 use Rattle.ev_listeners.specs.Addresses.{is_found_at, is_left_at, holds}
 
 one_number : (numbers : List ℕ) (i number : ℕ) → i < length numbers → number ≡ get_or numbers i number → take (i + 1) numbers ≡ take i numbers ++ number ∷ []

@@ -17,10 +17,10 @@ use Rattle.ev_model.specs.Warming.{is_ready_by}
 use Rattle.ev_generations.specs.Tables.{is_after, row_in, numbers_of, without_row}
 use Rattle.ev_generations.proofs.TableLemmas.{below_next}
 use Rattle.ev_mentions.specs.Lives.{is_at}
-use Rattle.ev_warming.specs.Due.{is_among}
+use Rattle.ev_indexes.specs.Due.{is_among}
 use Rattle.ev_warming.specs.Changes.{has_retired, is_over, began_to_drain}
-use Rattle.ev_warming.specs.Indexes.{numbers_where, serves, warms}
-use Rattle.ev_warming.specs.Worlds.{rows_of_kind, StandsFor as HasPart}
+use Rattle.ev_indexes.specs.Indexes.{numbers_where, serves, warms}
+use Rattle.ev_indexes.specs.Worlds.{rows_of_kind, StandsFor as HasPart}
 use Rattle.ev_listeners.specs.Addresses.{numbers_at, holds, AreByAddress, is_left_at}
 use Rattle.ev_listeners.specs.Listeners.{ListenersKept, AreKept, StandsFor, holders_in}
 use Rattle.ev_listeners.proofs.FollowLemmas.{Follow, follow-response, follow-promoted, follow-ended, rows-after}

@@ -11,8 +11,8 @@ use Rattle.ev_types.specs.declared.rows.Live.{Live}
 use Rattle.ev_model.specs.Live.{live_of}
 use Rattle.ev_model.specs.Verdicts.{listening_address, shares_address}
 use Rattle.ev_generations.specs.Tables.{row_in}
-use Rattle.ev_warming.specs.Due.{is_among}
-use Rattle.ev_warming.specs.Indexes.{numbers_where}
+use Rattle.ev_indexes.specs.Due.{is_among}
+use Rattle.ev_indexes.specs.Indexes.{numbers_where}
 
 -- addresses, each with the numbers of the generations that listen there
 abbrev pub AddressesKept : Type 0

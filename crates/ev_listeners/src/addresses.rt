@@ -6,8 +6,8 @@ ghost use Rattle.ev_types.specs.SameHosts.{host_same};
 ghost use Rattle.ev_types.specs.declared.hosts.Host as declared;
 ghost use Rattle.ev_model.specs.Verdicts.{listening_address};
 ghost use Rattle.ev_generations.specs.Tables.{is_after, row_in};
-ghost use Rattle.ev_warming.specs.Indexes.{numbers_where};
-ghost use Rattle.ev_warming.specs.Watched.{without_number};
+ghost use Rattle.ev_indexes.specs.Indexes.{numbers_where};
+ghost use Rattle.ev_indexes.specs.Watched.{without_number};
 ghost use Rattle.ev_listeners.specs.Addresses.{numbers_at, holds, is_found_at, is_left_at};
 
 use ev_generations::Generations;

@@ -33,13 +33,13 @@ use Rattle.ev_model.specs.Watching.{is_watched}
 use Rattle.ev_model.specs.Rows.{removed_status, with_statuses, status_left, arrived, absent_names, with_removals, replaced_status, new_row, add_row, keep_version, keep_value, with_content, refuse, add_item, add_items}
 use Rattle.ev_model.specs.Signals.{ended_status, rows_ended, is_meant, rows_meant, result_for, with_results}
 use Rattle.ev_generations.specs.Tables.{row_in, numbers_of}
-use Rattle.ev_warming.specs.declared.state.State.{State}
-use Rattle.ev_warming.specs.Due.{is_among}
+use Rattle.ev_indexes.specs.declared.state.State.{State}
+use Rattle.ev_indexes.specs.Due.{is_among}
 use Rattle.ev_warming.specs.Health.{passes}
 use Rattle.ev_warming.proofs.HealthLemmas.{among-row}
-use Rattle.ev_warming.proofs.WhereLemmas.{flipped}
-use Rattle.ev_warming.specs.Worlds.{StandsFor as HasRows, IsSound, needs_of, rows_of_kind}
-use Rattle.ev_warming.proofs.SeenLemmas.{SameSeen, seen-stands}
+use Rattle.ev_indexes.proofs.WhereLemmas.{flipped}
+use Rattle.ev_indexes.specs.Worlds.{StandsFor as HasRows, IsSound, needs_of, rows_of_kind}
+use Rattle.ev_indexes.proofs.SeenLemmas.{SameSeen, seen-stands}
 use Rattle.ev_listeners.specs.Listeners.{ListenersKept, StandsFor as HasListeners}
 use Rattle.ev_managers.specs.declared.managers.Managers.{Managers}
 use Rattle.ev_managers.specs.Managers.{StandFor}

@@ -19,10 +19,10 @@ use Rattle.ev_model.specs.Live.{lives_of}
 use Rattle.ev_model.specs.Watching.{is_watched, is_by_name}
 use Rattle.ev_model.specs.Verdicts.{is_among, is_removed}
 use Rattle.ev_model.specs.Rows.{arrived, absent_names, versions_left, with_removals, refuse}
-use Rattle.ev_warming.specs.declared.state.State.{State}
-use Rattle.ev_warming.specs.Ready.{name_needed, IsNeedName}
-use Rattle.ev_warming.specs.Indexes.{is_needed, depends_on}
-use Rattle.ev_warming.specs.Worlds.{needs_of, StandsFor}
+use Rattle.ev_indexes.specs.declared.state.State.{State}
+use Rattle.ev_indexes.specs.Ready.{name_needed, IsNeedName}
+use Rattle.ev_indexes.specs.Indexes.{is_needed, depends_on}
+use Rattle.ev_indexes.specs.Worlds.{needs_of, StandsFor}
 use Rattle.ev_warming.specs.Changes.{is_unlisted}
 use Rattle.ev_warming.specs.Arrivals.{told_where}
 use Rattle.ev_warming.proofs.ForgottenLemmas.{watched-same}

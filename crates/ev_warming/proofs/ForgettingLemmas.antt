@@ -13,14 +13,14 @@ use Rattle.ev_model.specs.Warming.{is_checked}
 use Rattle.ev_endpoints.specs.Results.{ResultsKept, result_in}
 use Rattle.ev_generations.specs.Tables.{row_in, numbers_of}
 use Rattle.ev_generations.proofs.TableLemmas.{number-row_in}
-use Rattle.ev_warming.specs.declared.watches.Watch.{Watch}
-use Rattle.ev_warming.specs.declared.state.State.{State}
-use Rattle.ev_warming.specs.Watched.{WatchesKept, unwatched, watch_in}
-use Rattle.ev_warming.specs.Ready.{name_needed, assignment_in, are_results_in, is_answered_in, is_ready_in, is_due_found, is_due_at}
-use Rattle.ev_warming.specs.Indexes.{IsIndexed, is_needed, depends_on, waits_limited, numbers_where}
-use Rattle.ev_warming.specs.Due.{is_among}
+use Rattle.ev_indexes.specs.declared.watches.Watch.{Watch}
+use Rattle.ev_indexes.specs.declared.state.State.{State}
+use Rattle.ev_indexes.specs.Watched.{WatchesKept, unwatched, watch_in}
+use Rattle.ev_indexes.specs.Ready.{name_needed, assignment_in, are_results_in, is_answered_in, is_ready_in, is_due_found, is_due_at}
+use Rattle.ev_indexes.specs.Indexes.{IsIndexed, is_needed, depends_on, waits_limited, numbers_where}
+use Rattle.ev_indexes.specs.Due.{is_among}
 use Rattle.ev_warming.specs.Forgetting.{need_in, is_need_of, is_idle, keeps_result, loses_result, IsUnheard, IsTidyBut}
-use Rattle.ev_warming.proofs.WhereLemmas.{any-found, where-some, flipped}
+use Rattle.ev_indexes.proofs.WhereLemmas.{any-found, where-some, flipped}
 use Rattle.ev_warming.proofs.ReadyLemmas.{Agrees, assignment_in-agrees, is_ready_in-agrees}
 use Rattle.ev_warming.proofs.IndexLemmas.{live-warming}
 

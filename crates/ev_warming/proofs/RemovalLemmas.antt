@@ -2,6 +2,7 @@
 use Rattle.std.proofs.Common.{◌≡◌, ◌∙◌, ◌<◌, ℕ, Bool, true, false, cond, not, ◌&&◌, ◌||◌, nat_eq, List, [], ◌∷◌, Option, None, Some, IsSome, filter, refl, sym, ap, subst, true≢false}
 use Rattle.std.specs.List.{list_any, AllByRecursion, IsDistinct}
 use Rattle.std.proofs.lemmas.Bool.{eqb-true, eq-eqb}
+use Rattle.std.specs.Str.{bytes_eq}
 use Rattle.ev_types.specs.Items.{content_kind}
 use Rattle.ev_types.specs.Kinds.{kind_same}
 use Rattle.ev_types.specs.Texts.{IsName}
@@ -10,18 +11,17 @@ use Rattle.ev_types.specs.declared.contents.Kind.{Kind}
 use Rattle.ev_types.specs.declared.rows.RowStatus.{RowStatus}
 use Rattle.ev_types.specs.declared.rows.RowStatus.TheVariants.{Warming, Active, Draining, Dropped}
 use Rattle.ev_types.specs.declared.rows.GenRow.{GenRow}
-use Rattle.std.specs.Str.{bytes_eq}
 use Rattle.ev_model.specs.World.{World}
 use Rattle.ev_model.specs.Watching.{is_limited}
 use Rattle.ev_generations.specs.Tables.{GenerationsParts, IsTable, is_number, row_in, numbers_of, without_row}
 use Rattle.ev_warming.specs.declared.manager.Manager.{Manager}
-use Rattle.ev_warming.specs.Ready.{name_needed, is_ready_in, is_due_found, is_due_at, IsNeedName}
-use Rattle.ev_warming.specs.Indexes.{depends_on, waits_limited, serves, warms, is_needed, numbers_where}
-use Rattle.ev_warming.specs.Worlds.{rows_of_kind, StandsFor}
+use Rattle.ev_indexes.specs.Ready.{name_needed, is_ready_in, is_due_found, is_due_at, IsNeedName}
+use Rattle.ev_indexes.specs.Indexes.{depends_on, waits_limited, serves, warms, is_needed, numbers_where}
+use Rattle.ev_indexes.specs.Worlds.{rows_of_kind, StandsFor}
 use Rattle.ev_warming.specs.Changes.{is_over}
 use Rattle.ev_warming.specs.Forgetting.{is_need_of}
 use Rattle.ev_warming.specs.Managers.{IsKept}
-use Rattle.ev_warming.proofs.WhereLemmas.{all-found}
+use Rattle.ev_indexes.proofs.WhereLemmas.{all-found}
 use Rattle.ev_warming.proofs.ForgettingLemmas.{not_true}
 use Rattle.ev_warming.proofs.ForgottenLemmas.{both-same}
 

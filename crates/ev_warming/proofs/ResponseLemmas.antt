@@ -21,10 +21,11 @@ use Rattle.ev_model.specs.Watching.{is_by_name}
 use Rattle.ev_model.specs.Verdicts.{is_among, is_removed}
 use Rattle.ev_model.specs.Rows.{versions_left, with_statuses, removed_status, rows_left, add_item, add_items, with_removals}
 use Rattle.ev_model.specs.Signals.{ended_status, rows_ended}
-use Rattle.ev_warming.specs.declared.state.State.{State}
+use Rattle.ev_indexes.specs.declared.state.State.{State}
 use Rattle.ev_warming.specs.Changes.{is_unlisted, status_left_by}
-use Rattle.ev_warming.specs.Worlds.{StandsFor}
-use Rattle.ev_warming.proofs.PromotionLemmas.{all_then, statuses_agree, statuses_same, with_statuses-twice}
+use Rattle.ev_indexes.specs.Worlds.{StandsFor}
+use Rattle.ev_indexes.proofs.RowLemmas.{all_then, statuses_agree}
+use Rattle.ev_warming.proofs.PromotionLemmas.{statuses_same, with_statuses-twice}
 
 -- a state doesn't look at versions
 pub versions-stand : (s : State) (world : World) (versions : List KeptVersion) → StandsFor s world → StandsFor s (record world { versions = versions })

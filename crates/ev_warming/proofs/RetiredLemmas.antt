@@ -16,12 +16,12 @@ use Rattle.ev_model.specs.Rows.{with_statuses, replaced_status, removed_status, 
 use Rattle.ev_model.specs.Signals.{ended_status, rows_ended}
 use Rattle.ev_generations.specs.Tables.{is_number, row_in, numbers_of}
 use Rattle.ev_generations.proofs.TableLemmas.{row_in-with_statuses}
-use Rattle.ev_warming.specs.Due.{is_among}
-use Rattle.ev_warming.specs.Indexes.{serves, warms, numbers_where}
+use Rattle.ev_indexes.specs.Due.{is_among}
+use Rattle.ev_indexes.specs.Indexes.{serves, warms, numbers_where}
 use Rattle.ev_warming.specs.Changes.{is_over, has_retired, Draws, Tells}
-use Rattle.ev_warming.proofs.WhereLemmas.{among-where}
+use Rattle.ev_indexes.proofs.WhereLemmas.{among-where}
 use Rattle.ev_warming.proofs.DrainLemmas.{absent-where, fails-where}
-use Rattle.ev_warming.proofs.ForgottenLemmas.{all-at}
+use Rattle.ev_indexes.proofs.RowLemmas.{all-at}
 use Rattle.ev_warming.proofs.ForgettingLemmas.{not_true}
 
 -- nothing changed, and nothing is told

@@ -9,7 +9,7 @@ use Rattle.ev_types.specs.declared.rows.Arrival.{Arrival}
 use Rattle.ev_types.specs.declared.rows.GenRow.{GenRow}
 use Rattle.ev_model.specs.World.{World}
 use Rattle.ev_model.specs.Rows.{arrived}
-use Rattle.ev_warming.specs.Indexes.{depends_on}
+use Rattle.ev_indexes.specs.Indexes.{depends_on}
 
 -- a verdict on endpoints or routes makes no generation, and only a resource of a watched name is kept
 abbrev pub IsOnValue : Verdict → Bool → Type 0

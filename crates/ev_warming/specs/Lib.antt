@@ -1,17 +1,6 @@
-pub mod Kept
-pub mod Standings
-pub mod Watched
-pub mod Due
-pub mod Ready
-pub mod Indexes
 pub mod Promotion
-pub mod Worlds
 pub mod Forgetting
 pub mod Changes
-pub mod Moved
 pub mod Managers
 pub mod Arrivals
 pub mod Health
-pub mod Reads
-pub mod Shown
-pub mod Newest

@@ -2,7 +2,7 @@ ghost use Rattle.std.specs.Prelude.{◌≡◌, ◌≤◌, [], Some, true};
 ghost use Rattle.ev_model.specs.World.{World};
 ghost use Rattle.ev_generations.specs.Tables.{row_in, without_row};
 ghost use Rattle.ev_warming.specs.Changes.{is_over};
-ghost use Rattle.ev_warming.specs.Worlds.{StandsFor};
+ghost use Rattle.ev_indexes.specs.Worlds.{StandsFor};
 ghost use Rattle.ev_warming.specs.Managers.{IsKept};
 
 use crate::Manager;
