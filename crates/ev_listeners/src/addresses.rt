@@ -191,15 +191,7 @@ fn address_of(content: &Content) -> Option<&Host>
 fn leave_out(numbers: &mut Seq<Gen>, number: Gen)
     ensures { numbers.new ≡ without_number number numbers.old }
 {
-    let mut kept = 0;
-    for place in 0..numbers.len() {
-        let other = numbers.as_slice()[place];
-        if number != other {
-            numbers.set(kept, other);
-            kept += 1;
-        }
-    }
-    numbers.truncate(kept);
+    numbers.retain(|other| number != *other);
 }
 
 // Takes out the entry of an address.
