@@ -2,7 +2,7 @@ ghost use Rattle.std.specs.Prelude.{◌≡◌, Some, length, OnOk};
 ghost use Rattle.ev_types.specs.declared.contents.Kind.TheVariants.{Eds};
 ghost use Rattle.ev_model.specs.World.{World};
 ghost use Rattle.ev_model.specs.Rows.{with_removals, add_items};
-ghost use Rattle.ev_warming.specs.Worlds.{StandsFor};
+ghost use Rattle.ev_indexes.specs.Worlds.{StandsFor};
 ghost use Rattle.ev_warming.specs.Arrivals.{AreOnValues};
 
 use crate::Clusters;

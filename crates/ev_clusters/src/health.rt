@@ -3,7 +3,7 @@ ghost use Rattle.std.specs.List.{list_any};
 ghost use Rattle.ev_model.specs.World.{World};
 ghost use Rattle.ev_model.specs.Signals.{is_meant, rows_meant, with_results};
 ghost use Rattle.ev_warming.specs.Health.{is_meant_in, numbers_meant, NotesEach};
-ghost use Rattle.ev_warming.specs.Worlds.{StandsFor};
+ghost use Rattle.ev_indexes.specs.Worlds.{StandsFor};
 
 use crate::Clusters;
 use ev_generations::Steps;

@@ -4,19 +4,18 @@
 
 ghost use Rattle.std.specs.Prelude.{◌≡◌, ◌+◌, ◌*◌, ◌^◌, ◌≤◌, ◌<◌, [], ◌∷◌, ◌++◌, ℕ, List, Some, true, EachIndex, slice_index, length, option_to_list, IfOk, OnOk};
 ghost use Rattle.std.specs.List.{list_any};
-ghost use Rattle.ev_types.specs.declared.contents.Kind.TheVariants.{Cds, Eds, Lds};
+ghost use Rattle.ev_types.specs.declared.contents.Kind.TheVariants.{Cds, Eds};
 ghost use Rattle.ev_model.specs.World.{World, opening};
 ghost use Rattle.ev_model.specs.Rows.{arrived, with_removals, add_items};
 ghost use Rattle.ev_model.specs.Signals.{rows_ended};
 ghost use Rattle.ev_model.specs.Tidy.{promoted, without_unwatched, without_old_results};
 ghost use Rattle.ev_generations.specs.Tables.{row_in, without_row};
-ghost use Rattle.ev_warming.specs.Due.{is_among};
-ghost use Rattle.ev_warming.specs.Ready.{is_due_at};
-ghost use Rattle.ev_warming.specs.Indexes.{depends_on, serves, warms, numbers_where};
-ghost use Rattle.ev_warming.specs.Reads.{names_watched};
-ghost use Rattle.ev_warming.specs.Worlds.{StandsFor};
+ghost use Rattle.ev_indexes.specs.Due.{is_among};
+ghost use Rattle.ev_indexes.specs.Ready.{is_due_at};
+ghost use Rattle.ev_indexes.specs.Indexes.{depends_on, serves, warms, numbers_where};
+ghost use Rattle.ev_indexes.specs.Reads.{names_watched};
+ghost use Rattle.ev_indexes.specs.Worlds.{StandsFor};
 ghost use Rattle.ev_warming.specs.Changes.{began_to_serve, began_to_drain, has_retired, is_over};
-ghost use Rattle.ev_warming.specs.Frames.{PassesResponses};
 
 mod arrivals;
 mod health;
@@ -24,8 +23,9 @@ mod moved;
 mod reads;
 
 use ev_generations::Steps;
+use ev_indexes::Standing;
 use ev_types::{Arrival, Gen, GenRow, Kind, Name, Response, Verdict};
-use ev_warming::{Applied, Manager, Promoted, Standing};
+use ev_warming::{Applied, Manager, Promoted};
 use std::alloc::{AllocError, Global};
 use std::marker::Model;
 use std::sync::ledger::Ledger;
@@ -189,8 +189,6 @@ impl Clusters {
         ensures rows { self.new.state.table.rows ≡ self.old.state.table.rows }
         // Whatever world they stood for, they stand for that world with so many numbers drawn.
         ensures stands { (world : World) → StandsFor self.old.state world → StandsFor self.new.state (record world { made = made }) }
-        // And for that world once a response of listeners is in, where the listeners' numbers lead up to this one.
-        ensures passes { PassesResponses Lds self.old.state self.new.state made }
     {
         self.manager.advance(made);
     }

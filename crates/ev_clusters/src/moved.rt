@@ -1,5 +1,5 @@
 ghost use Rattle.std.specs.Prelude.{◌≡◌, IfOk};
-ghost use Rattle.ev_warming.specs.Moved.{names_lost, names_gained};
+ghost use Rattle.ev_indexes.specs.Moved.{names_lost, names_gained};
 
 use crate::Clusters;
 use ev_types::{Gen, Name, Seq};

@@ -11,17 +11,17 @@ ghost use Rattle.ev_model.specs.Picture.{served_clusters};
 ghost use Rattle.ev_model.specs.Signals.{is_awaited};
 ghost use Rattle.ev_model.specs.Watching.{is_watched, watched_of};
 ghost use Rattle.ev_generations.specs.Tables.{row_in};
-ghost use Rattle.ev_warming.specs.Indexes.{depends_on, serves, warms, numbers_where};
-ghost use Rattle.ev_warming.specs.Newest.{newest_in};
-ghost use Rattle.ev_warming.specs.Reads.{live_rows, names_watched, is_timeout_due, clusters_in};
-ghost use Rattle.ev_warming.specs.Shown.{cluster_at, cluster_shown_in};
-ghost use Rattle.ev_warming.specs.Worlds.{StandsFor};
+ghost use Rattle.ev_indexes.specs.Indexes.{depends_on, serves, warms, numbers_where};
+ghost use Rattle.ev_indexes.specs.Newest.{newest_in};
+ghost use Rattle.ev_indexes.specs.Reads.{live_rows, names_watched, is_timeout_due, clusters_in};
+ghost use Rattle.ev_indexes.specs.Shown.{cluster_at, cluster_shown_in};
+ghost use Rattle.ev_indexes.specs.Worlds.{StandsFor};
 
 use crate::Clusters;
+use ev_indexes::Standing;
+use ev_mentions::LiveRow;
 use ev_model::ServedCluster;
 use ev_types::{Gen, GenRow, Name, Seq, TryCopy};
-use ev_verdicts::LiveRow;
-use ev_warming::Standing;
 use std::alloc::{AllocError, Global};
 
 impl Clusters {

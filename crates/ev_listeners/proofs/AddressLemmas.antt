@@ -6,9 +6,9 @@ use Rattle.ev_types.specs.declared.hosts.Host.{Host}
 use Rattle.ev_types.specs.declared.rows.GenRow.{GenRow}
 use Rattle.ev_model.specs.Verdicts.{listening_address, shares_address}
 use Rattle.ev_generations.specs.Tables.{row_in, numbers_of}
-use Rattle.ev_warming.specs.Due.{is_among}
+use Rattle.ev_indexes.specs.Due.{is_among}
 use Rattle.ev_warming.specs.Changes.{has_retired, is_over}
-use Rattle.ev_warming.specs.Indexes.{numbers_where}
+use Rattle.ev_indexes.specs.Indexes.{numbers_where}
 use Rattle.ev_listeners.specs.Addresses.{AddressesKept, numbers_at, listens_at, is_found_at, holds, AreByAddress, is_left_at}
 use Rattle.ev_listeners.proofs.FollowLemmas.{SameRow, Follow}
 use Rattle.ev_listeners.proofs.NumberLemmas.{own-rows}

@@ -22,11 +22,11 @@ use Rattle.ev_model.specs.Signals.{is_draining, ended_status, rows_ended}
 use Rattle.ev_model.specs.Tidy.{status_by}
 use Rattle.ev_model.specs.Verdicts.{listening_address, shares_address}
 use Rattle.ev_generations.specs.Tables.{row_in, numbers_of, without_row}
-use Rattle.ev_verdicts.specs.Known.{is_at}
-use Rattle.ev_warming.specs.Due.{is_among}
+use Rattle.ev_mentions.specs.Lives.{is_at}
+use Rattle.ev_indexes.specs.Due.{is_among}
 use Rattle.ev_warming.specs.Changes.{has_retired, is_over, began_to_drain}
-use Rattle.ev_warming.specs.Indexes.{numbers_where, status_in, serves, warms}
-use Rattle.ev_warming.specs.Worlds.{rows_of_kind}
+use Rattle.ev_indexes.specs.Indexes.{numbers_where, status_in, serves, warms}
+use Rattle.ev_indexes.specs.Worlds.{rows_of_kind}
 use Rattle.ev_listeners.specs.Addresses.{listens_at, holds, lives_numbered}
 use Rattle.ev_listeners.proofs.NumberLemmas.{own-rows, row_in-statused}
 

@@ -22,7 +22,7 @@ use Rattle.ev_model.specs.Signals.{ended_status}
 use Rattle.ev_model.specs.Tidy.{status_by}
 use Rattle.ev_model.specs.Verdicts.{is_removed}
 use Rattle.ev_generations.specs.Tables.{is_after, numbers_of}
-use Rattle.ev_warming.specs.Worlds.{rows_of_kind}
+use Rattle.ev_indexes.specs.Worlds.{rows_of_kind}
 
 -- it is the same generation, and it isn't live where it wasn't so before
 pub record SameRow (before after : GenRow) : Type 0 where

@@ -1,19 +1,16 @@
 -- Numbers at an address that come in one row after another, and go out one number after another.
-use Rattle.std.proofs.Common.{◌≡◌, ◌∙◌, ℕ, ◌+◌, ◌<◌, Bool, true, false, cond, not, ◌&&◌, ◌||◌, nat_eq, List, [], ◌∷◌, ◌++◌, take, length, get_or, filter, map, option_to_list, refl, sym, ap, append_assoc, append-nil, arith}
+use Rattle.std.proofs.Common.{◌≡◌, ◌∙◌, ℕ, ◌+◌, ◌<◌, Bool, true, false, cond, not, ◌&&◌, ◌||◌, nat_eq, List, [], ◌∷◌, ◌++◌, take, length, get_or, filter, refl, sym, ap, append_assoc, append-nil, arith}
 use Rattle.std.proofs.lemmas.Grind.{common_steps}
-use Rattle.std.proofs.lemmas.List.{map-append}
 use Rattle.std.proofs.lemmas.Bool.{eqb-true}
-use Rattle.std.specs.List.{flat_map}
 use Rattle.std.specs.Map.{values_of}
+use Rattle.std.proofs.Math.Bool.{or-false}
 use Rattle.ev_types.specs.declared.hosts.Host.{Host}
 use Rattle.ev_types.specs.declared.rows.GenRow.{GenRow}
-use Rattle.ev_types.specs.declared.rows.Live.{Live}
-use Rattle.ev_model.specs.Live.{live_of}
 use Rattle.ev_generations.specs.Tables.{by_number, numbers_of, row_in}
-use Rattle.ev_warming.specs.Due.{is_among}
-use Rattle.ev_warming.specs.Indexes.{numbers_where}
-use Rattle.ev_warming.specs.Watched.{without_number}
-use Rattle.ev_listeners.specs.Addresses.{is_found_at, is_left_at, holds, lives_numbered}
+use Rattle.ev_indexes.specs.Due.{is_among}
+use Rattle.ev_indexes.specs.Indexes.{numbers_where}
+use Rattle.ev_indexes.specs.Watched.{without_number}
+use Rattle.ev_listeners.specs.Addresses.{is_found_at, is_left_at, holds}
 
 one_number : (numbers : List ℕ) (i number : ℕ) → i < length numbers → number ≡ get_or numbers i number → take (i + 1) numbers ≡ take i numbers ++ number ∷ []
 one_number numbers i number within is = grind (arith, common_steps)
@@ -46,11 +43,7 @@ filter_filter p q (n ∷ ns) = by (q n) (filter_filter p q ns)
     by false more = more
 
 among_more : (numbers : List ℕ) (number n : ℕ) → is_among (numbers ++ number ∷ []) n ≡ (is_among numbers n || nat_eq n number)
-among_more [] number n = by (nat_eq n number)
-  where
-    by : (b : Bool) → (b || false) ≡ b
-    by true = refl
-    by false = refl
+among_more [] number n = or-false (nat_eq n number)
 among_more (m ∷ ms) number n = by (nat_eq n m) (among_more ms number n)
   where
     by : (b : Bool) → is_among (ms ++ number ∷ []) n ≡ (is_among ms n || nat_eq n number) → (b || is_among (ms ++ number ∷ []) n) ≡ ((b || is_among ms n) || nat_eq n number)
@@ -103,20 +96,3 @@ left-more address now old numbers rows i number within is are =
 pub left-none : (address : Host) (rows : List GenRow) (ns : List ℕ) → ns ≡ filter (is_left_at address [] rows) ns
 left-none address rows [] = refl
 left-none address rows (n ∷ ns) = ap (λ ms. n ∷ ms) (left-none address rows ns)
-
-one_further : (f : ℕ → List GenRow) (ns : List ℕ) (n : ℕ) → flat_map f (ns ++ n ∷ []) ≡ flat_map f ns ++ f n
-one_further f [] n = append-nil (f n)
-one_further f (m ∷ ms) n = ap (λ rs. f m ++ rs) (one_further f ms n) ∙ sym (append_assoc (f m) (flat_map f ms) (f n))
-
--- what is seen of generations, with one more number
-pub lives-more : (rows : List GenRow) (now old : List Live) (numbers : List ℕ) (i number : ℕ) → i < length numbers → number ≡ get_or numbers i number
-    → now ≡ old ++ lives_numbered rows (take i numbers)
-    → now ++ map live_of (option_to_list (row_in number rows)) ≡ old ++ lives_numbered rows (take (i + 1) numbers)
-lives-more rows now old numbers i number within is are =
-    let find : ℕ → List GenRow = λ n. option_to_list (row_in n rows) in
-    ap (λ lives. lives ++ map live_of (find number)) are
-    ∙ append_assoc old (lives_numbered rows (take i numbers)) (map live_of (find number))
-    ∙ ap (λ lives. old ++ lives)
-    (sym (map-append live_of (flat_map find (take i numbers)) (find number))
-    ∙ ap (map live_of) (sym (one_further find (take i numbers) number))
-    ∙ ap (lives_numbered rows) (sym (one_number numbers i number within is)))

@@ -16,11 +16,11 @@ use Rattle.ev_model.specs.Tidy.{promoted, promoted_status, has_successor}
 use Rattle.ev_model.specs.Warming.{is_ready_by}
 use Rattle.ev_generations.specs.Tables.{is_after, row_in, numbers_of, without_row}
 use Rattle.ev_generations.proofs.TableLemmas.{below_next}
-use Rattle.ev_verdicts.specs.Known.{is_at}
-use Rattle.ev_warming.specs.Due.{is_among}
+use Rattle.ev_mentions.specs.Lives.{is_at}
+use Rattle.ev_indexes.specs.Due.{is_among}
 use Rattle.ev_warming.specs.Changes.{has_retired, is_over, began_to_drain}
-use Rattle.ev_warming.specs.Indexes.{numbers_where, serves, warms}
-use Rattle.ev_warming.specs.Worlds.{rows_of_kind, StandsFor as HasPart}
+use Rattle.ev_indexes.specs.Indexes.{numbers_where, serves, warms}
+use Rattle.ev_indexes.specs.Worlds.{rows_of_kind, StandsFor as HasPart}
 use Rattle.ev_listeners.specs.Addresses.{numbers_at, holds, AreByAddress, is_left_at}
 use Rattle.ev_listeners.specs.Listeners.{ListenersKept, AreKept, StandsFor, holders_in}
 use Rattle.ev_listeners.proofs.FollowLemmas.{Follow, follow-response, follow-promoted, follow-ended, rows-after}
@@ -126,13 +126,6 @@ removal-stands l m number world kept over is same stands part = record {
       ∙ stands.addresses a
       ∙ held-without a number l.state.table.rows (apart_of l kept) over
       ∙ ap (numbers_where (holds a)) (sym is);
-}
-
--- where the rows and the index stay
-pub same-stands : (l m : ListenersKept) (world after : World) → m.state.table.rows ≡ l.state.table.rows → m.addresses ≡ l.addresses → StandsFor l world → HasPart m.state after → StandsFor m after
-same-stands l m world after rows same stands part = record {
-  part = part;
-  addresses = λ a. (λ i. numbers_at (same i) a) ∙ stands.addresses a ∙ ap (numbers_where (holds a)) (sym rows);
 }
 
 -- what the index has at an address is what the world has there

@@ -1,24 +1,12 @@
 -- Tables by address.
-use Rattle.std.proofs.Common.{◌≡◌, ◌∙◌, ℕ, Bool, true, false, cond, List, [], ◌∷◌, ◌++◌, length, None, Some, unwrap_or, refl, sym, true≢false}
+use Rattle.std.proofs.Common.{◌≡◌, ◌∙◌, ℕ, Bool, true, false, cond, List, [], ◌∷◌, ◌++◌, None, Some, refl, sym}
+use Rattle.std.proofs.lemmas.Bool.{true≢false}
 use Rattle.std.specs.List.{IsDistinct, AllByRecursion}
 use Rattle.std.specs.Map.{lookup, keys_of}
 use Rattle.std.proofs.lemmas.Map.Keys.{IsDistinct-head, IsDistinct-tail}
 use Rattle.ev_types.specs.SameHosts.{host_same, host_decides}
 use Rattle.ev_types.specs.declared.hosts.Host.{Host}
-use Rattle.ev_listeners.specs.Addresses.{AddressesKept, numbers_at}
-
-pub none_of_none : (numbers : List ℕ) → length numbers ≡ 0 → numbers ≡ []
-none_of_none [] h = refl
-none_of_none (n ∷ ns) h = cc
-
--- a table without the entry of an address that has none says the same
-pub trimmed : (old new : AddressesKept) (address : Host) → ((a : Host) → lookup (host_same a) new ≡ cond (host_same address a) None (lookup (host_same a) old))
-    → numbers_at old address ≡ [] → (a : Host) → numbers_at new a ≡ numbers_at old a
-trimmed old new address now empty a = by (host_same address a) refl (now a)
-  where
-    by : (b : Bool) → host_same address a ≡ b → lookup (host_same a) new ≡ cond b None (lookup (host_same a) old) → numbers_at new a ≡ numbers_at old a
-    by true here at = (λ i. unwrap_or (at i) []) ∙ sym ((λ i. numbers_at old (sym ((host_decides address a).0 here) i)) ∙ empty)
-    by false here at = λ i. unwrap_or (at i) []
+use Rattle.ev_listeners.specs.Addresses.{AddressesKept}
 
 flipped : (a b : Host) → host_same a b ≡ false → host_same b a ≡ false
 flipped a b apart = by (host_same b a) refl

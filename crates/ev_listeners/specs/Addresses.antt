@@ -1,6 +1,6 @@
 -- Which generations listen at an address. Source: listeners of Envoy's documentation: two listeners of different names may not have
 -- one address.
-use Rattle.std.specs.Prelude.{◌≡◌, ℕ, Bool, false, not, ◌&&◌, List, [], Option, None, Some, unwrap_or, option_to_list, map}
+use Rattle.std.specs.Prelude.{◌≡◌, ℕ, Bool, true, false, not, ◌&&◌, List, [], ◌∷◌, Option, None, Some, IsSome, unwrap_or, option_to_list, map}
 use Rattle.std.specs.List.{flat_map}
 use Rattle.std.specs.Map.{lookup}
 use Rattle.ev_types.specs.SameHosts.{host_same}
@@ -11,8 +11,8 @@ use Rattle.ev_types.specs.declared.rows.Live.{Live}
 use Rattle.ev_model.specs.Live.{live_of}
 use Rattle.ev_model.specs.Verdicts.{listening_address, shares_address}
 use Rattle.ev_generations.specs.Tables.{row_in}
-use Rattle.ev_warming.specs.Due.{is_among}
-use Rattle.ev_warming.specs.Indexes.{numbers_where}
+use Rattle.ev_indexes.specs.Due.{is_among, is_filled}
+use Rattle.ev_indexes.specs.Indexes.{numbers_where}
 
 -- addresses, each with the numbers of the generations that listen there
 abbrev pub AddressesKept : Type 0
@@ -21,6 +21,15 @@ AddressesKept = List (Host × List ℕ)
 -- the numbers at an address; no entry is none
 abbrev pub numbers_at : AddressesKept → Host → List ℕ
 numbers_at kept address = unwrap_or (lookup (host_same address) kept) []
+
+-- these numbers, where there is one
+abbrev pub filled_or_none : List ℕ → Option (List ℕ)
+filled_or_none [] = None
+filled_or_none (number ∷ numbers) = Some (number ∷ numbers)
+
+-- at each address that has an entry a generation listens
+abbrev pub HaveNumbers : AddressesKept → Type 0
+HaveNumbers kept = (address : Host) → IsSome (lookup (host_same address) kept) → is_filled (numbers_at kept address) ≡ true
 
 -- the generation listens at the address
 abbrev pub listens_at : Host → GenRow → Bool

@@ -4,10 +4,10 @@ use Rattle.ev_types.specs.declared.contents.Kind.TheVariants.{Lds}
 use Rattle.ev_types.specs.declared.hosts.Host.{Host}
 use Rattle.ev_types.specs.declared.rows.Live.{Live}
 use Rattle.ev_model.specs.World.{World}
-use Rattle.ev_warming.specs.declared.state.State.{State}
+use Rattle.ev_indexes.specs.declared.state.State.{State}
 use Rattle.ev_warming.specs.declared.manager.Manager.{Manager}
 use Rattle.ev_warming.specs.Managers.{IsKept}
-use Rattle.ev_warming.specs.Worlds.{StandsFor as HasPart}
+use Rattle.ev_indexes.specs.Worlds.{StandsFor as HasPart}
 use Rattle.ev_listeners.specs.Addresses.{AddressesKept, AreByAddress, numbers_at, lives_numbered}
 
 -- a listener manager, as contracts see it: the rows with their indexes, the numbers that the next forgetting looks at, and the

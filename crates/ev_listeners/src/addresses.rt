@@ -1,4 +1,4 @@
-ghost use Rattle.std.specs.Prelude.{◌≡◌, ◌++◌, [], ◌∷◌, None, filter, option_to_list, IfOk, OnOk, if◌then◌else◌};
+ghost use Rattle.std.specs.Prelude.{◌≡◌, ◌++◌, [], ◌∷◌, None, Some, filter, option_to_list, IfOk, OnOk, OnErr, if◌then◌else◌};
 ghost use Rattle.std.specs.Map.{lookup};
 ghost use Rattle.std.specs.Option.{option_copied};
 ghost use Rattle.indexmap.specs.IndexMap.{get};
@@ -6,9 +6,9 @@ ghost use Rattle.ev_types.specs.SameHosts.{host_same};
 ghost use Rattle.ev_types.specs.declared.hosts.Host as declared;
 ghost use Rattle.ev_model.specs.Verdicts.{listening_address};
 ghost use Rattle.ev_generations.specs.Tables.{is_after, row_in};
-ghost use Rattle.ev_warming.specs.Indexes.{numbers_where};
-ghost use Rattle.ev_warming.specs.Watched.{without_number};
-ghost use Rattle.ev_listeners.specs.Addresses.{numbers_at, holds, is_found_at, is_left_at};
+ghost use Rattle.ev_indexes.specs.Indexes.{numbers_where};
+ghost use Rattle.ev_indexes.specs.Watched.{without_number};
+ghost use Rattle.ev_listeners.specs.Addresses.{numbers_at, filled_or_none, holds, is_found_at, is_left_at};
 
 use ev_generations::Generations;
 use ev_types::{Content, Gen, GenRow, Host, Seq, TryCopy};
@@ -25,11 +25,13 @@ pub(crate) struct Addresses {
 }
 
 impl Model for Addresses {
-    ghost use Rattle.ev_listeners.specs.Addresses.{AddressesKept};
+    ghost use Rattle.ev_listeners.specs.Addresses.{AddressesKept, HaveNumbers};
 
     ghost Value = { AddressesKept };
 
     ghost view = { λ a. a.numbers.entries };
+
+    ghost invariant = { λ a. HaveNumbers a.numbers.entries };
 }
 
 impl Addresses {
@@ -58,25 +60,14 @@ impl Addresses {
     ) -> Result<(), AllocError>
         ensures { OnOk result ((a : declared.Host) → numbers_at self.new a ≡ numbers_at self.old a ++ (if host_same address.now a then number ∷ [] else [])) }
     {
-        if let Some(numbers) = self.numbers.get_mut(address) {
-            return numbers.push(number);
-        }
-        let mut numbers = Seq::new(alloc);
-        numbers.push(number)?;
-        let Ok(_) = self.numbers.insert(address.copy(alloc)?, numbers) else {
-            return Err(AllocError);
-        };
-        Ok(())
+        enter_number(&mut self.numbers, alloc, address, number)
     }
 
     /// A generation no longer listens at the address. It takes no memory.
     pub(crate) fn leave(&mut self, address: &Host, number: Gen)
         ensures { (a : declared.Host) → numbers_at self.new a ≡ (if host_same address.now a then without_number number (numbers_at self.old a) else numbers_at self.old a) }
     {
-        if let Some(numbers) = self.numbers.get_mut(address) {
-            leave_out(numbers, number);
-        }
-        self.trim(address);
+        leave_numbers(&mut self.numbers, address, number);
     }
 
     /// The index of rows that have changed: those whose numbers were drawn after this one are new, and those of these numbers have
@@ -163,16 +154,39 @@ impl Addresses {
             self.leave(address, number);
         }
     }
+}
 
-    // Takes out the entry of an address without any.
-    fn trim(&mut self, address: &Host)
-        ensures { (a : declared.Host) → numbers_at self.new a ≡ numbers_at self.old a }
-    {
-        let Some(numbers) = self.numbers.get(address) else {
-            return;
-        };
+// One more number stands at an address. Without memory the numbers stay as they were.
+fn enter_number(
+    map: &mut Numbers,
+    alloc: Global,
+    address: &Host,
+    number: Gen,
+) -> Result<(), AllocError>
+    ensures entered { OnOk result ((a : declared.Host) → get host_same map.new a
+        ≡ (if host_same address.now a then Some (numbers_at map.old.entries address.now ++ number ∷ []) else get host_same map.old a)) }
+    ensures err { OnErr result ((a : declared.Host) → get host_same map.new a ≡ get host_same map.old a) }
+{
+    if let Some(numbers) = map.get_mut(address) {
+        return numbers.push(number);
+    }
+    let mut numbers = Seq::new(alloc);
+    numbers.push(number)?;
+    let Ok(_) = map.insert(address.copy(alloc)?, numbers) else {
+        return Err(AllocError);
+    };
+    Ok(())
+}
+
+// A number is left out at an address, and the entry of one without any is taken out.
+fn leave_numbers(map: &mut Numbers, address: &Host, number: Gen)
+    ensures { (a : declared.Host) → get host_same map.new a
+        ≡ (if host_same address.now a then filled_or_none (without_number number (numbers_at map.old.entries address.now)) else get host_same map.old a) }
+{
+    if let Some(numbers) = map.get_mut(address) {
+        leave_out(numbers, number);
         if numbers.is_empty() {
-            take_out(&mut self.numbers, address);
+            take_out(map, address);
         }
     }
 }
@@ -191,15 +205,7 @@ fn address_of(content: &Content) -> Option<&Host>
 fn leave_out(numbers: &mut Seq<Gen>, number: Gen)
     ensures { numbers.new ≡ without_number number numbers.old }
 {
-    let mut kept = 0;
-    for place in 0..numbers.len() {
-        let other = numbers.as_slice()[place];
-        if number != other {
-            numbers.set(kept, other);
-            kept += 1;
-        }
-    }
-    numbers.truncate(kept);
+    numbers.retain(|other| number != *other);
 }
 
 // Takes out the entry of an address.

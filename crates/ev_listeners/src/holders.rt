@@ -1,16 +1,15 @@
 ghost use Rattle.std.specs.Prelude.{◌≡◌, ◌++◌, map, filter, option_to_list, IfOk, OnOk};
-ghost use Rattle.ev_types.specs.declared.hosts.Host as declared;
 ghost use Rattle.ev_model.specs.World.{World};
 ghost use Rattle.ev_model.specs.Live.{live_of, lives_of};
 ghost use Rattle.ev_generations.specs.Tables.{row_in};
-ghost use Rattle.ev_verdicts.specs.Known.{is_at};
+ghost use Rattle.ev_mentions.specs.Lives.{is_at};
 ghost use Rattle.ev_listeners.specs.Addresses.{lives_numbered, numbers_at};
 
 use crate::Listeners;
 use crate::addresses::Addresses;
 use ev_generations::Generations;
+use ev_mentions::LiveRow;
 use ev_types::{Gen, Host};
-use ev_verdicts::LiveRow;
 use std::alloc::{AllocError, Global};
 
 impl Listeners {
@@ -26,12 +25,6 @@ impl Listeners {
         let lives = lives_at(alloc, &self.addresses, &self.manager.state.table, address)?;
         Ok(lives)
     }
-
-    /// A law: by the index, those that listen at any address are the live listeners of the world there.
-    pub fn holders_law(&self)
-        requires kept { AreKept self.now }
-        ensures { (world : World) (address : declared.Host) → StandsFor self.now world → holders_in self.now address ≡ filter (is_at address) (lives_of world) }
-    {}
 }
 
 // What is seen of the generations that the index has at an address.

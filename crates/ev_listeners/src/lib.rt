@@ -10,9 +10,9 @@ ghost use Rattle.ev_model.specs.Rows.{arrived, with_removals, add_items};
 ghost use Rattle.ev_model.specs.Signals.{rows_ended};
 ghost use Rattle.ev_model.specs.Tidy.{promoted, without_unwatched, without_old_results};
 ghost use Rattle.ev_generations.specs.Tables.{row_in, without_row};
-ghost use Rattle.ev_warming.specs.Due.{is_among};
-ghost use Rattle.ev_warming.specs.Ready.{is_due_at};
-ghost use Rattle.ev_warming.specs.Indexes.{depends_on, serves, warms, numbers_where};
+ghost use Rattle.ev_indexes.specs.Due.{is_among};
+ghost use Rattle.ev_indexes.specs.Ready.{is_due_at};
+ghost use Rattle.ev_indexes.specs.Indexes.{depends_on, serves, warms, numbers_where};
 ghost use Rattle.ev_warming.specs.Changes.{began_to_serve, began_to_drain, has_retired, is_over};
 
 mod addresses;
@@ -23,8 +23,9 @@ mod reads;
 
 use crate::addresses::Addresses;
 use ev_generations::Steps;
+use ev_indexes::Standing;
 use ev_types::{Arrival, Gen, GenRow, Kind, Name, Response, Verdict};
-use ev_warming::{Applied, Manager, Promoted, Standing};
+use ev_warming::{Applied, Manager, Promoted};
 use std::alloc::{AllocError, Global};
 use std::marker::Model;
 use std::sync::ledger::Ledger;

@@ -11,15 +11,15 @@ ghost use Rattle.ev_model.specs.Picture.{served_listeners};
 ghost use Rattle.ev_model.specs.Signals.{is_awaited};
 ghost use Rattle.ev_model.specs.Watching.{is_watched, watched_of};
 ghost use Rattle.ev_generations.specs.Tables.{row_in, numbers_of};
-ghost use Rattle.ev_warming.specs.Indexes.{depends_on, serves, warms, numbers_where};
-ghost use Rattle.ev_warming.specs.Newest.{newest_in};
-ghost use Rattle.ev_warming.specs.Reads.{live_rows, names_watched, is_timeout_due, listeners_in};
-ghost use Rattle.ev_warming.specs.Shown.{listener_shown, listener_shown_in};
+ghost use Rattle.ev_indexes.specs.Indexes.{depends_on, serves, warms, numbers_where};
+ghost use Rattle.ev_indexes.specs.Newest.{newest_in};
+ghost use Rattle.ev_indexes.specs.Reads.{live_rows, names_watched, is_timeout_due, listeners_in};
+ghost use Rattle.ev_indexes.specs.Shown.{listener_shown, listener_shown_in};
 
 use crate::Listeners;
+use ev_mentions::LiveRow;
 use ev_model::ServedListener;
 use ev_types::{Gen, GenRow, Name, Seq, TryCopy};
-use ev_verdicts::LiveRow;
 use std::alloc::{AllocError, Global};
 
 impl Listeners {

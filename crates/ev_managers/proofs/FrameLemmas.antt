@@ -5,6 +5,9 @@ use Rattle.std.proofs.lemmas.List.Folds.{list_any-append}
 use Rattle.std.specs.List.{list_any, fold, zip, AllByRecursion as ByRecursion, last_or}
 use Rattle.std.specs.Str.{bytes_eq}
 use Rattle.std.proofs.lemmas.Bool.{both_ways, false≢true}
+use Rattle.std.proofs.Math.Bool.{or-false}
+use Rattle.std.proofs.lemmas.List.{append-nil, map-append}
+use Rattle.std.proofs.lemmas.List.Elements.{filter-append}
 use Rattle.ev_types.specs.Items.{ItemParts, ResponseParts}
 use Rattle.ev_types.specs.Kinds.{kind_same, kind_decides}
 use Rattle.ev_types.specs.SameHosts.{host_same, has_host}
@@ -30,13 +33,13 @@ use Rattle.ev_model.specs.Watching.{is_watched}
 use Rattle.ev_model.specs.Rows.{removed_status, with_statuses, status_left, arrived, absent_names, with_removals, replaced_status, new_row, add_row, keep_version, keep_value, with_content, refuse, add_item, add_items}
 use Rattle.ev_model.specs.Signals.{ended_status, rows_ended, is_meant, rows_meant, result_for, with_results}
 use Rattle.ev_generations.specs.Tables.{row_in, numbers_of}
-use Rattle.ev_warming.specs.declared.state.State.{State}
-use Rattle.ev_warming.specs.Due.{is_among}
+use Rattle.ev_indexes.specs.declared.state.State.{State}
+use Rattle.ev_indexes.specs.Due.{is_among}
 use Rattle.ev_warming.specs.Health.{passes}
 use Rattle.ev_warming.proofs.HealthLemmas.{among-row}
-use Rattle.ev_warming.proofs.WhereLemmas.{flipped}
-use Rattle.ev_warming.specs.Worlds.{StandsFor as HasRows, IsSound, needs_of, rows_of_kind}
-use Rattle.ev_warming.specs.Frames.{SameSeen, seen-stands}
+use Rattle.ev_indexes.proofs.WhereLemmas.{flipped}
+use Rattle.ev_indexes.specs.Worlds.{StandsFor as HasRows, IsSound, needs_of, rows_of_kind}
+use Rattle.ev_indexes.proofs.SeenLemmas.{SameSeen, seen-stands}
 use Rattle.ev_listeners.specs.Listeners.{ListenersKept, StandsFor as HasListeners}
 use Rattle.ev_managers.specs.declared.managers.Managers.{Managers}
 use Rattle.ev_managers.specs.Managers.{StandFor}
@@ -97,24 +100,11 @@ statuses_leave kind status_of keeps (row ∷ rows) = by (kind_same row.kind kind
     by true of rest = λ i. record row { status = keeps row of i } ∷ rest i
     by false other rest = rest
 
-filtered_append : {X : Type 0} (p : X → Bool) (xs ys : List X) → filter p (xs ++ ys) ≡ filter p xs ++ filter p ys
-filtered_append p [] ys = refl
-filtered_append p (x ∷ xs) ys = by (p x) (filtered_append p xs ys)
-  where
-    by : (b : Bool) → filter p (xs ++ ys) ≡ filter p xs ++ filter p ys
-        → cond b (x ∷ filter p (xs ++ ys)) (filter p (xs ++ ys)) ≡ cond b (x ∷ filter p xs) (filter p xs) ++ filter p ys
-    by true h = ap (λ zs. x ∷ zs) h
-    by false h = h
-
-append_none : {X : Type 0} (xs : List X) → xs ++ [] ≡ xs
-append_none [] = refl
-append_none (x ∷ xs) = ap (λ zs. x ∷ zs) (append_none xs)
-
 -- rows of another kind behind them
 more_leave : (kind : Kind) (rows : List GenRow) (row : GenRow) → kind_same row.kind kind ≡ false → rows_of_kind kind (rows ++ row ∷ []) ≡ rows_of_kind kind rows
 more_leave kind rows row other =
-    filtered_append (λ (r : GenRow). kind_same r.kind kind) rows (row ∷ [])
-    ∙ ap (λ b. rows_of_kind kind rows ++ cond b (row ∷ []) []) other ∙ append_none (rows_of_kind kind rows)
+    filter-append (λ (r : GenRow). kind_same r.kind kind) rows (row ∷ [])
+    ∙ ap (λ b. rows_of_kind kind rows ++ cond b (row ∷ []) []) other ∙ append-nil (rows_of_kind kind rows)
 
 -- what came of another kind is nothing for this one
 came_of_other : (kind other : Kind) (name : List ℕ) → kind_same other kind ≡ false → (more : List Arrived)
@@ -125,18 +115,14 @@ came_of_other kind other name apart (a ∷ more) all =
     (a ∷ filter (λ (x : Arrived). kind_same x.kind kind && bytes_eq x.name name) more) (filter (λ (x : Arrived). kind_same x.kind kind && bytes_eq x.name name) more)))
     ∙ came_of_other kind other name apart more all.1
 
-mapped_append : {X Y : Type 0} (f : X → Y) (xs ys : List X) → map f (xs ++ ys) ≡ map f xs ++ map f ys
-mapped_append f [] ys = refl
-mapped_append f (x ∷ xs) ys = ap (λ zs. f x ∷ zs) (mapped_append f xs ys)
-
 pub came_more : (kind other : Kind) (name : List ℕ) → kind_same other kind ≡ false → (arrivals more : List Arrived)
     → ByRecursion (λ (a : Arrived). a.kind ≡ other) more → came_for (arrivals ++ more) kind name ≡ came_for arrivals kind name
 came_more kind other name apart arrivals more all =
-    ap (map (λ (a : Arrived). a.arrival)) (filtered_append (λ (a : Arrived). kind_same a.kind kind && bytes_eq a.name name) arrivals more)
-    ∙ mapped_append (λ (a : Arrived). a.arrival) (filter (λ (a : Arrived). kind_same a.kind kind && bytes_eq a.name name) arrivals)
+    ap (map (λ (a : Arrived). a.arrival)) (filter-append (λ (a : Arrived). kind_same a.kind kind && bytes_eq a.name name) arrivals more)
+    ∙ map-append (λ (a : Arrived). a.arrival) (filter (λ (a : Arrived). kind_same a.kind kind && bytes_eq a.name name) arrivals)
     (filter (λ (a : Arrived). kind_same a.kind kind && bytes_eq a.name name) more)
     ∙ ap (λ came. came_for arrivals kind name ++ came) (came_of_other kind other name apart more all)
-    ∙ append_none (came_for arrivals kind name)
+    ∙ append-nil (came_for arrivals kind name)
 
 all_arrived : (kind : Kind) (arrival : Arrival) (names : List (List ℕ)) → ByRecursion (λ (a : Arrived). a.kind ≡ kind) (map (arrived kind arrival) names)
 all_arrived kind arrival [] = tt
@@ -303,19 +289,15 @@ health_leaves s world name host healthy has apart = record {
       ∙ ap (λ b. has_result world.results number h || b)
       (any_none (is_result_of number h) (map (result_for host healthy) (rows_meant world.arrivals name host world.rows))
       (results_apart number h host healthy (rows_meant world.arrivals name host world.rows) (meant_apart number there)))
-      ∙ or_false (has_result world.results number h);
+      ∙ or-false (has_result world.results number h);
   healthy = λ number h there.
       ap (λ (rs : List HealthResult). unwrap_or (last_or None (map (λ (r : HealthResult). r.healthy) rs)) false)
-      (filtered_append (is_result_of number h) world.results (map (result_for host healthy) (rows_meant world.arrivals name host world.rows))
+      (filter-append (is_result_of number h) world.results (map (result_for host healthy) (rows_meant world.arrivals name host world.rows))
       ∙ ap (λ (rs : List HealthResult). filter (is_result_of number h) world.results ++ rs)
       (results_apart number h host healthy (rows_meant world.arrivals name host world.rows) (meant_apart number there))
-      ∙ append_none (filter (is_result_of number h) world.results));
+      ∙ append-nil (filter (is_result_of number h) world.results));
 }
   where
-    or_false : (b : Bool) → (b || false) ≡ b
-    or_false true = refl
-    or_false false = refl
-
     -- the row of the number is of the manager's kind
     its_kind : (number : ℕ) → IsSome (row_in number s.table.rows) → passes (λ (row : GenRow). kind_same row.kind s.kind) (row_in number world.rows) ≡ true
     its_kind number there =

@@ -9,8 +9,8 @@ use Rattle.ev_types.specs.declared.rows.GenRow.{GenRow}
 use Rattle.ev_generations.specs.Tables.{row_in, is_number, numbers_of, without_row}
 use Rattle.ev_generations.proofs.TableLemmas.{without_row-absent}
 use Rattle.ev_warming.specs.Changes.{is_over}
-use Rattle.ev_warming.specs.Worlds.{rows_of_kind}
-use Rattle.ev_warming.proofs.ForgottenLemmas.{found-of_kind}
+use Rattle.ev_indexes.specs.Worlds.{rows_of_kind}
+use Rattle.ev_indexes.proofs.RowLemmas.{found-of_kind}
 
 -- two tests may be made in either order
 either_order : {X : Type 0} (p q : X → Bool) (xs : List X) → filter p (filter q xs) ≡ filter q (filter p xs)

@@ -5,10 +5,10 @@ use Rattle.ev_types.specs.declared.contents.Kind.{Kind}
 use Rattle.ev_types.specs.declared.rows.GenRow.{GenRow}
 use Rattle.ev_model.specs.Signals.{rows_ended}
 use Rattle.ev_generations.specs.Tables.{row_in}
-use Rattle.ev_warming.specs.declared.state.State.{State}
-use Rattle.ev_warming.specs.Due.{is_among}
+use Rattle.ev_indexes.specs.declared.state.State.{State}
+use Rattle.ev_indexes.specs.Due.{is_among}
 use Rattle.ev_warming.specs.Changes.{is_over, has_retired, began_to_serve, began_to_drain}
-use Rattle.ev_warming.specs.Indexes.{IsIndexed, numbers_where, serves, warms}
+use Rattle.ev_indexes.specs.Indexes.{IsIndexed, numbers_where, serves, warms}
 use Rattle.ev_warming.proofs.RetiredLemmas.{tells-ended}
 use Rattle.ev_managers.specs.declared.managers.Managers.{Managers}
 use Rattle.ev_managers.specs.declared.retired.Retired.{Retired}

@@ -7,8 +7,8 @@ use Rattle.ev_types.specs.declared.contents.Kind.TheVariants.{Cds, Eds, Lds, Rds
 use Rattle.ev_types.specs.declared.events.Verdict.{Verdict}
 use Rattle.ev_model.specs.World.{World}
 use Rattle.ev_warming.specs.Arrivals.{AreOnValues}
-use Rattle.ev_warming.specs.Indexes.{depends_on}
-use Rattle.ev_warming.specs.Worlds.{StandsFor as HasRows}
+use Rattle.ev_indexes.specs.Indexes.{depends_on}
+use Rattle.ev_indexes.specs.Worlds.{StandsFor as HasRows}
 use Rattle.ev_clusters.specs.Clusters.{AreKept as AreClusters}
 use Rattle.ev_listeners.specs.Listeners.{AreKept as AreListeners, StandsFor as HasListeners}
 use Rattle.ev_managers.specs.declared.managers.Managers.{Managers}

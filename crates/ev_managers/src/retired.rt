@@ -1,7 +1,8 @@
 ghost use Rattle.std.specs.Prelude.{◌≡◌, ◌++◌, [], IfOk, OnOk, option_to_list};
 
+use ev_indexes::Standing;
 use ev_types::{Gen, Seq};
-use ev_warming::{Promoted, Standing};
+use ev_warming::Promoted;
 use std::alloc::{AllocError, Global};
 
 /// The numbers of the generations that an event has retired: they began to drain, or were dropped where they warmed.

@@ -5,7 +5,7 @@ ghost use Rattle.ev_model.specs.World.{World};
 ghost use Rattle.ev_model.specs.Rows.{arrived};
 ghost use Rattle.ev_model.specs.Signals.{is_meant, rows_ended, rows_meant, with_end, with_results};
 ghost use Rattle.ev_model.specs.Watching.{is_by_name};
-ghost use Rattle.ev_warming.specs.Indexes.{depends_on};
+ghost use Rattle.ev_indexes.specs.Indexes.{depends_on};
 
 use crate::retired::stood;
 use crate::{Managers, Retired};

@@ -18,8 +18,8 @@ use Rattle.ev_model.specs.Phase.{is_serving}
 use Rattle.ev_model.specs.Versions.{is_before}
 use Rattle.ev_model.specs.World.{World}
 use Rattle.ev_generations.specs.Tables.{row_in}
-use Rattle.ev_warming.specs.Shown.{cluster_at, cluster_shown, first_of, listener_at, listener_shown}
-use Rattle.ev_warming.specs.Worlds.{rows_of_kind}
+use Rattle.ev_indexes.specs.Shown.{cluster_at, cluster_shown, first_of, listener_at, listener_shown}
+use Rattle.ev_indexes.specs.Worlds.{rows_of_kind}
 use Rattle.ev_retirement.specs.Holders.{AreNumbered}
 use Rattle.ev_proxy.proofs.OrderLemmas.{AllDiffer, AreInOrder, Differ, StandsBefore, found_sorted, none_found, number_same, number_turned, numbered, sorted_order}
 

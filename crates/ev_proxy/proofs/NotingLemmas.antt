@@ -11,7 +11,7 @@ use Rattle.ev_types.specs.declared.rows.GenRow.{GenRow}
 use Rattle.ev_model.specs.World.{World}
 use Rattle.ev_model.specs.Picture.{has_number}
 use Rattle.ev_generations.specs.Tables.{numbers_of, row_in}
-use Rattle.ev_warming.specs.Due.{is_among}
+use Rattle.ev_indexes.specs.Due.{is_among}
 use Rattle.ev_warming.specs.Changes.{is_over}
 use Rattle.ev_drain.specs.Retired.{Retired as Row}
 use Rattle.ev_managers.specs.declared.retired.Retired.{Retired}

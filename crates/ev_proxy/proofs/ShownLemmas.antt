@@ -29,12 +29,12 @@ use Rattle.ev_snapshot.specs.declared.changes.ClusterChange.{ClusterChange}
 use Rattle.ev_snapshot.specs.declared.changes.ListenerChange.{ListenerChange}
 use Rattle.ev_snapshot.specs.Changes.{IsInOrder, IsOrdered, put_cluster, put_clusters, put_listener, put_listeners, shown_with}
 use Rattle.ev_snapshot.specs.Tables.{cluster_numbered, listener_numbered}
-use Rattle.ev_warming.proofs.ShownLemmas.{names-differ}
-use Rattle.ev_warming.specs.declared.state.State.{State as Part}
-use Rattle.ev_warming.specs.Due.{is_among}
-use Rattle.ev_warming.specs.Indexes.{IsIndexed}
-use Rattle.ev_warming.specs.Shown.{cluster_shown, listener_shown}
-use Rattle.ev_warming.specs.Worlds.{StandsFor as HasPart}
+use Rattle.ev_indexes.proofs.ShownLemmas.{names-differ}
+use Rattle.ev_indexes.specs.declared.state.State.{State as Part}
+use Rattle.ev_indexes.specs.Due.{is_among}
+use Rattle.ev_indexes.specs.Indexes.{IsIndexed}
+use Rattle.ev_indexes.specs.Shown.{cluster_shown, listener_shown}
+use Rattle.ev_indexes.specs.Worlds.{StandsFor as HasPart}
 use Rattle.ev_state.specs.Changed.{HaveChanged}
 use Rattle.ev_state.specs.States.{IsAt as ManagesAt, SameManaged}
 use Rattle.ev_state.specs.declared.state.State.{State}

@@ -2,8 +2,8 @@
 use Rattle.std.specs.Prelude.{◌≡◌, ℕ, false, List, map}
 use Rattle.ev_model.specs.World.{World}
 use Rattle.ev_model.specs.Dead.{last_picture}
-use Rattle.ev_warming.specs.Due.{is_among}
-use Rattle.ev_warming.specs.Shown.{cluster_at, listener_at}
+use Rattle.ev_indexes.specs.Due.{is_among}
+use Rattle.ev_indexes.specs.Shown.{cluster_at, listener_at}
 use Rattle.ev_snapshot.specs.Tables.{cluster_numbered, listener_numbered}
 use Rattle.ev_snapshot.specs.declared.changes.Changes.{Changes}
 use Rattle.ev_snapshot.specs.declared.changes.ClusterChange.{ClusterChange}

@@ -1,5 +1,5 @@
 ghost use Rattle.std.specs.Prelude.{◌≡◌, ◌||◌, ℕ, [], nat_eq, OnOk};
-ghost use Rattle.ev_warming.specs.Due.{is_among};
+ghost use Rattle.ev_indexes.specs.Due.{is_among};
 
 use ev_types::Gen;
 use indexmap::IndexSet;

@@ -22,7 +22,7 @@ use Rattle.ev_model.specs.Signals.{ended_status, with_end, forget_version}
 use Rattle.ev_model.specs.Tidy.{status_by}
 use Rattle.ev_model.specs.Verdicts.{is_removed}
 use Rattle.ev_generations.specs.Tables.{row_in}
-use Rattle.ev_warming.specs.Worlds.{rows_of_kind}
+use Rattle.ev_indexes.specs.Worlds.{rows_of_kind}
 use Rattle.ev_state.specs.Ages.{IsLater, AreLater}
 
 abbrev AreNew : ℕ → List GenRow → Type 0

@@ -12,12 +12,12 @@ use Rattle.ev_model.specs.World.{World}
 use Rattle.ev_model.specs.Phase.{is_serving, clusters_have_come, listeners_have_come, phase_from, phase_after}
 use Rattle.ev_model.specs.Tidy.{with_phase}
 use Rattle.ev_generations.specs.Tables.{row_in, numbers_of}
-use Rattle.ev_warming.specs.declared.state.State.{State}
-use Rattle.ev_warming.specs.Due.{is_among}
-use Rattle.ev_warming.specs.Reads.{live_rows}
-use Rattle.ev_warming.specs.Shown.{listener_shown}
-use Rattle.ev_warming.specs.Worlds.{rows_of_kind}
-use Rattle.ev_warming.proofs.WhereLemmas.{among-where}
+use Rattle.ev_indexes.specs.declared.state.State.{State}
+use Rattle.ev_indexes.specs.Due.{is_among}
+use Rattle.ev_indexes.specs.Reads.{live_rows}
+use Rattle.ev_indexes.specs.Shown.{listener_shown}
+use Rattle.ev_indexes.specs.Worlds.{rows_of_kind}
+use Rattle.ev_indexes.proofs.WhereLemmas.{among-where}
 use Rattle.ev_state.specs.Changed.{HaveChanged, listeners_begun}
 use Rattle.ev_state.proofs.StillLemmas.{serving}
 use Rattle.ev_state.proofs.KeepLemmas.{served-is, active-live}

@@ -9,7 +9,7 @@ use Rattle.ev_model.specs.World.{World}
 use Rattle.ev_model.specs.Watching.{is_by_name}
 use Rattle.ev_generations.specs.Tables.{row_in}
 use Rattle.ev_warming.specs.Changes.{is_over, has_retired}
-use Rattle.ev_warming.specs.Worlds.{IsSound}
+use Rattle.ev_indexes.specs.Worlds.{IsSound}
 use Rattle.ev_managers.specs.declared.retired.Retired.{Retired}
 use Rattle.ev_state.specs.Ages.{AreLater}
 use Rattle.ev_state.specs.Retirements.{HaveRetired, HaveCeased}

@@ -11,13 +11,13 @@ use Rattle.ev_model.specs.Requests.{other_than}
 use Rattle.ev_model_laws.proofs.AnyLemmas.{or_so, any_so}
 use Rattle.ev_generations.specs.Tables.{IsTable, row_in}
 use Rattle.ev_generations.proofs.TableLemmas.{number-row_in}
-use Rattle.ev_warming.specs.Due.{is_among}
+use Rattle.ev_indexes.specs.Due.{is_among}
 use Rattle.ev_warming.specs.Changes.{is_over, has_retired}
-use Rattle.ev_warming.specs.Ready.{name_needed}
-use Rattle.ev_warming.specs.Indexes.{is_needed, depends_on}
-use Rattle.ev_warming.specs.Reads.{names_watched, names_needed}
-use Rattle.ev_warming.specs.Moved.{is_held, need_lost, need_gained, numbers_behind, names_lost, names_gained}
-use Rattle.ev_warming.proofs.WhereLemmas.{own-rows}
+use Rattle.ev_indexes.specs.Ready.{name_needed}
+use Rattle.ev_indexes.specs.Indexes.{is_needed, depends_on}
+use Rattle.ev_indexes.specs.Reads.{names_watched, names_needed}
+use Rattle.ev_indexes.specs.Moved.{is_held, need_lost, need_gained, numbers_behind, names_lost, names_gained}
+use Rattle.ev_indexes.proofs.WhereLemmas.{own-rows}
 use Rattle.ev_state.specs.Ages.{IsLater, AreLater}
 use Rattle.ev_state.proofs.AgeLemmas.{found-later, found-earlier}
 use Rattle.ev_state.proofs.NameLists.{needs_it, is_watcher, sorted-in_order, other-in_order, same-names, among-watched, among-lost, among-gained}

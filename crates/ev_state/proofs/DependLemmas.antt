@@ -18,12 +18,12 @@ use Rattle.ev_model.specs.Signals.{with_end, forget_version}
 use Rattle.ev_model.specs.Warming.{value_by, assignment_by}
 use Rattle.ev_model.specs.Watching.{Dependency, dependency_of, is_dependency}
 use Rattle.ev_generations.specs.Tables.{row_in, numbers_of}
-use Rattle.ev_warming.specs.declared.state.State.{State}
-use Rattle.ev_warming.specs.Due.{is_among}
+use Rattle.ev_indexes.specs.declared.state.State.{State}
+use Rattle.ev_indexes.specs.Due.{is_among}
 use Rattle.ev_warming.specs.Changes.{has_retired}
-use Rattle.ev_warming.specs.Indexes.{is_needed, depends_on, numbers_where}
-use Rattle.ev_warming.specs.Worlds.{needs_of, rows_of_kind}
-use Rattle.ev_warming.proofs.WhereLemmas.{among-where}
+use Rattle.ev_indexes.specs.Indexes.{is_needed, depends_on, numbers_where}
+use Rattle.ev_indexes.specs.Worlds.{needs_of, rows_of_kind}
+use Rattle.ev_indexes.proofs.WhereLemmas.{among-where}
 use Rattle.ev_state.specs.Changed.{dependents_in, dependents_of}
 use Rattle.ev_state.proofs.FindLemmas.{only, found-only}
 use Rattle.ev_state.proofs.StillLemmas.{serving, still-kind}

@@ -10,8 +10,8 @@ use Rattle.ev_types.specs.declared.rows.GenRow.{GenRow}
 use Rattle.ev_model.specs.Watching.{is_by_name}
 use Rattle.ev_generations.specs.Tables.{row_in, numbers_of}
 use Rattle.ev_warming.specs.Changes.{is_over}
-use Rattle.ev_warming.specs.Worlds.{rows_of_kind}
-use Rattle.ev_warming.proofs.ForgottenLemmas.{all-at}
+use Rattle.ev_indexes.specs.Worlds.{rows_of_kind}
+use Rattle.ev_indexes.proofs.RowLemmas.{all-at}
 use Rattle.ev_state.proofs.WholeLemmas.{AreWhole}
 
 -- what is found, where it is of the kind

@@ -6,7 +6,7 @@ use Rattle.ev_types.specs.declared.rows.KeptVersion.{KeptVersion}
 use Rattle.ev_model.specs.World.{World}
 use Rattle.ev_model.specs.Live.{lives_of}
 use Rattle.ev_model_laws.specs.VersionsKept.{AreKeptOnce}
-use Rattle.ev_warming.specs.Frames.{SameSeen, seen-sound}
+use Rattle.ev_indexes.proofs.SeenLemmas.{SameSeen, seen-sound}
 use Rattle.ev_managers.proofs.FrameLemmas.{see_the_same}
 use Rattle.ev_subscription.specs.Subscriptions.{kept_of}
 use Rattle.ev_state.specs.declared.state.State.{State}

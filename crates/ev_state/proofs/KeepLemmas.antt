@@ -25,11 +25,11 @@ use Rattle.ev_model.specs.Signals.{is_draining}
 use Rattle.ev_model.specs.Tidy.{status_by, has_successor, promoted_status, promoted, arrivals_watched, without_unwatched, is_result_due, without_old_results}
 use Rattle.ev_generations.specs.Tables.{row_in, numbers_of}
 use Rattle.ev_generations.proofs.TableLemmas.{row_in-with_statuses}
-use Rattle.ev_warming.specs.Due.{is_among}
+use Rattle.ev_indexes.specs.Due.{is_among}
 use Rattle.ev_warming.specs.Changes.{began_to_serve, began_to_drain}
-use Rattle.ev_warming.specs.Indexes.{status_in}
-use Rattle.ev_warming.specs.Worlds.{needs_of, rows_of_kind}
-use Rattle.ev_warming.proofs.WhereLemmas.{any-found}
+use Rattle.ev_indexes.specs.Indexes.{status_in}
+use Rattle.ev_indexes.specs.Worlds.{needs_of, rows_of_kind}
+use Rattle.ev_indexes.proofs.WhereLemmas.{any-found}
 use Rattle.ev_state.proofs.FindLemmas.{only, found-only}
 use Rattle.ev_state.proofs.StillLemmas.{serving}
 use Rattle.ev_state.proofs.SameLemmas.{AreAlike, AreSame, SameNeeds, SameResults}

@@ -18,11 +18,11 @@ use Rattle.ev_types.specs.declared.rows.Live.{Live}
 use Rattle.ev_model.specs.World.{World}
 use Rattle.ev_model.specs.Live.{live_of, lives_of, is_named, latest, newest_of}
 use Rattle.ev_model.specs.Watching.{is_by_name, is_watched, is_dependency, dependency_of, discovery_dependency, serve_dependency}
-use Rattle.ev_warming.specs.declared.state.State.{State}
-use Rattle.ev_warming.specs.Reads.{live_rows}
-use Rattle.ev_warming.specs.Worlds.{StandsFor as HasRows, needs_of}
-use Rattle.ev_warming.proofs.NewestLemmas.{newest-world}
-use Rattle.ev_warming.proofs.ReadLemmas.{watched-world}
+use Rattle.ev_indexes.specs.declared.state.State.{State}
+use Rattle.ev_indexes.specs.Reads.{live_rows}
+use Rattle.ev_indexes.specs.Worlds.{StandsFor as HasRows, needs_of}
+use Rattle.ev_indexes.proofs.NewestLemmas.{newest-world}
+use Rattle.ev_indexes.proofs.ReadLemmas.{watched-world}
 use Rattle.ev_listeners.specs.Listeners.{ListenersKept, AreKept as AreListeners, StandsFor as HasListeners}
 use Rattle.ev_listeners.proofs.StandLemmas.{holders-world}
 use Rattle.ev_verdicts.specs.Known.{Tells}

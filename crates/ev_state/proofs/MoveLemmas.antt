@@ -12,17 +12,17 @@ use Rattle.ev_model.specs.Tidy.{promoted, promoted_status, has_successor}
 use Rattle.ev_model.specs.Warming.{is_ready_by}
 use Rattle.ev_model.specs.Watching.{is_by_name, sorted_names, watched_of}
 use Rattle.ev_generations.specs.Tables.{IsTable, row_in}
-use Rattle.ev_warming.specs.declared.state.State.{State as Part}
-use Rattle.ev_warming.specs.Due.{is_among}
+use Rattle.ev_indexes.specs.declared.state.State.{State as Part}
+use Rattle.ev_indexes.specs.Due.{is_among}
 use Rattle.ev_warming.specs.Changes.{is_over, has_retired, began_to_drain}
-use Rattle.ev_warming.specs.Indexes.{IsIndexed}
-use Rattle.ev_warming.specs.Moved.{names_lost, names_gained}
-use Rattle.ev_warming.specs.Reads.{names_watched}
-use Rattle.ev_warming.specs.Worlds.{IsSound, StandsFor as HasRows, needs_of, rows_of_kind}
-use Rattle.ev_warming.proofs.ForgottenLemmas.{found-of_kind}
-use Rattle.ev_warming.proofs.ReadLemmas.{names-world, needs-world}
+use Rattle.ev_indexes.specs.Indexes.{IsIndexed}
+use Rattle.ev_indexes.specs.Moved.{names_lost, names_gained}
+use Rattle.ev_indexes.specs.Reads.{names_watched}
+use Rattle.ev_indexes.specs.Worlds.{IsSound, StandsFor as HasRows, needs_of, rows_of_kind}
+use Rattle.ev_indexes.proofs.RowLemmas.{found-of_kind}
+use Rattle.ev_indexes.proofs.ReadLemmas.{names-world, needs-world}
 use Rattle.ev_warming.proofs.RemovalLemmas.{apart-filter}
-use Rattle.ev_warming.proofs.WorldLemmas.{rows_of_kind-with_statuses}
+use Rattle.ev_indexes.proofs.WorldLemmas.{rows_of_kind-with_statuses}
 use Rattle.ev_types.specs.Kinds.{kind_same}
 use Rattle.ev_listeners.proofs.ChangeLemmas.{drained-retired}
 use Rattle.ev_managers.specs.declared.managers.Managers.{Managers}

@@ -19,11 +19,11 @@ use Rattle.ev_model.specs.Requests.{other_than}
 use Rattle.ev_model.specs.Verdicts.{is_among}
 use Rattle.ev_model.specs.Watching.{sorted_names}
 use Rattle.ev_generations.specs.Tables.{row_in}
-use Rattle.ev_warming.specs.Ready.{name_needed}
-use Rattle.ev_warming.specs.Indexes.{is_needed, depends_on}
-use Rattle.ev_warming.specs.Reads.{live_rows, names_needed, names_watched}
-use Rattle.ev_warming.specs.Moved.{is_held, free_need, need_found, live_need_found, need_lost, need_gained, numbers_behind, names_lost, names_gained}
-use Rattle.ev_warming.proofs.SortLemmas.{sorted-unique, sorted_by-dedup}
+use Rattle.ev_indexes.specs.Ready.{name_needed}
+use Rattle.ev_indexes.specs.Indexes.{is_needed, depends_on}
+use Rattle.ev_indexes.specs.Reads.{live_rows, names_needed, names_watched}
+use Rattle.ev_indexes.specs.Moved.{is_held, free_need, need_found, live_need_found, need_lost, need_gained, numbers_behind, names_lost, names_gained}
+use Rattle.ev_indexes.proofs.SortLemmas.{sorted-unique, sorted_by-dedup}
 use Rattle.ev_state.proofs.WatchedNames.{among_sorted, among_failing}
 
 -- in the order of their bytes, each once

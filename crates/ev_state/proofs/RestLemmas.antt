@@ -13,7 +13,7 @@ use Rattle.ev_model.specs.World.{World}
 use Rattle.ev_model.specs.Live.{lives_of}
 use Rattle.ev_model.specs.Watching.{is_watched}
 use Rattle.ev_model.specs.Rows.{with_removals, add_row, keep_version, keep_value, with_content, refuse, add_item, add_items, with_first}
-use Rattle.ev_warming.specs.Frames.{SameSeen}
+use Rattle.ev_indexes.proofs.SeenLemmas.{SameSeen}
 use Rattle.ev_targets.specs.Targets.{TargetsParts, StandsFor as HasTargets}
 
 -- the rest of the worlds is the same

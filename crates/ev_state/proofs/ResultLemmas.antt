@@ -17,12 +17,12 @@ use Rattle.ev_model.specs.Warming.{assignment_by, is_checked, is_result_of, is_h
 use Rattle.ev_model.specs.Signals.{is_meant, rows_meant, result_for, with_results}
 use Rattle.ev_generations.specs.Tables.{row_in, numbers_of}
 use Rattle.ev_generations.proofs.TableLemmas.{number-row_in}
-use Rattle.ev_warming.specs.declared.state.State.{State}
-use Rattle.ev_warming.specs.Due.{is_among}
-use Rattle.ev_warming.specs.Indexes.{serves, numbers_where}
-use Rattle.ev_warming.specs.Worlds.{rows_of_kind}
-use Rattle.ev_warming.proofs.PromotionLemmas.{all_then}
-use Rattle.ev_warming.proofs.WhereLemmas.{among-where, own-rows}
+use Rattle.ev_indexes.specs.declared.state.State.{State}
+use Rattle.ev_indexes.specs.Due.{is_among}
+use Rattle.ev_indexes.specs.Indexes.{serves, numbers_where}
+use Rattle.ev_indexes.specs.Worlds.{rows_of_kind}
+use Rattle.ev_indexes.proofs.RowLemmas.{all_then}
+use Rattle.ev_indexes.proofs.WhereLemmas.{among-where, own-rows}
 use Rattle.ev_state.proofs.StillLemmas.{serving}
 use Rattle.ev_state.proofs.SameLemmas.{AreSame, SameResults}
 use Rattle.ev_state.proofs.KeepLemmas.{served-is}

@@ -23,9 +23,9 @@ use Rattle.ev_model.specs.Picture.{served_cluster, served_listener, routing_of, 
 use Rattle.ev_model.specs.Warming.{value_by, rows_in, discovered, assignment_by, is_healthy, is_eligible_by, is_checked}
 use Rattle.ev_model.specs.Watching.{dependency_of, discovery_dependency, serve_dependency, is_dependency}
 use Rattle.ev_generations.specs.Tables.{row_in}
-use Rattle.ev_warming.specs.Due.{is_among}
-use Rattle.ev_warming.specs.Worlds.{needs_of}
-use Rattle.ev_warming.specs.Shown.{cluster_shown, first_of, listener_shown}
+use Rattle.ev_indexes.specs.Due.{is_among}
+use Rattle.ev_indexes.specs.Worlds.{needs_of}
+use Rattle.ev_indexes.specs.Shown.{cluster_shown, first_of, listener_shown}
 use Rattle.ev_state.specs.Changed.{HaveChanged}
 use Rattle.ev_state.proofs.StillLemmas.{serving}
 

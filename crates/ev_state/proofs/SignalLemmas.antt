@@ -15,13 +15,13 @@ use Rattle.ev_model.specs.Watching.{is_by_name, is_watched}
 use Rattle.std.proofs.lemmas.List.Elements.{All-filter, recursion_from_All}
 use Rattle.ev_types.specs.declared.contents.Kind.{Kind}
 use Rattle.ev_types.specs.declared.contents.Kind.TheVariants.{Cds, Eds, Lds, Rds}
-use Rattle.ev_warming.specs.Worlds.{needs_of}
-use Rattle.ev_warming.proofs.ReadLemmas.{watched-world}
+use Rattle.ev_indexes.specs.Worlds.{needs_of}
+use Rattle.ev_indexes.proofs.ReadLemmas.{watched-world}
 use Rattle.ev_state.proofs.TidyLemmas.{found_watched}
 use Rattle.ev_model_laws.proofs.AnyLemmas.{any_so}
-use Rattle.ev_warming.specs.Indexes.{depends_on, waits_limited}
-use Rattle.ev_warming.specs.declared.state.State.{State as Part}
-use Rattle.ev_warming.specs.Reads.{is_timeout_due}
+use Rattle.ev_indexes.specs.Indexes.{depends_on, waits_limited}
+use Rattle.ev_indexes.specs.declared.state.State.{State as Part}
+use Rattle.ev_indexes.specs.Reads.{is_timeout_due}
 use Rattle.ev_managers.specs.declared.managers.Managers.{Managers}
 use Rattle.ev_managers.specs.Managers.{AreForgotten, AreKept, StandFor, is_watched_in}
 use Rattle.ev_model_laws.specs.VersionsKept.{AreKeptOnce}

@@ -12,7 +12,7 @@ use Rattle.ev_types.specs.declared.rows.GenRow.{GenRow}
 use Rattle.ev_model.specs.Rows.{with_statuses}
 use Rattle.ev_generations.specs.Tables.{row_in, numbers_of}
 use Rattle.ev_warming.specs.Changes.{is_over, has_retired}
-use Rattle.ev_warming.specs.Worlds.{rows_of_kind}
+use Rattle.ev_indexes.specs.Worlds.{rows_of_kind}
 use Rattle.ev_state.proofs.FindLemmas.{only, found-only}
 
 -- it is the same generation, but for its status, and that too where it is live after

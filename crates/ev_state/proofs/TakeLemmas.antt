@@ -12,14 +12,13 @@ use Rattle.ev_model.specs.Verdicts.{verdicts_of, verdicts_for, verdicts_by}
 use Rattle.ev_model.specs.Watching.{is_by_name}
 use Rattle.ev_model.specs.Rows.{with_removals, add_items, made_names, with_first}
 use Rattle.ev_warming.specs.Arrivals.{AreOnValues}
-use Rattle.ev_warming.specs.Worlds.{needs_of}
+use Rattle.ev_indexes.specs.Worlds.{needs_of, rows_of_kind}
 use Rattle.ev_warming.proofs.JudgedLemmas.{values-judged}
 use Rattle.ev_managers.specs.declared.managers.Managers.{Managers}
 use Rattle.ev_managers.specs.declared.retired.Retired.{Retired}
 use Rattle.ev_managers.specs.Managers.{AreKept, StandFor, MayBeGiven}
 use Rattle.ev_managers.specs.Retired.{AreRetired}
 use Rattle.ev_warming.specs.Changes.{has_retired}
-use Rattle.ev_warming.specs.Worlds.{rows_of_kind}
 use Rattle.ev_managers.proofs.FrameLemmas.{see_the_same}
 use Rattle.ev_model_laws.specs.VersionsKept.{AreKeptOnce}
 use Rattle.ev_subscription.specs.Subscriptions.{SubscriptionParts, StandsFor as HasVersions, kept_of}

@@ -19,10 +19,10 @@ use Rattle.ev_model.specs.Tidy.{tidy, promoted, without_unwatched, without_old_r
 use Rattle.ev_model.specs.Warming.{value_by, assignment_by}
 use Rattle.ev_types.specs.declared.rows.Arrival.TheVariants.{TimedOut}
 use Rattle.ev_generations.specs.Tables.{row_in}
-use Rattle.ev_warming.specs.Due.{is_among}
+use Rattle.ev_indexes.specs.Due.{is_among}
 use Rattle.ev_warming.specs.Changes.{is_over, began_to_serve, began_to_drain}
-use Rattle.ev_warming.specs.Indexes.{serves, numbers_where}
-use Rattle.ev_warming.specs.Worlds.{IsSound, rows_of_kind}
+use Rattle.ev_indexes.specs.Indexes.{serves, numbers_where}
+use Rattle.ev_indexes.specs.Worlds.{IsSound, rows_of_kind}
 use Rattle.ev_warming.proofs.RemovalLemmas.{row_in-without}
 use Rattle.ev_managers.specs.declared.managers.Managers.{Managers}
 use Rattle.ev_managers.specs.declared.retired.Retired.{Retired}

@@ -8,11 +8,11 @@ use Rattle.ev_types.specs.declared.rows.Phase.{Phase}
 use Rattle.ev_model.specs.World.{World}
 use Rattle.ev_model.specs.Phase.{is_serving}
 use Rattle.ev_generations.specs.Tables.{numbers_of}
-use Rattle.ev_warming.specs.declared.state.State.{State}
-use Rattle.ev_warming.specs.Due.{is_among}
-use Rattle.ev_warming.specs.Indexes.{depends_on, numbers_where}
-use Rattle.ev_warming.specs.Reads.{live_rows}
-use Rattle.ev_warming.specs.Shown.{cluster_at, listener_at}
+use Rattle.ev_indexes.specs.declared.state.State.{State}
+use Rattle.ev_indexes.specs.Due.{is_among}
+use Rattle.ev_indexes.specs.Indexes.{depends_on, numbers_where}
+use Rattle.ev_indexes.specs.Reads.{live_rows}
+use Rattle.ev_indexes.specs.Shown.{cluster_at, listener_at}
 
 -- a picture shows the same of each other number before and after
 pub record HaveChanged (changed : List ℕ) (before after : World) : Type 0 where

@@ -5,9 +5,9 @@ use Rattle.ev_types.specs.declared.contents.Kind.{Kind}
 use Rattle.ev_types.specs.declared.contents.Kind.TheVariants.{Cds, Eds, Lds, Rds}
 use Rattle.ev_types.specs.declared.rows.Live.{Live}
 use Rattle.ev_model.specs.Versions.{is_kept}
-use Rattle.ev_warming.specs.declared.state.State.{State}
-use Rattle.ev_warming.specs.Indexes.{depends_on}
-use Rattle.ev_warming.specs.Newest.{newest_in}
+use Rattle.ev_indexes.specs.declared.state.State.{State}
+use Rattle.ev_indexes.specs.Indexes.{depends_on}
+use Rattle.ev_indexes.specs.Newest.{newest_in}
 use Rattle.ev_listeners.specs.Listeners.{ListenersKept, holders_in}
 use Rattle.ev_verdicts.specs.Known.{Answers}
 use Rattle.ev_subscription.specs.Subscriptions.{SubscriptionParts, held_of}

@@ -5,9 +5,9 @@ use Rattle.ev_types.specs.declared.contents.Kind.TheVariants.{Cds, Lds}
 use Rattle.ev_types.specs.declared.rows.GenRow.{GenRow}
 use Rattle.ev_model.specs.World.{World}
 use Rattle.ev_generations.specs.Tables.{row_in}
-use Rattle.ev_warming.specs.Due.{is_among}
+use Rattle.ev_indexes.specs.Due.{is_among}
 use Rattle.ev_warming.specs.Changes.{has_retired}
-use Rattle.ev_warming.specs.Worlds.{rows_of_kind}
+use Rattle.ev_indexes.specs.Worlds.{rows_of_kind}
 use Rattle.ev_managers.specs.declared.retired.Retired.{Retired}
 
 -- these generations retired between the worlds, and no others: by kind

@@ -10,7 +10,7 @@ use Rattle.ev_model.specs.Live.{lives_of}
 use Rattle.ev_model.specs.Tidy.{is_version_due}
 use Rattle.ev_model.specs.Watching.{is_by_name}
 use Rattle.ev_generations.specs.Tables.{is_number, row_in}
-use Rattle.ev_warming.specs.Worlds.{IsSound}
+use Rattle.ev_indexes.specs.Worlds.{IsSound}
 use Rattle.ev_managers.specs.Managers.{AreForgotten, AreKept, StandFor}
 use Rattle.ev_subscription.specs.Subscriptions.{StandsFor as HasVersions}
 use Rattle.ev_targets.specs.Targets.{StandsFor as HasTargets}

@@ -1,5 +1,5 @@
 ghost use Rattle.std.specs.Prelude.{◌≡◌, ◌++◌, OnOk};
-ghost use Rattle.ev_warming.specs.Indexes.{numbers_where, serves};
+ghost use Rattle.ev_indexes.specs.Indexes.{numbers_where, serves};
 ghost use Rattle.ev_managers.specs.Managers.{AreKept};
 ghost use Rattle.ev_state.specs.Changed.{dependents_in, dependents_of, listeners_begun};
 

@@ -2,9 +2,10 @@ ghost use Rattle.std.specs.Prelude.{◌≡◌};
 ghost use Rattle.ev_managers.specs.Managers.{AreKept};
 
 use ev_managers::Managers;
+use ev_mentions::LiveRow;
 use ev_subscription::Subscription;
 use ev_types::{Host, Kind};
-use ev_verdicts::{Known, LiveRow};
+use ev_verdicts::Known;
 use std::alloc::{AllocError, Global};
 use std::marker::Model;
 

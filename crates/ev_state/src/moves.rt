@@ -3,9 +3,9 @@ ghost use Rattle.ev_types.specs.declared.contents.Kind.TheVariants.{Cds, Eds, Ld
 ghost use Rattle.ev_model.specs.World.{World};
 ghost use Rattle.ev_model.specs.Tidy.{tidy};
 ghost use Rattle.ev_model.specs.Watching.{watched_of};
-ghost use Rattle.ev_warming.specs.Due.{is_among};
+ghost use Rattle.ev_indexes.specs.Due.{is_among};
 ghost use Rattle.ev_warming.specs.Changes.{has_retired};
-ghost use Rattle.ev_warming.specs.Worlds.{IsSound, rows_of_kind};
+ghost use Rattle.ev_indexes.specs.Worlds.{IsSound, rows_of_kind};
 ghost use Rattle.ev_managers.specs.Managers.{AreForgotten, AreKept, StandFor};
 ghost use Rattle.ev_state.specs.Ages.{AreLater};
 ghost use Rattle.ev_state.specs.States.{Follows};

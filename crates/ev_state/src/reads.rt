@@ -1,7 +1,7 @@
 ghost use Rattle.std.specs.Prelude.{◌≡◌, option_copied, IfOk};
 ghost use Rattle.ev_model.specs.World.{World};
 ghost use Rattle.ev_generations.specs.Tables.{row_in};
-ghost use Rattle.ev_warming.specs.Shown.{cluster_at, listener_at};
+ghost use Rattle.ev_indexes.specs.Shown.{cluster_at, listener_at};
 ghost use Rattle.ev_managers.specs.Managers.{AreKept};
 
 use crate::state::State;

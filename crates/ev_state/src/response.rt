@@ -20,9 +20,10 @@ use crate::moves::Moves;
 use crate::state::State;
 use crate::stepped::{Altered, Stepped};
 use ev_generations::Steps;
+use ev_mentions::Mentions;
 use ev_subscription::reply_of;
 use ev_types::{Answer, Kind, Response, Seq, Verdict};
-use ev_verdicts::{Mentions, verdicts_by_mentions};
+use ev_verdicts::verdicts_by_mentions;
 use std::alloc::{AllocError, Global};
 use std::sync::ledger::Ledger;
 

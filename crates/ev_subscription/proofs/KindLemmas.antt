@@ -20,6 +20,7 @@ use Rattle.std.proofs.lemmas.Cmp.{nat_list_eq_equiv}
 use Rattle.std.proofs.lemmas.List.{take_all}
 use Rattle.std.proofs.lemmas.List.Folds.{list_any-append}
 use Rattle.std.proofs.lemmas.Slice.Eq.{bytes_eq-Decides}
+use Rattle.std.proofs.Math.Bool.{or-false}
 use Rattle.ev_model.specs.Rows.{is_version_left, versions_left}
 use Rattle.ev_model.specs.Verdicts.{is_among, is_removed, items_named}
 use Rattle.ev_model.specs.Versions.{is_before, is_bounded, is_kept, is_version_of, bounded_as, renewed, with_version, without_version}
@@ -239,13 +240,6 @@ with_put Eds versions others s = refl
 with_put Lds versions others s = refl
 with_put Rds versions others s = refl
 
--- what is put back where it was
-pub with_same : (kind : Kind) (s : SubscriptionParts) → with_held kind (held_of s kind) s ≡ s
-with_same Cds s = refl
-with_same Eds s = refl
-with_same Lds s = refl
-with_same Rds s = refl
-
 -- after the change of one kind, the subscription stands for the world with the change
 pub stands_with : (old new : SubscriptionParts) (version : KeptVersion) → new ≡ with_held version.kind (with_version version (held_of old version.kind)) old
     → (world : World) → StandsFor old world → StandsFor new (record world { versions = with_version version world.versions })
@@ -327,11 +321,7 @@ left_first kind response versions = all_kept (is_left kind response []) (λ kept
 
 pub among_more : (names : List (List ℕ)) (name q : List ℕ) → is_among q (names ++ name ∷ []) ≡ (is_among q names || bytes_eq q name)
 among_more names name q =
-    list_any-append (λ n. bytes_eq n q) names (name ∷ []) ∙ ap (λ b. is_among q names || b) (or_none (bytes_eq name q) ∙ nat_list_eq_equiv.symm name q)
-  where
-    or_none : (b : Bool) → (b || false) ≡ b
-    or_none true = refl
-    or_none false = refl
+    list_any-append (λ n. bytes_eq n q) names (name ∷ []) ∙ ap (λ b. is_among q names || b) (or-false (bytes_eq name q) ∙ nat_list_eq_equiv.symm name q)
 
 -- a removed name is forgotten
 pub left_removed : (kind : Kind) (response : ResponseParts) (names : List (List ℕ)) (name : List ℕ) (versions : List KeptVersion) → is_removed response name ≡ true

@@ -3,5 +3,3 @@ pub mod HeldLemmas
 pub mod KindLemmas
 pub mod ResponseLemmas
 pub mod UnwatchedLemmas
-pub mod WatchLemmas
-pub mod KeptWatchLemmas

@@ -4,8 +4,8 @@ ghost use Rattle.indexmap.specs.IndexSet.{contains};
 ghost use Rattle.ev_model.specs.Requests.{other_than};
 ghost use Rattle.ev_model.specs.Verdicts.{is_among};
 
+use ev_mentions::NameKey;
 use ev_types::{Name, Seq, TryCopy};
-use ev_verdicts::NameKey;
 use indexmap::IndexSet;
 use std::alloc::{AllocError, Global};
 

@@ -3,7 +3,6 @@
 #![tactic(auto)]
 
 mod changes;
-mod laws;
 mod names;
 mod replies;
 mod requests;
@@ -12,9 +11,5 @@ mod subscription;
 mod versions;
 
 pub use changes::NameChange;
-pub use laws::{
-    names_end_with_their_watchers, responses_keep_what_is_watched, stands_for_same_versions,
-    watched_names_are_listed,
-};
 pub use replies::reply_of;
 pub use subscription::Subscription;

@@ -4,8 +4,8 @@ ghost use Rattle.ev_model.specs.Rows.{add_item, add_items, keep_version, with_co
 ghost use Rattle.ev_subscription.specs.Subscriptions.{StandsFor};
 
 use crate::subscription::Subscription;
+use ev_mentions::Mentions;
 use ev_types::{Body, Item, Kind, TryCopy, Verdict};
-use ev_verdicts::Mentions;
 use std::alloc::{AllocError, Global};
 
 impl Subscription {

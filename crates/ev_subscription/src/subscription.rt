@@ -11,8 +11,8 @@ ghost use Rattle.ev_subscription.specs.Subscriptions.{AreEnded, StandsFor, held_
 
 use crate::names::VersionName;
 use crate::versions::{self, Held, Versions};
+use ev_mentions::Mentions;
 use ev_types::{Kind, Name, Seq, Shared, Text, TryCopy};
-use ev_verdicts::Mentions;
 use std::alloc::{AllocError, Global};
 use std::collections::BTreeMap;
 use std::marker::Model;

@@ -13,9 +13,9 @@ use Rattle.ev_model.specs.World.{World}
 use Rattle.ev_model.specs.Rows.{is_row_of}
 use Rattle.ev_model.specs.Phase.{has_active, has_live, has_come, have_come, phase_from}
 use Rattle.ev_model.specs.Tidy.{with_phase}
-use Rattle.ev_warming.specs.Indexes.{serves, warms}
-use Rattle.ev_warming.specs.Worlds.{rows_of_kind, StandsFor as HasPart}
-use Rattle.ev_warming.specs.declared.state.State.{State}
+use Rattle.ev_indexes.specs.Indexes.{serves, warms}
+use Rattle.ev_indexes.specs.Worlds.{rows_of_kind, StandsFor as HasPart}
+use Rattle.ev_indexes.specs.declared.state.State.{State}
 use Rattle.ev_targets.specs.Targets.{TargetsParts, StandsFor, come_in}
 
 any_same : (p q : GenRow → Bool) → ((row : GenRow) → p row ≡ q row) → (rows : List GenRow) → list_any p rows ≡ list_any q rows

@@ -4,8 +4,8 @@ use Rattle.std.specs.Prelude.{◌≡◌, ℕ, Bool, not, ◌||◌, List, Option}
 use Rattle.std.specs.List.{list_any}
 use Rattle.ev_types.specs.declared.rows.Phase.{Phase}
 use Rattle.ev_model.specs.World.{World}
-use Rattle.ev_warming.specs.Indexes.{serves, warms}
-use Rattle.ev_warming.specs.declared.state.State.{State}
+use Rattle.ev_indexes.specs.Indexes.{serves, warms}
+use Rattle.ev_indexes.specs.declared.state.State.{State}
 
 -- the first names of a kind, where a first response came, and whether they are late
 pub record FirstParts : Type 0 where

@@ -9,7 +9,7 @@ ghost use Rattle.ev_model.specs.Phase.{have_come, is_clusters, listeners_phase, 
 ghost use Rattle.ev_model.specs.Tidy.{with_phase};
 ghost use Rattle.ev_clusters.specs.Clusters.{AreKept as AreClustersKept};
 ghost use Rattle.ev_listeners.specs.Listeners.{AreKept as AreListenersKept, StandsFor as ListenersStandFor};
-ghost use Rattle.ev_warming.specs.Worlds.{StandsFor as ClustersStandFor};
+ghost use Rattle.ev_indexes.specs.Worlds.{StandsFor as ClustersStandFor};
 ghost use Rattle.ev_targets.specs.Targets.{StandsFor, come_in};
 
 mod first;

@@ -1,6 +1,6 @@
 -- The verdicts by look-ups are the verdicts over what is live: what is live after some resources follows from what was known before
 -- the response and from what the response made.
-use Rattle.std.proofs.Common.{◌≡◌, ℕ, ◌+◌, ◌≤◌, Bool, true, false, ◌&&◌, ◌||◌, not, cond, List, [], ◌∷◌, ◌++◌, append-nil, append_assoc, filter, map, length, length-append, Option, Some, None, Result, Ok, Err, drop, refl, ap, sym, subst, ◌∙◌, arith}
+use Rattle.std.proofs.Common.{◌≡◌, ℕ, ◌+◌, ◌≤◌, Bool, true, false, ◌&&◌, ◌||◌, not, cond, List, [], ◌∷◌, ◌++◌, append-nil, append_assoc, filter, map, length, length-append, Option, Some, None, Result, Ok, Err, refl, ap, sym, subst, ◌∙◌, arith}
 use Rattle.std.specs.Prelude.{nat_le}
 use Rattle.std.specs.List.{list_any}
 use Rattle.std.specs.Option.{unwrap_or}
@@ -9,7 +9,7 @@ use Rattle.std.specs.Str.{bytes_eq}
 use Rattle.std.proofs.lemmas.Grind.{common_steps}
 use Rattle.std.proofs.lemmas.Bool.{false≢true}
 use Rattle.std.proofs.lemmas.Cmp.{nat_list_eq_equiv}
-use Rattle.std.proofs.lemmas.List.{map-append, drop_all}
+use Rattle.std.proofs.lemmas.List.{map-append}
 use Rattle.std.proofs.lemmas.List.Elements.{filter-append}
 use Rattle.std.proofs.lemmas.List.Folds.{list_any-append}
 use Rattle.std.proofs.lemmas.Slice.Eq.{bytes_eq-Decides}
@@ -28,7 +28,8 @@ use Rattle.ev_types.specs.declared.rows.Live.{Live}
 use Rattle.ev_model.specs.Live.{is_named, latest, newest_of}
 use Rattle.ev_model.specs.Verdicts.{against, body_verdict, good_verdict, is_among, is_heard, is_removed, items_named, lesser, lives_after, lives_left, listening_address, number_after, removed_rule, form_rule, rule_of, shares_address, stale_rule, twice_rule, verdict_by, verdict_of, verdicts_by, verdicts_for, verdicts_from, verdicts_of, with_new}
 use Rattle.ev_model.specs.Watching.{is_by_name, is_watched}
-use Rattle.ev_verdicts.specs.Known.{Answers, Tells, answers_of, is_at}
+use Rattle.ev_mentions.specs.Lives.{is_at}
+use Rattle.ev_verdicts.specs.Known.{Answers, Tells, answers_of}
 use Rattle.ev_verdicts.specs.Judged.{MadeKept, all_judged, body_by, good_by, is_heard_by, is_made, is_taken_by, judged, made_by, names_at, rule_by, ruled, stale_by, stays}
 use Rattle.ev_verdicts.proofs.ListLemmas.{any_filter, any_same, any_of_none, filter_within, all_kept}
 
@@ -108,12 +109,6 @@ follows_first answers kind response lives versions tells = record {
       (apart_stays kind response) lives (tells.apart by_name))
       ∙ sym (tells.watched kind name);
 }
-
-kind_same_self : (kind : Kind) → kind_same kind kind ≡ true
-kind_same_self Cds = refl
-kind_same_self Eds = refl
-kind_same_self Lds = refl
-kind_same_self Rds = refl
 
 -- what a new generation leaves of those that were live
 abbrev leaves : Kind → List ℕ → Live → Bool
@@ -513,9 +508,3 @@ told_where_ok answers k response result of_k are =
     if_ok_by (λ verdicts. verdicts ≡ all_judged answers k response [] response.items)
     (λ verdicts. (kind : Kind) (lives : List Live) (versions : List KeptVersion) → response.kind ≡ Some kind → Tells answers kind lives versions → verdicts ≡ verdicts_of lives versions response)
     result (λ verdicts so. judged_told answers k response verdicts so of_k) are
-
--- behind the last resource
-pub judged_to_end : (answers : Answers) (kind : Kind) (response : ResponseParts) (made : MadeKept) (verdicts want : List Verdict) (items : List ItemParts) (i : ℕ)
-    → length items ≤ i → verdicts ++ all_judged answers kind response made (drop i items) ≡ want → verdicts ≡ want
-judged_to_end answers kind response made verdicts want items i past so_far =
-    sym (append-nil verdicts) ∙ sym (ap (λ its. verdicts ++ all_judged answers kind response made its) (drop_all i items past)) ∙ so_far

@@ -1,4 +1,3 @@
 pub mod ListLemmas
 pub mod MadeLemmas
-pub mod MentionLemmas
 pub mod FollowLemmas

@@ -1,5 +1,5 @@
 -- What is known before a response, asked by look-ups.
-use Rattle.std.specs.Prelude.{◌≡◌, ℕ, Bool, true, false, List, Option, Some, filter}
+use Rattle.std.specs.Prelude.{◌≡◌, ℕ, Bool, true, false, List, Option, filter}
 use Rattle.std.specs.List.{AllByRecursion}
 use Rattle.ev_types.specs.Kinds.{kind_same}
 use Rattle.ev_types.specs.declared.contents.Kind.{Kind}
@@ -7,13 +7,9 @@ use Rattle.ev_types.specs.declared.hosts.Host.{Host}
 use Rattle.ev_types.specs.declared.rows.KeptVersion.{KeptVersion}
 use Rattle.ev_types.specs.declared.rows.Live.{Live}
 use Rattle.ev_model.specs.Live.{newest_of}
-use Rattle.ev_model.specs.Verdicts.{listening_address, shares_address}
 use Rattle.ev_model.specs.Versions.{is_kept}
 use Rattle.ev_model.specs.Watching.{is_by_name, is_watched}
-
--- the live row listens at the address
-abbrev pub is_at : Host → Live → Bool
-is_at address live = shares_address (listening_address live.content) (Some address)
+use Rattle.ev_mentions.specs.Lives.{is_at}
 
 -- the answers to what verdicts ask: the newest live row of a kind and name, the live rows of an address, whether a live row depends
 -- on a kind and name, and whether this version is kept for a kind and name

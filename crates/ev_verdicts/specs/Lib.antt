@@ -1,4 +1,3 @@
-pub mod Mentions
 pub mod Known
 pub mod Judged
 pub mod Made

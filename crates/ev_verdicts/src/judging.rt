@@ -10,12 +10,11 @@ ghost use Rattle.ev_model.specs.Verdicts.{verdicts_of, against, listening_addres
 ghost use Rattle.ev_verdicts.specs.Known.{Tells};
 ghost use Rattle.ev_verdicts.specs.Judged.{all_judged, judged, body_by, good_by, is_taken_by, is_held, made_by, stays};
 
-use crate::LiveRow;
 use crate::addresses::address_of;
 use crate::known::Known;
 use crate::made::Made;
-use crate::mentions::Mentions;
 use crate::rules::rule_of;
+use ev_mentions::{LiveRow, Mentions};
 use ev_types::{Body, Content, Host, Item, Kind, Response, Seq, Verdict};
 use std::alloc::{AllocError, Global};
 

@@ -1,7 +1,7 @@
 ghost use Rattle.std.specs.Prelude.{◌≡◌, IfOk};
 ghost use Rattle.ev_verdicts.specs.Known.{Answers};
 
-use crate::LiveRow;
+use ev_mentions::LiveRow;
 use ev_types::{Host, Kind};
 use std::alloc::{AllocError, Global};
 

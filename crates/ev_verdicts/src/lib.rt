@@ -7,14 +7,9 @@ mod judging;
 mod keys;
 mod known;
 mod listed;
-mod lives;
 mod made;
-mod mentions;
 mod rules;
 
 pub use judging::{verdicts, verdicts_by_mentions};
-pub use keys::NameKey;
 pub use known::Known;
 pub use listed::Listed;
-pub use lives::LiveRow;
-pub use mentions::Mentions;

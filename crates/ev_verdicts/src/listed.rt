@@ -3,11 +3,11 @@ ghost use Rattle.ev_model.specs.Live.{is_named, later_of, newest_of};
 ghost use Rattle.ev_model.specs.Watching.{is_watched, dependency_of, is_dependency};
 ghost use Rattle.ev_model.specs.Verdicts.{listening_address, shares_address};
 ghost use Rattle.ev_model.specs.Versions.{is_kept, is_version_of};
-ghost use Rattle.ev_verdicts.specs.Known.{is_at};
+ghost use Rattle.ev_mentions.specs.Lives.{is_at};
 
-use crate::LiveRow;
 use crate::addresses::address_of;
 use crate::known::Known;
+use ev_mentions::LiveRow;
 use ev_types::{Content, Discovery, Host, KeptVersion, Kind, Serve};
 use std::alloc::{AllocError, Global};
 use std::marker::Model;

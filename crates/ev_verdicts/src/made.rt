@@ -6,7 +6,8 @@ ghost use Rattle.ev_verdicts.specs.Judged.{has_other, is_made, names_at, with_ma
 ghost use Rattle.ev_verdicts.specs.Made.{names_in};
 
 use crate::addresses::address_of;
-use crate::keys::{AddressKey, NameKey};
+use crate::keys::AddressKey;
+use ev_mentions::NameKey;
 use ev_types::{Content, Host, Seq};
 use indexmap::IndexMap;
 use std::alloc::{AllocError, Global};

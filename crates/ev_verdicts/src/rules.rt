@@ -3,7 +3,7 @@ ghost use Rattle.ev_model.specs.Verdicts.{twice_rule, removed_rule, form_rule, l
 ghost use Rattle.ev_verdicts.specs.Judged.{rule_by, stale_by, is_heard_by};
 
 use crate::known::Known;
-use crate::mentions::Mentions;
+use ev_mentions::Mentions;
 use ev_types::{Body, Item, Kind};
 
 /// The least rule that a resource breaks, taken addresses left aside.

@@ -5,31 +5,26 @@ use Rattle.std.specs.Str.{bytes_eq}
 use Rattle.std.proofs.lemmas.List.{take_more, map-append}
 use Rattle.std.proofs.lemmas.List.Elements.{filter-append}
 use Rattle.std.proofs.lemmas.List.Folds.{list_any_at}
-use Rattle.ev_types.specs.Items.{ItemParts, ResponseParts}
+use Rattle.ev_types.specs.Items.{ResponseParts}
 use Rattle.ev_types.specs.Same.{bytes_decide}
 use Rattle.ev_types.specs.Statuses.{is_live}
 use Rattle.ev_types.specs.Texts.{IsName}
 use Rattle.ev_types.specs.declared.contents.Kind.{Kind}
 use Rattle.ev_types.specs.declared.contents.Kind.TheVariants.{Cds, Eds, Lds, Rds}
-use Rattle.ev_types.specs.declared.contents.Content.{Content}
-use Rattle.ev_types.specs.declared.contents.Body.{Body}
-use Rattle.ev_types.specs.declared.contents.Body.TheVariants.{Good, Bad, Beat}
-use Rattle.ev_types.specs.declared.events.Verdict.{Verdict}
-use Rattle.ev_types.specs.declared.events.Verdict.TheVariants.{New, Same, Kept, Unasked, Renewed, Refused}
 use Rattle.ev_types.specs.declared.rows.Arrival.{Arrival}
-use Rattle.ev_types.specs.declared.rows.Arrival.TheVariants.{Absent, Bad as bad, Value}
+use Rattle.ev_types.specs.declared.rows.Arrival.TheVariants.{Absent, Bad as bad}
 use Rattle.ev_types.specs.declared.rows.GenRow.{GenRow}
 use Rattle.ev_model.specs.World.{World, Arrived}
 use Rattle.ev_model.specs.Live.{lives_of}
 use Rattle.ev_model.specs.Watching.{is_watched, is_by_name}
 use Rattle.ev_model.specs.Verdicts.{is_among, is_removed}
-use Rattle.ev_model.specs.Rows.{arrived, absent_names, versions_left, with_removals, add_item, keep_version, keep_value, with_content, refuse, renew}
-use Rattle.ev_warming.specs.declared.state.State.{State}
-use Rattle.ev_warming.specs.Ready.{name_needed, IsNeedName}
-use Rattle.ev_warming.specs.Indexes.{is_needed, depends_on}
-use Rattle.ev_warming.specs.Worlds.{needs_of, StandsFor}
+use Rattle.ev_model.specs.Rows.{arrived, absent_names, versions_left, with_removals, refuse}
+use Rattle.ev_indexes.specs.declared.state.State.{State}
+use Rattle.ev_indexes.specs.Ready.{name_needed, IsNeedName}
+use Rattle.ev_indexes.specs.Indexes.{is_needed, depends_on}
+use Rattle.ev_indexes.specs.Worlds.{needs_of, StandsFor}
 use Rattle.ev_warming.specs.Changes.{is_unlisted}
-use Rattle.ev_warming.specs.Arrivals.{IsOnValue, told_where}
+use Rattle.ev_warming.specs.Arrivals.{told_where}
 use Rattle.ev_warming.proofs.ForgottenLemmas.{watched-same}
 use Rattle.ev_warming.proofs.ResponseLemmas.{versions-stand}
 
@@ -124,32 +119,6 @@ pub refusal-stands : (s t : State) (world : World) (name : List ℕ) → is_by_n
 refusal-stands s t world name rows stands told =
     subst (StandsFor t) ((λ i. told_where (sym (watched-same s world stands rows name) i) (needs_of s.kind) bad name world) ∙ refusal-is s.kind name world rows) told
 
--- a value with its version
-pub value-stands : (t : State) (world : World) (kind : Kind) (item : ItemParts) (content : Content)
-    → StandsFor t (record world { arrivals = world.arrivals ++ arrived kind (Value content) item.name ∷ [] }) → StandsFor t (keep_value kind item content world)
-value-stands t world kind item content stands =
-    versions-stand t (record world { arrivals = world.arrivals ++ arrived kind (Value content) item.name ∷ [] }) (keep_value kind item content world).versions stands
-
-same-stands : (s : State) (world : World) (kind : Kind) (item : ItemParts) (body : Body) → StandsFor s world → StandsFor s (with_content (λ content. keep_version kind item) body world)
-same-stands s world kind item (Good content) stands = versions-stand s world (keep_version kind item world).versions stands
-same-stands s world kind item (Bad rule) stands = stands
-same-stands s world kind item Beat stands = stands
-
--- what is neither kept nor refused changes nothing that a state looks at
-pub rest-stands : (s : State) (world : World) (kind : Kind) (item : ItemParts) (verdict : Verdict) (watched : Bool) → IsOnValue verdict watched → (verdict ≡ Kept → ⊥) → ((rule : ℕ) → verdict ≡ Refused rule → ⊥)
-    → StandsFor s world → StandsFor s (add_item kind verdict item world)
-rest-stands s world kind item New watched on kept refused stands = absurd on
-rest-stands s world kind item Same watched on kept refused stands = same-stands s world kind item item.body stands
-rest-stands s world kind item Kept watched on kept refused stands = absurd (kept refl)
-rest-stands s world kind item Unasked watched on kept refused stands = stands
-rest-stands s world kind item Renewed watched on kept refused stands = versions-stand s world (renew kind item.name world).versions stands
-rest-stands s world kind item (Refused rule) watched on kept refused stands = absurd (refused rule refl)
-
 -- nothing came
 pub quiet-stands : (s : State) (world : World) (b : Bool) (kind : Kind) (arrival : Arrival) (name : List ℕ) → b ≡ false → StandsFor s world → StandsFor s (told_where b kind arrival name world)
 quiet-stands s world b kind arrival name e stands = subst (λ (w : Bool). StandsFor s (told_where w kind arrival name world)) (sym e) stands
-
--- something came
-pub loud-stands : (s : State) (world : World) (b : Bool) (kind : Kind) (arrival : Arrival) (name : List ℕ) → b ≡ true
-    → StandsFor s (record world { arrivals = world.arrivals ++ arrived kind arrival name ∷ [] }) → StandsFor s (told_where b kind arrival name world)
-loud-stands s world b kind arrival name e stands = subst (λ (w : Bool). StandsFor s (told_where w kind arrival name world)) (sym e) stands

@@ -1,5 +1,6 @@
 -- A new generation warms, and one that warmed under its name is dropped: the indexes stay searches of the rows.
 use Rattle.std.proofs.Common.{◌≡◌, ◌∙◌, ℕ, Bool, true, false, cond, ◌&&◌, ◌||◌, nat_eq, ◌+◌, List, [], ◌∷◌, ◌++◌, Option, None, Some, option_to_list, filter, refl, sym, ap, subst, true≢false, arith, append-nil}
+use Rattle.std.proofs.Math.Bool.{or-false}
 use Rattle.std.specs.List.{AllByRecursion}
 use Rattle.std.specs.Option.{option_or}
 use Rattle.std.specs.Str.{bytes_eq}
@@ -16,18 +17,19 @@ use Rattle.ev_types.specs.declared.rows.GenRow.{GenRow}
 use Rattle.ev_model.specs.Rows.{removed_status, replaced_status, is_row_of, with_statuses, new_row}
 use Rattle.ev_model.specs.Watching.{is_limited}
 use Rattle.ev_generations.specs.Tables.{GenerationsParts, IsTable, is_number, row_in, status_with, with_status, numbers_of}
-use Rattle.ev_warming.specs.declared.watches.Watch.{Watch}
-use Rattle.ev_warming.specs.declared.state.State.{State}
-use Rattle.ev_warming.specs.Due.{is_among}
-use Rattle.ev_warming.specs.Kept.{Sets}
-use Rattle.ev_warming.specs.Standings.{NamesKept, nobody, standing_in}
-use Rattle.ev_warming.specs.Watched.{WatchesKept, watch_in, watched_too, without_number}
-use Rattle.ev_warming.specs.Ready.{name_needed, is_due_found, is_due_at}
-use Rattle.ev_warming.specs.Indexes.{IsIndexed, is_needed, depends_on, waits_limited, serves, warms, numbers_where, status_in}
-use Rattle.ev_warming.proofs.WhereLemmas.{where-left, where-members, found-where, flipped, emptied, or_false, without-one}
+use Rattle.ev_indexes.specs.declared.watches.Watch.{Watch}
+use Rattle.ev_indexes.specs.declared.state.State.{State}
+use Rattle.ev_indexes.specs.Due.{is_among}
+use Rattle.ev_indexes.specs.Kept.{Sets}
+use Rattle.ev_indexes.specs.Standings.{NamesKept, nobody, standing_in}
+use Rattle.ev_indexes.specs.Watched.{WatchesKept, watch_in, watched_too, without_number}
+use Rattle.ev_indexes.specs.Ready.{name_needed, is_due_found, is_due_at}
+use Rattle.ev_indexes.specs.Indexes.{IsIndexed, is_needed, depends_on, waits_limited, serves, warms, numbers_where, status_in}
+use Rattle.ev_indexes.proofs.WhereLemmas.{where-left, where-members, found-where, flipped, emptied, without-one}
 use Rattle.ev_warming.proofs.ReadyLemmas.{Agrees}
 use Rattle.ev_warming.proofs.IndexLemmas.{live-warming, is_due_at-agrees}
-use Rattle.ev_warming.proofs.PromotionLemmas.{all_then, both_all, statuses_agree, statuses_same}
+use Rattle.ev_indexes.proofs.RowLemmas.{all_then, both_all, statuses_agree}
+use Rattle.ev_warming.proofs.PromotionLemmas.{statuses_same}
 
 removed-warming : (status : RowStatus) → is_warming status ≡ true → removed_status status ≡ Dropped
 removed-warming Warming h = refl
@@ -64,7 +66,7 @@ module _ (s : State) (x : IsIndexed s) (name : List ℕ) where
     members = sym (x.warming name) ∙ ap option_to_list at
 
     theirs : (row : GenRow) × (row_in p s.table.rows ≡ Some row) × (warms name row ≡ true)
-    theirs = found-where (warms name) p s.table.rows x.table.apart ((λ i. is_among (members i) p) ∙ or_false (nat_eq p p) ∙ eq-eqb p p refl)
+    theirs = found-where (warms name) p s.table.rows x.table.apart ((λ i. is_among (members i) p) ∙ or-false (nat_eq p p) ∙ eq-eqb p p refl)
 
     waiting : is_warming theirs.0.status ≡ true
     waiting = (and_parts (is_warming theirs.0.status) (bytes_eq theirs.0.name name) theirs.2).0
@@ -80,7 +82,7 @@ module _ (s : State) (x : IsIndexed s) (name : List ℕ) where
         (λ i. with_status p (removed i) s.table.rows)
         ∙ statuses_agree (status_with p Dropped) (replaced_status s.kind name) s.table.rows
         (all_then (λ (r : GenRow). (is_among (numbers_where (warms name) s.table.rows) r.number ≡ warms name r) × (r.kind ≡ s.kind)) (λ (r : GenRow). status_with p Dropped r ≡ replaced_status s.kind name r) s.table.rows
-        (λ r (h, k). λ i. cond ((flipped p r.number ∙ sym (or_false (nat_eq r.number p)) ∙ (λ j. is_among (sym members j) r.number) ∙ h ∙ warms_of s.kind name r k) i) Dropped r.status)
+        (λ r (h, k). λ i. cond ((flipped p r.number ∙ sym (or-false (nat_eq r.number p)) ∙ (λ j. is_among (sym members j) r.number) ∙ h ∙ warms_of s.kind name r k) i) Dropped r.status)
         (both_all (λ (r : GenRow). is_among (numbers_where (warms name) s.table.rows) r.number ≡ warms name r) (λ (r : GenRow). r.kind ≡ s.kind) s.table.rows
         (where-members (warms name) s.table.rows x.table.apart) x.kinds))
 
@@ -91,7 +93,7 @@ module _ (s : State) (x : IsIndexed s) (name : List ℕ) where
         (y.warming name ∙ ap (numbers_where (warms name)) (e ∙ (λ i. with_status p (removed i) s.table.rows))
         ∙ where-left (warms name) p Dropped (λ r. refl) s.table.rows
         ∙ ap (without_number p) members
-        ∙ without-one p (Some p) (or_false (nat_eq p p) ∙ eq-eqb p p refl))
+        ∙ without-one p (Some p) (or-false (nat_eq p p) ∙ eq-eqb p p refl))
 
 where-push : (test : GenRow → Bool) (row : GenRow) (rows : List GenRow) → numbers_where test (rows ++ row ∷ []) ≡ numbers_where test rows ++ cond (test row) (row.number ∷ []) []
 where-push test row [] = by (test row)

@@ -17,11 +17,12 @@ use Rattle.ev_model.specs.Warming.{is_told_by, is_timed_by, value_by, has_result
 use Rattle.ev_model.specs.Rows.{with_statuses, replaced_status, new_row, rows_with_new}
 use Rattle.ev_endpoints.specs.Results.{result_in}
 use Rattle.ev_generations.specs.Tables.{is_number, row_in}
-use Rattle.ev_warming.specs.declared.state.State.{State}
-use Rattle.ev_warming.specs.Indexes.{IsIndexed, SameMarks}
-use Rattle.ev_warming.specs.Worlds.{needs_of, rows_of_kind, StandsFor}
-use Rattle.ev_warming.proofs.SoundLemmas.{sound-added}
-use Rattle.ev_warming.proofs.WorldLemmas.{rows_of_kind-with_statuses, there_before}
+use Rattle.ev_indexes.specs.declared.state.State.{State}
+use Rattle.ev_indexes.specs.Indexes.{IsIndexed, SameMarks}
+use Rattle.ev_indexes.specs.Worlds.{needs_of, rows_of_kind, StandsFor}
+use Rattle.ev_indexes.proofs.SoundLemmas.{sound-added}
+use Rattle.ev_indexes.proofs.WorldLemmas.{rows_of_kind-with_statuses}
+use Rattle.ev_warming.proofs.PromotedLemmas.{there_before}
 
 -- without a result a host isn't healthy
 pub unheard-healthy : (results : List HealthResult) (number : ℕ) (host : Host) → has_result results number host ≡ false → is_healthy results number host ≡ false

@@ -1,5 +1,6 @@
 -- A state that stands for a world stands for it once something came for a name, and once a name has come to its end.
 use Rattle.std.proofs.Common.{◌≡◌, ◌∙◌, ℕ, Bool, true, false, cond, ◌&&◌, ◌||◌, List, [], ◌∷◌, ◌++◌, Option, None, Some, IsSome, is_some, unwrap_or, map, filter, refl, sym, ap, subst, true≢false}
+use Rattle.std.proofs.Math.Bool.{or-false}
 use Rattle.std.specs.List.{list_any, filter_map, last_or, AllByRecursion}
 use Rattle.std.specs.Str.{bytes_eq}
 use Rattle.std.proofs.lemmas.List.Folds.{list_any-append}
@@ -19,16 +20,18 @@ use Rattle.ev_model.specs.Rows.{arrived, with_statuses, replaced_status, removed
 use Rattle.ev_model.specs.Signals.{ended_status}
 use Rattle.ev_endpoints.specs.Results.{result_in}
 use Rattle.ev_generations.specs.Tables.{row_in}
-use Rattle.ev_warming.specs.declared.watches.Watch.{Watch}
-use Rattle.ev_warming.specs.declared.state.State.{State}
-use Rattle.ev_warming.specs.Kept.{Sets}
-use Rattle.ev_warming.specs.Watched.{WatchesKept, unwatched, watch_in, with_arrival}
-use Rattle.ev_warming.specs.Indexes.{SameMarks}
+use Rattle.ev_indexes.specs.declared.watches.Watch.{Watch}
+use Rattle.ev_indexes.specs.declared.state.State.{State}
+use Rattle.ev_indexes.specs.Kept.{Sets}
+use Rattle.ev_indexes.specs.Watched.{WatchesKept, unwatched, watch_in, with_arrival}
+use Rattle.ev_indexes.specs.Indexes.{SameMarks}
 use Rattle.ev_warming.specs.Promotion.{status_drained}
-use Rattle.ev_warming.specs.Worlds.{needs_of, rows_of_kind, StandsFor}
-use Rattle.ev_warming.proofs.PromotionLemmas.{all_then, statuses_agree, with_statuses-twice}
-use Rattle.ev_warming.proofs.SoundLemmas.{sound-with_statuses}
-use Rattle.ev_warming.proofs.WorldLemmas.{rows_of_kind-with_statuses, there_before}
+use Rattle.ev_indexes.specs.Worlds.{needs_of, rows_of_kind, StandsFor}
+use Rattle.ev_indexes.proofs.RowLemmas.{all_then, statuses_agree}
+use Rattle.ev_warming.proofs.PromotionLemmas.{with_statuses-twice}
+use Rattle.ev_indexes.proofs.SoundLemmas.{sound-with_statuses}
+use Rattle.ev_indexes.proofs.WorldLemmas.{rows_of_kind-with_statuses}
+use Rattle.ev_warming.proofs.PromotedLemmas.{there_before}
 
 -- what came for a name, after one thing more
 came_for-push : (arrivals : List Arrived) (kind : Kind) (arrival : Arrival) (name q : List ℕ)
@@ -58,20 +61,16 @@ late : (b : Bool) → (b || true) ≡ true
 late true = refl
 late false = refl
 
-none : (b : Bool) → (b || false) ≡ b
-none true = refl
-none false = refl
-
 told-with_arrival : (arrival : Arrival) (watch : Watch) → (with_arrival arrival watch).told ≡ (watch.told || (is_word arrival || false))
 told-with_arrival (Value content) watch = sym (late watch.told)
 told-with_arrival Absent watch = sym (late watch.told)
 told-with_arrival Bad watch = sym (late watch.told)
-told-with_arrival TimedOut watch = sym (none watch.told)
+told-with_arrival TimedOut watch = sym (or-false watch.told)
 
 timed-with_arrival : (arrival : Arrival) (watch : Watch) → (with_arrival arrival watch).timed ≡ (watch.timed || (is_timeout arrival || false))
-timed-with_arrival (Value content) watch = sym (none watch.timed)
-timed-with_arrival Absent watch = sym (none watch.timed)
-timed-with_arrival Bad watch = sym (none watch.timed)
+timed-with_arrival (Value content) watch = sym (or-false watch.timed)
+timed-with_arrival Absent watch = sym (or-false watch.timed)
+timed-with_arrival Bad watch = sym (or-false watch.timed)
 timed-with_arrival TimedOut watch = sym (late watch.timed)
 
 value-with_arrival : (arrival : Arrival) (watch : Watch) → (with_arrival arrival watch).value ≡ last_or watch.value (filter_map content_in (arrival ∷ []))
@@ -94,7 +93,7 @@ module _ (s : State) (world : World) (stands : StandsFor s world) (name : List �
           told-with_arrival arrival (watch_in s.watches name)
           ∙ (λ i. (watch_in s.watches ((bytes_decide name q).0 e i)).told || (is_word arrival || false))
           ∙ (λ i. stands.told q i || (is_word arrival || false))
-      by false e = stands.told q ∙ sym (none (is_told_by world.arrivals (needs_of s.kind) q))
+      by false e = stands.told q ∙ sym (or-false (is_told_by world.arrivals (needs_of s.kind) q))
 
   timed_after : (q : List ℕ) → (watch_in watches q).timed ≡ is_timed_by (world.arrivals ++ arrived (needs_of s.kind) arrival name ∷ []) (needs_of s.kind) q
   timed_after q =
@@ -108,7 +107,7 @@ module _ (s : State) (world : World) (stands : StandsFor s world) (name : List �
           timed-with_arrival arrival (watch_in s.watches name)
           ∙ (λ i. (watch_in s.watches ((bytes_decide name q).0 e i)).timed || (is_timeout arrival || false))
           ∙ (λ i. stands.timed q i || (is_timeout arrival || false))
-      by false e = stands.timed q ∙ sym (none (is_timed_by world.arrivals (needs_of s.kind) q))
+      by false e = stands.timed q ∙ sym (or-false (is_timed_by world.arrivals (needs_of s.kind) q))
 
   value_after : (q : List ℕ) → (watch_in watches q).value ≡ value_by (world.arrivals ++ arrived (needs_of s.kind) arrival name ∷ []) (needs_of s.kind) q
   value_after q =

@@ -14,13 +14,13 @@ use Rattle.ev_model.specs.Tidy.{status_by}
 use Rattle.ev_endpoints.specs.Results.{ResultsKept}
 use Rattle.ev_generations.specs.Tables.{row_in, status_with, with_status, numbers_of}
 use Rattle.ev_generations.proofs.TableLemmas.{row_in-with_statuses, number-row_in}
-use Rattle.ev_warming.specs.Due.{is_among}
-use Rattle.ev_warming.specs.Watched.{WatchesKept}
-use Rattle.ev_warming.specs.Ready.{is_ready_in, is_due_found}
-use Rattle.ev_warming.specs.Indexes.{serves, numbers_where, status_in}
+use Rattle.ev_indexes.specs.Due.{is_among}
+use Rattle.ev_indexes.specs.Watched.{WatchesKept}
+use Rattle.ev_indexes.specs.Ready.{is_ready_in, is_due_found}
+use Rattle.ev_indexes.specs.Indexes.{serves, numbers_where, status_in}
 use Rattle.ev_warming.specs.Promotion.{succeeded_by, rows_promoted, status_drained}
 use Rattle.ev_warming.specs.Changes.{began_to_drain}
-use Rattle.ev_warming.proofs.WhereLemmas.{among-where, found-where}
+use Rattle.ev_indexes.proofs.WhereLemmas.{among-where, found-where}
 
 -- the status of a row once all that are ready serve
 pub status-promoted : (ready : GenRow → Bool) (rows : List GenRow) (n : ℕ) (row : GenRow) → row_in n rows ≡ Some row

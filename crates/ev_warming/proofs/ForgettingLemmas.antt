@@ -10,17 +10,17 @@ use Rattle.ev_types.specs.Statuses.{is_warming, is_live}
 use Rattle.ev_types.specs.declared.hosts.Host.{Host}
 use Rattle.ev_types.specs.declared.rows.GenRow.{GenRow}
 use Rattle.ev_model.specs.Warming.{is_checked}
-use Rattle.ev_endpoints.specs.Results.{ResultsKept, result_in, Forgets, Trims}
+use Rattle.ev_endpoints.specs.Results.{ResultsKept, result_in}
 use Rattle.ev_generations.specs.Tables.{row_in, numbers_of}
 use Rattle.ev_generations.proofs.TableLemmas.{number-row_in}
-use Rattle.ev_warming.specs.declared.watches.Watch.{Watch}
-use Rattle.ev_warming.specs.declared.state.State.{State}
-use Rattle.ev_warming.specs.Watched.{WatchesKept, unwatched, watch_in}
-use Rattle.ev_warming.specs.Ready.{name_needed, assignment_in, are_results_in, is_answered_in, is_ready_in, is_due_found, is_due_at}
-use Rattle.ev_warming.specs.Indexes.{IsIndexed, is_needed, depends_on, waits_limited, numbers_where}
-use Rattle.ev_warming.specs.Due.{is_among}
+use Rattle.ev_indexes.specs.declared.watches.Watch.{Watch}
+use Rattle.ev_indexes.specs.declared.state.State.{State}
+use Rattle.ev_indexes.specs.Watched.{WatchesKept, unwatched, watch_in}
+use Rattle.ev_indexes.specs.Ready.{name_needed, assignment_in, are_results_in, is_answered_in, is_ready_in, is_due_found, is_due_at}
+use Rattle.ev_indexes.specs.Indexes.{IsIndexed, is_needed, depends_on, waits_limited, numbers_where}
+use Rattle.ev_indexes.specs.Due.{is_among}
 use Rattle.ev_warming.specs.Forgetting.{need_in, is_need_of, is_idle, keeps_result, loses_result, IsUnheard, IsTidyBut}
-use Rattle.ev_warming.proofs.WhereLemmas.{any-found, where-some, flipped}
+use Rattle.ev_indexes.proofs.WhereLemmas.{any-found, where-some, flipped}
 use Rattle.ev_warming.proofs.ReadyLemmas.{Agrees, assignment_in-agrees, is_ready_in-agrees}
 use Rattle.ev_warming.proofs.IndexLemmas.{live-warming}
 
@@ -76,14 +76,6 @@ results-same old new n (h ∷ hosts) all = λ i. is_some (all.0 i) && results-sa
 
 agrees-same : (old new : WatchesKept) (q : List ℕ) → watch_in new q ≡ watch_in old q → Agrees old new q
 agrees-same old new q e = record { told = λ i. (e i).told; timed = λ i. (e i).timed; value = λ i. (e i).value }
-
--- forgetting all results leaves none of hosts outside an assignment without hosts
-pub forgets-trims : (old new : ResultsKept) (number : ℕ) → Forgets old new number → Trims old new number []
-forgets-trims old new number forgets n h = forgets n h ∙ by (nat_eq number n)
-  where
-    by : (b : Bool) → cond b None (result_in old n h) ≡ cond (b && true) None (result_in old n h)
-    by true = refl
-    by false = refl
 
 -- names go that no live row depends on
 module _ (rows : List GenRow) (old new : WatchesKept) (test : List ℕ → Bool)

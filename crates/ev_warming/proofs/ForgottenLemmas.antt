@@ -3,7 +3,6 @@ use Rattle.std.proofs.Common.{◌≡◌, ◌∙◌, ℕ, Bool, true, false, cond
 use Rattle.std.specs.List.{list_any, last_or, filter_map, AllByRecursion, IsDistinct}
 use Rattle.std.specs.Str.{bytes_eq}
 use Rattle.std.proofs.lemmas.Bool.{eqb-true, eq-eqb, and_parts}
-use Rattle.std.proofs.lemmas.Map.Keys.{IsDistinct-head, IsDistinct-tail}
 use Rattle.ev_types.specs.Items.{content_kind}
 use Rattle.ev_types.specs.Kinds.{kind_same, kind_decides}
 use Rattle.ev_types.specs.Same.{bytes_decide}
@@ -29,17 +28,17 @@ use Rattle.ev_model.specs.Tidy.{arrivals_watched, without_unwatched, is_result_d
 use Rattle.ev_endpoints.specs.Results.{ResultsKept, result_in}
 use Rattle.ev_generations.specs.Tables.{row_in, numbers_of}
 use Rattle.ev_generations.proofs.TableLemmas.{number-row_in}
-use Rattle.ev_warming.specs.declared.state.State.{State}
-use Rattle.ev_warming.specs.Due.{is_among}
-use Rattle.ev_warming.specs.Watched.{WatchesKept, unwatched, watch_in}
-use Rattle.ev_warming.specs.Ready.{name_needed}
-use Rattle.ev_warming.specs.Indexes.{is_needed, depends_on}
-use Rattle.ev_warming.specs.Worlds.{needs_of, rows_of_kind, StandsFor}
+use Rattle.ev_indexes.specs.declared.state.State.{State}
+use Rattle.ev_indexes.specs.Due.{is_among}
+use Rattle.ev_indexes.specs.Watched.{WatchesKept, unwatched, watch_in}
+use Rattle.ev_indexes.specs.Ready.{name_needed}
+use Rattle.ev_indexes.specs.Indexes.{is_needed, depends_on}
+use Rattle.ev_indexes.specs.Worlds.{needs_of, rows_of_kind, StandsFor}
 use Rattle.ev_warming.specs.Forgetting.{is_need_of, is_idle, keeps_result, loses_result, IsUnheard, IsTidyBut}
-use Rattle.ev_warming.proofs.WhereLemmas.{any-found, all-found}
-use Rattle.ev_warming.proofs.PromotionLemmas.{any_agrees, all_then}
-use Rattle.ev_warming.proofs.SoundLemmas.{contents-of}
-use Rattle.ev_warming.proofs.WorldLemmas.{hosts-by}
+use Rattle.ev_indexes.proofs.WhereLemmas.{any-found, all-found}
+use Rattle.ev_indexes.proofs.RowLemmas.{any_agrees, all_then, found-of_kind, all-at}
+use Rattle.ev_indexes.proofs.SoundLemmas.{contents-of}
+use Rattle.ev_indexes.proofs.WorldLemmas.{hosts-by}
 use Rattle.ev_warming.proofs.ForgettingLemmas.{busy-same, loses-same, tidy-forgot}
 
 -- who is watched in the world
@@ -183,30 +182,6 @@ none-left p keep (x ∷ xs) h = by (p x) refl h (keep x) (none-left p keep xs)
     by false e h true rest = (λ i. e i || list_any p (filter keep xs)) ∙ rest h
     by false e h false rest = rest h
 
--- a row of the kind is the world's row of its number
-absent-far : (n : ℕ) (rows : List GenRow) → AllByRecursion (λ y. nat_eq n y ≡ false) (numbers_of rows) → row_in n rows ≡ None
-absent-far n [] far = refl
-absent-far n (row ∷ rows) far = (λ i. cond (far.0 i) (Some row) (row_in n rows)) ∙ absent-far n rows far.1
-
-pub found-of_kind : (kind : Kind) (n : ℕ) (row : GenRow) (rows : List GenRow) → IsDistinct nat_eq (numbers_of rows) → row_in n (rows_of_kind kind rows) ≡ Some row → row_in n rows ≡ Some row
-found-of_kind kind n row [] apart at = at
-found-of_kind kind n row (r ∷ rows) apart at = by (kind_same r.kind kind) at (found-of_kind kind n row rows (IsDistinct-tail nat_eq r.number (numbers_of rows) apart))
-  where
-    far : (b : Bool) → nat_eq n r.number ≡ b → row_in n rows ≡ Some row → cond b (Some r) (row_in n rows) ≡ Some row
-    far false e there = there
-    far true e there =
-        let none : row_in n rows ≡ None = (λ i. row_in (eqb-true n r.number e i) rows) ∙ absent-far r.number rows (IsDistinct-head nat_eq r.number (numbers_of rows) apart) in
-        cc
-
-    by : (k : Bool) → row_in n (cond k (r ∷ rows_of_kind kind rows) (rows_of_kind kind rows)) ≡ Some row → (row_in n (rows_of_kind kind rows) ≡ Some row → row_in n rows ≡ Some row)
-        → cond (nat_eq n r.number) (Some r) (row_in n rows) ≡ Some row
-    by true at rest = here (nat_eq n r.number) at
-      where
-        here : (b : Bool) → cond b (Some r) (row_in n (rows_of_kind kind rows)) ≡ Some row → cond b (Some r) (row_in n rows) ≡ Some row
-        here true h = h
-        here false h = rest h
-    by false at rest = far (nat_eq n r.number) refl (rest at)
-
 abbrev is_one : (GenRow → Bool) → ℕ → GenRow → Bool
 is_one f n r = is_live r.status && nat_eq r.number n && f r
 
@@ -239,17 +214,6 @@ any-numbered f n row rows at apart = by (is_live row.status && f row) refl
         any-found (is_one f n) n row rows at
         (λ i. p.0 i && eq-eqb row.number n (number-row_in n row rows at) i && p.1 i)
     by false e = none rows e (all-found n row rows at apart)
-
--- what holds of each row holds of one that is found
-pub all-at : (P : GenRow → Type 0) (n : ℕ) (row : GenRow) (rows : List GenRow) → row_in n rows ≡ Some row → AllByRecursion P rows → P row
-all-at P n row [] at all = cc
-all-at P n row (r ∷ rows) at all = by (nat_eq n r.number) at (λ h. all-at P n row rows h all.1)
-  where
-    by : (b : Bool) → cond b (Some r) (row_in n rows) ≡ Some row → (row_in n rows ≡ Some row → P row) → P row
-    by true h rest =
-        let same : r ≡ row = cc in
-        subst P same all.0
-    by false h rest = rest h
 
 -- a row that is there
 pub there-is : (o : Option GenRow) → IsSome o → (row : GenRow) × (o ≡ Some row)

@@ -1,7 +1,7 @@
 -- What a health result does: the indexes stay searches of the rows, and a state that stands for a world stands for it with the result.
 use Rattle.std.proofs.Common.{◌≡◌, ◌∙◌, ◌<◌, ℕ, Bool, true, false, cond, not, ◌&&◌, ◌||◌, nat_eq, List, [], ◌∷◌, ◌++◌, Option, None, Some, IsSome, is_some, option_to_list, unwrap_or, map, filter, refl, sym, ap, true≢false}
 use Rattle.std.specs.Option.{option_and_then}
-use Rattle.std.specs.List.{list_any, last_or, IsDistinct, AllByRecursion}
+use Rattle.std.specs.List.{list_any, last_or, IsDistinct}
 use Rattle.std.specs.Str.{bytes_eq}
 use Rattle.std.proofs.lemmas.Bool.{eqb-true, eq-eqb, and_parts}
 use Rattle.std.proofs.lemmas.List.{map-append}
@@ -13,7 +13,6 @@ use Rattle.ev_types.specs.Kinds.{kind_same}
 use Rattle.ev_types.specs.SameHosts.{host_same, host_decides, has_host}
 use Rattle.ev_types.specs.Statuses.{is_warming, is_active, is_live}
 use Rattle.ev_types.specs.declared.hosts.Host.{Host}
-use Rattle.ev_types.specs.declared.contents.Kind.{Kind}
 use Rattle.ev_types.specs.declared.contents.Kind.TheVariants.{Cds}
 use Rattle.ev_types.specs.declared.rows.RowStatus.{RowStatus}
 use Rattle.ev_types.specs.declared.rows.RowStatus.TheVariants.{Warming, Active, Draining, Dropped}
@@ -24,19 +23,19 @@ use Rattle.ev_model.specs.Signals.{is_meant, rows_meant, result_for, with_result
 use Rattle.ev_endpoints.specs.Results.{ResultsKept, result_in, Notes}
 use Rattle.ev_generations.specs.Tables.{row_in, numbers_of}
 use Rattle.ev_generations.proofs.TableLemmas.{number-row_in}
-use Rattle.ev_warming.specs.declared.state.State.{State}
-use Rattle.ev_warming.specs.Due.{is_among, is_filled}
-use Rattle.ev_warming.specs.Standings.{standing_in}
-use Rattle.ev_warming.specs.Watched.{WatchesKept}
-use Rattle.ev_warming.specs.Ready.{are_results_in, assignment_in, is_answered_in, is_due_at, is_due_found}
-use Rattle.ev_warming.specs.Indexes.{IsIndexed, serves, warms, numbers_where}
+use Rattle.ev_indexes.specs.declared.state.State.{State}
+use Rattle.ev_indexes.specs.Due.{is_among, is_filled}
+use Rattle.ev_indexes.specs.Standings.{standing_in}
+use Rattle.ev_indexes.specs.Watched.{WatchesKept}
+use Rattle.ev_indexes.specs.Ready.{are_results_in, assignment_in, is_answered_in, is_due_at, is_due_found, takes_result}
+use Rattle.ev_indexes.specs.Indexes.{IsIndexed, serves, warms, numbers_where}
 use Rattle.ev_warming.specs.Forgetting.{IsTidyBut, keeps_result}
-use Rattle.ev_warming.specs.Health.{takes_result, passes, takes_at, is_meant_in, numbers_meant, NotesEach}
-use Rattle.ev_warming.specs.Worlds.{StandsFor, rows_of_kind}
-use Rattle.ev_warming.proofs.WhereLemmas.{flipped, among-where, found-where}
-use Rattle.ev_warming.proofs.PromotionLemmas.{all_then, both_all}
-use Rattle.ev_warming.proofs.SoundLemmas.{contents-of}
-use Rattle.ev_warming.proofs.WorldLemmas.{hosts}
+use Rattle.ev_warming.specs.Health.{passes, takes_at, is_meant_in, numbers_meant, NotesEach}
+use Rattle.ev_indexes.specs.Worlds.{StandsFor, rows_of_kind}
+use Rattle.ev_indexes.proofs.WhereLemmas.{flipped, among-where, found-where}
+use Rattle.ev_indexes.proofs.RowLemmas.{all_then, both_all, any-some, filter-rows_of_kind, filter_agrees}
+use Rattle.ev_indexes.proofs.SoundLemmas.{contents-of}
+use Rattle.ev_indexes.proofs.WorldLemmas.{hosts}
 use Rattle.ev_warming.proofs.ArrivalLemmas.{last_or-append}
 
 -- whether rows of this number are due looks at the results of the number alone
@@ -153,14 +152,6 @@ either_way Active false t = refl
 either_way Draining b t = refl
 either_way Dropped b t = refl
 
-pub any-some : (test : GenRow → Bool) (rows : List GenRow) → list_any test rows ≡ is_filled (numbers_where test rows)
-any-some test [] = refl
-any-some test (row ∷ rows) = by (test row) (any-some test rows)
-  where
-    by : (t : Bool) → list_any test rows ≡ is_filled (numbers_where test rows) → (t || list_any test rows) ≡ is_filled (numbers_of (cond t (row ∷ filter test rows) (filter test rows)))
-    by true rest = refl
-    by false rest = rest
-
 among-some : (ns : List ℕ) (n : ℕ) → is_among ns n ≡ true → is_filled ns ≡ true
 among-some [] n h = h
 among-some (k ∷ ns) n h = refl
@@ -273,24 +264,6 @@ last-more (row ∷ rows) host healthy n h o =
         none true = refl
         none false = refl
     by false b c more = more o
-
--- rows of other kinds pass no test that only rows of the kind pass
-pub filter-rows_of_kind : (kind : Kind) (f : GenRow → Bool) → ((row : GenRow) → f row ≡ true → kind_same row.kind kind ≡ true) → (rows : List GenRow)
-    → filter f (rows_of_kind kind rows) ≡ filter f rows
-filter-rows_of_kind kind f only [] = refl
-filter-rows_of_kind kind f only (row ∷ rows) = by (kind_same row.kind kind) refl (f row) refl (filter-rows_of_kind kind f only rows)
-  where
-    by : (b : Bool) → kind_same row.kind kind ≡ b → (t : Bool) → f row ≡ t → filter f (rows_of_kind kind rows) ≡ filter f rows
-        → filter f (cond b (row ∷ rows_of_kind kind rows) (rows_of_kind kind rows)) ≡ cond t (row ∷ filter f rows) (filter f rows)
-    by true e true h rest = (λ i. cond (h i) (row ∷ filter f (rows_of_kind kind rows)) (filter f (rows_of_kind kind rows))) ∙ ap (λ (rs : List GenRow). row ∷ rs) rest
-    by true e false h rest = (λ i. cond (h i) (row ∷ filter f (rows_of_kind kind rows)) (filter f (rows_of_kind kind rows))) ∙ rest
-    by false e true h rest = absurd (true≢false (sym (only row h) ∙ e))
-    by false e false h rest = rest
-
--- tests that agree on each of these rows leave the same
-pub filter_agrees : (f g : GenRow → Bool) (rows : List GenRow) → AllByRecursion (λ (r : GenRow). f r ≡ g r) rows → filter f rows ≡ filter g rows
-filter_agrees f g [] all = refl
-filter_agrees f g (row ∷ rows) all = λ i. cond (all.0 i) (row ∷ filter_agrees f g rows all.1 i) (filter_agrees f g rows all.1 i)
 
 -- clusters that stand for a world
 module _ (s : State) (world : World) (stands : StandsFor s world) (x : IsIndexed s) (cds : s.kind ≡ Cds) (name : List ℕ) (host : Host) where

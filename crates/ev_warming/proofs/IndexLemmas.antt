@@ -16,17 +16,17 @@ use Rattle.ev_model.specs.Rows.{removed_status}
 use Rattle.ev_endpoints.specs.Results.{ResultsKept}
 use Rattle.ev_generations.specs.Tables.{GenerationsParts, IsTable, row_in, status_with, with_status}
 use Rattle.ev_generations.proofs.TableLemmas.{table-with_status}
-use Rattle.ev_warming.specs.declared.names.Standing.{Standing}
-use Rattle.ev_warming.specs.declared.watches.Watch.{Watch}
-use Rattle.ev_warming.specs.declared.state.State.{State}
-use Rattle.ev_warming.specs.Due.{is_among}
-use Rattle.ev_warming.specs.Kept.{Sets}
-use Rattle.ev_warming.specs.Standings.{NamesKept, nobody, standing_in}
-use Rattle.ev_warming.specs.Watched.{WatchesKept, unwatched, watch_in, watched_less, with_arrival, without_number}
-use Rattle.ev_warming.specs.Ready.{name_needed, is_ready_in, is_due_found, is_due_at}
-use Rattle.ev_warming.specs.Indexes.{IsIndexed, is_needed, depends_on, waits_limited, serves, warms, numbers_where}
-use Rattle.ev_warming.proofs.KeptLemmas.{kept_at-found}
-use Rattle.ev_warming.proofs.WhereLemmas.{kinds-with_statuses, row_with, among-where, where-left, where-absent, where-kept, where-one, where-some, without-one}
+use Rattle.ev_indexes.specs.declared.names.Standing.{Standing}
+use Rattle.ev_indexes.specs.declared.watches.Watch.{Watch}
+use Rattle.ev_indexes.specs.declared.state.State.{State}
+use Rattle.ev_indexes.specs.Due.{is_among}
+use Rattle.ev_indexes.specs.Kept.{Sets}
+use Rattle.ev_indexes.specs.Standings.{NamesKept, nobody, standing_in}
+use Rattle.ev_indexes.specs.Watched.{WatchesKept, unwatched, watch_in, watched_less, with_arrival, without_number}
+use Rattle.ev_indexes.specs.Ready.{name_needed, is_ready_in, is_due_found, is_due_at}
+use Rattle.ev_indexes.specs.Indexes.{IsIndexed, is_needed, depends_on, waits_limited, serves, warms, numbers_where}
+use Rattle.ev_indexes.proofs.KeptLemmas.{kept_at-found}
+use Rattle.ev_indexes.proofs.WhereLemmas.{kinds-with_statuses, row_with, among-where, where-left, where-absent, where-kept, where-one, where-some, without-one}
 use Rattle.ev_warming.proofs.ReadyLemmas.{Agrees, is_ready_in-agrees, is_due_at-with_status}
 
 own_name : (name : List ℕ) → bytes_eq name name ≡ true

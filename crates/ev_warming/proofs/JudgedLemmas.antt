@@ -20,11 +20,11 @@ use Rattle.ev_model.specs.Live.{live_of, lives_of}
 use Rattle.ev_model.specs.Verdicts.{is_removed, lives_left, rule_of, good_verdict, body_verdict, verdict_by, verdict_of, lives_after, verdicts_from, verdicts_by, verdicts_of}
 use Rattle.ev_model.specs.Versions.{is_kept}
 use Rattle.ev_model.specs.Watching.{is_by_name, is_watched, is_dependency, dependency_of}
-use Rattle.ev_warming.specs.declared.state.State.{State}
+use Rattle.ev_indexes.specs.declared.state.State.{State}
 use Rattle.ev_warming.specs.Arrivals.{IsOnValue, AreOnValues}
-use Rattle.ev_warming.specs.Indexes.{depends_on}
-use Rattle.ev_warming.specs.Reads.{live_rows}
-use Rattle.ev_warming.specs.Worlds.{needs_of, StandsFor}
+use Rattle.ev_indexes.specs.Indexes.{depends_on}
+use Rattle.ev_indexes.specs.Reads.{live_rows}
+use Rattle.ev_indexes.specs.Worlds.{needs_of, StandsFor}
 use Rattle.ev_warming.proofs.ForgottenLemmas.{watched-same}
 
 -- what is needed is asked for by name

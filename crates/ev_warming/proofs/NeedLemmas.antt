@@ -6,8 +6,8 @@ use Rattle.ev_types.specs.declared.contents.Content.{Content}
 use Rattle.ev_types.specs.declared.rows.RowStatus.{RowStatus}
 use Rattle.ev_types.specs.declared.rows.GenRow.{GenRow}
 use Rattle.ev_model.specs.Rows.{with_statuses, replaced_status, new_row, rows_with_new}
-use Rattle.ev_warming.specs.Ready.{name_needed, IsNeedName}
-use Rattle.ev_warming.proofs.SoundLemmas.{all-with_statuses, all-push}
+use Rattle.ev_indexes.specs.Ready.{name_needed, IsNeedName}
+use Rattle.ev_indexes.proofs.SoundLemmas.{all-with_statuses, all-push}
 
 pub needs-statused : (rows after : List GenRow) (f : GenRow → RowStatus) → after ≡ with_statuses f rows
     → AllByRecursion (λ (r : GenRow). IsNeedName (name_needed r.content)) rows → AllByRecursion (λ (r : GenRow). IsNeedName (name_needed r.content)) after

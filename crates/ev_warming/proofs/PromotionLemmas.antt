@@ -12,9 +12,10 @@ use Rattle.ev_types.specs.declared.rows.RowStatus.TheVariants.{Warming, Active, 
 use Rattle.ev_types.specs.declared.rows.GenRow.{GenRow}
 use Rattle.ev_model.specs.Rows.{is_row_of, with_statuses}
 use Rattle.ev_model.specs.Tidy.{status_by}
-use Rattle.ev_warming.specs.Indexes.{serves, warms}
+use Rattle.ev_indexes.specs.Indexes.{serves, warms}
 use Rattle.ev_warming.specs.Promotion.{succeeded_by, rows_promoted}
-use Rattle.ev_warming.proofs.WhereLemmas.{row_with}
+use Rattle.ev_indexes.proofs.WhereLemmas.{row_with}
+use Rattle.ev_indexes.proofs.RowLemmas.{any_agrees, all_then, both_all, statuses_agree}
 
 -- the status of a row once the generation that warms under a name serves
 abbrev pub status_once : List ℕ → GenRow → RowStatus
@@ -23,10 +24,6 @@ status_once name row = cond (warms name row) Active (cond (serves name row) Drai
 -- these rows once the generation that warms under this name serves
 abbrev pub rows_once : List ℕ → List GenRow → List GenRow
 rows_once name rows = with_statuses (status_once name) rows
-
-pub any_agrees : (f g : GenRow → Bool) (rows : List GenRow) → AllByRecursion (λ (r : GenRow). f r ≡ g r) rows → list_any f rows ≡ list_any g rows
-any_agrees f g [] all = refl
-any_agrees f g (row ∷ rows) all = λ i. all.0 i || any_agrees f g rows all.1 i
 
 any-with_statuses : (f : GenRow → Bool) (status_of : GenRow → RowStatus) (rows : List GenRow)
     → list_any f (with_statuses status_of rows) ≡ list_any (λ (r : GenRow). f (row_with (status_of r) r)) rows
@@ -40,19 +37,6 @@ none_of (row ∷ rows) = none_of rows
 all_of : (P : GenRow → Type 0) → ((r : GenRow) → P r) → (rows : List GenRow) → AllByRecursion P rows
 all_of P h [] = tt
 all_of P h (row ∷ rows) = (h row, all_of P h rows)
-
-pub all_then : (P Q : GenRow → Type 0) (rows : List GenRow) → ((r : GenRow) → P r → Q r) → AllByRecursion P rows → AllByRecursion Q rows
-all_then P Q [] f all = tt
-all_then P Q (row ∷ rows) f all = (f row all.0, all_then P Q rows f all.1)
-
-pub both_all : (P Q : GenRow → Type 0) (rows : List GenRow) → AllByRecursion P rows → AllByRecursion Q rows → AllByRecursion (λ (r : GenRow). P r × Q r) rows
-both_all P Q [] p q = tt
-both_all P Q (row ∷ rows) p q = ((p.0, q.0), both_all P Q rows p.1 q.1)
-
--- two ways of statuses that agree on each of these rows
-pub statuses_agree : (f g : GenRow → RowStatus) (rows : List GenRow) → AllByRecursion (λ (r : GenRow). f r ≡ g r) rows → with_statuses f rows ≡ with_statuses g rows
-statuses_agree f g [] all = refl
-statuses_agree f g (row ∷ rows) all = λ i. record row { status = all.0 i } ∷ statuses_agree f g rows all.1 i
 
 -- statuses of rows that have other statuses
 pub with_statuses-twice : (f g : GenRow → RowStatus) (rows : List GenRow) → with_statuses f (with_statuses g rows) ≡ with_statuses (λ (r : GenRow). f (row_with (g r) r)) rows

@@ -11,14 +11,14 @@ use Rattle.ev_model.specs.Tidy.{status_by}
 use Rattle.ev_model.specs.Watching.{sorted_names}
 use Rattle.ev_generations.specs.Tables.{row_in, numbers_of}
 use Rattle.ev_generations.proofs.TableLemmas.{row_in-with_statuses}
-use Rattle.ev_warming.specs.Due.{is_among}
+use Rattle.ev_indexes.specs.Due.{is_among}
 use Rattle.ev_warming.specs.Changes.{began_to_drain}
-use Rattle.ev_warming.specs.Indexes.{status_in}
+use Rattle.ev_indexes.specs.Indexes.{status_in}
 use Rattle.ev_warming.specs.Promotion.{succeeded_by, rows_promoted}
-use Rattle.ev_warming.specs.Reads.{live_rows, names_needed, names_watched}
-use Rattle.ev_warming.specs.Ready.{name_needed}
-use Rattle.ev_warming.proofs.PromotionLemmas.{all_then}
-use Rattle.ev_warming.proofs.WhereLemmas.{row_with, own-rows}
+use Rattle.ev_indexes.specs.Reads.{live_rows, names_needed, names_watched}
+use Rattle.ev_indexes.specs.Ready.{name_needed}
+use Rattle.ev_indexes.proofs.RowLemmas.{all_then}
+use Rattle.ev_indexes.proofs.WhereLemmas.{row_with, own-rows}
 
 pub needs-live : (f : GenRow → RowStatus) (rows : List GenRow) → AllByRecursion (λ (r : GenRow). is_live (f r) ≡ is_live r.status) rows → names_needed (with_statuses f rows) ≡ names_needed rows
 needs-live f [] all = refl

@@ -12,8 +12,8 @@ use Rattle.ev_model.specs.Warming.{is_checked, rows_in}
 use Rattle.ev_endpoints.specs.Results.{ResultsKept}
 use Rattle.ev_generations.specs.Tables.{row_in, status_with, with_status}
 use Rattle.ev_generations.proofs.TableLemmas.{row_in-with_statuses, number-row_in}
-use Rattle.ev_warming.specs.Watched.{WatchesKept, watch_in}
-use Rattle.ev_warming.specs.Ready.{name_needed, has_answer_in, discovered_in, assignment_in, are_results_in, is_ready_in, is_due_in, is_due_found, is_due_at}
+use Rattle.ev_indexes.specs.Watched.{WatchesKept, watch_in}
+use Rattle.ev_indexes.specs.Ready.{name_needed, has_answer_in, discovered_in, assignment_in, are_results_in, is_ready_in, is_due_in, is_due_found, is_due_at}
 
 -- what came for the name is the same
 pub record Agrees (old new : WatchesKept) (name : List ℕ) : Type 0 where

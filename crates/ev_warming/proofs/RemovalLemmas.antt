@@ -1,7 +1,8 @@
 -- A row that is over goes, and numbers go on: no index looks at either.
-use Rattle.std.proofs.Common.{◌≡◌, ◌∙◌, ◌<◌, ◌≤◌, ℕ, Bool, true, false, cond, not, ◌&&◌, ◌||◌, nat_eq, List, [], ◌∷◌, Option, None, Some, IsSome, filter, refl, sym, ap, subst, true≢false, arith}
+use Rattle.std.proofs.Common.{◌≡◌, ◌∙◌, ◌<◌, ℕ, Bool, true, false, cond, not, ◌&&◌, ◌||◌, nat_eq, List, [], ◌∷◌, Option, None, Some, IsSome, filter, refl, sym, ap, subst, true≢false}
 use Rattle.std.specs.List.{list_any, AllByRecursion, IsDistinct}
 use Rattle.std.proofs.lemmas.Bool.{eqb-true, eq-eqb}
+use Rattle.std.specs.Str.{bytes_eq}
 use Rattle.ev_types.specs.Items.{content_kind}
 use Rattle.ev_types.specs.Kinds.{kind_same}
 use Rattle.ev_types.specs.Texts.{IsName}
@@ -10,18 +11,17 @@ use Rattle.ev_types.specs.declared.contents.Kind.{Kind}
 use Rattle.ev_types.specs.declared.rows.RowStatus.{RowStatus}
 use Rattle.ev_types.specs.declared.rows.RowStatus.TheVariants.{Warming, Active, Draining, Dropped}
 use Rattle.ev_types.specs.declared.rows.GenRow.{GenRow}
-use Rattle.std.specs.Str.{bytes_eq}
 use Rattle.ev_model.specs.World.{World}
 use Rattle.ev_model.specs.Watching.{is_limited}
 use Rattle.ev_generations.specs.Tables.{GenerationsParts, IsTable, is_number, row_in, numbers_of, without_row}
 use Rattle.ev_warming.specs.declared.manager.Manager.{Manager}
-use Rattle.ev_warming.specs.Ready.{name_needed, is_ready_in, is_due_found, is_due_at, IsNeedName}
-use Rattle.ev_warming.specs.Indexes.{depends_on, waits_limited, serves, warms, is_needed, numbers_where}
-use Rattle.ev_warming.specs.Worlds.{rows_of_kind, StandsFor}
+use Rattle.ev_indexes.specs.Ready.{name_needed, is_ready_in, is_due_found, is_due_at, IsNeedName}
+use Rattle.ev_indexes.specs.Indexes.{depends_on, waits_limited, serves, warms, is_needed, numbers_where}
+use Rattle.ev_indexes.specs.Worlds.{rows_of_kind, StandsFor}
 use Rattle.ev_warming.specs.Changes.{is_over}
-use Rattle.ev_warming.specs.Forgetting.{is_need_of, IsTidyBut}
+use Rattle.ev_warming.specs.Forgetting.{is_need_of}
 use Rattle.ev_warming.specs.Managers.{IsKept}
-use Rattle.ev_warming.proofs.WhereLemmas.{all-found}
+use Rattle.ev_indexes.proofs.WhereLemmas.{all-found}
 use Rattle.ev_warming.proofs.ForgettingLemmas.{not_true}
 use Rattle.ev_warming.proofs.ForgottenLemmas.{both-same}
 
@@ -215,45 +215,3 @@ module _ (m : Manager) (number : ℕ) (kept : IsKept m) (forgotten : m.stale ≡
       none : (b : Bool) (o : Option GenRow) → o ≡ None → cond b None o ≡ None
       none true o e = refl
       none false o e = e
-
--- numbers go on
-module _ (m : Manager) (kept : IsKept m) (table : GenerationsParts) (rows : table.rows ≡ m.state.table.rows) (later : m.state.table.made ≤ table.made) where
-  pub kept-advanced : IsKept (record m { state = record m.state { table = table } })
-  kept-advanced = record {
-    rows = kept.rows;
-    indexed = record {
-      table = record {
-        apart = subst (λ (rs : List GenRow). IsDistinct nat_eq (numbers_of rs)) (sym rows) kept.indexed.table.apart;
-        drawn = λ n above. (λ i. row_in n (rows i)) ∙ kept.indexed.table.drawn n (omega arith);
-      };
-      kinds = subst (AllByRecursion (λ (r : GenRow). r.kind ≡ m.state.kind)) (sym rows) kept.indexed.kinds;
-      active = λ q. kept.indexed.active q ∙ (λ i. numbers_where (serves q) (sym rows i));
-      warming = λ q. kept.indexed.warming q ∙ (λ i. numbers_where (warms q) (sym rows i));
-      watchers = λ q. kept.indexed.watchers q ∙ (λ i. numbers_where (depends_on q) (sym rows i));
-      limited = λ q. kept.indexed.limited q ∙ (λ i. numbers_where (waits_limited q) (sym rows i));
-      due = λ n. kept.indexed.due n ∙ (λ i. is_due_at m.state.watches m.state.results n (sym rows i));
-      drawn = λ n h above. kept.indexed.drawn n h (omega arith);
-    };
-    needs = subst (AllByRecursion (λ (r : GenRow). IsNeedName (name_needed r.content))) (sym rows) kept.needs;
-    tidy = subst (λ (rs : List GenRow). IsTidyBut (record m.state { table = record { rows = rs; made = table.made } }) m.stale) (sym rows)
-        (record { marks = kept.tidy.marks; results = kept.tidy.results });
-  }
-
-  pub stands-advanced : (made : ℕ) → table.made ≡ made → (world : World) → StandsFor m.state world → StandsFor (record m.state { table = table }) (record world { made = made })
-  stands-advanced made is world stands =
-      let up : world.made ≤ made = omega (arith, stands.made, is, later) in
-      record {
-        sound = record {
-          table = record { apart = stands.sound.table.apart; drawn = λ n above. stands.sound.table.drawn n (omega arith) };
-          typed = stands.sound.typed;
-          named = stands.sound.named;
-          heard = λ n h above. stands.sound.heard n h (omega arith);
-        };
-        rows = rows ∙ stands.rows;
-        made = is;
-        told = stands.told;
-        timed = stands.timed;
-        value = stands.value;
-        resulted = λ n h there. stands.resulted n h (subst (λ (rs : List GenRow). IsSome (row_in n rs)) rows there);
-        healthy = λ n h there. stands.healthy n h (subst (λ (rs : List GenRow). IsSome (row_in n rs)) rows there);
-      }

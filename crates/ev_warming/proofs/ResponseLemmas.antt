@@ -1,10 +1,9 @@
 -- What a response does to a world that a state stands for.
-use Rattle.std.proofs.Common.{◌≡◌, ◌∙◌, ◌+◌, ◌<◌, ◌≤◌, ℕ, Bool, true, false, cond, ◌&&◌, ◌||◌, List, [], ◌∷◌, ◌++◌, None, map, filter, length, take, drop, get_or, refl, sym, ap, subst, true≢false, append-nil}
-use Rattle.std.specs.List.{list_any, filter_map, last_or, AllByRecursion}
+use Rattle.std.proofs.Common.{◌≡◌, ◌∙◌, ◌+◌, ◌<◌, ℕ, Bool, true, false, cond, ◌&&◌, ◌||◌, List, [], ◌∷◌, ◌++◌, length, take, drop, get_or, refl, sym, subst, true≢false}
+use Rattle.std.specs.List.{AllByRecursion}
 use Rattle.std.specs.Str.{bytes_eq}
 use Rattle.std.proofs.lemmas.Bool.{false_from_ne_true}
-use Rattle.std.proofs.lemmas.List.{take_more, drop_more, drop_all}
-use Rattle.std.proofs.lemmas.List.Elements.{filter-append}
+use Rattle.std.proofs.lemmas.List.{take_more, drop_more}
 use Rattle.std.proofs.lemmas.List.Folds.{list_any-append, list_any_at}
 use Rattle.ev_types.specs.Items.{ItemParts, ResponseParts}
 use Rattle.ev_types.specs.Kinds.{kind_same}
@@ -12,27 +11,21 @@ use Rattle.ev_types.specs.Same.{bytes_decide}
 use Rattle.ev_types.specs.Texts.{IsName}
 use Rattle.ev_types.specs.declared.contents.Kind.{Kind}
 use Rattle.ev_types.specs.declared.contents.Kind.TheVariants.{Cds, Eds, Lds, Rds}
-use Rattle.ev_types.specs.declared.contents.Content.{Content}
-use Rattle.ev_types.specs.declared.contents.Body.{Body}
-use Rattle.ev_types.specs.declared.contents.Body.TheVariants.{Good, Bad, Beat}
 use Rattle.ev_types.specs.declared.events.Verdict.{Verdict}
-use Rattle.ev_types.specs.declared.events.Verdict.TheVariants.{New, Same, Kept, Unasked, Renewed, Refused}
-use Rattle.ev_types.specs.declared.rows.Arrival.{Arrival}
-use Rattle.ev_types.specs.declared.rows.Arrival.TheVariants.{Value}
 use Rattle.ev_types.specs.declared.rows.RowStatus.{RowStatus}
 use Rattle.ev_types.specs.declared.rows.RowStatus.TheVariants.{Warming, Active, Draining, Dropped}
 use Rattle.ev_types.specs.declared.rows.KeptVersion.{KeptVersion}
 use Rattle.ev_types.specs.declared.rows.GenRow.{GenRow}
-use Rattle.ev_model.specs.World.{World, Arrived}
+use Rattle.ev_model.specs.World.{World}
 use Rattle.ev_model.specs.Watching.{is_by_name}
-use Rattle.ev_model.specs.Warming.{came_for, content_in, is_word, is_timeout}
 use Rattle.ev_model.specs.Verdicts.{is_among, is_removed}
-use Rattle.ev_model.specs.Rows.{versions_left, arrived, with_statuses, removed_status, rows_left, add_item, add_items, keep_version, keep_value, with_content, refuse, renew, with_removals}
+use Rattle.ev_model.specs.Rows.{versions_left, with_statuses, removed_status, rows_left, add_item, add_items, with_removals}
 use Rattle.ev_model.specs.Signals.{ended_status, rows_ended}
-use Rattle.ev_warming.specs.declared.state.State.{State}
+use Rattle.ev_indexes.specs.declared.state.State.{State}
 use Rattle.ev_warming.specs.Changes.{is_unlisted, status_left_by}
-use Rattle.ev_warming.specs.Worlds.{needs_of, StandsFor}
-use Rattle.ev_warming.proofs.PromotionLemmas.{all_then, statuses_agree, statuses_same, with_statuses-twice}
+use Rattle.ev_indexes.specs.Worlds.{StandsFor}
+use Rattle.ev_indexes.proofs.RowLemmas.{all_then, statuses_agree}
+use Rattle.ev_warming.proofs.PromotionLemmas.{statuses_same, with_statuses-twice}
 
 -- a state doesn't look at versions
 pub versions-stand : (s : State) (world : World) (versions : List KeptVersion) → StandsFor s world → StandsFor s (record world { versions = versions })
@@ -46,71 +39,6 @@ versions-stand s world versions stands = record {
   resulted = stands.resulted;
   healthy = stands.healthy;
 }
-
-kinds-apart : (kind : Kind) → is_by_name kind ≡ false → kind_same kind (needs_of kind) ≡ false
-kinds-apart Cds h = refl
-kinds-apart Lds h = refl
-kinds-apart Eds h = absurd (true≢false h)
-kinds-apart Rds h = absurd (true≢false h)
-
--- nor at what comes for other kinds
-came_for-other : (arrivals : List Arrived) (kind other : Kind) (arrival : Arrival) (name q : List ℕ) → kind_same other kind ≡ false
-    → came_for (arrivals ++ arrived other arrival name ∷ []) kind q ≡ came_for arrivals kind q
-came_for-other arrivals kind other arrival name q apart =
-    ap (map (λ (a : Arrived). a.arrival))
-    (filter-append (λ (a : Arrived). kind_same a.kind kind && bytes_eq a.name q) arrivals (arrived other arrival name ∷ [])
-    ∙ (λ i. filter (λ (a : Arrived). kind_same a.kind kind && bytes_eq a.name q) arrivals ++ cond (apart i && bytes_eq name q) (arrived other arrival name ∷ []) [])
-    ∙ append-nil (filter (λ (a : Arrived). kind_same a.kind kind && bytes_eq a.name q) arrivals))
-
-pub others-stand : (s : State) (world : World) (arrival : Arrival) (name : List ℕ) → is_by_name s.kind ≡ false → StandsFor s world
-    → StandsFor s (record world { arrivals = world.arrivals ++ arrived s.kind arrival name ∷ [] })
-others-stand s world arrival name rows stands =
-    let same = λ (q : List ℕ). sym (came_for-other world.arrivals (needs_of s.kind) s.kind arrival name q (kinds-apart s.kind rows)) in
-    record {
-      sound = record { table = stands.sound.table; typed = stands.sound.typed; named = stands.sound.named; heard = stands.sound.heard };
-      rows = stands.rows;
-      made = stands.made;
-      told = λ q. stands.told q ∙ ap (list_any is_word) (same q);
-      timed = λ q. stands.timed q ∙ ap (list_any is_timeout) (same q);
-      value = λ q. stands.value q ∙ ap (λ (xs : List Arrival). last_or None (filter_map content_in xs)) (same q);
-      resulted = stands.resulted;
-      healthy = stands.healthy;
-    }
-
--- a resource that isn't new changes nothing that the state looks at
-kept-stands : (s : State) (world : World) (item : ItemParts) (body : Body) → StandsFor s world → StandsFor s (with_content (λ content. keep_version s.kind item) body world)
-kept-stands s world item (Good content) stands = versions-stand s world (keep_version s.kind item world).versions stands
-kept-stands s world item (Bad rule) stands = stands
-kept-stands s world item Beat stands = stands
-
-valued-stands : (s : State) (world : World) (item : ItemParts) (body : Body) → is_by_name s.kind ≡ false → StandsFor s world → StandsFor s (with_content (keep_value s.kind item) body world)
-valued-stands s world item (Good content) rows stands =
-    versions-stand s (record world { arrivals = world.arrivals ++ arrived s.kind (Value content) item.name ∷ [] }) (keep_value s.kind item content world).versions
-    (others-stand s world (Value content) item.name rows stands)
-valued-stands s world item (Bad rule) rows stands = stands
-valued-stands s world item Beat rows stands = stands
-
-refused-is : (kind : Kind) → is_by_name kind ≡ false → (name : List ℕ) (world : World) → world ≡ refuse kind name world
-refused-is Cds h name world = refl
-refused-is Lds h name world = refl
-refused-is Eds h name world = absurd (true≢false h)
-refused-is Rds h name world = absurd (true≢false h)
-
-pub other-stands : (s : State) (world : World) (item : ItemParts) (verdict : Verdict) → (verdict ≡ New → ⊥) → is_by_name s.kind ≡ false → StandsFor s world
-    → StandsFor s (add_item s.kind verdict item world)
-other-stands s world item New other rows stands = absurd (other refl)
-other-stands s world item Same other rows stands = kept-stands s world item item.body stands
-other-stands s world item Kept other rows stands = valued-stands s world item item.body rows stands
-other-stands s world item Unasked other rows stands = stands
-other-stands s world item Renewed other rows stands = versions-stand s world (renew s.kind item.name world).versions stands
-other-stands s world item (Refused rule) other rows stands = subst (StandsFor s) (refused-is s.kind rows item.name world) stands
-
--- a new one without a content neither
-pub bad-stands : (s : State) (world : World) (item : ItemParts) (body : Body) (change : Content → World → World) → ((content : Content) → body ≡ Good content → ⊥) → StandsFor s world
-    → StandsFor s (with_content change body world)
-bad-stands s world item (Good content) change other stands = absurd (other content refl)
-bad-stands s world item (Bad rule) change other stands = stands
-bad-stands s world item Beat change other stands = stands
 
 removed-twice : (status : RowStatus) → removed_status (removed_status status) ≡ removed_status status
 removed-twice Warming = refl
@@ -235,10 +163,6 @@ pub item-more : (kind : Kind) (verdicts : List Verdict) (items : List ItemParts)
 item-more kind verdicts items place verdict item world within here i =
     (λ j. add_items kind (drop (place + 1) verdicts) (drop (place + 1) items) (add_item kind (get_or verdicts place verdict) (i j) world))
     ∙ sym (λ j. add_items kind (drop_more verdicts place verdict within j) (drop_more items place item here j) world)
-
-pub items-done : (kind : Kind) (verdicts : List Verdict) (items : List ItemParts) (place : ℕ) (world : World) → length verdicts ≤ place → length items ≤ place
-    → add_items kind (drop place verdicts) (drop place items) world ≡ world
-items-done kind verdicts items place world v i = λ j. add_items kind (drop_all place verdicts v j) (drop_all place items i j) world
 
 -- removals, where versions are left aside
 removals-are : (kind : Kind) (response : ResponseParts) (world : World) → is_by_name kind ≡ false

@@ -1,11 +1,9 @@
 -- Which generations retired: what each step tells, and what steps tell together.
-use Rattle.std.proofs.Common.{◌≡◌, ◌∙◌, ◌+◌, get_or, length, length-append, arith, ⊎_elim, ℕ, Bool, true, false, cond, not, ◌&&◌, ◌||◌, nat_eq, List, [], ◌∷◌, ◌++◌, Option, None, Some, option_map, option_to_list, refl, sym, ap, true≢false}
+use Rattle.std.proofs.Common.{◌≡◌, ◌∙◌, ◌+◌, length, arith, ⊎_elim, ℕ, Bool, true, false, cond, not, ◌&&◌, ◌||◌, nat_eq, List, [], ◌∷◌, ◌++◌, Option, None, Some, option_map, option_to_list, refl, sym, ap, true≢false}
 use Rattle.std.specs.List.{AllByRecursion, IsDistinct}
 use Rattle.std.specs.Option.{option_or}
 use Rattle.std.specs.Str.{bytes_eq}
-use Rattle.std.proofs.Math.Seq.{get_or-append_seam}
 use Rattle.std.proofs.lemmas.Bool.{cases_lt}
-use Rattle.std.proofs.lemmas.List.{get_or_append_left}
 use Rattle.std.proofs.lemmas.List.Folds.{list_any-append, find-append}
 use Rattle.ev_types.specs.Kinds.{kind_same, kind_decides}
 use Rattle.ev_types.specs.Statuses.{is_warming, is_active, is_live}
@@ -18,12 +16,12 @@ use Rattle.ev_model.specs.Rows.{with_statuses, replaced_status, removed_status, 
 use Rattle.ev_model.specs.Signals.{ended_status, rows_ended}
 use Rattle.ev_generations.specs.Tables.{is_number, row_in, numbers_of}
 use Rattle.ev_generations.proofs.TableLemmas.{row_in-with_statuses}
-use Rattle.ev_warming.specs.Due.{is_among}
-use Rattle.ev_warming.specs.Indexes.{serves, warms, numbers_where}
+use Rattle.ev_indexes.specs.Due.{is_among}
+use Rattle.ev_indexes.specs.Indexes.{serves, warms, numbers_where}
 use Rattle.ev_warming.specs.Changes.{is_over, has_retired, Draws, Tells}
-use Rattle.ev_warming.proofs.WhereLemmas.{among-where}
+use Rattle.ev_indexes.proofs.WhereLemmas.{among-where}
 use Rattle.ev_warming.proofs.DrainLemmas.{absent-where, fails-where}
-use Rattle.ev_warming.proofs.ForgottenLemmas.{all-at}
+use Rattle.ev_indexes.proofs.RowLemmas.{all-at}
 use Rattle.ev_warming.proofs.ForgettingLemmas.{not_true}
 
 -- nothing changed, and nothing is told
@@ -197,20 +195,6 @@ module _ (kind : Kind) (name : List ℕ) (rows : List GenRow) (apart : IsDistinc
 -- no number was drawn
 pub draws-none : (made : ℕ) (numbers : List ℕ) → Draws made made numbers numbers
 draws-none made numbers = record { grows = omega arith; count = refl; same = λ k h. refl; each = λ k low high. absurd (omega arith) }
-
--- one number was drawn
-pub draws-one : (made drawn : ℕ) (numbers more : List ℕ) → drawn ≡ made + 1 → more ≡ numbers ++ drawn ∷ [] → Draws made drawn numbers more
-draws-one made drawn numbers more d e =
-    let size : length more ≡ length numbers + 1 = ap length e ∙ length-append numbers (drawn ∷ []) in
-    record {
-      grows = omega (arith, size);
-      count = omega (arith, size, d);
-      same = λ k h. (λ i. get_or (e i) k 0) ∙ get_or_append_left numbers (drawn ∷ []) 0 k h;
-      each = λ k low high.
-          let last : k ≡ length numbers = omega (arith, size, low, high) in
-          let value : get_or more k 0 ≡ drawn = (λ i. get_or (e i) (last i) 0) ∙ get_or-append_seam numbers drawn [] 0 in
-          omega (arith, value, d, last);
-    }
 
 -- some, and more
 pub draws-then : (made drawn later : ℕ) (xs ys zs : List ℕ) → Draws made drawn xs ys → Draws drawn later ys zs → Draws made later xs zs

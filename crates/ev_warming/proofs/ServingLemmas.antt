@@ -8,9 +8,9 @@ use Rattle.ev_model.specs.Tidy.{status_by}
 use Rattle.ev_endpoints.specs.Results.{ResultsKept}
 use Rattle.ev_generations.specs.Tables.{row_in}
 use Rattle.ev_generations.proofs.TableLemmas.{row_in-with_statuses}
-use Rattle.ev_warming.specs.Watched.{WatchesKept}
-use Rattle.ev_warming.specs.Ready.{is_ready_in, is_due_found, is_due_at}
-use Rattle.ev_warming.specs.Indexes.{status_in}
+use Rattle.ev_indexes.specs.Watched.{WatchesKept}
+use Rattle.ev_indexes.specs.Ready.{is_ready_in, is_due_found, is_due_at}
+use Rattle.ev_indexes.specs.Indexes.{status_in}
 use Rattle.ev_warming.specs.Promotion.{succeeded_by, rows_promoted}
 use Rattle.ev_warming.specs.Changes.{began_to_serve}
 use Rattle.ev_warming.proofs.DrainLemmas.{status-promoted}

@@ -23,20 +23,20 @@ use Rattle.ev_model.specs.Tidy.{status_by}
 use Rattle.ev_endpoints.specs.Results.{result_in}
 use Rattle.ev_generations.specs.Tables.{is_number, row_in, numbers_of}
 use Rattle.ev_generations.proofs.TableLemmas.{row_in-with_statuses}
-use Rattle.ev_warming.specs.declared.names.Standing.{Standing}
-use Rattle.ev_warming.specs.declared.watches.Watch.{Watch}
-use Rattle.ev_warming.specs.declared.state.State.{State}
-use Rattle.ev_warming.specs.Due.{is_among}
-use Rattle.ev_warming.specs.Kept.{Sets}
-use Rattle.ev_warming.specs.Standings.{standing_in}
-use Rattle.ev_warming.specs.Watched.{WatchesKept, unwatched, watch_in, with_arrival}
-use Rattle.ev_warming.specs.Ready.{name_needed, assignment_in}
-use Rattle.ev_warming.specs.Indexes.{IsIndexed, is_needed, depends_on, serves, warms, numbers_where, status_in, SameMarks}
+use Rattle.ev_indexes.specs.declared.names.Standing.{Standing}
+use Rattle.ev_indexes.specs.declared.watches.Watch.{Watch}
+use Rattle.ev_indexes.specs.declared.state.State.{State}
+use Rattle.ev_indexes.specs.Due.{is_among}
+use Rattle.ev_indexes.specs.Kept.{Sets}
+use Rattle.ev_indexes.specs.Standings.{standing_in}
+use Rattle.ev_indexes.specs.Watched.{WatchesKept, unwatched, watch_in, with_arrival}
+use Rattle.ev_indexes.specs.Ready.{name_needed, assignment_in}
+use Rattle.ev_indexes.specs.Indexes.{IsIndexed, is_needed, depends_on, serves, warms, numbers_where, status_in, SameMarks}
 use Rattle.ev_warming.specs.Promotion.{succeeded_by, rows_promoted}
 use Rattle.ev_warming.specs.Changes.{began_to_drain}
-use Rattle.ev_warming.specs.Worlds.{StandsFor}
+use Rattle.ev_indexes.specs.Worlds.{StandsFor}
 use Rattle.ev_warming.specs.Forgetting.{need_in, is_need_of, keeps_result, IsUnheard, IsTidyBut}
-use Rattle.ev_warming.proofs.WhereLemmas.{any-found, own-rows, among-where}
+use Rattle.ev_indexes.proofs.WhereLemmas.{any-found, own-rows, among-where}
 use Rattle.ev_warming.proofs.ReadyLemmas.{Agrees, assignment_in-agrees}
 use Rattle.ev_warming.proofs.DrainLemmas.{status-promoted}
 

@@ -1,7 +1,9 @@
 -- A generation that is due makes its predecessor drain and serves: by numbers as the code does it, and by names as promotion says it.
 use Rattle.std.proofs.Common.{◌≡◌, ◌∙◌, ℕ, Bool, true, false, cond, not, ◌&&◌, ◌||◌, nat_eq, List, [], ◌∷◌, ◌++◌, Option, None, Some, option_map, option_to_list, refl, sym, ap, true≢false}
+use Rattle.std.proofs.Math.Bool.{or-false}
 use Rattle.std.specs.Str.{bytes_eq}
 use Rattle.std.proofs.lemmas.Bool.{eqb-true, eq-eqb, false_from_ne_true, and_parts, and_from}
+use Rattle.std.proofs.lemmas.List.Folds.{list_any-append}
 use Rattle.ev_types.specs.Same.{bytes_decide}
 use Rattle.ev_types.specs.Statuses.{is_warming, is_active, is_live}
 use Rattle.ev_types.specs.declared.rows.RowStatus.{RowStatus}
@@ -10,19 +12,18 @@ use Rattle.ev_types.specs.declared.rows.GenRow.{GenRow}
 use Rattle.ev_model.specs.Rows.{removed_status, with_statuses}
 use Rattle.ev_generations.specs.Tables.{row_in, status_with, with_status}
 use Rattle.ev_generations.proofs.TableLemmas.{row_in-with_statuses, number-row_in}
-use Rattle.ev_warming.specs.declared.state.State.{State}
-use Rattle.ev_warming.specs.Due.{is_among}
-use Rattle.ev_warming.specs.Standings.{standing_in}
-use Rattle.ev_warming.specs.Watched.{without_number}
-use Rattle.ev_warming.specs.Ready.{is_ready_in, is_due_in, is_due_found}
-use Rattle.ev_warming.specs.Indexes.{IsIndexed, serves, warms, SameMarks, numbers_where, status_in}
-use Rattle.ev_warming.specs.Promotion.{rows_promoted, status_drained}
-use Rattle.ev_warming.specs.Watched.{WatchesKept}
 use Rattle.ev_endpoints.specs.Results.{ResultsKept}
+use Rattle.ev_indexes.specs.declared.state.State.{State}
+use Rattle.ev_indexes.specs.Due.{is_among}
+use Rattle.ev_indexes.specs.Standings.{standing_in}
+use Rattle.ev_indexes.specs.Watched.{without_number, WatchesKept}
+use Rattle.ev_indexes.specs.Ready.{is_ready_in, is_due_in, is_due_found}
+use Rattle.ev_indexes.specs.Indexes.{IsIndexed, serves, warms, SameMarks, numbers_where, status_in}
+use Rattle.ev_warming.specs.Promotion.{rows_promoted, status_drained}
 use Rattle.ev_warming.proofs.ReadyLemmas.{is_ready_in-agrees}
-use Rattle.std.proofs.lemmas.List.Folds.{list_any-append}
-use Rattle.ev_warming.proofs.WhereLemmas.{own-rows, row_with, among-where, where-left, where-members, found-where, any-found, all-found, flipped, only, emptied, or_false, without-one}
-use Rattle.ev_warming.proofs.PromotionLemmas.{all_then, both_all, statuses_agree, with_statuses-twice, statuses_same, status_once, rows_once, rows_promoted-once, rows_promoted-none}
+use Rattle.ev_indexes.proofs.WhereLemmas.{own-rows, row_with, among-where, where-left, where-members, found-where, any-found, all-found, flipped, only, emptied, without-one}
+use Rattle.ev_indexes.proofs.RowLemmas.{all_then, both_all, statuses_agree}
+use Rattle.ev_warming.proofs.PromotionLemmas.{with_statuses-twice, statuses_same, status_once, rows_once, rows_promoted-once, rows_promoted-none}
 
 live-active : (status : RowStatus) → is_active status ≡ true → is_live status ≡ true
 live-active Active h = refl
@@ -62,7 +63,7 @@ module _ (s : State) (x : IsIndexed s) (name : List ℕ) where
     members = sym (x.active name) ∙ ap option_to_list at
 
     theirs : (row : GenRow) × (row_in p s.table.rows ≡ Some row) × (serves name row ≡ true)
-    theirs = found-where (serves name) p s.table.rows x.table.apart ((λ i. is_among (members i) p) ∙ or_false (nat_eq p p) ∙ eq-eqb p p refl)
+    theirs = found-where (serves name) p s.table.rows x.table.apart ((λ i. is_among (members i) p) ∙ or-false (nat_eq p p) ∙ eq-eqb p p refl)
 
     serving : is_active theirs.0.status ≡ true
     serving = (and_parts (is_active theirs.0.status) (bytes_eq theirs.0.name name) theirs.2).0
@@ -78,7 +79,7 @@ module _ (s : State) (x : IsIndexed s) (name : List ℕ) where
         (λ i. with_status p (removed i) s.table.rows)
         ∙ statuses_agree (status_with p Draining) (status_drained name) s.table.rows
         (all_then (λ (r : GenRow). is_among (numbers_where (serves name) s.table.rows) r.number ≡ serves name r) (λ (r : GenRow). status_with p Draining r ≡ status_drained name r) s.table.rows
-        (λ r h. λ i. cond ((flipped p r.number ∙ sym (or_false (nat_eq r.number p)) ∙ (λ j. is_among (sym members j) r.number) ∙ h) i) Draining r.status)
+        (λ r h. λ i. cond ((flipped p r.number ∙ sym (or-false (nat_eq r.number p)) ∙ (λ j. is_among (sym members j) r.number) ∙ h) i) Draining r.status)
         (where-members (serves name) s.table.rows x.table.apart))
 
     pub way-row : (number : ℕ) (row : GenRow) (status : RowStatus) → row_in number s.table.rows ≡ Some row → is_warming row.status ≡ true
@@ -113,7 +114,7 @@ module _ (s : State) (x : IsIndexed s) (name : List ℕ) where
         (y.active name ∙ ap (numbers_where (serves name)) (e ∙ (λ i. with_status p (removed i) s.table.rows))
         ∙ where-left (serves name) p Draining (λ r. refl) s.table.rows
         ∙ ap (without_number p) members
-        ∙ without-one p (Some p) (or_false (nat_eq p p) ∙ eq-eqb p p refl))
+        ∙ without-one p (Some p) (or-false (nat_eq p p) ∙ eq-eqb p p refl))
 
 -- a generation that is due serves
 module _ (s : State) (x : IsIndexed s) (number : ℕ) (row : GenRow) (found : row_in number s.table.rows ≡ Some row) (due : is_among s.due number ≡ true) where
@@ -136,7 +137,7 @@ module _ (s : State) (x : IsIndexed s) (number : ℕ) (row : GenRow) (found : ro
       ∙ ap option_to_list (only number o ((λ i. is_among (x.warming row.name i) number) ∙ among-where (warms row.name) number row s.table.rows found named))
 
   key : (r : GenRow) → is_among (numbers_where (warms row.name) s.table.rows) r.number ≡ warms row.name r → nat_eq number r.number ≡ warms row.name r
-  key r h = flipped number r.number ∙ sym (or_false (nat_eq r.number number)) ∙ (λ j. is_among (sym lone j) r.number) ∙ h
+  key r h = flipped number r.number ∙ sym (or-false (nat_eq r.number number)) ∙ (λ j. is_among (sym lone j) r.number) ∙ h
 
   once : (rows : List GenRow) → rows ≡ with_statuses (status_drained row.name) s.table.rows → with_status number Active rows ≡ rows_once row.name s.table.rows
   once rows e =

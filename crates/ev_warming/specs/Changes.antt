@@ -10,8 +10,8 @@ use Rattle.ev_model.specs.Rows.{removed_status}
 use Rattle.ev_model.specs.Signals.{is_draining}
 use Rattle.ev_model.specs.Verdicts.{items_named, is_among}
 use Rattle.ev_generations.specs.Tables.{row_in}
-use Rattle.ev_warming.specs.Due.{is_among as among}
-use Rattle.ev_warming.specs.Indexes.{status_in}
+use Rattle.ev_indexes.specs.Due.{is_among as among}
+use Rattle.ev_indexes.specs.Indexes.{status_in}
 
 -- the row of this number serves after, and it didn't serve before
 abbrev pub began_to_serve : ℕ → List GenRow → List GenRow → Bool

@@ -8,12 +8,12 @@ use Rattle.ev_types.specs.declared.hosts.Host.{Host}
 use Rattle.ev_types.specs.declared.rows.GenRow.{GenRow}
 use Rattle.ev_endpoints.specs.Results.{result_in}
 use Rattle.ev_generations.specs.Tables.{row_in}
-use Rattle.ev_warming.specs.declared.watches.Watch.{Watch}
-use Rattle.ev_warming.specs.declared.state.State.{State}
-use Rattle.ev_warming.specs.Due.{is_among}
-use Rattle.ev_warming.specs.Watched.{WatchesKept, watch_in}
-use Rattle.ev_warming.specs.Ready.{name_needed, assignment_in}
-use Rattle.ev_warming.specs.Indexes.{is_needed, depends_on}
+use Rattle.ev_indexes.specs.declared.watches.Watch.{Watch}
+use Rattle.ev_indexes.specs.declared.state.State.{State}
+use Rattle.ev_indexes.specs.Due.{is_among}
+use Rattle.ev_indexes.specs.Watched.{WatchesKept, watch_in}
+use Rattle.ev_indexes.specs.Ready.{name_needed, assignment_in}
+use Rattle.ev_indexes.specs.Indexes.{is_needed, depends_on}
 
 -- the name that a row depends on, where the row is found
 abbrev pub need_in : Option GenRow → Option (List ℕ)

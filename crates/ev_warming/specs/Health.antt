@@ -2,22 +2,16 @@
 -- Source: cluster manager warming of Envoy's documentation: a checked cluster waits for a first result of each host.
 use Rattle.std.specs.Prelude.{◌≡◌, ℕ, Bool, false, ◌&&◌, if◌then◌else◌, List, Option, None, Some, option_and_then}
 use Rattle.std.specs.Str.{bytes_eq}
-use Rattle.ev_types.specs.SameHosts.{host_same, has_host}
+use Rattle.ev_types.specs.SameHosts.{host_same}
 use Rattle.ev_types.specs.Statuses.{is_live}
 use Rattle.ev_types.specs.declared.hosts.Host.{Host}
-use Rattle.ev_types.specs.declared.contents.Content.{Content}
 use Rattle.ev_types.specs.declared.rows.GenRow.{GenRow}
-use Rattle.ev_model.specs.Warming.{is_checked}
 use Rattle.ev_endpoints.specs.Results.{ResultsKept, result_in}
 use Rattle.ev_generations.specs.Tables.{row_in}
-use Rattle.ev_warming.specs.Due.{is_among}
-use Rattle.ev_warming.specs.Watched.{WatchesKept}
-use Rattle.ev_warming.specs.Ready.{assignment_in}
-use Rattle.ev_warming.specs.Indexes.{numbers_where}
-
--- the hosts of a generation of this content are health checked, and the host is one of them now
-abbrev pub takes_result : WatchesKept → Host → Content → Bool
-takes_result watches host content = is_checked content && has_host host (assignment_in watches content)
+use Rattle.ev_indexes.specs.Due.{is_among}
+use Rattle.ev_indexes.specs.Watched.{WatchesKept}
+use Rattle.ev_indexes.specs.Ready.{takes_result}
+use Rattle.ev_indexes.specs.Indexes.{numbers_where}
 
 -- a row is found, and it passes
 abbrev pub passes : (GenRow → Bool) → Option GenRow → Bool

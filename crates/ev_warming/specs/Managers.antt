@@ -4,8 +4,8 @@ use Rattle.std.specs.List.{AllByRecursion}
 use Rattle.ev_types.specs.declared.rows.GenRow.{GenRow}
 use Rattle.ev_model.specs.Watching.{is_by_name}
 use Rattle.ev_warming.specs.declared.manager.Manager.{Manager}
-use Rattle.ev_warming.specs.Ready.{name_needed, IsNeedName}
-use Rattle.ev_warming.specs.Indexes.{IsIndexed}
+use Rattle.ev_indexes.specs.Ready.{name_needed, IsNeedName}
+use Rattle.ev_indexes.specs.Indexes.{IsIndexed}
 use Rattle.ev_warming.specs.Forgetting.{IsTidyBut}
 
 -- it has clusters or listeners, each index is a search of the rows, the next forgetting looks at all that has to go, and what rows

@@ -1,22 +1,21 @@
-ghost use Rattle.std.specs.Prelude.{◌≡◌, ◌++◌, ◌&&◌, true, ℕ, [], ◌∷◌, Some, map, length, OnOk};
+ghost use Rattle.std.specs.Prelude.{◌≡◌, ◌++◌, ◌&&◌, true, Some, map, length, OnOk};
 ghost use Rattle.std.specs.List.{list_any};
-ghost use Rattle.ev_types.specs.Items.{IsBodyOf};
 ghost use Rattle.ev_types.specs.declared.contents.Body.TheVariants.{Good};
 ghost use Rattle.ev_types.specs.declared.events.Verdict.TheVariants.{Kept};
 ghost use Rattle.ev_types.specs.declared.rows.Arrival.TheVariants.{Absent};
 ghost use Rattle.ev_model.specs.World.{World};
 ghost use Rattle.ev_model.specs.Verdicts.{is_among as is_listed};
 ghost use Rattle.ev_model.specs.Rows.{arrived, absent_names, with_removals, add_item, add_items};
-ghost use Rattle.ev_warming.specs.Indexes.{depends_on};
-ghost use Rattle.ev_warming.specs.Worlds.{StandsFor, needs_of};
+ghost use Rattle.ev_indexes.specs.Indexes.{depends_on};
+ghost use Rattle.ev_indexes.specs.Worlds.{StandsFor, needs_of};
 ghost use Rattle.ev_warming.specs.Changes.{is_unlisted};
 ghost use Rattle.ev_warming.specs.Managers.{IsKept};
 ghost use Rattle.ev_warming.specs.Arrivals.{IsOnValue, AreOnValues, told_where};
 
 use crate::Manager;
 use ev_generations::Steps;
+use ev_mentions::Mentions;
 use ev_types::{Arrival, Body, Item, Name, NameError, Response, Text, TryCopy, Verdict};
-use ev_verdicts::Mentions;
 use std::alloc::{AllocError, Global};
 use std::sync::ledger::Ledger;
 

@@ -6,67 +6,65 @@ ghost use Rattle.ev_model.specs.Warming.{rows_in};
 ghost use Rattle.ev_model.specs.Tidy.{without_unwatched, without_old_results};
 ghost use Rattle.ev_endpoints.specs.Results.{result_in, Trims};
 ghost use Rattle.ev_generations.specs.Tables.{row_in};
-ghost use Rattle.ev_warming.specs.Watched.{unwatched, watch_in};
-ghost use Rattle.ev_warming.specs.Ready.{name_needed, assignment_in};
-ghost use Rattle.ev_warming.specs.Indexes.{IsIndexed, is_needed};
-ghost use Rattle.ev_warming.specs.Worlds.{StandsFor};
+ghost use Rattle.ev_indexes.specs.Watched.{unwatched, watch_in};
+ghost use Rattle.ev_indexes.specs.Ready.{name_needed, assignment_in};
+ghost use Rattle.ev_indexes.specs.Indexes.{IsIndexed, is_needed};
+ghost use Rattle.ev_indexes.specs.Worlds.{StandsFor};
 ghost use Rattle.ev_warming.specs.Forgetting.{need_in, is_idle, keeps_result, loses_result, IsTidyBut};
 
-use crate::{State, Watches, needed};
 use ev_endpoints::Endpoints;
 use ev_generations::Steps;
+use ev_indexes::{State, Watches, needed};
 use ev_types::{Content, Discovery, Gen, GenRow, Name};
 use std::alloc::{AllocError, Global};
 use std::sync::ledger::Ledger;
 
-impl State {
-    /// Forgets what nobody needs any more: what came for names that no live generation depends on, the results of generations
-    /// that retired, and those of hosts that left their cluster's assignment. It looks at the generations of these numbers
-    /// alone, each once: those that retired or whose assignment may have changed since the last time. Without memory nothing is
-    /// promised of the state.
-    pub fn forget<L: Ledger>(
-        &mut self,
-        alloc: Global,
-        stale: &[Gen],
-        steps: &mut Steps<L>,
-    ) -> Result<(), AllocError>
-        requires indexed { IsIndexed self.old }
-        requires tidy { IsTidyBut self.old stale.now }
-        requires rows { is_by_name self.old.kind ≡ false }
-        ensures indexed { OnOk result (IsIndexed self.new) }
-        ensures tidy { OnOk result (IsTidyBut self.new []) }
-        ensures others { OnOk result (self.new ≡ record self.old { watches = self.new.watches; results = self.new.results }) }
-        ensures steps { OnOk result (steps.new ≡ steps.old + length stale.now) }
-        // Whatever world the state stood for, it stands for that world once the machine has forgotten.
-        ensures stands { OnOk result ((world : World) → StandsFor self.old world → StandsFor self.new (without_old_results (without_unwatched world))) }
-    {
-        for number in stale {
-            self.forget_row(alloc, *number, steps)?;
-        }
-        Ok(())
+/// Forgets what nobody needs any more: what came for names that no live generation depends on, the results of generations
+/// that retired, and those of hosts that left their cluster's assignment. It looks at the generations of these numbers
+/// alone, each once: those that retired or whose assignment may have changed since the last time. Without memory nothing is
+/// promised of the state.
+pub(crate) fn forget<L: Ledger>(
+    state: &mut State,
+    alloc: Global,
+    stale: &[Gen],
+    steps: &mut Steps<L>,
+) -> Result<(), AllocError>
+    requires indexed { IsIndexed state.old }
+    requires tidy { IsTidyBut state.old stale.now }
+    requires rows { is_by_name state.old.kind ≡ false }
+    ensures indexed { OnOk result (IsIndexed state.new) }
+    ensures tidy { OnOk result (IsTidyBut state.new []) }
+    ensures others { OnOk result (state.new ≡ record state.old { watches = state.new.watches; results = state.new.results }) }
+    ensures steps { OnOk result (steps.new ≡ steps.old + length stale.now) }
+    // Whatever world the state stood for, it stands for that world once the machine has forgotten.
+    ensures stands { OnOk result ((world : World) → StandsFor state.old world → StandsFor state.new (without_old_results (without_unwatched world))) }
+{
+    for number in stale {
+        forget_row(state, alloc, *number, steps)?;
     }
+    Ok(())
+}
 
-    // Forgets what nobody needs any more of the generation of this number and of the name that it depends on.
-    fn forget_row<L: Ledger>(
-        &mut self,
-        alloc: Global,
-        number: Gen,
-        steps: &mut Steps<L>,
-    ) -> Result<(), AllocError>
-        requires indexed { IsIndexed self.old }
-        ensures indexed { OnOk result (IsIndexed self.new) }
-        ensures watches { OnOk result ((q : List ℕ) → watch_in self.new.watches q ≡ (if is_needed q (need_in (row_in number self.old.table.rows)) && is_idle self.old.table.rows q then unwatched else watch_in self.old.watches q)) }
-        ensures results { OnOk result ((n : ℕ) (h : declared.Host) → result_in self.new.results n h ≡ (if nat_eq number n && loses_result self.old.watches h (row_in n self.old.table.rows) then None else result_in self.old.results n h)) }
-        ensures others { OnOk result (self.new ≡ record self.old { watches = self.new.watches; results = self.new.results }) }
-        ensures steps { OnOk result (steps.new ≡ steps.old + 1) }
-    {
-        let Some(row) = self.table.row(number, steps) else {
-            return Ok(());
-        };
-        trim(&self.watches, &mut self.results, alloc, row)?;
-        forget_need(&mut self.watches, &row.content);
-        Ok(())
-    }
+// Forgets what nobody needs any more of the generation of this number and of the name that it depends on.
+fn forget_row<L: Ledger>(
+    state: &mut State,
+    alloc: Global,
+    number: Gen,
+    steps: &mut Steps<L>,
+) -> Result<(), AllocError>
+    requires indexed { IsIndexed state.old }
+    ensures indexed { OnOk result (IsIndexed state.new) }
+    ensures watches { OnOk result ((q : List ℕ) → watch_in state.new.watches q ≡ (if is_needed q (need_in (row_in number state.old.table.rows)) && is_idle state.old.table.rows q then unwatched else watch_in state.old.watches q)) }
+    ensures results { OnOk result ((n : ℕ) (h : declared.Host) → result_in state.new.results n h ≡ (if nat_eq number n && loses_result state.old.watches h (row_in n state.old.table.rows) then None else result_in state.old.results n h)) }
+    ensures others { OnOk result (state.new ≡ record state.old { watches = state.new.watches; results = state.new.results }) }
+    ensures steps { OnOk result (steps.new ≡ steps.old + 1) }
+{
+    let Some(row) = state.table.row(number, steps) else {
+        return Ok(());
+    };
+    trim(&state.watches, &mut state.results, alloc, row)?;
+    forget_need(&mut state.watches, &row.content);
+    Ok(())
 }
 
 // Forgets the results that a row doesn't keep.

@@ -6,18 +6,19 @@ ghost use Rattle.ev_model.specs.Watching.{is_by_name};
 ghost use Rattle.ev_model.specs.Rows.{arrived, rows_with_new};
 ghost use Rattle.ev_model.specs.Signals.{rows_ended};
 ghost use Rattle.ev_model.specs.Tidy.{promoted, without_unwatched, without_old_results};
-ghost use Rattle.ev_warming.specs.Due.{is_among};
-ghost use Rattle.ev_warming.specs.Ready.{is_due_at};
-ghost use Rattle.ev_warming.specs.Watched.{watch_in};
-ghost use Rattle.ev_warming.specs.Indexes.{depends_on, serves, warms, numbers_where};
-ghost use Rattle.ev_warming.specs.Reads.{names_watched};
-ghost use Rattle.ev_warming.specs.Worlds.{StandsFor, needs_of};
+ghost use Rattle.ev_indexes.specs.Due.{is_among};
+ghost use Rattle.ev_indexes.specs.Ready.{is_due_at};
+ghost use Rattle.ev_indexes.specs.Watched.{watch_in};
+ghost use Rattle.ev_indexes.specs.Indexes.{depends_on, serves, warms, numbers_where};
+ghost use Rattle.ev_indexes.specs.Reads.{names_watched};
+ghost use Rattle.ev_indexes.specs.Worlds.{StandsFor, needs_of};
 ghost use Rattle.ev_warming.specs.Changes.{began_to_serve, began_to_drain};
 
-use crate::state::put_one;
-use crate::{Promoted, Standing, State};
+use crate::changes::{self, Promoted, put_one};
+use crate::forgetting::forget;
 use ev_generations::Steps;
-use ev_types::{Arrival, Content, Gen, Kind, Name, Seq};
+use ev_indexes::{Standing, State};
+use ev_types::{Arrival, Content, Gen, Kind, Name, Seq, TryCopy};
 use std::alloc::{AllocError, Global};
 use std::mem;
 use std::sync::ledger::Ledger;
@@ -74,7 +75,7 @@ impl Manager {
         ensures stands { OnOk result ((world : World) → StandsFor self.old.state world → StandsFor self.new.state (record world { arrivals = world.arrivals ++ arrived (needs_of self.old.state.kind) arrival.now name.now ∷ [] })) }
     {
         self.touch(name)?;
-        self.state.arrive(alloc, name, arrival, steps)
+        changes::arrive(&mut self.state, alloc, name, arrival, steps)
     }
 
     // The next forgetting looks at the generations that depend on a name.
@@ -108,7 +109,7 @@ impl Manager {
         let ended = self.state.names.standing(name);
         put_one(&mut self.stale, &ended.warming)?;
         put_one(&mut self.stale, &ended.active)?;
-        self.state.end(name, steps);
+        changes::end(&mut self.state, name, steps);
         Ok(ended)
     }
 
@@ -136,7 +137,7 @@ impl Manager {
     {
         let dropped = self.state.names.standing(&name).warming;
         put_one(&mut self.stale, &dropped)?;
-        let number = self.state.add(alloc, name, content, steps)?;
+        let number = changes::add(&mut self.state, alloc, name, content, steps)?;
         Ok(Added { number, dropped })
     }
 
@@ -160,7 +161,7 @@ impl Manager {
         // Whatever world the manager stood for, it stands for that world with all that are due promoted.
         ensures stands { OnOk result ((world : World) → StandsFor self.old.state world → StandsFor self.new.state (promoted world)) }
     {
-        let promoted = self.state.promote(alloc, steps)?;
+        let promoted = changes::promote(&mut self.state, alloc, steps)?;
         put_all(&mut self.stale, promoted.drained.as_slice())?;
         Ok(promoted)
     }
@@ -182,7 +183,16 @@ impl Manager {
         ensures stands { OnOk result ((world : World) → StandsFor self.old.state world → StandsFor self.new.state (without_old_results (without_unwatched world))) }
     {
         let stale = mem::replace(&mut self.stale, Seq::new(alloc));
-        self.state.forget(alloc, stale.as_slice(), steps)
+        forget(&mut self.state, alloc, stale.as_slice(), steps)
+    }
+}
+
+impl TryCopy for Manager {
+    fn copy(&self, alloc: Global) -> Result<Manager, AllocError> {
+        Ok(Manager {
+            state: self.state.copy(alloc)?,
+            stale: self.stale.copy(alloc)?,
+        })
     }
 }
 

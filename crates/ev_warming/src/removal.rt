@@ -1,12 +1,8 @@
-ghost use Rattle.std.specs.Prelude.{◌≡◌, ◌≤◌, [], Some, true, false};
-ghost use Rattle.ev_types.specs.Kinds.{kind_same};
-ghost use Rattle.ev_types.specs.declared.contents.Kind.{Kind};
+ghost use Rattle.std.specs.Prelude.{◌≡◌, ◌≤◌, [], Some, true};
 ghost use Rattle.ev_model.specs.World.{World};
-ghost use Rattle.ev_model.specs.Watching.{is_by_name};
 ghost use Rattle.ev_generations.specs.Tables.{row_in, without_row};
 ghost use Rattle.ev_warming.specs.Changes.{is_over};
-ghost use Rattle.ev_warming.specs.Frames.{PassesResponses};
-ghost use Rattle.ev_warming.specs.Worlds.{StandsFor};
+ghost use Rattle.ev_indexes.specs.Worlds.{StandsFor};
 ghost use Rattle.ev_warming.specs.Managers.{IsKept};
 
 use crate::Manager;
@@ -46,8 +42,6 @@ impl Manager {
         ensures others { self.new ≡ record self.old { state = record self.old.state { table = self.new.state.table } } }
         // Whatever world the manager stood for, it stands for that world with so many numbers drawn.
         ensures stands { (world : World) → StandsFor self.old.state world → StandsFor self.new.state (record world { made = made }) }
-        // And for that world once a response of the other manager's kind is in, where that one's numbers lead up to this one.
-        ensures passes { (kind : Kind) → is_by_name kind ≡ false → kind_same kind self.old.state.kind ≡ false → PassesResponses kind self.old.state self.new.state made }
     {
         self.state.table.advance(made);
     }

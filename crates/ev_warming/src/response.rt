@@ -1,4 +1,4 @@
-ghost use Rattle.std.specs.Prelude.{◌≡◌, ◌+◌, ◌^◌, ◌<◌, ◌≤◌, ◌++◌, ℕ, [], ◌∷◌, true, Some, All, EachIndex, slice_index, length, IfOk, OnOk};
+ghost use Rattle.std.specs.Prelude.{◌≡◌, ◌+◌, ◌^◌, ◌<◌, ◌≤◌, ℕ, [], ◌∷◌, true, Some, All, EachIndex, slice_index, length, IfOk, OnOk};
 ghost use Rattle.ev_types.specs.Items.{IsBodyOf, content_kind};
 ghost use Rattle.ev_types.specs.declared.contents.Body.TheVariants.{Good};
 ghost use Rattle.ev_types.specs.declared.events.Verdict.TheVariants.{New};
@@ -6,16 +6,16 @@ ghost use Rattle.ev_model.specs.World.{World};
 ghost use Rattle.ev_model.specs.Verdicts.{is_among as is_listed};
 ghost use Rattle.ev_model.specs.Rows.{rows_left, rows_with_new, with_statuses, with_removals, add_item, add_items};
 ghost use Rattle.ev_model.specs.Signals.{rows_ended};
-ghost use Rattle.ev_warming.specs.Due.{is_among};
-ghost use Rattle.ev_warming.specs.Worlds.{StandsFor};
+ghost use Rattle.ev_indexes.specs.Due.{is_among};
+ghost use Rattle.ev_indexes.specs.Worlds.{StandsFor};
 ghost use Rattle.ev_warming.specs.Changes.{has_retired, status_left_by, Draws, Tells};
 ghost use Rattle.ev_warming.specs.Managers.{IsKept};
 
 use crate::Manager;
-use crate::state::put_one;
+use crate::changes::put_one;
 use ev_generations::Steps;
+use ev_mentions::Mentions;
 use ev_types::{Body, Content, Gen, Item, Name, NameError, Response, Seq, Text, TryCopy, Verdict};
-use ev_verdicts::Mentions;
 use std::alloc::{AllocError, Global};
 use std::sync::ledger::Ledger;
 

@@ -98,7 +98,6 @@ fn holders(alloc: Global, listeners: &Listeners) -> Result<usize, Fail>
     requires { AreKept listeners.now }
 {
     let host = host(alloc)?;
-    listeners.holders_law();
     Ok(listeners.holders(alloc, &host)?.len())
 }
 

@@ -3,12 +3,12 @@ ghost use Rattle.std.specs.Prelude.{◌≡◌, length, IfOk};
 ghost use Rattle.ev_types.specs.Items.{IsBodyOf};
 ghost use Rattle.ev_types.specs.declared.contents.Kind.TheVariants.{Eds};
 
+use ev_mentions::Mentions;
 use ev_subscription::{NameChange, Subscription, reply_of};
 use ev_types::{
     Assignment, Body, Content, Item, Kind, Name, Request, Response, Seq, Shared, Text, TryCopy,
     Verdict,
 };
-use ev_verdicts::Mentions;
 use std::alloc::Global;
 use std::mem::drop;
 use std::test::Fail;

@@ -4,10 +4,11 @@ ghost use Rattle.ev_actors.specs.Journals.{world_now};
 
 use ev_actors::Journaled;
 use ev_journal::render_journal;
+use ev_mentions::LiveRow;
 use ev_model_laws::{acknowledges_exactly, has_a_replay, has_one_replay, replay_holds_operations};
 use ev_registry::Registry;
 use ev_types::{Actor, Arrival, Body, Event, Format, Gen, Response, Text, TryCopy, Verdict};
-use ev_verdicts::{Listed, LiveRow, verdicts};
+use ev_verdicts::{Listed, verdicts};
 use ev_wire::read_response;
 use serde_json::Value;
 use std::alloc::Global;

@@ -1,9 +1,9 @@
 use Rattle.std.proofs.Common.{◌∙◌, ◌++◌, ap, sym, subst, filter}
 use Rattle.ev_model.specs.Rows.{with_removals, add_items}
 use Rattle.ev_generations.specs.Tables.{is_after}
-use Rattle.ev_warming.specs.Worlds.{StandsFor as HasPart}
-use Rattle.ev_warming.specs.Due.{is_among}
-use Rattle.ev_warming.specs.Indexes.{numbers_where}
+use Rattle.ev_indexes.specs.Worlds.{StandsFor as HasPart}
+use Rattle.ev_indexes.specs.Due.{is_among}
+use Rattle.ev_indexes.specs.Indexes.{numbers_where}
 use Rattle.ev_listeners.specs.Addresses.{numbers_at, holds, is_left_at}
 use Rattle.ev_listeners.specs.Listeners.{ListenersKept, AreKept, StandsFor}
 use Rattle.ev_listeners.proofs.StandLemmas.{response-stands}

@@ -1,6 +1,6 @@
 use Rattle.std.proofs.Common.{◌∙◌, sym, subst}
 use Rattle.ev_model.specs.Signals.{rows_ended}
-use Rattle.ev_warming.specs.Worlds.{StandsFor as HasPart}
+use Rattle.ev_indexes.specs.Worlds.{StandsFor as HasPart}
 use Rattle.ev_listeners.specs.Listeners.{ListenersKept, AreKept, StandsFor}
 use Rattle.ev_listeners.proofs.StandLemmas.{end-stands}
 use Rattle.ev_listeners.proofs.Listeners.expire.Goals as goal

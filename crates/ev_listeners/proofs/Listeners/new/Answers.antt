@@ -1,5 +1,5 @@
 use Rattle.std.proofs.Common.{◌∙◌, ap, sym}
-use Rattle.ev_warming.specs.Indexes.{numbers_where}
+use Rattle.ev_indexes.specs.Indexes.{numbers_where}
 use Rattle.ev_listeners.specs.Addresses.{numbers_at, holds}
 use Rattle.ev_listeners.proofs.Listeners.new.Goals as goal
 

@@ -1,5 +1,5 @@
 use Rattle.std.proofs.Common.{◌∙◌, ap, sym, subst}
-use Rattle.ev_warming.specs.Due.{is_among}
+use Rattle.ev_indexes.specs.Due.{is_among}
 use Rattle.ev_listeners.specs.Listeners.{ListenersKept, AreKept, StandsFor}
 use Rattle.ev_listeners.proofs.StandLemmas.{promotion-stands}
 use Rattle.ev_listeners.proofs.Listeners.promote.Goals as goal

@@ -1,5 +1,5 @@
 use Rattle.std.proofs.Common.{◌≡◌, take, filter}
-use Rattle.ev_verdicts.specs.Known.{is_at}
+use Rattle.ev_mentions.specs.Lives.{is_at}
 use Rattle.ev_verdicts.proofs.listed.holders_of.Given as goal
 
 abbrev pub invariant-loop-live : goal.invariant-loop-live

@@ -2,7 +2,7 @@ use Rattle.std.proofs.Common.{◌≡◌, ◌++◌, filter}
 use Rattle.std.specs.Map.{values_of}
 use Rattle.ev_types.specs.declared.hosts.Host.{Host}
 use Rattle.ev_generations.specs.Tables.{is_after}
-use Rattle.ev_warming.specs.Indexes.{numbers_where}
+use Rattle.ev_indexes.specs.Indexes.{numbers_where}
 use Rattle.ev_listeners.specs.Addresses.{numbers_at, holds}
 use Rattle.ev_listeners.proofs.addresses.Addresses.enter_rows.Given as goal
 

@@ -2,7 +2,7 @@ use Rattle.std.proofs.Common.{refl, ap, ◌∙◌}
 use Rattle.ev_types.specs.declared.contents.Kind.TheVariants.{Cds, Lds}
 use Rattle.ev_model.specs.Signals.{rows_ended}
 use Rattle.ev_managers.proofs.FrameLemmas.{listeners_keep, end_leaves, clusters_apart}
-use Rattle.ev_warming.specs.Due.{is_among}
+use Rattle.ev_indexes.specs.Due.{is_among}
 use Rattle.ev_managers.proofs.RetiredLemmas.{ended-are, none-retired}
 use Rattle.ev_managers.proofs.managers.Managers.end_cluster.Goals as goal
 

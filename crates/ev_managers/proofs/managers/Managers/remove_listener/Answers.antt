@@ -1,7 +1,7 @@
 use Rattle.std.proofs.Common.{refl, ap, ◌∙◌}
 use Rattle.ev_types.specs.declared.contents.Kind.TheVariants.{Cds, Lds}
 use Rattle.ev_generations.specs.Tables.{without_row}
-use Rattle.ev_warming.specs.Worlds.{rows_of_kind}
+use Rattle.ev_indexes.specs.Worlds.{rows_of_kind}
 use Rattle.ev_managers.proofs.FrameLemmas.{clusters_keep}
 use Rattle.ev_managers.proofs.RemoveLemmas.{others_stay, no_cluster}
 use Rattle.ev_managers.proofs.managers.Managers.remove_listener.Goals as goal

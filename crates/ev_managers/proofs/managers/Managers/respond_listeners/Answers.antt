@@ -1,7 +1,7 @@
 use Rattle.std.proofs.Common.{refl, sym, ap, subst, arith, ◌∙◌}
 use Rattle.ev_types.specs.declared.contents.Kind.TheVariants.{Lds}
 use Rattle.ev_model.specs.Rows.{with_removals, add_items}
-use Rattle.ev_warming.specs.Due.{is_among}
+use Rattle.ev_indexes.specs.Due.{is_among}
 use Rattle.ev_managers.specs.declared.managers.Managers.{Managers}
 use Rattle.ev_managers.specs.Managers.{StandFor}
 use Rattle.ev_managers.specs.Retired.{AreRetired}

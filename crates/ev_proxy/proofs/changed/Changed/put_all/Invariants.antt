@@ -1,5 +1,5 @@
 use Rattle.std.proofs.Common.{◌≡◌, ◌||◌, ℕ, take}
-use Rattle.ev_warming.specs.Due.{is_among}
+use Rattle.ev_indexes.specs.Due.{is_among}
 use Rattle.ev_proxy.proofs.changed.Changed.put_all.Given as goal
 
 abbrev pub invariant-loop-number : goal.invariant-loop-number

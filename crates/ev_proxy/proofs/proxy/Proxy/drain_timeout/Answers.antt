@@ -1,7 +1,7 @@
 use Rattle.std.proofs.Common.{◌≡◌, ℕ, Bool, true, ◌||◌, List, sym, ap, subst, ◌∙◌}
 use Rattle.ev_model.specs.World.{World}
 use Rattle.ev_model.specs.Tidy.{tidy}
-use Rattle.ev_warming.specs.Due.{is_among}
+use Rattle.ev_indexes.specs.Due.{is_among}
 use Rattle.ev_retirement.specs.Holders.{timed_out, with_expired}
 use Rattle.ev_state.proofs.FrameLemmas.{at-frame}
 use Rattle.ev_proxy.specs.declared.proxy.Proxy.{Proxy}

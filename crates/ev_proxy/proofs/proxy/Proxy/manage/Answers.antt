@@ -1,5 +1,5 @@
 use Rattle.std.proofs.Common.{ℕ, ◌||◌, List, ap, ◌∙◌}
-use Rattle.ev_warming.specs.Due.{is_among}
+use Rattle.ev_indexes.specs.Due.{is_among}
 use Rattle.ev_model.specs.World.{World}
 use Rattle.ev_model.specs.Step.{step as machine_step}
 use Rattle.ev_proxy.proofs.NotingLemmas.{at-numbered, both_noted}

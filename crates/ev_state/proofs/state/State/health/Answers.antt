@@ -1,7 +1,7 @@
 use Rattle.std.proofs.Common.{◌++◌, refl, sym, ◌∙◌}
 use Rattle.ev_model.specs.World.{World}
 use Rattle.ev_model.specs.Signals.{is_meant, with_results, rows_meant}
-use Rattle.ev_warming.specs.Indexes.{serves, numbers_where}
+use Rattle.ev_indexes.specs.Indexes.{serves, numbers_where}
 use Rattle.ev_state.proofs.SignalLemmas.{managers_follow, health_led, health_ignored}
 use Rattle.ev_state.proofs.MoveLemmas.{none-have}
 use Rattle.ev_state.proofs.TellLemmas.{resulted-changed}

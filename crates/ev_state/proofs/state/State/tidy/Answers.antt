@@ -4,8 +4,8 @@ use Rattle.ev_types.specs.declared.contents.Kind.TheVariants.{Eds, Rds}
 use Rattle.ev_types.specs.declared.rows.GenRow.{GenRow}
 use Rattle.ev_model.specs.World.{World}
 use Rattle.ev_model.specs.Warming.{is_ready_by}
-use Rattle.ev_warming.specs.Due.{is_among}
-use Rattle.ev_warming.specs.Frames.{seen-sound}
+use Rattle.ev_indexes.specs.Due.{is_among}
+use Rattle.ev_indexes.proofs.SeenLemmas.{seen-sound}
 use Rattle.ev_model.specs.Live.{lives_of}
 use Rattle.ev_model.specs.Phase.{is_clusters}
 use Rattle.ev_model.specs.Tidy.{tidy, has_successor, promoted, without_unwatched, without_old_results, is_version_due}

@@ -8,7 +8,7 @@ use Rattle.ev_warming.proofs.manager.Manager.add.Goals as goal
 pub returns-clause-kept : goal.returns-clause-kept
 returns-clause-kept g c =
     let m = c.args.self.now in
-    let t = c.add.new.self in
+    let t = c.add.new.state in
     let e = c.in_ok-number.ensures in
     record {
       rows = (λ i. is_by_name (e.others i).kind) ∙ c.requires.kept.rows;

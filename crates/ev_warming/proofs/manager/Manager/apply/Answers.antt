@@ -1,6 +1,6 @@
 use Rattle.std.proofs.Common.{◌∙◌, subst}
 use Rattle.ev_model.specs.Rows.{with_removals, add_items}
-use Rattle.ev_warming.specs.Worlds.{StandsFor}
+use Rattle.ev_indexes.specs.Worlds.{StandsFor}
 use Rattle.ev_warming.proofs.ResponseLemmas.{removals-stand}
 use Rattle.ev_warming.proofs.manager.Manager.apply.Goals as goal
 

@@ -1,11 +1,11 @@
 use Rattle.std.proofs.Common.{◌≡◌, ◌∙◌, ◌++◌, true, List, sym, subst}
 use Rattle.std.specs.List.{list_any, AllByRecursion}
 use Rattle.ev_types.specs.declared.rows.GenRow.{GenRow}
-use Rattle.ev_warming.specs.Ready.{name_needed, IsNeedName}
+use Rattle.ev_indexes.specs.Ready.{name_needed, IsNeedName}
 use Rattle.ev_model.specs.Watching.{is_by_name}
-use Rattle.ev_warming.specs.declared.state.State.{State}
-use Rattle.ev_warming.specs.Watched.{watch_in}
-use Rattle.ev_warming.specs.Indexes.{IsIndexed, depends_on}
+use Rattle.ev_indexes.specs.declared.state.State.{State}
+use Rattle.ev_indexes.specs.Watched.{watch_in}
+use Rattle.ev_indexes.specs.Indexes.{IsIndexed, depends_on}
 use Rattle.ev_warming.specs.Forgetting.{IsTidyBut}
 use Rattle.ev_warming.proofs.AddedLemmas.{on_ok4}
 use Rattle.ev_warming.proofs.TidyLemmas.{tidy-arrived}
@@ -16,7 +16,7 @@ returns-clause-kept g c =
     let m = c.args.self.now in
     let name = c.args.name.now in
     let s = c.touch.new.self.state in
-    let t = c.arrive.new.self in
+    let t = c.arrive.new.state in
     let e = c.in_ok-touch.ensures in
     let indexed : IsIndexed s = subst IsIndexed (λ i. (sym e i).state) c.requires.kept.indexed in
     let watched : list_any (depends_on name) s.table.rows ≡ true = (λ i. list_any (depends_on name) (e i).state.table.rows) ∙ c.requires.watched in

@@ -9,7 +9,7 @@ use Rattle.ev_warming.proofs.manager.Manager.end.Goals as goal
 pub returns-clause-kept : goal.returns-clause-kept
 returns-clause-kept g c =
     let m = c.args.self.now in
-    let t = c.end.new.self in
+    let t = c.end.new.state in
     let e = c.end.ensures in
     record {
       rows = (λ i. is_by_name (e.others i).kind) ∙ c.requires.kept.rows;

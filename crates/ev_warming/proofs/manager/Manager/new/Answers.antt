@@ -2,7 +2,7 @@ use Rattle.std.proofs.Common.{◌∙◌, [], sym, subst}
 use Rattle.std.specs.List.{AllByRecursion}
 use Rattle.ev_types.specs.declared.rows.GenRow.{GenRow}
 use Rattle.ev_model.specs.Watching.{is_by_name}
-use Rattle.ev_warming.specs.Ready.{name_needed, IsNeedName}
+use Rattle.ev_indexes.specs.Ready.{name_needed, IsNeedName}
 use Rattle.ev_warming.specs.Forgetting.{IsTidyBut}
 use Rattle.ev_warming.proofs.TidyLemmas.{tidy-new}
 use Rattle.ev_warming.proofs.manager.Manager.new.Goals as goal

@@ -4,7 +4,7 @@ use Rattle.ev_model.specs.Watching.{is_by_name}
 use Rattle.ev_model.specs.Tidy.{status_by}
 use Rattle.ev_warming.specs.Promotion.{succeeded_by}
 use Rattle.ev_warming.proofs.NeedLemmas.{needs-statused}
-use Rattle.ev_warming.specs.Ready.{is_ready_in}
+use Rattle.ev_indexes.specs.Ready.{is_ready_in}
 use Rattle.ev_warming.specs.Forgetting.{IsTidyBut}
 use Rattle.ev_warming.proofs.QuietLemmas.{quiet-names}
 use Rattle.ev_warming.proofs.TidyLemmas.{tidy-promoted}
@@ -13,7 +13,7 @@ use Rattle.ev_warming.proofs.manager.Manager.promote.Goals as goal
 pub returns-clause-kept : goal.returns-clause-kept
 returns-clause-kept g c =
     let m = c.args.self.now in
-    let t = c.promote.new.self in
+    let t = c.promote.new.state in
     let e = c.in_ok-promoted.ensures in
     record {
       rows = (λ i. is_by_name (e.others i).kind) ∙ c.requires.kept.rows;
@@ -29,4 +29,4 @@ pub returns-clause-watched : goal.returns-clause-watched
 returns-clause-watched g c = λ none.
     let m = c.args.self.now in
     let e = c.in_ok-promoted.ensures in
-    quiet-names (is_ready_in m.state.watches m.state.results) m.state.table.rows c.promote.new.self.table.rows c.requires.kept.indexed.table.apart e.rows c.in_ok-promoted.promoted.drained none e.drained
+    quiet-names (is_ready_in m.state.watches m.state.results) m.state.table.rows c.promote.new.state.table.rows c.requires.kept.indexed.table.apart e.rows c.in_ok-promoted.promoted.drained none e.drained

@@ -2,7 +2,7 @@ use Rattle.std.proofs.Common.{◌≡◌, ◌∙◌, List, ℕ, sym, subst, arith
 use Rattle.ev_types.specs.Texts.{IsName}
 use Rattle.ev_model.specs.Verdicts.{is_removed}
 use Rattle.ev_model.specs.Signals.{rows_ended}
-use Rattle.ev_warming.specs.Worlds.{StandsFor}
+use Rattle.ev_indexes.specs.Worlds.{StandsFor}
 use Rattle.ev_warming.proofs.IndexLemmas.{on_ok}
 use Rattle.ev_warming.proofs.ResponseLemmas.{listed-stands, unnamed-stands, ended-stands, is_unlisted-listed}
 use Rattle.ev_warming.proofs.manager.Manager.remove_name.Goals as goal

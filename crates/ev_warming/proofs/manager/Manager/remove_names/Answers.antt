@@ -5,7 +5,7 @@ use Rattle.std.proofs.lemmas.List.{nil_from_length, take_all}
 use Rattle.ev_types.specs.declared.contents.Kind.{Kind}
 use Rattle.ev_model.specs.Rows.{with_statuses}
 use Rattle.ev_warming.specs.Changes.{status_left_by}
-use Rattle.ev_warming.specs.Worlds.{StandsFor}
+use Rattle.ev_indexes.specs.Worlds.{StandsFor}
 use Rattle.ev_warming.proofs.RetiredLemmas.{tells-none, tells-then}
 use Rattle.ev_warming.proofs.ResponseLemmas.{nothing-stands, more-stands, listed-at}
 use Rattle.ev_warming.proofs.manager.Manager.remove_names.Goals as goal

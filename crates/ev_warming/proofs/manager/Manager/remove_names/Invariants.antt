@@ -3,7 +3,7 @@ use Rattle.ev_model.specs.World.{World}
 use Rattle.ev_model.specs.Rows.{with_statuses}
 use Rattle.ev_warming.specs.Changes.{status_left_by, Tells}
 use Rattle.ev_warming.specs.Managers.{IsKept}
-use Rattle.ev_warming.specs.Worlds.{StandsFor}
+use Rattle.ev_indexes.specs.Worlds.{StandsFor}
 use Rattle.ev_warming.proofs.manager.Manager.remove_names.Given as goal
 
 abbrev pub invariant-loop-name : goal.invariant-loop-name

@@ -2,7 +2,7 @@ use Rattle.std.proofs.Common.{◌∙◌, ◌<◌, length, get_or, subst, arith, 
 use Rattle.ev_types.specs.declared.contents.Kind.{Kind}
 use Rattle.ev_types.specs.declared.events.Verdict.TheVariants.{New}
 use Rattle.ev_model.specs.Rows.{add_item}
-use Rattle.ev_warming.specs.Worlds.{StandsFor}
+use Rattle.ev_indexes.specs.Worlds.{StandsFor}
 use Rattle.ev_warming.proofs.RetiredLemmas.{tells-none, tells-then, draws-none, draws-then}
 use Rattle.ev_warming.proofs.ResponseLemmas.{item-more}
 use Rattle.ev_warming.proofs.manager.Manager.take_items.Goals as goal

@@ -3,7 +3,7 @@ use Rattle.ev_model.specs.World.{World}
 use Rattle.ev_model.specs.Rows.{add_items}
 use Rattle.ev_warming.specs.Changes.{Draws, Tells}
 use Rattle.ev_warming.specs.Managers.{IsKept}
-use Rattle.ev_warming.specs.Worlds.{StandsFor}
+use Rattle.ev_indexes.specs.Worlds.{StandsFor}
 use Rattle.ev_warming.proofs.manager.Manager.take_items.Given as goal
 
 abbrev pub invariant-loop-place : goal.invariant-loop-place

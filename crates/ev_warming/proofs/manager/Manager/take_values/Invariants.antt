@@ -2,7 +2,7 @@ use Rattle.std.proofs.Common.{◌≡◌, drop}
 use Rattle.ev_model.specs.World.{World}
 use Rattle.ev_model.specs.Rows.{add_items}
 use Rattle.ev_warming.specs.Managers.{IsKept}
-use Rattle.ev_warming.specs.Worlds.{StandsFor, needs_of}
+use Rattle.ev_indexes.specs.Worlds.{StandsFor, needs_of}
 use Rattle.ev_warming.specs.Arrivals.{AreOnValues}
 use Rattle.ev_warming.proofs.manager.Manager.take_values.Given as goal
 

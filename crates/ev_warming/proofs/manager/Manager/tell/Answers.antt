@@ -1,8 +1,8 @@
 use Rattle.std.proofs.Common.{sym, subst, arith, ⊎_elim, Err}
 use Rattle.std.specs.List.{list_any}
 use Rattle.ev_types.specs.Texts.{IsName}
-use Rattle.ev_warming.specs.Indexes.{depends_on}
-use Rattle.ev_warming.specs.Worlds.{needs_of}
+use Rattle.ev_indexes.specs.Indexes.{depends_on}
+use Rattle.ev_indexes.specs.Worlds.{needs_of}
 use Rattle.ev_warming.proofs.AbsenceLemmas.{unneeded, quiet-stands}
 use Rattle.ev_warming.proofs.manager.Manager.tell.Goals as goal
 

@@ -3,8 +3,8 @@ use Rattle.ev_model.specs.Verdicts.{is_among}
 use Rattle.std.proofs.lemmas.List.{nil_from_length, take_all}
 use Rattle.std.specs.List.{list_any}
 use Rattle.ev_types.specs.declared.rows.Arrival.TheVariants.{Absent}
-use Rattle.ev_warming.specs.Indexes.{depends_on}
-use Rattle.ev_warming.specs.Worlds.{needs_of, StandsFor}
+use Rattle.ev_indexes.specs.Indexes.{depends_on}
+use Rattle.ev_indexes.specs.Worlds.{needs_of, StandsFor}
 use Rattle.ev_warming.specs.Changes.{is_unlisted}
 use Rattle.ev_warming.specs.Arrivals.{told_where}
 use Rattle.ev_warming.proofs.ForgottenLemmas.{watched-same}

@@ -1,7 +1,7 @@
 use Rattle.std.proofs.Common.{◌≡◌, take}
 use Rattle.ev_model.specs.World.{World}
 use Rattle.ev_warming.specs.Managers.{IsKept}
-use Rattle.ev_warming.specs.Worlds.{StandsFor, needs_of}
+use Rattle.ev_indexes.specs.Worlds.{StandsFor, needs_of}
 use Rattle.ev_warming.proofs.AbsenceLemmas.{with_absent}
 use Rattle.ev_warming.proofs.manager.Manager.tell_absences.Given as goal
 

@@ -1,0 +1,13 @@
+pub mod KeptLemmas
+pub mod WhereLemmas
+pub mod SoundLemmas
+pub mod WorldLemmas
+pub mod NewLemmas
+pub mod SortLemmas
+pub mod ReadLemmas
+pub mod ShownLemmas
+pub mod FoundLemmas
+pub mod NewestLemmas
+pub mod SeenLemmas
+pub mod MovedLemmas
+pub mod RowLemmas

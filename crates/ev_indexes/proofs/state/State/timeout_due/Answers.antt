@@ -1,0 +1,18 @@
+use Rattle.std.proofs.Common.{◌∙◌, Some, None, sym}
+use Rattle.ev_indexes.proofs.ReadLemmas.{timeout-found, timeout-world}
+use Rattle.ev_indexes.proofs.state.State.timeout_due.Goals as goal
+
+pub returns-in-Some-clause-rows : goal.returns-in-Some-clause-rows
+returns-in-Some-clause-rows c = c.is_awaited.ensures ∙ timeout-found c.args.self.now c.requires.indexed c.args.name.now (Some c.in-Some.watch.now) (sym c.in-Some.ensures)
+
+pub returns-in-Some-clause-world : goal.returns-in-Some-clause-world
+returns-in-Some-clause-world c = λ world rowed stands.
+    c.is_awaited.ensures ∙ timeout-found c.args.self.now c.requires.indexed c.args.name.now (Some c.in-Some.watch.now) (sym c.in-Some.ensures)
+    ∙ timeout-world c.args.self.now world stands rowed c.args.name.now
+
+pub returns-in-None-clause-rows : goal.returns-in-None-clause-rows
+returns-in-None-clause-rows c = timeout-found c.args.self.now c.requires.indexed c.args.name.now None (sym c.in-None.ensures)
+
+pub returns-in-None-clause-world : goal.returns-in-None-clause-world
+returns-in-None-clause-world c = λ world rowed stands.
+    timeout-found c.args.self.now c.requires.indexed c.args.name.now None (sym c.in-None.ensures) ∙ timeout-world c.args.self.now world stands rowed c.args.name.now

@@ -1,0 +1,68 @@
+-- What the indexes of the table say: each look-up is a search of the rows.
+use Rattle.std.specs.Prelude.{◌≡◌, ◌<◌, ℕ, Bool, false, ◌&&◌, List, [], Option, Some, None, filter, option_to_list}
+use Rattle.std.specs.List.{AllByRecursion}
+use Rattle.std.specs.Str.{bytes_eq}
+use Rattle.ev_types.specs.Statuses.{is_warming, is_active, is_live}
+use Rattle.ev_types.specs.declared.rows.RowStatus.{RowStatus}
+use Rattle.ev_types.specs.declared.rows.RowStatus.TheVariants.{Dropped}
+use Rattle.ev_types.specs.declared.rows.GenRow.{GenRow}
+use Rattle.ev_types.specs.declared.hosts.Host.{Host}
+use Rattle.ev_model.specs.Watching.{is_limited}
+use Rattle.ev_endpoints.specs.Results.{result_in}
+use Rattle.ev_generations.specs.Tables.{IsTable, numbers_of}
+use Rattle.ev_indexes.specs.Due.{is_among}
+use Rattle.ev_indexes.specs.Standings.{standing_in}
+use Rattle.ev_indexes.specs.Watched.{WatchesKept, watch_in}
+use Rattle.ev_indexes.specs.Ready.{name_needed, is_due_at}
+use Rattle.ev_indexes.specs.declared.state.State.{State}
+
+-- the name is the one that is needed
+abbrev pub is_needed : List ℕ → Option (List ℕ) → Bool
+is_needed name None = false
+is_needed name (Some needed) = bytes_eq needed name
+
+-- a live row depends on the name
+abbrev pub depends_on : List ℕ → GenRow → Bool
+depends_on name row = is_live row.status && is_needed name (name_needed row.content)
+
+-- a live row depends on the name, and its wait is limited
+abbrev pub waits_limited : List ℕ → GenRow → Bool
+waits_limited name row = depends_on name row && is_limited row.content
+
+-- the row serves the name
+abbrev pub serves : List ℕ → GenRow → Bool
+serves name row = is_active row.status && bytes_eq row.name name
+
+-- the row warms under the name
+abbrev pub warms : List ℕ → GenRow → Bool
+warms name row = is_warming row.status && bytes_eq row.name name
+
+-- the numbers of the rows that pass the test, in order
+abbrev pub numbers_where : (GenRow → Bool) → List GenRow → List ℕ
+numbers_where test rows = numbers_of (filter test rows)
+
+-- the status of a row that is found
+abbrev pub status_in : Option GenRow → RowStatus
+status_in None = Dropped
+status_in (Some row) = row.status
+
+-- the name of a row that is found
+abbrev pub name_in : Option GenRow → List ℕ
+name_in None = []
+name_in (Some row) = row.name
+
+-- what came for names is the same
+abbrev pub SameMarks : WatchesKept → WatchesKept → Type 0
+SameMarks old new = (name : List ℕ) →
+    ((watch_in new name).told ≡ (watch_in old name).told) × ((watch_in new name).timed ≡ (watch_in old name).timed) × ((watch_in new name).value ≡ (watch_in old name).value)
+
+-- each index is a search of the rows, and no result is of a number that wasn't drawn
+pub record IsIndexed (s : State) : Type 0 where
+  pub table : IsTable s.table
+  pub kinds : AllByRecursion (λ (row : GenRow). row.kind ≡ s.kind) s.table.rows
+  pub active : (name : List ℕ) → option_to_list (standing_in s.names name).active ≡ numbers_where (serves name) s.table.rows
+  pub warming : (name : List ℕ) → option_to_list (standing_in s.names name).warming ≡ numbers_where (warms name) s.table.rows
+  pub watchers : (name : List ℕ) → (watch_in s.watches name).rows ≡ numbers_where (depends_on name) s.table.rows
+  pub limited : (name : List ℕ) → (watch_in s.watches name).limited ≡ numbers_where (waits_limited name) s.table.rows
+  pub due : (number : ℕ) → is_among s.due number ≡ is_due_at s.watches s.results number s.table.rows
+  pub drawn : (number : ℕ) (host : Host) → s.table.made < number → result_in s.results number host ≡ None

@@ -1,0 +1,11 @@
+pub mod Kept
+pub mod Standings
+pub mod Watched
+pub mod Due
+pub mod Ready
+pub mod Indexes
+pub mod Worlds
+pub mod Moved
+pub mod Reads
+pub mod Shown
+pub mod Newest

@@ -1,0 +1,78 @@
+-- Which rows are due, by what is known of names and by the results that are kept: the machine's words, where what came is looked
+-- up. Source: cluster manager warming of Envoy's documentation.
+use Rattle.std.specs.Prelude.{⊤, ℕ, Bool, true, false, not, ◌&&◌, ◌||◌, List, [], Option, Some, None, is_some, option_map}
+use Rattle.std.specs.List.{list_all}
+use Rattle.ev_types.specs.Hosts.{HostRowParts}
+use Rattle.ev_types.specs.SameHosts.{has_host}
+use Rattle.ev_types.specs.Statuses.{is_warming}
+use Rattle.ev_types.specs.Texts.{IsName}
+use Rattle.ev_types.specs.declared.contents.Content.{Content}
+use Rattle.ev_types.specs.declared.contents.Content.TheVariants.{Cluster as a_cluster, Assignment as an_assignment, Listener as a_listener, Routes as routes}
+use Rattle.ev_types.specs.declared.clusters.Discovery.{Discovery}
+use Rattle.ev_types.specs.declared.clusters.Discovery.TheVariants.{Static, Eds as by_eds}
+use Rattle.ev_types.specs.declared.hosts.Host.{Host}
+use Rattle.ev_types.specs.declared.rows.GenRow.{GenRow}
+use Rattle.ev_model.specs.Watching.{Dependency, dependency_of, is_limited}
+use Rattle.ev_model.specs.Warming.{rows_in, is_checked}
+use Rattle.ev_endpoints.specs.Results.{ResultsKept, result_in}
+use Rattle.ev_generations.specs.Tables.{row_in}
+use Rattle.ev_indexes.specs.Watched.{WatchesKept, watch_in}
+
+-- the name that a generation of this content depends on
+abbrev pub name_needed : Content → Option (List ℕ)
+name_needed content = option_map (λ (d : Dependency). d.name) (dependency_of content)
+
+-- what is needed has 1 to 512 bytes
+abbrev pub IsNeedName : Option (List ℕ) → Type 0
+IsNeedName None = ⊤
+IsNeedName (Some name) = IsName name
+
+-- the name was told of, or timed out where the wait is limited
+abbrev pub has_answer_in : WatchesKept → Bool → Option (List ℕ) → Bool
+has_answer_in watches limited None = true
+has_answer_in watches limited (Some name) = (watch_in watches name).told || ((watch_in watches name).timed && limited)
+
+-- a generation of this content is answered
+abbrev pub is_answered_in : WatchesKept → Content → Bool
+is_answered_in watches content = has_answer_in watches (is_limited content) (name_needed content)
+
+-- the hosts that stand in a cluster, or the value of its service, or none
+abbrev pub discovered_in : WatchesKept → Discovery → List HostRowParts
+discovered_in watches (Static rows) = rows
+discovered_in watches (by_eds service limited) = rows_in (watch_in watches service).value
+
+-- the assignment of a content
+abbrev pub assignment_in : WatchesKept → Content → List HostRowParts
+assignment_in watches (a_cluster cluster) = discovered_in watches cluster.discovery
+assignment_in watches (an_assignment rows) = []
+assignment_in watches (a_listener listener) = []
+assignment_in watches (routes table) = []
+
+-- the hosts of a generation of this content are health checked, and the host is one of them now
+abbrev pub takes_result : WatchesKept → Host → Content → Bool
+takes_result watches host content = is_checked content && has_host host (assignment_in watches content)
+
+-- each of these hosts has a result for the row of this number
+abbrev pub are_results_in : ResultsKept → ℕ → List HostRowParts → Bool
+are_results_in results number hosts = list_all (λ (h : HostRowParts). is_some (result_in results number h.host)) hosts
+
+-- a generation has a result of each host, where its hosts are health checked
+abbrev pub is_round_done_in : WatchesKept → ResultsKept → ℕ → Content → Bool
+is_round_done_in watches results number content = not (is_checked content) || are_results_in results number (assignment_in watches content)
+
+-- the row is ready
+abbrev pub is_ready_in : WatchesKept → ResultsKept → GenRow → Bool
+is_ready_in watches results row = is_answered_in watches row.content && is_round_done_in watches results row.number row.content
+
+-- the row warms and is ready
+abbrev pub is_due_in : WatchesKept → ResultsKept → GenRow → Bool
+is_due_in watches results row = is_warming row.status && is_ready_in watches results row
+
+-- a row is found, and it is due
+abbrev pub is_due_found : WatchesKept → ResultsKept → Option GenRow → Bool
+is_due_found watches results None = false
+is_due_found watches results (Some row) = is_due_in watches results row
+
+-- the row of this number is due
+abbrev pub is_due_at : WatchesKept → ResultsKept → ℕ → List GenRow → Bool
+is_due_at watches results number rows = is_due_found watches results (row_in number rows)

@@ -1,0 +1,16 @@
+-- Which generations of a name stand.
+use Rattle.std.specs.Prelude.{ℕ, List, None}
+use Rattle.ev_indexes.specs.declared.names.Standing.{Standing}
+use Rattle.ev_indexes.specs.Kept.{kept_at}
+
+-- names with what stands of each
+abbrev pub NamesKept : Type 0
+NamesKept = List (List ℕ × Standing)
+
+-- no generation stands
+abbrev pub nobody : Standing
+nobody = record { active = None; warming = None }
+
+-- which generations of this name stand
+abbrev pub standing_in : NamesKept → List ℕ → Standing
+standing_in kept name = kept_at nobody kept name

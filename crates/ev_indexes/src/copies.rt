@@ -1,0 +1,51 @@
+ghost use Rattle.std.specs.Prelude.{◌≡◌, ◌++◌, [], ◌∷◌, None, IfOk, OnOk};
+ghost use Rattle.std.specs.Str.{bytes_eq};
+ghost use Rattle.indexmap.specs.IndexMap.{get};
+
+use crate::{Standing, Watch};
+use ev_types::{Name, TryCopy};
+use indexmap::IndexMap;
+use std::alloc::{AllocError, Global};
+
+/// The same entries in the same order, in memory of their own.
+pub(crate) fn copy_map<V: TryCopy + Drop>(
+    alloc: Global,
+    map: &IndexMap<Name, V>,
+) -> Result<IndexMap<Name, V>, AllocError>
+    ensures { IfOk result (λ copied. copied.entries ≡ map.now.entries) }
+{
+    let mut copied = IndexMap::new(alloc);
+    for (name, value) in map {
+        put(&mut copied, name.copy(alloc)?, value.copy(alloc)?)?;
+    }
+    Ok(copied)
+}
+
+// Puts a value of a name that has none behind the others.
+fn put<V: Drop>(map: &mut IndexMap<Name, V>, name: Name, value: V) -> Result<(), AllocError>
+    requires { get bytes_eq map.old name ≡ None }
+    ensures { OnOk result (map.new.entries ≡ map.old.entries ++ (name, value) ∷ []) }
+{
+    let Ok(_) = map.insert(name, value) else {
+        return Err(AllocError);
+    };
+    Ok(())
+}
+
+impl TryCopy for Standing {
+    fn copy(&self, _alloc: Global) -> Result<Standing, AllocError> {
+        Ok(*self)
+    }
+}
+
+impl TryCopy for Watch {
+    fn copy(&self, alloc: Global) -> Result<Watch, AllocError> {
+        Ok(Watch {
+            rows: self.rows.copy(alloc)?,
+            limited: self.limited.copy(alloc)?,
+            told: self.told,
+            timed: self.timed,
+            value: self.value.copy(alloc)?,
+        })
+    }
+}

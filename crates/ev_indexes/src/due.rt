@@ -1,0 +1,66 @@
+ghost use Rattle.std.specs.Prelude.{◌≡◌, ◌||◌, ◌&&◌, not, true, if◌then◌else◌, ◌+◌, length, ℕ, [], nat_eq, IfSome, IfNone, OnOk};
+ghost use Rattle.ev_indexes.specs.Due.{is_among};
+
+use ev_types::{Gen, TryCopy};
+use indexmap::IndexSet;
+use std::alloc::{AllocError, Global};
+use std::marker::Model;
+
+/// The numbers of the generations that are due to serve, each once.
+#[derive(Drop)]
+pub struct Due {
+    numbers: IndexSet<Gen>,
+}
+
+impl Model for Due {
+    ghost use Rattle.std.specs.Prelude.{List, ℕ};
+
+    ghost Value = { List ℕ };
+
+    ghost view = { λ d. d.numbers.keys };
+}
+
+impl Due {
+    /// None is due. It takes no memory.
+    pub fn new(alloc: Global) -> Due
+        ensures { result ≡ [] }
+    {
+        Due {
+            numbers: IndexSet::new(alloc),
+        }
+    }
+
+    /// One of those that are due.
+    pub fn first(&self) -> Option<Gen>
+        ensures some { IfSome result (λ number. is_among self.now number ≡ true) }
+        ensures none { IfNone result (self.now ≡ []) }
+    {
+        self.numbers.first().copied()
+    }
+
+    /// One more is due. Without memory nothing is promised.
+    pub fn put(&mut self, number: Gen) -> Result<(), AllocError>
+        ensures { OnOk result ((n : ℕ) → is_among self.new n ≡ (nat_eq number n || is_among self.old n)) }
+    {
+        let Ok(_) = self.numbers.insert(number) else {
+            return Err(AllocError);
+        };
+        Ok(())
+    }
+
+    /// One is no longer due.
+    pub fn leave(&mut self, number: Gen)
+        ensures left { (n : ℕ) → is_among self.new n ≡ (not (nat_eq number n) && is_among self.old n) }
+        ensures count { length self.new + (if is_among self.old number then 1 else 0) ≡ length self.old }
+    {
+        self.numbers.swap_remove(&number);
+    }
+}
+
+impl TryCopy for Due {
+    fn copy(&self, _alloc: Global) -> Result<Due, AllocError> {
+        Ok(Due {
+            numbers: self.numbers.clone()?,
+        })
+    }
+}

@@ -1,0 +1,97 @@
+ghost use Rattle.std.specs.Prelude.{◌≡◌, [], IsSome, OnOk};
+ghost use Rattle.std.specs.Map.{lookup};
+ghost use Rattle.std.specs.Str.{bytes_eq};
+ghost use Rattle.ev_indexes.specs.Kept.{Sets};
+ghost use Rattle.ev_indexes.specs.Standings.{nobody, standing_in};
+
+use crate::copies::copy_map;
+use ev_mentions::NameKey;
+use ev_types::{Gen, Name, TryCopy};
+use indexmap::IndexMap;
+use std::alloc::{AllocError, Global};
+use std::marker::Model;
+
+/// Which generations of a name stand: at most one serves and at most one warms.
+#[derive(Clone, Copy, Debug, PartialEq, Eq)]
+pub struct Standing {
+    pub active: Option<Gen>,
+    pub warming: Option<Gen>,
+}
+
+/// By name which generations stand. A name of which none stands has no entry.
+#[derive(Drop)]
+pub struct Names {
+    names: IndexMap<Name, Standing>,
+}
+
+impl Model for Names {
+    ghost use Rattle.ev_indexes.specs.Standings.{NamesKept};
+
+    ghost Value = { NamesKept };
+
+    ghost view = { λ n. n.names.entries };
+}
+
+impl Names {
+    /// No name. It takes no memory.
+    pub fn new(alloc: Global) -> Names
+        ensures { result ≡ [] }
+    {
+        Names {
+            names: IndexMap::new(alloc),
+        }
+    }
+
+    /// Which generations of the name stand.
+    pub fn standing(&self, name: &Name) -> Standing
+        ensures { result ≡ standing_in self.now name.now }
+    {
+        self.standing_of(name.as_str())
+    }
+
+    /// The same for a text, of which none stands where it is no name.
+    pub fn standing_of(&self, text: &str) -> Standing
+        ensures { result ≡ standing_in self.now text.now }
+    {
+        match self.names.get(&NameKey::new(text)) {
+            Some(standing) => *standing,
+            None => Standing {
+                active: None,
+                warming: None,
+            },
+        }
+    }
+
+    /// These generations of the name stand. Without memory nothing is promised of the names.
+    pub fn enter(&mut self, name: Name, standing: Standing) -> Result<(), AllocError>
+        ensures { OnOk result (Sets nobody self.old self.new name standing) }
+    {
+        let Ok(_) = self.names.insert(name, standing) else {
+            return Err(AllocError);
+        };
+        Ok(())
+    }
+
+    /// These generations of a name stand, of which some stood before. It takes no memory.
+    pub fn set(&mut self, name: &Name, standing: Standing)
+        requires { IsSome (lookup (bytes_eq name.now) self.old) }
+        ensures { Sets nobody self.old self.new name.now standing }
+    {
+        if standing.active.is_none() && standing.warming.is_none() {
+            self.names.swap_remove(name);
+            return;
+        }
+        let Some(place) = self.names.get_mut(name) else {
+            unreachable!()
+        };
+        *place = standing;
+    }
+}
+
+impl TryCopy for Names {
+    fn copy(&self, alloc: Global) -> Result<Names, AllocError> {
+        Ok(Names {
+            names: copy_map(alloc, &self.names)?,
+        })
+    }
+}

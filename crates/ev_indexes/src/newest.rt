@@ -1,0 +1,67 @@
+ghost use Rattle.std.specs.Prelude.{◌≡◌, ◌||◌, not, is_some};
+ghost use Rattle.std.specs.List.{list_any};
+ghost use Rattle.ev_model.specs.World.{World};
+ghost use Rattle.ev_model.specs.Live.{lives_of, newest_of};
+ghost use Rattle.ev_model.specs.Phase.{has_come};
+ghost use Rattle.ev_indexes.specs.Indexes.{IsIndexed, serves, warms};
+ghost use Rattle.ev_indexes.specs.Newest.{later_number, newest_in, found_in};
+ghost use Rattle.ev_indexes.specs.Worlds.{StandsFor};
+
+use crate::{Standing, State};
+use ev_generations::Generations;
+use ev_mentions::LiveRow;
+use ev_types::Gen;
+
+impl State {
+    /// The newest live generation of a name. It costs a look-up of the name, and one of the generation where one is live.
+    pub fn newest(&self, name: &str) -> Option<LiveRow<'_>>
+        requires indexed { IsIndexed self.now }
+        ensures rows { result ≡ newest_in self.now.table.rows name.now }
+        ensures world { (world : World) → StandsFor self.now world → result ≡ newest_of (lives_of world) self.now.kind name.now }
+    {
+        found(&self.table, later(self.names.standing_of(name)))
+    }
+
+    /// Whether nothing is waited for under the name: it serves, or nothing of it is live. It costs a look-up of the name.
+    pub fn has_come(&self, name: &str) -> bool
+        requires indexed { IsIndexed self.now }
+        ensures rows { result ≡ (list_any (serves name.now) self.now.table.rows || not (list_any (warms name.now) self.now.table.rows)) }
+        ensures world { (world : World) → StandsFor self.now world → result ≡ has_come world.rows self.now.kind name.now }
+    {
+        is_settled(self.names.standing_of(name))
+    }
+}
+
+// Whether one serves, or none warms.
+fn is_settled(standing: Standing) -> bool
+    ensures { result ≡ (is_some standing.active || not (is_some standing.warming)) }
+{
+    standing.active.is_some() || standing.warming.is_none()
+}
+
+// The greater of the two numbers, where there are two.
+fn later(standing: Standing) -> Option<Gen>
+    ensures { result ≡ later_number standing }
+{
+    let Some(active) = standing.active else {
+        return standing.warming;
+    };
+    match standing.warming {
+        Some(warming) if active < warming => Some(warming),
+        _ => Some(active),
+    }
+}
+
+// What is seen of the generation of this number, where there is one.
+fn found(table: &Generations, number: Option<Gen>) -> Option<LiveRow<'_>>
+    ensures { result ≡ found_in table.now.rows number }
+{
+    let row = table.get(number?)?;
+    Some(LiveRow {
+        kind: row.kind,
+        number: row.number,
+        name: row.name.as_str(),
+        content: &row.content,
+        warming: row.status.is_warming(),
+    })
+}

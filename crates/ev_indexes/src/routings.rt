@@ -1,0 +1,153 @@
+ghost use Rattle.std.specs.Prelude.{◌≡◌, ◌++◌, [], ◌∷◌, Some, map, filter, option_to_list, IfOk, OnOk};
+ghost use Rattle.std.specs.Str.{bytes_eq};
+ghost use Rattle.std.specs.List.{IsDistinct, flat_map};
+ghost use Rattle.ev_types.specs.Statuses.{is_active};
+ghost use Rattle.ev_types.specs.declared.contents.Kind.TheVariants.{Lds};
+ghost use Rattle.ev_types.specs.declared.rows.GenRow as declared;
+ghost use Rattle.ev_model.specs.World.{World};
+ghost use Rattle.ev_model.specs.Sorted.{sorted_by};
+ghost use Rattle.ev_model.specs.Versions.{is_before};
+ghost use Rattle.ev_model.specs.Picture.{served_listeners, table_in};
+ghost use Rattle.ev_generations.specs.Tables.{row_in};
+ghost use Rattle.ev_indexes.specs.Indexes.{IsIndexed};
+ghost use Rattle.ev_indexes.specs.Reads.{listener_in, listeners_in, routing_in};
+ghost use Rattle.ev_indexes.specs.Shown.{first_of, listener_shown, listener_shown_in};
+ghost use Rattle.ev_indexes.specs.Watched.{watch_in};
+ghost use Rattle.ev_indexes.specs.Worlds.{StandsFor};
+
+use crate::{State, Watches};
+use ev_generations::Generations;
+use ev_model::{Routing, ServedListener};
+use ev_types::{Content, Gen, GenRow, Name, RouteTable, Seq, Serve, Shared, TryCopy};
+use std::alloc::{AllocError, Global};
+
+impl State {
+    /// What a picture shows of listeners once they serve: each active one with its routes, or its target, in the order of their
+    /// names; where no routes came there are none. It goes over the whole table.
+    pub fn listeners(&self, alloc: Global) -> Result<Seq<ServedListener>, AllocError>
+        requires indexed { IsIndexed self.now }
+        ensures rows { IfOk result (λ served. served ≡ listeners_in self.now.watches self.now.table.rows) }
+        ensures world { IfOk result (λ served. self.now.kind ≡ Lds → (world : World) → StandsFor self.now world → served ≡ served_listeners world.arrivals world.rows) }
+    {
+        let mut served = listeners(alloc, &self.watches, &self.table)?;
+        sort(&mut served);
+        Ok(Seq::from_vec(served))
+    }
+
+    /// What a picture shows of the listener of this number once listeners serve: where it is active, its routes or its target. It
+    /// costs a look-up of the number, and one of the name that the listener depends on.
+    pub fn listener(&self, alloc: Global, number: Gen) -> Result<Option<ServedListener>, AllocError>
+        requires indexed { IsIndexed self.now }
+        ensures rows { IfOk result (λ served. served ≡ listener_shown_in self.now.watches (row_in number self.now.table.rows)) }
+        ensures world { IfOk result (λ served. self.now.kind ≡ Lds → (world : World) → StandsFor self.now world → served ≡ listener_shown world.arrivals (row_in number world.rows)) }
+    {
+        match self.table.get(number) {
+            Some(row) => active_listener(alloc, &self.watches, row),
+            None => Ok(None),
+        }
+    }
+}
+
+// A listener with its routes or its target, where it is active.
+fn active_listener(
+    alloc: Global,
+    watches: &Watches,
+    row: &GenRow,
+) -> Result<Option<ServedListener>, AllocError>
+    ensures { IfOk result (λ served. served ≡ listener_shown_in watches.now (Some row.now)) }
+{
+    if !row.status.is_active() {
+        return Ok(None);
+    }
+    listener(alloc, watches, row)
+}
+
+// A listener with its routes or its target; what is no listener isn't shown.
+fn listener(
+    alloc: Global,
+    watches: &Watches,
+    row: &GenRow,
+) -> Result<Option<ServedListener>, AllocError>
+    ensures first { IfOk result (λ served. served ≡ first_of (listener_in watches.now row.now row.now.content)) }
+    ensures whole { IfOk result (λ served. option_to_list served ≡ listener_in watches.now row.now row.now.content) }
+{
+    let Content::Listener(listener) = &row.content else {
+        return Ok(None);
+    };
+    let listener = listener.get();
+    Ok(Some(ServedListener {
+        number: row.number,
+        name: row.name.copy(alloc)?,
+        address: listener.address.copy(alloc)?,
+        routing: routing(alloc, watches, &listener.serve)?,
+    }))
+}
+
+// The active listeners of a table, in the order of the rows.
+fn listeners(
+    alloc: Global,
+    watches: &Watches,
+    table: &Generations,
+) -> Result<Vec<ServedListener>, AllocError>
+    ensures { IfOk result (λ served. served.items ≡ flat_map (λ (row : declared.GenRow). listener_in watches.now row row.content) (filter (λ (row : declared.GenRow). is_active row.status) table.now.rows)) }
+{
+    let mut served = Vec::new(alloc);
+    for row in table.rows() {
+        push_listener(alloc, watches, row, &mut served)?;
+    }
+    Ok(served)
+}
+
+// Puts a listener to the others, where it is active.
+fn push_listener(
+    alloc: Global,
+    watches: &Watches,
+    row: &GenRow,
+    served: &mut Vec<ServedListener>,
+) -> Result<(), AllocError>
+    ensures { OnOk result (served.new.items ≡ served.old.items ++ flat_map (λ (r : declared.GenRow). listener_in watches.now r r.content) (filter (λ (r : declared.GenRow). is_active r.status) (row.now ∷ []))) }
+{
+    if !row.status.is_active() {
+        return Ok(());
+    }
+    if let Some(listener) = listener(alloc, watches, row)? {
+        served.push(listener)?;
+    }
+    Ok(())
+}
+
+// Where a listener's connections go.
+fn routing(alloc: Global, watches: &Watches, serve: &Serve) -> Result<Routing, AllocError>
+    ensures { IfOk result (λ routing. routing ≡ routing_in watches.now serve.now) }
+{
+    match serve {
+        Serve::Rds { name, .. } => Ok(Routing::Table(value(alloc, watches, name)?)),
+        Serve::Inline(table) => Ok(Routing::Table(table.copy(alloc)?)),
+        Serve::Tcp(target) => Ok(Routing::Tcp(target.copy(alloc)?)),
+    }
+}
+
+// The routes that are the value of a name, or none.
+fn value(alloc: Global, watches: &Watches, name: &Name) -> Result<Shared<RouteTable>, AllocError>
+    ensures { IfOk result (λ table. table ≡ table_in (watch_in watches.now name.now).value) }
+{
+    if let Some(watch) = watches.get(name) {
+        if let Some(Content::Routes(table)) = &watch.value {
+            return table.copy(alloc);
+        }
+    }
+    Shared::new(
+        alloc,
+        RouteTable {
+            hosts: Seq::new(alloc),
+        },
+    )
+}
+
+// Sorts listeners by name, where their names differ.
+fn sort(served: &mut Vec<ServedListener>)
+    requires { IsDistinct bytes_eq (map (λ l. l.name) served.old.items) }
+    ensures { served.new.items ≡ sorted_by (λ l m. is_before l.name m.name) served.old.items }
+{
+    served.sort_unstable_by(|one, other| one.name.as_str().cmp(other.name.as_str()));
+}

@@ -1,0 +1,159 @@
+ghost use Rattle.std.specs.Prelude.{◌≡◌, ◌<◌, ◌++◌, [], ◌∷◌, Some, map, filter, length, IfOk, OnOk};
+ghost use Rattle.std.specs.Str.{bytes_eq};
+ghost use Rattle.std.specs.List.{IsDistinct};
+ghost use Rattle.ev_types.specs.Statuses.{is_active};
+ghost use Rattle.ev_types.specs.declared.contents.Kind.TheVariants.{Cds};
+ghost use Rattle.ev_types.specs.declared.limits.TheConstants.{ROW_LIMIT};
+ghost use Rattle.ev_types.specs.declared.rows.GenRow as declared;
+ghost use Rattle.ev_model.specs.World.{World};
+ghost use Rattle.ev_model.specs.Sorted.{sorted_by};
+ghost use Rattle.ev_model.specs.Versions.{is_before};
+ghost use Rattle.ev_model.specs.Picture.{served_clusters};
+ghost use Rattle.ev_generations.specs.Tables.{row_in};
+ghost use Rattle.ev_indexes.specs.Ready.{assignment_in};
+ghost use Rattle.ev_indexes.specs.Indexes.{IsIndexed};
+ghost use Rattle.ev_indexes.specs.Reads.{is_eligible_in, cluster_in, clusters_in};
+ghost use Rattle.ev_indexes.specs.Shown.{cluster_at, cluster_shown_in};
+ghost use Rattle.ev_indexes.specs.Worlds.{StandsFor};
+
+use crate::hosts::{assignment, is_checked};
+use crate::{State, Watches};
+use ev_endpoints::Endpoints;
+use ev_generations::Generations;
+use ev_model::ServedCluster;
+use ev_types::{Assignment, Gen, GenRow, HostRow, Seq, TryCopy};
+use std::alloc::{AllocError, Global};
+
+impl State {
+    /// What a picture shows of clusters now: each active one with its hosts that may be chosen, in the order of their names. It
+    /// goes over the whole table.
+    pub fn clusters(&self, alloc: Global) -> Result<Seq<ServedCluster>, AllocError>
+        requires indexed { IsIndexed self.now }
+        ensures rows { IfOk result (λ served. served ≡ clusters_in self.now.watches self.now.results self.now.table.rows) }
+        ensures world { IfOk result (λ served. self.now.kind ≡ Cds → (world : World) → StandsFor self.now world → served ≡ served_clusters world.arrivals world.results world.rows) }
+    {
+        let mut served = clusters(alloc, &self.watches, &self.results, &self.table)?;
+        sort(&mut served);
+        Ok(Seq::from_vec(served))
+    }
+
+    /// What a picture shows of the cluster of this number now: where it is active, its hosts that may be chosen. It costs a
+    /// look-up of the number and of the name that the cluster depends on, and one of each of its hosts.
+    pub fn cluster(&self, alloc: Global, number: Gen) -> Result<Option<ServedCluster>, AllocError>
+        requires indexed { IsIndexed self.now }
+        ensures rows { IfOk result (λ served. served ≡ cluster_shown_in self.now.watches self.now.results (row_in number self.now.table.rows)) }
+        ensures world { IfOk result (λ served. self.now.kind ≡ Cds → (world : World) → StandsFor self.now world → served ≡ cluster_at world number) }
+    {
+        match self.table.get(number) {
+            Some(row) => active_cluster(alloc, &self.watches, &self.results, row),
+            None => Ok(None),
+        }
+    }
+}
+
+// A cluster with its hosts that may be chosen, where it is active.
+fn active_cluster(
+    alloc: Global,
+    watches: &Watches,
+    results: &Endpoints,
+    row: &GenRow,
+) -> Result<Option<ServedCluster>, AllocError>
+    ensures { IfOk result (λ served. served ≡ cluster_shown_in watches.now results.now (Some row.now)) }
+{
+    if !row.status.is_active() {
+        return Ok(None);
+    }
+    Ok(Some(cluster(alloc, watches, results, row)?))
+}
+
+// A cluster with its hosts that may be chosen.
+fn cluster(
+    alloc: Global,
+    watches: &Watches,
+    results: &Endpoints,
+    row: &GenRow,
+) -> Result<ServedCluster, AllocError>
+    ensures { IfOk result (λ served. served ≡ cluster_in watches.now results.now row.now) }
+{
+    Ok(ServedCluster {
+        number: row.number,
+        name: row.name.copy(alloc)?,
+        hosts: eligible(alloc, watches, results, row)?,
+    })
+}
+
+// The active clusters of a table, in the order of the rows.
+fn clusters(
+    alloc: Global,
+    watches: &Watches,
+    results: &Endpoints,
+    table: &Generations,
+) -> Result<Vec<ServedCluster>, AllocError>
+    ensures { IfOk result (λ served. served.items ≡ map (cluster_in watches.now results.now) (filter (λ (row : declared.GenRow). is_active row.status) table.now.rows)) }
+{
+    let mut served = Vec::new(alloc);
+    for row in table.rows() {
+        push_cluster(alloc, watches, results, row, &mut served)?;
+    }
+    Ok(served)
+}
+
+// Puts a cluster to the others, where it is active.
+fn push_cluster(
+    alloc: Global,
+    watches: &Watches,
+    results: &Endpoints,
+    row: &GenRow,
+    served: &mut Vec<ServedCluster>,
+) -> Result<(), AllocError>
+    ensures { OnOk result (served.new.items ≡ served.old.items ++ map (cluster_in watches.now results.now) (filter (λ (r : declared.GenRow). is_active r.status) (row.now ∷ []))) }
+{
+    if row.status.is_active() {
+        served.push(cluster(alloc, watches, results, row)?)?;
+    }
+    Ok(())
+}
+
+// The hosts of a cluster that may be chosen.
+fn eligible(
+    alloc: Global,
+    watches: &Watches,
+    results: &Endpoints,
+    row: &GenRow,
+) -> Result<Assignment, AllocError>
+    ensures { IfOk result (λ hosts. hosts ≡ filter (is_eligible_in results.now row.now) (assignment_in watches.now row.now.content)) }
+{
+    match assignment(watches, &row.content) {
+        Some(hosts) => Ok(Assignment::new(choose(alloc, results, row, hosts.rows())?)),
+        None => Ok(Assignment::new(Seq::new(alloc))),
+    }
+}
+
+// Those of these hosts that may be chosen.
+fn choose(
+    alloc: Global,
+    results: &Endpoints,
+    row: &GenRow,
+    hosts: &[HostRow],
+) -> Result<Seq<HostRow>, AllocError>
+    requires { length hosts.now < ROW_LIMIT }
+    ensures chosen { IfOk result (λ chosen. chosen ≡ filter (is_eligible_in results.now row.now) hosts.now) }
+    ensures few { IfOk result (λ chosen. length chosen < ROW_LIMIT) }
+{
+    let checked = is_checked(&row.content);
+    let mut chosen = Vec::new(alloc);
+    for host in hosts {
+        if results.eligible(row.number, checked, host) {
+            chosen.push(host.copy(alloc)?)?;
+        }
+    }
+    Ok(Seq::from_vec(chosen))
+}
+
+// Sorts clusters by name, where their names differ.
+fn sort(served: &mut Vec<ServedCluster>)
+    requires { IsDistinct bytes_eq (map (λ c. c.name) served.old.items) }
+    ensures { served.new.items ≡ sorted_by (λ c d. is_before c.name d.name) served.old.items }
+{
+    served.sort_unstable_by(|one, other| one.name.as_str().cmp(other.name.as_str()));
+}

@@ -1,0 +1,52 @@
+ghost use Rattle.std.specs.Prelude.{◌≡◌, ◌<◌, ℕ, List};
+ghost use Rattle.ev_model.specs.World.{opening};
+ghost use Rattle.ev_indexes.specs.Worlds.{StandsFor};
+ghost use Rattle.ev_indexes.specs.Indexes.{IsIndexed};
+
+use crate::{Due, Names, Watches};
+use ev_endpoints::Endpoints;
+use ev_generations::Generations;
+use ev_types::{Kind, TryCopy};
+use std::alloc::{AllocError, Global};
+
+/// The table of the generations of one kind, with its indexes.
+#[derive(Drop)]
+pub struct State {
+    pub kind: Kind,
+    pub table: Generations,
+    pub names: Names,
+    pub watches: Watches,
+    pub results: Endpoints,
+    pub due: Due,
+}
+
+impl State {
+    /// No generation of this kind, and nothing known. It takes no memory, and stands for every world in which nothing happened.
+    pub fn new(alloc: Global, kind: Kind) -> State
+        ensures kind { result.kind ≡ kind }
+        ensures indexed { IsIndexed result }
+        ensures stands { (workers : ℕ) (node : List ℕ) → StandsFor result (opening workers node) }
+    {
+        State {
+            kind,
+            table: Generations::new(alloc),
+            names: Names::new(alloc),
+            watches: Watches::new(alloc),
+            results: Endpoints::new(alloc),
+            due: Due::new(alloc),
+        }
+    }
+}
+
+impl TryCopy for State {
+    fn copy(&self, alloc: Global) -> Result<State, AllocError> {
+        Ok(State {
+            kind: self.kind,
+            table: self.table.copy(alloc)?,
+            names: self.names.copy(alloc)?,
+            watches: self.watches.copy(alloc)?,
+            results: self.results.copy(alloc)?,
+            due: self.due.copy(alloc)?,
+        })
+    }
+}

@@ -1,0 +1,174 @@
+ghost use Rattle.std.specs.Prelude.{◌≡◌, [], IsSome, OnOk};
+ghost use Rattle.std.specs.Map.{lookup};
+ghost use Rattle.std.specs.Option.{option_copied};
+ghost use Rattle.std.specs.Str.{bytes_eq};
+ghost use Rattle.ev_indexes.specs.Kept.{Sets};
+ghost use Rattle.ev_indexes.specs.Watched.{unwatched, watch_in, watched_too, watched_less, with_arrival, without_number};
+
+use crate::copies::copy_map;
+use ev_mentions::NameKey;
+use ev_types::{Arrival, Content, Gen, Name, Seq, TryCopy};
+use indexmap::IndexMap;
+use std::alloc::{AllocError, Global};
+use std::marker::Model;
+
+/// What is known of a name that is watched: the generations that depend on it, those among them whose wait is limited, whether
+/// the name was told of, whether its wait timed out, and its last value.
+#[derive(Drop)]
+pub struct Watch {
+    pub rows: Seq<Gen>,
+    pub limited: Seq<Gen>,
+    pub told: bool,
+    pub timed: bool,
+    pub value: Option<Content>,
+}
+
+/// By name what is known of it.
+#[derive(Drop)]
+pub struct Watches {
+    watches: IndexMap<Name, Watch>,
+}
+
+impl Model for Watches {
+    ghost use Rattle.ev_indexes.specs.Watched.{WatchesKept};
+
+    ghost Value = { WatchesKept };
+
+    ghost view = { λ w. w.watches.entries };
+}
+
+impl Watches {
+    /// No name is watched. It takes no memory.
+    pub fn new(alloc: Global) -> Watches
+        ensures { result ≡ [] }
+    {
+        Watches {
+            watches: IndexMap::new(alloc),
+        }
+    }
+
+    /// What is known of a name, where something is.
+    pub fn get(&self, name: &Name) -> Option<&Watch>
+        ensures { option_copied result ≡ lookup (bytes_eq name.now) self.now }
+    {
+        self.watches.get(name)
+    }
+
+    /// The same for a text, of which nothing is known where it is no name.
+    pub fn get_text(&self, text: &str) -> Option<&Watch>
+        ensures { option_copied result ≡ lookup (bytes_eq text.now) self.now }
+    {
+        self.watches.get(&NameKey::new(text))
+    }
+
+    /// One more generation depends on the name. Without memory nothing is promised.
+    pub fn watch(
+        &mut self,
+        alloc: Global,
+        name: &Name,
+        number: Gen,
+        limited: bool,
+    ) -> Result<(), AllocError>
+        ensures { OnOk result (Sets unwatched self.old self.new name.now (watched_too number limited (watch_in self.old name.now))) }
+    {
+        if let Some(watch) = self.watches.get_mut(name) {
+            return add(watch, number, limited);
+        }
+        let mut watch = nothing(alloc);
+        add(&mut watch, number, limited)?;
+        let Ok(_) = self.watches.insert(name.copy(alloc)?, watch) else {
+            return Err(AllocError);
+        };
+        Ok(())
+    }
+
+    /// A generation no longer depends on the name. It takes no memory.
+    pub fn unwatch(&mut self, name: &Name, number: Gen)
+        ensures { Sets unwatched self.old self.new name.now (watched_less number (watch_in self.old name.now)) }
+    {
+        if let Some(watch) = self.watches.get_mut(name) {
+            leave_out(&mut watch.rows, number);
+            leave_out(&mut watch.limited, number);
+        }
+    }
+
+    /// Something came for the name. Without memory nothing is promised.
+    pub fn tell(&mut self, alloc: Global, name: &Name, arrival: &Arrival) -> Result<(), AllocError>
+        requires { IsSome (lookup (bytes_eq name.now) self.old) }
+        ensures { OnOk result (Sets unwatched self.old self.new name.now (with_arrival arrival.now (watch_in self.old name.now))) }
+    {
+        let Some(watch) = self.watches.get_mut(name) else {
+            unreachable!()
+        };
+        note(alloc, watch, arrival)
+    }
+
+    /// Forgets all that is known of the name. It takes no memory.
+    pub fn forget(&mut self, name: &Name)
+        ensures { Sets unwatched self.old self.new name.now unwatched }
+    {
+        self.watches.swap_remove(name);
+    }
+}
+
+impl TryCopy for Watches {
+    fn copy(&self, alloc: Global) -> Result<Watches, AllocError> {
+        Ok(Watches {
+            watches: copy_map(alloc, &self.watches)?,
+        })
+    }
+}
+
+// Nothing is known.
+fn nothing(alloc: Global) -> Watch
+    ensures { result ≡ unwatched }
+{
+    Watch {
+        rows: Seq::new(alloc),
+        limited: Seq::new(alloc),
+        told: false,
+        timed: false,
+        value: None,
+    }
+}
+
+// One more generation depends on a name.
+fn add(watch: &mut Watch, number: Gen, limited: bool) -> Result<(), AllocError>
+    ensures { OnOk result (watch.new ≡ watched_too number limited watch.old) }
+{
+    watch.rows.push(number)?;
+    if limited {
+        watch.limited.push(number)?;
+    }
+    Ok(())
+}
+
+// Something came for a name.
+fn note(alloc: Global, watch: &mut Watch, arrival: &Arrival) -> Result<(), AllocError>
+    ensures { OnOk result (watch.new ≡ with_arrival arrival.now watch.old) }
+{
+    match arrival {
+        Arrival::Value(content) => {
+            watch.value = Some(content.copy(alloc)?);
+            watch.told = true;
+        }
+        Arrival::Absent | Arrival::Bad => watch.told = true,
+        Arrival::TimedOut => watch.timed = true,
+    }
+    Ok(())
+}
+
+// Leaves a number out of these.
+fn leave_out(numbers: &mut Seq<Gen>, number: Gen)
+    ensures { numbers.new ≡ without_number number numbers.old }
+{
+    let mut kept = 0;
+    for place in 0..numbers.len() {
+        let other = numbers.as_slice()[place];
+        if number != other {
+            numbers.set(kept, other);
+            kept += 1;
+        }
+    }
+    numbers.truncate(kept);
+}

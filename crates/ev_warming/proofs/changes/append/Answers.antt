@@ -1,0 +1,28 @@
+use Rattle.std.proofs.Common.{◌≡◌, ◌∙◌, ◌+◌, ◌++◌, [], ◌∷◌, Some, cond}
+use Rattle.std.specs.Str.{bytes_eq}
+use Rattle.ev_model.specs.Rows.{new_row}
+use Rattle.ev_model.specs.Watching.{is_limited}
+use Rattle.ev_indexes.specs.Due.{is_among}
+use Rattle.ev_indexes.specs.Ready.{name_needed, is_due_at}
+use Rattle.ev_indexes.specs.Standings.{standing_in}
+use Rattle.ev_indexes.specs.Watched.{watch_in, watched_too}
+use Rattle.ev_indexes.specs.Indexes.{is_needed}
+use Rattle.ev_warming.proofs.AddLemmas.{indexed-added}
+use Rattle.ev_warming.proofs.changes.append.Goals as goal
+
+pub returns-clause-indexed : goal.returns-clause-indexed
+returns-clause-indexed g c =
+    let s = c.args.state.now in
+    let name = c.args.name in
+    let content = c.args.content in
+    let number : c.in_ok-number.number ≡ s.table.made + 1 = c.in_ok-number.ensures.number in
+    indexed-added s c.requires.indexed name content c.requires.alone c.add.new.self
+    (c.in_ok-number.ensures.added ∙ (λ i. s.table.rows ++ new_row s.kind s.table.made (c.in_ok-copy.ensures.equal i) (c.in_ok-copy-2.ensures.equal i) ∷ []))
+    c.in_ok-number.ensures.made
+    c.in_ok-number.ensures.table
+    c.enter.new.self
+    (λ q. c.in_ok-enter.ensures q ∙ (λ i. cond (bytes_eq name q) (record { active = (c.standing-active.ensures i).active; warming = Some (number i) }) (standing_in s.names q)))
+    c.watch.new.watches
+    (λ q. c.in_ok-watch.ensures.watched q ∙ (λ i. cond (is_needed q (name_needed content)) (watched_too (number i) (is_limited content) (watch_in s.watches q)) (watch_in s.watches q)))
+    c.refresh.new.due
+    (λ n. c.in_ok-refresh.ensures.due n ∙ (λ i. cond (is_among (number i ∷ []) n) (is_due_at c.watch.new.watches s.results n c.add.new.self.rows) (is_among s.due n)))

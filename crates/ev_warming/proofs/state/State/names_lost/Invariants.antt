@@ -1,7 +1,0 @@
-use Rattle.std.proofs.Common.{◌≡◌, take}
-use Rattle.std.specs.List.{flat_map}
-use Rattle.ev_warming.specs.Moved.{need_lost}
-use Rattle.ev_warming.proofs.state.State.names_lost.Given as goal
-
-abbrev pub invariant-loop-number : goal.invariant-loop-number
-invariant-loop-number l = l.names.items ≡ flat_map (need_lost l.made l.self.table.rows) (take l.number-index l.retired)

@@ -1,6 +1,0 @@
-use Rattle.std.proofs.Common.{◌≡◌, ◌++◌}
-use Rattle.ev_warming.specs.Reads.{names_needed}
-use Rattle.ev_warming.proofs.watched.needs.Given as goal
-
-abbrev pub invariant-loop-row : goal.invariant-loop-row
-invariant-loop-row l = l.names.items ++ names_needed l.row-iterator ≡ names_needed l.table.rows

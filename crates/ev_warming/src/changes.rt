@@ -1,0 +1,367 @@
+ghost use Rattle.std.specs.Prelude.{◌≡◌, ◌+◌, ◌*◌, ◌^◌, ◌≤◌, [], ◌∷◌, ◌++◌, IfOk, ◌<◌, ◌&&◌, not, nat_eq, ℕ, List, true, if◌then◌else◌, length, None, OnOk, option_to_list};
+ghost use Rattle.std.specs.List.{list_any};
+ghost use Rattle.ev_model.specs.Rows.{arrived, removed_status, replaced_status, with_statuses, new_row, rows_with_new};
+ghost use Rattle.ev_model.specs.Watching.{is_limited};
+ghost use Rattle.ev_types.specs.declared.rows.RowStatus.TheVariants.{Active};
+ghost use Rattle.ev_types.specs.Items.{content_kind};
+ghost use Rattle.ev_types.specs.Statuses.{is_live, is_warming};
+ghost use Rattle.ev_generations.specs.Tables.{row_in, with_status};
+ghost use Rattle.ev_indexes.specs.Kept.{Sets};
+ghost use Rattle.ev_indexes.specs.Watched.{unwatched, watch_in, watched_less, watched_too, with_arrival};
+ghost use Rattle.ev_indexes.specs.Standings.{standing_in};
+ghost use Rattle.ev_indexes.specs.Ready.{name_needed, IsNeedName, is_ready_in, is_due_at};
+ghost use Rattle.ev_indexes.specs.Due.{is_among};
+ghost use Rattle.ev_model.specs.World.{World};
+ghost use Rattle.ev_model.specs.Tidy.{promoted};
+ghost use Rattle.ev_model.specs.Signals.{rows_ended};
+ghost use Rattle.ev_indexes.specs.Worlds.{StandsFor, needs_of};
+ghost use Rattle.ev_warming.specs.Promotion.{rows_promoted, status_drained};
+ghost use Rattle.ev_warming.specs.Changes.{began_to_serve, began_to_drain};
+ghost use Rattle.ev_indexes.specs.Indexes.{IsIndexed, SameMarks, depends_on, is_needed, numbers_where, status_in, name_in};
+
+use ev_generations::Steps;
+use ev_indexes::{Standing, State, Watches, limited, needed, refresh};
+use ev_types::{Arrival, Content, Gen, Name, Seq, TryCopy};
+use std::alloc::{AllocError, Global};
+use std::sync::ledger::Ledger;
+
+/// What a promotion changed: the numbers of the generations that came to serve, and of those that served before and drain.
+#[derive(Drop)]
+pub struct Promoted {
+    pub served: Seq<Gen>,
+    pub drained: Seq<Gen>,
+}
+
+/// Something came for a watched name: it is kept, and the rows that depend on the name are looked at anew, each once.
+/// Without memory nothing is promised of the state.
+pub(crate) fn arrive<L: Ledger>(
+    state: &mut State,
+    alloc: Global,
+    name: &Name,
+    arrival: &Arrival,
+    steps: &mut Steps<L>,
+) -> Result<(), AllocError>
+    requires indexed { IsIndexed state.old }
+    requires watched { list_any (depends_on name.now) state.old.table.rows ≡ true }
+    ensures indexed { OnOk result (IsIndexed state.new) }
+    ensures told { OnOk result (Sets unwatched state.old.watches state.new.watches name.now (with_arrival arrival.now (watch_in state.old.watches name.now))) }
+    ensures others { OnOk result (state.new ≡ record state.old { watches = state.new.watches; due = state.new.due }) }
+    ensures steps { OnOk result (steps.new ≡ steps.old + length (numbers_where (depends_on name.now) state.old.table.rows)) }
+    // Whatever world the state stood for, it stands for that world with the arrival.
+    ensures stands { OnOk result ((world : World) → StandsFor state.old world → StandsFor state.new (record world { arrivals = world.arrivals ++ arrived (needs_of state.old.kind) arrival.now name.now ∷ [] })) }
+{
+    state.watches.tell(alloc, name, arrival)?;
+    let Some(watch) = state.watches.get(name) else {
+        unreachable!()
+    };
+    refresh(
+        &state.table,
+        &state.watches,
+        &state.results,
+        &mut state.due,
+        watch.rows.as_slice(),
+        steps,
+    )
+}
+
+// A live row drains, or is dropped where it warmed.
+fn retire<L: Ledger>(state: &mut State, number: Gen, steps: &mut Steps<L>)
+    requires indexed { IsIndexed state.old }
+    requires live { is_live (status_in (row_in number state.old.table.rows)) ≡ true }
+    ensures indexed { IsIndexed state.new }
+    ensures rows { state.new.table.rows ≡ with_status number (removed_status (status_in (row_in number state.old.table.rows))) state.old.table.rows }
+    ensures made { state.new.table.made ≡ state.old.table.made }
+    ensures marks { SameMarks state.old.watches state.new.watches }
+    ensures others { state.new ≡ record state.old { table = state.new.table; names = state.new.names; watches = state.new.watches; due = state.new.due } }
+    ensures due { (n : ℕ) → is_among state.new.due n ≡ (not (nat_eq number n) && is_among state.old.due n) }
+    ensures count { length state.new.due + (if is_among state.old.due number then 1 else 0) ≡ length state.old.due }
+    ensures steps { steps.new ≡ steps.old + 1 }
+{
+    let Some(row) = state.table.row(number, steps) else {
+        unreachable!()
+    };
+    let standing = state.names.standing(&row.name);
+    let warms = row.status.is_warming();
+    state.names.set(&row.name, left(standing, warms));
+    unwatch(&mut state.watches, &row.content, number);
+    state.due.leave(number);
+    state.table.gone(number, warms);
+}
+
+// A row that warms serves; no other of its name does.
+fn serve<L: Ledger>(state: &mut State, number: Gen, steps: &mut Steps<L>)
+    requires indexed { IsIndexed state.old }
+    requires warms { is_warming (status_in (row_in number state.old.table.rows)) ≡ true }
+    requires alone { (standing_in state.old.names (name_in (row_in number state.old.table.rows))).active ≡ None }
+    ensures indexed { IsIndexed state.new }
+    ensures rows { state.new.table.rows ≡ with_status number Active state.old.table.rows }
+    ensures made { state.new.table.made ≡ state.old.table.made }
+    ensures others { state.new ≡ record state.old { table = state.new.table; names = state.new.names; due = state.new.due } }
+    ensures due { (n : ℕ) → is_among state.new.due n ≡ (not (nat_eq number n) && is_among state.old.due n) }
+    ensures count { length state.new.due + (if is_among state.old.due number then 1 else 0) ≡ length state.old.due }
+    ensures steps { steps.new ≡ steps.old + 1 }
+{
+    let Some(row) = state.table.row(number, steps) else {
+        unreachable!()
+    };
+    let standing = Standing {
+        active: Some(number),
+        warming: None,
+    };
+    state.names.set(&row.name, standing);
+    state.due.leave(number);
+    state.table.warm(number);
+}
+
+// The generation that served the name of one that warms drains, where there was one, which is the answer.
+fn make_way<L: Ledger>(
+    state: &mut State,
+    number: Gen,
+    active: Option<Gen>,
+    steps: &mut Steps<L>,
+) -> Option<Gen>
+    requires indexed { IsIndexed state.old }
+    requires warms { is_warming (status_in (row_in number state.old.table.rows)) ≡ true }
+    requires active { active ≡ (standing_in state.old.names (name_in (row_in number state.old.table.rows))).active }
+    ensures indexed { IsIndexed state.new }
+    ensures rows { state.new.table.rows ≡ with_statuses (status_drained (name_in (row_in number state.old.table.rows))) state.old.table.rows }
+    ensures row { row_in number state.new.table.rows ≡ row_in number state.old.table.rows }
+    ensures alone { (standing_in state.new.names (name_in (row_in number state.old.table.rows))).active ≡ None }
+    ensures made { state.new.table.made ≡ state.old.table.made }
+    ensures marks { SameMarks state.old.watches state.new.watches }
+    ensures others { state.new ≡ record state.old { table = state.new.table; names = state.new.names; watches = state.new.watches; due = state.new.due } }
+    ensures due { (n : ℕ) → is_among state.new.due n ≡ is_among state.old.due n }
+    ensures count { length state.new.due ≤ length state.old.due }
+    ensures steps { steps.new ≤ steps.old + 1 }
+    ensures before { result ≡ active }
+{
+    let Some(before) = active else {
+        return None;
+    };
+    retire(state, before, steps);
+    Some(before)
+}
+
+// The generation of this number, which is due, serves, and the one that served its name, which is the answer, drains.
+fn promote_one<L: Ledger>(state: &mut State, number: Gen, steps: &mut Steps<L>) -> Option<Gen>
+    requires indexed { IsIndexed state.old }
+    requires due { is_among state.old.due number ≡ true }
+    ensures indexed { IsIndexed state.new }
+    ensures before { result ≡ (standing_in state.old.names (name_in (row_in number state.old.table.rows))).active }
+    ensures changed { state.new.table.rows ≡ with_status number Active (with_statuses (status_drained (name_in (row_in number state.old.table.rows))) state.old.table.rows) }
+    ensures rows { rows_promoted (is_ready_in state.old.watches state.old.results) state.new.table.rows ≡ rows_promoted (is_ready_in state.old.watches state.old.results) state.old.table.rows }
+    ensures made { state.new.table.made ≡ state.old.table.made }
+    ensures marks { SameMarks state.old.watches state.new.watches }
+    ensures others { state.new ≡ record state.old { table = state.new.table; names = state.new.names; watches = state.new.watches; due = state.new.due } }
+    ensures due { (n : ℕ) → is_among state.new.due n ≡ (not (nat_eq number n) && is_among state.old.due n) }
+    ensures count { length state.new.due < length state.old.due }
+    ensures steps { steps.new ≤ steps.old + 3 }
+{
+    let Some(row) = state.table.row(number, steps) else {
+        unreachable!()
+    };
+    let active = state.names.standing(&row.name).active;
+    let before = make_way(state, number, active, steps);
+    serve(state, number, steps);
+    before
+}
+
+/// Each generation that is due serves, and the one that served its name before it drains; none is due then. Answers the
+/// numbers of those that came to serve, and of those that began to drain. Each of the first costs at most three look-ups.
+/// Without memory nothing is promised of the state.
+pub(crate) fn promote<L: Ledger>(
+    state: &mut State,
+    alloc: Global,
+    steps: &mut Steps<L>,
+) -> Result<Promoted, AllocError>
+    requires indexed { IsIndexed state.old }
+    ensures indexed { OnOk result (IsIndexed state.new) }
+    ensures rows { OnOk result (state.new.table.rows ≡ rows_promoted (is_ready_in state.old.watches state.old.results) state.old.table.rows) }
+    ensures served { IfOk result (λ promoted. (n : ℕ) → is_among promoted.served n ≡ is_due_at state.old.watches state.old.results n state.old.table.rows) }
+    ensures began { IfOk result (λ promoted. (n : ℕ) → is_among promoted.served n ≡ began_to_serve n state.old.table.rows state.new.table.rows) }
+    ensures drained { IfOk result (λ promoted. (n : ℕ) → is_among promoted.drained n ≡ began_to_drain n state.old.table.rows state.new.table.rows) }
+    ensures made { OnOk result (state.new.table.made ≡ state.old.table.made) }
+    ensures marks { OnOk result (SameMarks state.old.watches state.new.watches) }
+    ensures others { OnOk result (state.new ≡ record state.old { table = state.new.table; names = state.new.names; watches = state.new.watches; due = [] }) }
+    ensures steps { IfOk result (λ promoted. steps.new ≤ steps.old + 3 * length promoted.served) }
+    // Whatever world the state stood for, it stands for that world with all that are due promoted.
+    ensures stands { OnOk result ((world : World) → StandsFor state.old world → StandsFor state.new (promoted world)) }
+{
+    let mut served = Seq::new(alloc);
+    let mut drained = Seq::new(alloc);
+    while let Some(number) = state.due.first() {
+        served.push(number)?;
+        let before = promote_one(state, number, steps);
+        put_one(&mut drained, &before)?;
+    }
+    Ok(Promoted { served, drained })
+}
+
+/// A new generation of a name warms, with content of the state's kind, and one that warmed under it before is dropped. It
+/// costs at most two look-ups. Without memory nothing is promised of the state.
+pub(crate) fn add<L: Ledger>(
+    state: &mut State,
+    alloc: Global,
+    name: Name,
+    content: Content,
+    steps: &mut Steps<L>,
+) -> Result<Gen, AllocError>
+    requires indexed { IsIndexed state.old }
+    requires typed { content_kind content ≡ state.old.kind }
+    requires room { state.old.table.made + 1 < 2 ^ 32 }
+    ensures indexed { OnOk result (IsIndexed state.new) }
+    ensures number { IfOk result (λ number. number ≡ state.old.table.made + 1) }
+    ensures rows { OnOk result (state.new.table.rows ≡ rows_with_new state.old.kind state.old.table.made name content state.old.table.rows) }
+    ensures made { OnOk result (state.new.table.made ≡ state.old.table.made + 1) }
+    ensures marks { OnOk result (SameMarks state.old.watches state.new.watches) }
+    ensures others { OnOk result (state.new ≡ record state.old { table = state.new.table; names = state.new.names; watches = state.new.watches; due = state.new.due }) }
+    ensures steps { OnOk result (steps.new ≤ steps.old + 2) }
+    ensures needs { OnOk result (IsNeedName (name_needed content)) }
+    // Whatever world the state stood for, it stands for that world with the new generation.
+    ensures stands { OnOk result ((world : World) → StandsFor state.old world → StandsFor state.new (record world { rows = rows_with_new state.old.kind world.made name content world.rows; made = world.made + 1 })) }
+{
+    let _text = name.as_str();
+    drop_warming(state, &name, steps);
+    append(state, alloc, name, content, steps)
+}
+
+/// What a name stands for has come to its end, or is removed: the generation that warms under it is dropped, and the one that
+/// serves it drains. It costs at most two look-ups, and takes no memory.
+pub(crate) fn end<L: Ledger>(state: &mut State, name: &Name, steps: &mut Steps<L>)
+    requires indexed { IsIndexed state.old }
+    ensures indexed { IsIndexed state.new }
+    ensures rows { state.new.table.rows ≡ rows_ended state.old.kind name.now state.old.table.rows }
+    ensures made { state.new.table.made ≡ state.old.table.made }
+    ensures marks { SameMarks state.old.watches state.new.watches }
+    ensures others { state.new ≡ record state.old { table = state.new.table; names = state.new.names; watches = state.new.watches; due = state.new.due } }
+    ensures steps { steps.new ≤ steps.old + 2 }
+    // Whatever world the state stood for, it stands for that world where the name has come to its end.
+    ensures stands { (world : World) → StandsFor state.old world → StandsFor state.new (record world { rows = rows_ended state.old.kind name.now world.rows }) }
+{
+    drop_warming(state, name, steps);
+    drain_active(state, name, steps);
+}
+
+// The generation that serves a name drains, where there is one.
+fn drain_active<L: Ledger>(state: &mut State, name: &Name, steps: &mut Steps<L>)
+    requires indexed { IsIndexed state.old }
+    ensures indexed { IsIndexed state.new }
+    ensures rows { state.new.table.rows ≡ with_statuses (status_drained name.now) state.old.table.rows }
+    ensures made { state.new.table.made ≡ state.old.table.made }
+    ensures marks { SameMarks state.old.watches state.new.watches }
+    ensures others { state.new ≡ record state.old { table = state.new.table; names = state.new.names; watches = state.new.watches; due = state.new.due } }
+    ensures steps { steps.new ≤ steps.old + 1 }
+{
+    if let Some(before) = state.names.standing(name).active {
+        retire(state, before, steps);
+    }
+}
+
+// The generation that warms under a name is dropped, where there is one.
+fn drop_warming<L: Ledger>(state: &mut State, name: &Name, steps: &mut Steps<L>)
+    requires indexed { IsIndexed state.old }
+    ensures indexed { IsIndexed state.new }
+    ensures rows { state.new.table.rows ≡ with_statuses (replaced_status state.old.kind name.now) state.old.table.rows }
+    ensures alone { (standing_in state.new.names name.now).warming ≡ None }
+    ensures made { state.new.table.made ≡ state.old.table.made }
+    ensures marks { SameMarks state.old.watches state.new.watches }
+    ensures others { state.new ≡ record state.old { table = state.new.table; names = state.new.names; watches = state.new.watches; due = state.new.due } }
+    ensures steps { steps.new ≤ steps.old + 1 }
+{
+    if let Some(before) = state.names.standing(name).warming {
+        retire(state, before, steps);
+    }
+}
+
+// A new generation of a name under which none warms.
+fn append<L: Ledger>(
+    state: &mut State,
+    alloc: Global,
+    name: Name,
+    content: Content,
+    steps: &mut Steps<L>,
+) -> Result<Gen, AllocError>
+    requires indexed { IsIndexed state.old }
+    requires alone { (standing_in state.old.names name).warming ≡ None }
+    requires room { state.old.table.made + 1 < 2 ^ 32 }
+    ensures indexed { OnOk result (IsIndexed state.new) }
+    ensures number { IfOk result (λ number. number ≡ state.old.table.made + 1) }
+    ensures rows { OnOk result (state.new.table.rows ≡ state.old.table.rows ++ new_row state.old.kind state.old.table.made name content ∷ []) }
+    ensures made { OnOk result (state.new.table.made ≡ state.old.table.made + 1) }
+    ensures marks { OnOk result (SameMarks state.old.watches state.new.watches) }
+    ensures others { OnOk result (state.new ≡ record state.old { table = state.new.table; names = state.new.names; watches = state.new.watches; due = state.new.due }) }
+    ensures steps { OnOk result (steps.new ≡ steps.old + 1) }
+    ensures needs { OnOk result (IsNeedName (name_needed content)) }
+{
+    let active = state.names.standing(&name).active;
+    let number = state
+        .table
+        .add(state.kind, name.copy(alloc)?, content.copy(alloc)?)?;
+    watch(&mut state.watches, alloc, &content, number)?;
+    let standing = Standing {
+        active,
+        warming: Some(number),
+    };
+    state.names.enter(name, standing)?;
+    refresh(
+        &state.table,
+        &state.watches,
+        &state.results,
+        &mut state.due,
+        &[number],
+        steps,
+    )?;
+    Ok(number)
+}
+
+// Puts a number to the others, where there is one.
+pub(crate) fn put_one(numbers: &mut Seq<Gen>, number: &Option<Gen>) -> Result<(), AllocError>
+    ensures { OnOk result (numbers.new ≡ numbers.old ++ option_to_list number.now) }
+{
+    if let Some(number) = number {
+        numbers.push(*number)?;
+    }
+    Ok(())
+}
+
+// What stands of a name once the one that warms, or the one that serves, is gone.
+fn left(standing: Standing, warms: bool) -> Standing
+    ensures { result ≡ (if warms then record standing { warming = None } else record standing { active = None }) }
+{
+    if warms {
+        Standing {
+            active: standing.active,
+            warming: None,
+        }
+    } else {
+        Standing {
+            active: None,
+            warming: standing.warming,
+        }
+    }
+}
+
+// A generation of this content no longer depends on anything.
+fn unwatch(watches: &mut Watches, content: &Content, number: Gen)
+    ensures { (q : List ℕ) → watch_in watches.new q ≡ (if is_needed q (name_needed content.now) then watched_less number (watch_in watches.old q) else watch_in watches.old q) }
+{
+    if let Some(name) = needed(content) {
+        watches.unwatch(name, number);
+    }
+}
+
+// A generation of this content depends on what it needs.
+fn watch(
+    watches: &mut Watches,
+    alloc: Global,
+    content: &Content,
+    number: Gen,
+) -> Result<(), AllocError>
+    ensures watched { OnOk result ((q : List ℕ) → watch_in watches.new q ≡ (if is_needed q (name_needed content.now) then watched_too number (is_limited content.now) (watch_in watches.old q) else watch_in watches.old q)) }
+    ensures named { IsNeedName (name_needed content.now) }
+{
+    match needed(content) {
+        Some(name) => watches.watch(alloc, name, number, limited(content)),
+        None => Ok(()),
+    }
+}
