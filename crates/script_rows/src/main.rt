@@ -1,6 +1,6 @@
 //! Inputs of scripts, as files. Each line of `inputs` says whether the input is `plain` or an `audit`'s, how the reading has to
 //! end (`whole:WORKERS:AUTO:NODE:LINES`, `journal:WORKERS:AUTO:NODE:LINES:BYTES` or `bad:LINE:KIND`), and the input, with `~` for
-//! a line feed. Each is read as a script and as trees. Then the input in `realistic.in` is cut behind each of its bytes. The
+//! a line feed. A plain one is read as a script and as trees. Then the input in `realistic.in` is cut behind each of its bytes. The
 //! program prints what fails, and the sums.
 #![tactic(auto)]
 
@@ -8,7 +8,7 @@ mod cuts;
 mod ends;
 
 use crate::cuts::is_told;
-use crate::ends::{script_end, trees_end};
+use crate::ends::{audited_end, script_end, trees_end};
 use std::alloc::Global;
 use std::{fs, io};
 
@@ -37,14 +37,18 @@ fn main(rt: HostRuntime) -> io::Result<()> {
     println!(rt; "{told} cuts told")
 }
 
-// Whether the reading of an input ends as its line says, as a script and as trees.
+// Whether the reading of an input ends as its line says: of a plain one as a script and as trees.
 fn passes(alloc: Global, line: &str) -> io::Result<bool> {
     let mut words = line.splitn(3, ' ');
     let audit = words.next().unwrap_or("") == "audit";
     let wanted = words.next().unwrap_or("");
     let input = input_of(alloc, words.next().unwrap_or(""))?;
-    let script = script_end(alloc, input.as_slice(), audit)?;
-    let trees = trees_end(alloc, input.as_slice(), audit)?;
+    if audit {
+        let audited = audited_end(alloc, input.as_slice())?;
+        return Ok(audited.as_str() == wanted);
+    }
+    let script = script_end(alloc, input.as_slice())?;
+    let trees = trees_end(alloc, input.as_slice())?;
     Ok(script.as_str() == wanted && trees.as_str() == wanted)
 }
 
