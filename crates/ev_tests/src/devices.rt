@@ -1,9 +1,12 @@
 use ev_app::{Status, run_program};
 use ev_io::{MemSink, MemSource};
+use ev_pace::Free;
 use ev_types::Text;
 use std::alloc::Global;
 use std::mem::drop;
+use std::sync::Wait;
 use std::test::Fail;
+use std::thread::Threads;
 
 fn texts(alloc: Global, words: &[&str]) -> Result<Vec<Text>, Fail> {
     let mut texts = Vec::new(alloc);
@@ -14,7 +17,8 @@ fn texts(alloc: Global, words: &[&str]) -> Result<Vec<Text>, Fail> {
 }
 
 // How a call of the program ended, with what it wrote left in the sink.
-fn ran_into(
+fn ran_into<R: Threads + Wait + Sync>(
+    rt: &R,
     alloc: Global,
     words: &[&str],
     input: &str,
@@ -24,11 +28,19 @@ fn ran_into(
     let texts = texts(alloc, words)?;
     let bytes = input.as_bytes().to_vec(alloc)?;
     let mut source = MemSource::new(bytes, 10, read_fails);
-    Ok(run_program(alloc, texts.as_slice(), &mut source, sink))
+    Ok(run_program(
+        rt,
+        alloc,
+        texts.as_slice(),
+        &mut source,
+        sink,
+        &Free,
+    ))
 }
 
 // How a call of the program ended, and what it wrote.
-fn ran(
+fn ran<R: Threads + Wait + Sync>(
+    rt: &R,
     alloc: Global,
     words: &[&str],
     input: &str,
@@ -36,7 +48,7 @@ fn ran(
     write_fails: Vec<u64>,
 ) -> Result<(Status, Vec<u8>), Fail> {
     let mut sink = MemSink::new(alloc, 10_000, 10, write_fails)?;
-    let status = ran_into(alloc, words, input, read_fails, &mut sink);
+    let status = ran_into(rt, alloc, words, input, read_fails, &mut sink);
     let written = sink.as_bytes().to_vec(alloc);
     drop(sink);
     Ok((status?, written?))
@@ -47,12 +59,13 @@ fn tells_why_it_ends(rt: HostRuntime) -> Result<(), Fail> {
     let alloc = rt.alloc();
     let input = "{\"workers\":16}\n{\"op\":\"connect\"}\n";
     for words in [&[][..], &["run"][..], &["replay", "x"][..]] {
-        let (status, written) = ran(alloc, words, input, Vec::new(alloc), Vec::new(alloc))?;
+        let (status, written) = ran(&rt, alloc, words, input, Vec::new(alloc), Vec::new(alloc))?;
         assert_eq!(rt; status, Status::Usage);
         assert_eq!(rt; written.len(), 0);
     }
     for call in 1..=5 {
         let (status, written) = ran(
+            &rt,
             alloc,
             &["replay"],
             input,
@@ -64,6 +77,7 @@ fn tells_why_it_ends(rt: HostRuntime) -> Result<(), Fail> {
     }
     for call in 1..=149 {
         let (status, written) = ran(
+            &rt,
             alloc,
             &["replay"],
             input,
@@ -74,6 +88,7 @@ fn tells_why_it_ends(rt: HostRuntime) -> Result<(), Fail> {
         assert_eq!(rt; written.len() as u64, 10 * (call - 1), "write {call}");
     }
     let (status, written) = ran(
+        &rt,
         alloc,
         &["replay"],
         input,
@@ -83,7 +98,7 @@ fn tells_why_it_ends(rt: HostRuntime) -> Result<(), Fail> {
     assert_eq!(rt; status, Status::Done);
     assert_eq!(rt; written.len(), 1488);
     let none = Vec::new(alloc);
-    let (status, written) = ran(alloc, &["replay"], "x", none, Vec::new(alloc))?;
+    let (status, written) = ran(&rt, alloc, &["replay"], "x", none, Vec::new(alloc))?;
     assert_eq!(rt; status, Status::BadScript { line: 1, kind: 4 });
     assert_eq!(rt; written.len(), 0);
     Ok(())

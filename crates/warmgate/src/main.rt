@@ -4,6 +4,7 @@
 
 use ev_app::{Status, run_program};
 use ev_io::{StdSink, StdSource};
+use ev_pace::Free;
 use ev_types::Text;
 use std::io;
 use std::process::ExitCode;
@@ -24,7 +25,14 @@ fn status_of(rt: &HostRuntime) -> Status {
     };
     let mut source = StdSource::new(rt.reader());
     let mut sink = StdSink::new(io::writer(rt));
-    run_program(rt.alloc(), arguments.as_slice(), &mut source, &mut sink)
+    run_program(
+        rt,
+        rt.alloc(),
+        arguments.as_slice(),
+        &mut source,
+        &mut sink,
+        &Free,
+    )
 }
 
 // The arguments of the command line after the program's name. One that isn't text is an error of another kind than being
@@ -40,7 +48,7 @@ fn arguments_of(rt: &(impl Env + AllocGlobal)) -> io::Result<Vec<Text>> {
 // Says on standard error why the program ended, where it did not end well.
 fn report(rt: &impl Eprint, status: Status) -> io::Result<()> {
     match status {
-        Status::Done => Ok(()),
+        Status::Done | Status::Illegal => Ok(()),
         Status::Usage => eprintln!(rt; "usage: warmgate replay"),
         Status::BadScript { line, kind } => eprintln!(rt; "line {line}: fault {kind}"),
         Status::ReadFault => eprintln!(rt; "read fault"),

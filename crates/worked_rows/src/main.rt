@@ -11,8 +11,11 @@ use crate::inputs::read_bytes;
 use crate::row::{Row, read_row};
 use ev_app::{Status, run_program};
 use ev_io::{MemSink, MemSource};
+use ev_pace::Free;
 use std::alloc::Global;
 use std::rt::Files;
+use std::sync::Wait;
+use std::thread::Threads;
 use std::{fs, io};
 
 /// The room for an output, in bytes, beyond that of the one that is wanted.
@@ -50,24 +53,24 @@ fn main(rt: HostRuntime) -> io::Result<()> {
 
 // Whether the program ends a row with its status and writes its output, in whatever pieces its input is read, and whether
 // a read that fails is told, whichever it is.
-fn passes<R: Files + AllocGlobal>(rt: &R, row: &Row) -> io::Result<bool> {
+fn passes<R: Files + AllocGlobal + Threads + Wait + Sync>(rt: &R, row: &Row) -> io::Result<bool> {
     let alloc = rt.alloc();
     let name = row.name.as_str();
     let input = read_bytes(rt, name, "in")?;
     let wanted = read_bytes(rt, name, "out")?;
-    if !answers(alloc, row, input.as_slice(), wanted.as_slice(), PIECE)? {
+    if !answers(rt, alloc, row, input.as_slice(), wanted.as_slice(), PIECE)? {
         return Ok(false);
     }
     if input.len() <= SHORT {
         for piece in PIECES {
-            if !answers(alloc, row, input.as_slice(), wanted.as_slice(), piece)? {
+            if !answers(rt, alloc, row, input.as_slice(), wanted.as_slice(), piece)? {
                 return Ok(false);
             }
         }
     }
     if input.len() <= SHORTEST && row.is_replay() {
         for number in 1..=input.len() as u64 + 1 {
-            if !tells_failure(alloc, row, input.as_slice(), number)? {
+            if !tells_failure(rt, alloc, row, input.as_slice(), number)? {
                 return Ok(false);
             }
         }
@@ -76,7 +79,8 @@ fn passes<R: Files + AllocGlobal>(rt: &R, row: &Row) -> io::Result<bool> {
 }
 
 // Whether the program, which reads so many bytes at once, ends a row with its status and writes its output.
-fn answers(
+fn answers<R: Threads + Wait + Sync>(
+    rt: &R,
     alloc: Global,
     row: &Row,
     input: &[u8],
@@ -91,18 +95,38 @@ fn answers(
         piece,
         Vec::new(alloc),
     )?;
-    let status = run_program(alloc, row.arguments.as_slice(), &mut source, &mut sink);
+    let status = run_program(
+        rt,
+        alloc,
+        row.arguments.as_slice(),
+        &mut source,
+        &mut sink,
+        &Free,
+    );
     Ok(row.is_end(status) && sink.as_bytes() == wanted)
 }
 
 // Whether the program, which reads one byte at once, tells that the read of this number fails, or, where the row is no
 // script, its fault, and writes nothing.
-fn tells_failure(alloc: Global, row: &Row, input: &[u8], number: u64) -> io::Result<bool> {
+fn tells_failure<R: Threads + Wait + Sync>(
+    rt: &R,
+    alloc: Global,
+    row: &Row,
+    input: &[u8],
+    number: u64,
+) -> io::Result<bool> {
     let mut fails = Vec::new(alloc);
     fails.push(number)?;
     let mut source = MemSource::new(input.to_vec(alloc)?, 1, fails);
     let mut sink = MemSink::new(alloc, 1, 1, Vec::new(alloc))?;
-    let status = run_program(alloc, row.arguments.as_slice(), &mut source, &mut sink);
+    let status = run_program(
+        rt,
+        alloc,
+        row.arguments.as_slice(),
+        &mut source,
+        &mut sink,
+        &Free,
+    );
     let told = status == Status::ReadFault || (status != Status::Done && row.is_end(status));
     Ok(told && sink.as_bytes().is_empty())
 }
