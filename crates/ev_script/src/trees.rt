@@ -117,11 +117,7 @@ pub fn read_trees_with<S: Source, F: Forms<Kept = Value>>(
 }
 
 // The trees of a script whose first line is a header of this text.
-fn made_trees(
-    alloc: Global,
-    heading: &[u8],
-    lines: Vec<Value>,
-) -> Result<ScriptTrees, AllocError>
+fn made_trees(alloc: Global, heading: &[u8], lines: Vec<Value>) -> Result<ScriptTrees, AllocError>
     requires { IsSome (option_and_then header_of (tree_of heading.now)) }
     ensures head { IfOk result (λ trees. IsTreeOf heading.now trees.head) }
     ensures header { IfOk result (λ trees. header_of (view trees.head) ≡ Some trees.header) }

@@ -28,14 +28,7 @@ fn ran_into<R: Threads + Wait + Sync>(
     let texts = texts(alloc, words)?;
     let bytes = input.as_bytes().to_vec(alloc)?;
     let mut source = MemSource::new(bytes, 10, read_fails);
-    Ok(run_program(
-        rt,
-        alloc,
-        texts.as_slice(),
-        &mut source,
-        sink,
-        &Free,
-    ))
+    Ok(run_program(rt, alloc, texts.as_slice(), &mut source, sink, &Free))
 }
 
 // How a call of the program ended, and what it wrote.
