@@ -1,6 +1,6 @@
 use ev_io::{Lines, MemSource, ScriptFault};
-use ev_script::{ScriptEnd, read_script};
-use ev_types::{Actor, Event, Line};
+use ev_script::{AuditedScript, read_audited_script, read_script};
+use ev_types::{Actor, Event, Line, Script};
 use std::alloc::{AllocError, Global};
 use std::process::Abort;
 use std::test::Fail;
@@ -9,26 +9,51 @@ use std::test::Fail;
 // many bytes the journal's first line has.
 type Told = (u32, u8, u32, usize);
 
-fn describe(end: &Result<ScriptEnd, ScriptFault>) -> Told {
+fn describe(end: &Result<Script, ScriptFault>) -> Told {
     match end {
-        Ok(ScriptEnd::Whole(script)) => (0, 0, script.count, 0),
-        Ok(ScriptEnd::Journal(script, first)) => (0, 0, script.count, first.len()),
-        Err(ScriptFault::Bad { line, kind }) => (*line, *kind, 0, 0),
-        Err(ScriptFault::Read) => (0, 100, 0, 0),
-        Err(ScriptFault::OutOfMemory) => (0, 101, 0, 0),
+        Ok(script) => (0, 0, script.count, 0),
+        Err(fault) => describe_fault(*fault),
     }
 }
 
-// Reads an input in pieces of eight bytes.
+fn describe_audited(end: &Result<AuditedScript, ScriptFault>) -> Told {
+    match end {
+        Ok(audited) => (0, 0, audited.script.count, audited.journal.len()),
+        Err(fault) => describe_fault(*fault),
+    }
+}
+
+fn describe_fault(fault: ScriptFault) -> Told {
+    match fault {
+        ScriptFault::Bad { line, kind } => (line, kind, 0, 0),
+        ScriptFault::Read => (0, 100, 0, 0),
+        ScriptFault::OutOfMemory => (0, 101, 0, 0),
+    }
+}
+
+// Reads an input, which is a script alone, in pieces of eight bytes.
 fn read_input(
     alloc: Global,
     text: &str,
-    audit: bool,
     fails: Vec<u64>,
-) -> Result<Result<ScriptEnd, ScriptFault>, AllocError> {
+) -> Result<Result<Script, ScriptFault>, AllocError> {
     let mut lines = Lines::new(alloc)?;
     let mut source = MemSource::new(text.as_bytes().to_vec(alloc)?, 8, fails);
-    let end = read_script(alloc, &mut lines, &mut source, audit);
+    let end = read_script(alloc, &mut lines, &mut source);
+    drop(source);
+    drop(lines);
+    Ok(end)
+}
+
+// The same of an audit's input.
+fn read_audited(
+    alloc: Global,
+    text: &str,
+    fails: Vec<u64>,
+) -> Result<Result<AuditedScript, ScriptFault>, AllocError> {
+    let mut lines = Lines::new(alloc)?;
+    let mut source = MemSource::new(text.as_bytes().to_vec(alloc)?, 8, fails);
+    let end = read_audited_script(alloc, &mut lines, &mut source);
     drop(source);
     drop(lines);
     Ok(end)
@@ -36,7 +61,13 @@ fn read_input(
 
 // How its reading ends.
 fn end_of(alloc: Global, text: &str, audit: bool, fails: Vec<u64>) -> Result<Told, AllocError> {
-    let end = read_input(alloc, text, audit, fails)?;
+    if audit {
+        let end = read_audited(alloc, text, fails)?;
+        let told = describe_audited(&end);
+        drop(end);
+        return Ok(told);
+    }
+    let end = read_input(alloc, text, fails)?;
     let told = describe(&end);
     drop(end);
     Ok(told)
@@ -175,9 +206,9 @@ fn assert_accept(rt: &impl Abort, line: &Line) {
 }
 
 // The same of the last line of an input that is a script.
-fn assert_last(rt: &impl Abort, end: &Result<ScriptEnd, ScriptFault>) {
+fn assert_last(rt: &impl Abort, end: &Result<Script, ScriptFault>) {
     match end {
-        Ok(ScriptEnd::Whole(script)) => match script.lines.as_slice().last() {
+        Ok(script) => match script.lines.as_slice().last() {
             Some(line) => assert_accept(rt, line),
             None => assert!(rt; false, "no line"),
         },
@@ -187,7 +218,7 @@ fn assert_last(rt: &impl Abort, end: &Result<ScriptEnd, ScriptFault>) {
 
 #[test]
 fn keeps_numbers_exactly(rt: HostRuntime) -> Result<(), Fail> {
-    let end = read_input(rt.alloc(), ACCEPT, false, Vec::new(rt.alloc()))?;
+    let end = read_input(rt.alloc(), ACCEPT, Vec::new(rt.alloc()))?;
     assert_last(&rt, &end);
     drop(end);
     Ok(())

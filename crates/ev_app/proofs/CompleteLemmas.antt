@@ -1,10 +1,22 @@
--- A script that the source tells is replayed.
-use Rattle.std.proofs.Common.{◌≡◌, ℕ, Bool, true, false, List, [], ◌++◌, Option, None, Some, refl, sym, ap, subst, ◌∙◌, append-nil}
+-- An input without fault that the source tells is answered.
+use Rattle.std.proofs.Common.{◌≡◌, ℕ, Bool, true, false, List, [], ◌++◌, IsTrue, Option, None, Some, ◌⊎◌, inl, inr, refl, sym, ap, subst, ◌∙◌, append-nil}
 use Rattle.std.specs.Io.KnownBytes.{IsAtEnd, prepend_known}
-use Rattle.ev_script.specs.Faults.{Input, Stands, IsFaultOf, HasNoFault, plain_lines}
+use Rattle.ev_script.specs.declared.fault_kinds.FaultKind.{FaultKind}
+use Rattle.ev_script.specs.Faults.{Input, plain_lines}
 use Rattle.ev_script.proofs.PrefixLemmas.{stands_more}
-use Rattle.ev_app.specs.Input.{TakesInput}
+use Rattle.ev_app.specs.declared.commands.Command.{Command}
+use Rattle.ev_app.specs.declared.commands.Command.TheVariants.{Replay}
+use Rattle.ev_app.specs.Input.{has_journal, IsTakenFor}
+use Rattle.ev_app.specs.Faults.{IsEarly, NoneEarly, IsLate, IsFirstEarly, IsFaultFor, HasNoneFor}
 use Rattle.ev_app.specs.Status.{Outside, IsHonest}
+
+-- an input of a command
+abbrev told : Command → List ℕ → Bool → Input
+told command bytes ended = record { bytes = bytes; ended = ended; audit = has_journal command }
+
+-- an early fault is one however the bytes go on
+early_more : (command : Command) (xs ys : List ℕ) (place : ℕ) (kind : FaultKind) → IsEarly command (told command xs false) place kind → IsEarly command (told command (xs ++ ys) true) place kind
+early_more Replay xs ys place kind early = stands_more plain_lines xs ys true false place kind early
 
 -- the bytes taken are a front of those told, and all of them at the end
 front_of : (bytes taken : List ℕ) (after : Option (List ℕ)) → Some bytes ≡ prepend_known taken after → (rest : List ℕ) × (bytes ≡ taken ++ rest) × (IsAtEnd after → rest ≡ [])
@@ -12,25 +24,33 @@ front_of bytes taken None e = cc
 front_of bytes taken (Some rest) e = let same : bytes ≡ taken ++ rest = cc in (rest, same, λ h. h)
 
 -- so a fault of the bytes taken is one of those told
-no_fault_of : (bytes : List ℕ) (input : Input) (after : Option (List ℕ)) (line kind : ℕ) → HasNoFault plain_lines record { bytes = bytes; ended = true; audit = false } → TakesInput (Some bytes) after input → IsFaultOf plain_lines input line kind → ⊥
-no_fault_of bytes input after line kind sound takes fault = by_end input.ended refl
+none_of_front : (command : Command) (bytes : List ℕ) (input : Input) (after : Option (List ℕ)) (line number : ℕ) → HasNoneFor command (told command bytes true) → IsTakenFor command (Some bytes) after input → IsFaultFor command input line number → ⊥
+none_of_front command bytes input after line number sound takes fault = by_end input.ended refl
   where
     front : (rest : List ℕ) × (bytes ≡ input.bytes ++ rest) × (IsAtEnd after → rest ≡ [])
     front = front_of bytes input.bytes after takes.taken
 
+    by_whole : input ≡ told command bytes true → IsFirstEarly command input line number ⊎ (IsTrue input.ended × NoneEarly command input × IsLate command input.bytes line number) → ⊥
+    by_whole whole (inl first) = sound.early first.place first.kind (subst (λ (x : Input). IsEarly command x first.place first.kind) whole first.stands)
+    by_whole whole (inr late) = sound.late refl line number (subst (λ (x : Input). IsLate command x.bytes line number) whole late.2)
+
+    by_part : input ≡ told command input.bytes false → IsFirstEarly command input line number ⊎ (IsTrue input.ended × NoneEarly command input × IsLate command input.bytes line number) → ⊥
+    by_part part (inl first) =
+        let stands : IsEarly command (told command (input.bytes ++ front.0) true) first.place first.kind =
+        early_more command input.bytes front.0 first.place first.kind (subst (λ (x : Input). IsEarly command x first.place first.kind) part first.stands) in
+        sound.early first.place first.kind (subst (λ (bs : List ℕ). IsEarly command (told command bs true) first.place first.kind) (sym front.1) stands)
+    by_part part (inr late) =
+        let no : false ≡ true = subst (λ (x : Input). IsTrue x.ended) part late.0 in
+        cc
+
     by_end : (ended : Bool) → input.ended ≡ ended → ⊥
     by_end true e =
         let same : bytes ≡ input.bytes = front.1 ∙ ap (λ (rest : List ℕ). input.bytes ++ rest) (front.2 (takes.ended e)) ∙ append-nil input.bytes in
-        let whole : input ≡ record { bytes = bytes; ended = true; audit = false } = λ i. record { bytes = sym same i; ended = e i; audit = takes.script i } in
-        sound fault.place fault.kind (subst (λ (x : Input). Stands plain_lines x fault.place fault.kind) whole fault.first.stands)
-    by_end false e =
-        let part : input ≡ record { bytes = input.bytes; ended = false; audit = false } = λ i. record { bytes = input.bytes; ended = e i; audit = takes.script i } in
-        let stands : Stands plain_lines record { bytes = input.bytes ++ front.0; ended = true; audit = false } fault.place fault.kind =
-        stands_more plain_lines input.bytes front.0 true false fault.place fault.kind (subst (λ (x : Input). Stands plain_lines x fault.place fault.kind) part fault.first.stands) in
-        sound fault.place fault.kind (subst (λ (bs : List ℕ). Stands plain_lines record { bytes = bs; ended = true; audit = false } fault.place fault.kind) (sym front.1) stands)
+        by_whole (λ i. record { bytes = sym same i; ended = e i; audit = takes.asked i }) fault
+    by_end false e = by_part (λ i. record { bytes = input.bytes; ended = e i; audit = takes.asked i }) fault
 
 -- an honest source's bytes are not refused
-pub not_refused : (outside : Outside) (line kind : ℕ) (input : Input) → TakesInput outside.left_before outside.left_after input → IsFaultOf plain_lines input line kind → IsHonest outside → ⊥
-not_refused outside line kind input taken fault honest =
-    no_fault_of honest.bytes input outside.left_after line kind honest.sound
-    (subst (λ (left : Option (List ℕ)). TakesInput left outside.left_after input) honest.told taken) fault
+pub not_refused : (command : Command) (outside : Outside) (line number : ℕ) (input : Input) → IsTakenFor command outside.left_before outside.left_after input → IsFaultFor command input line number → IsHonest command outside → ⊥
+not_refused command outside line number input taken fault honest =
+    none_of_front command honest.bytes input outside.left_after line number honest.sound
+    (subst (λ (left : Option (List ℕ)). IsTakenFor command left outside.left_after input) honest.told taken) fault

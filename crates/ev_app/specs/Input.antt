@@ -1,35 +1,24 @@
--- What is taken of the input, and what it is.
-use Rattle.std.specs.Prelude.{◌≡◌, ℕ, ◌+◌, ◌≤◌, false, IsTrue, ⊤, List, length, Option, Some, Result, Ok, Err}
+-- What is taken of the input.
+use Rattle.std.specs.Prelude.{◌≡◌, ℕ, ◌+◌, ◌≤◌, Bool, false, IsTrue, List, length, Option}
 use Rattle.std.specs.Io.KnownBytes.{IsAtEnd}
 use Rattle.ev_io.specs.declared.limits.TheConstants.{MAX_INPUT_BYTES}
-use Rattle.ev_io.specs.declared.faults.ScriptFault.{ScriptFault}
-use Rattle.ev_io.specs.declared.faults.ScriptFault.TheVariants.{Bad, Read, OutOfMemory}
 use Rattle.ev_io.specs.Outside.{Takes}
-use Rattle.ev_types.specs.Scripts.{ScriptParts}
-use Rattle.ev_script.specs.Faults.{Input, IsFaultOf, HasNoFault, plain_lines}
-use Rattle.ev_script.specs.Script.{script_of}
+use Rattle.ev_script.specs.Faults.{Input}
+use Rattle.ev_app.specs.declared.commands.Command.{Command}
+use Rattle.ev_app.specs.declared.commands.Command.TheVariants.{Replay}
 
--- these bytes were taken, at most one more than an input may have: a script's, to the end of the source where it gave that
-pub record TakesInput (before after : Option (List ℕ)) (input : Input) : Type 0 where
-  pub script : input.audit ≡ false
+-- these bytes were taken, at most one more than an input may have, to the end of the source where it gave that; whether a
+-- journal has to follow the script is `audit`
+pub record TakesInput (audit : Bool) (before after : Option (List ℕ)) (input : Input) : Type 0 where
+  pub asked : input.audit ≡ audit
   pub taken : Takes before after input.bytes
   pub at_most : length input.bytes ≤ MAX_INPUT_BYTES + 1
   pub ended : IsTrue input.ended → IsAtEnd after
 
--- the bytes to the end of the input are this script, which has no fault
-pub record IsInput (input : Input) (script : ScriptParts) : Type 0 where
-  pub ended : IsTrue input.ended
-  pub sound : HasNoFault plain_lines input
-  pub reads : script_of false input.bytes ≡ Some script
+-- whether a journal has to follow the script that a command reads
+abbrev pub has_journal : Command → Bool
+has_journal Replay = false
 
--- a read failed before the end of the input and before a fault of the bytes taken
-pub record IsCutOff (input : Input) : Type 0 where
-  pub goes_on : ¬ (IsTrue input.ended)
-  pub sound : HasNoFault plain_lines input
-
--- what an answer about the input means
-abbrev pub IsInputAnswer : Input → Result ScriptParts ScriptFault → Type 0
-IsInputAnswer input (Ok script) = IsInput input script
-IsInputAnswer input (Err (Bad line kind)) = IsFaultOf plain_lines input line kind
-IsInputAnswer input (Err Read) = IsCutOff input
-IsInputAnswer input (Err OutOfMemory) = ⊤
+-- this was taken for a command
+abbrev pub IsTakenFor : Command → Option (List ℕ) → Option (List ℕ) → Input → Type 0
+IsTakenFor command before after input = TakesInput (has_journal command) before after input

@@ -1,17 +1,14 @@
--- How a call of the program ends.
-use Rattle.std.specs.Prelude.{ℕ, ◌≡◌, ◌≤◌, List, [], ◌∷◌, true, false, Option, Some, codes}
+-- How a call of the program ends, for every command.
+use Rattle.std.specs.Prelude.{ℕ, ◌≡◌, ◌≤◌, List, true, Option, Some}
 use Rattle.std.specs.Io.KnownBytes.{append_known}
 use Rattle.ev_io.specs.Outside.{Rose, AppendsPrefix}
-use Rattle.ev_app.specs.declared.program.Status.{Status}
-use Rattle.ev_app.specs.declared.program.Status.TheVariants.{Done, Usage, BadScript, ReadFault, WriteFault, OutOfMemory}
-use Rattle.ev_types.specs.Scripts.{ScriptParts}
-use Rattle.ev_script.specs.Faults.{Input, IsFaultOf, HasNoFault, plain_lines}
-use Rattle.ev_app.specs.Input.{TakesInput, IsInput, IsCutOff}
-use Rattle.ev_app.specs.Replay.{IsReplayText}
-
--- the one argument that is a form
-abbrev pub replay_arguments : List (List ℕ)
-replay_arguments = codes "replay" ∷ []
+use Rattle.ev_script.specs.Faults.{Input}
+use Rattle.ev_app.specs.declared.commands.Command.{Command}
+use Rattle.ev_app.specs.declared.status.Status.{Status}
+use Rattle.ev_app.specs.declared.status.Status.TheVariants.{Done, Illegal, Usage, BadScript, ReadFault, WriteFault, OutOfMemory}
+use Rattle.ev_app.specs.Input.{has_journal, IsTakenFor}
+use Rattle.ev_app.specs.Faults.{IsFaultFor, HasNoneFor, IsCutOff}
+use Rattle.ev_app.specs.Texts.{IsAnswerTo}
 
 -- what a source and a sink told and counted before a call and after it
 pub record Outside : Type 0 where
@@ -56,58 +53,57 @@ pub record TouchesNothing (outside : Outside) : Type 0 where
   pub reads : ReadsWell outside
   pub written : WritesNothing outside
 
--- the source is at its end without a failed read, the bytes taken are a script without fault, and the text is that of its
--- replay
-pub record ReadsScript (outside : Outside) (text : List ℕ) : Type 0 where
+-- the source is at its end without a failed read, the bytes taken are an input of the command without fault, and this text
+-- and this status answer it
+pub record Makes (command : Command) (outside : Outside) (status : Status) (text : List ℕ) : Type 0 where
   pub input : Input
-  pub takes : TakesInput outside.left_before outside.left_after input
-  pub script : ScriptParts
-  pub is : IsInput input script
+  pub takes : IsTakenFor command outside.left_before outside.left_after input
+  pub is : IsAnswerTo command input status text
   pub reads : ReadsWell outside
-  pub answers : IsReplayText script text
 
--- the input is a script, and the text of its replay is appended without a failed write
-pub record Replays (outside : Outside) : Type 0 where
+-- the text that answers the input with this status is appended, without a failed write
+pub record Writes (command : Command) (status : Status) (outside : Outside) : Type 0 where
   pub text : List ℕ
-  pub read : ReadsScript outside text
+  pub made : Makes command outside status text
   pub appended : outside.written_after ≡ append_known outside.written_before text
   pub writes : WritesWell outside
 
--- the bytes taken have this first fault, no read failed, and nothing is written
-pub record Refuses (outside : Outside) (line kind : ℕ) : Type 0 where
+-- the bytes taken have this fault, no read failed, and nothing is written
+pub record Refuses (command : Command) (outside : Outside) (line number : ℕ) : Type 0 where
   pub input : Input
-  pub takes : TakesInput outside.left_before outside.left_after input
-  pub fault : IsFaultOf plain_lines input line kind
+  pub takes : IsTakenFor command outside.left_before outside.left_after input
+  pub fault : IsFaultFor command input line number
   pub reads : ReadsWell outside
   pub written : WritesNothing outside
 
 -- a read failed before the end of the input and before a fault of the bytes taken, and nothing is written
-pub record FailsToRead (outside : Outside) : Type 0 where
+pub record FailsToRead (command : Command) (outside : Outside) : Type 0 where
   pub input : Input
-  pub takes : TakesInput outside.left_before outside.left_after input
-  pub cut_off : IsCutOff input
+  pub takes : IsTakenFor command outside.left_before outside.left_after input
+  pub cut_off : IsCutOff command input
   pub rose : Rose outside.reads_before outside.reads_after
   pub written : WritesNothing outside
 
--- the input is a script, a write failed, and a prefix of the text of its replay is appended
-pub record FailsToWrite (outside : Outside) : Type 0 where
+-- a text answers the input, a write failed, and a prefix of the text is appended
+pub record FailsToWrite (command : Command) (outside : Outside) : Type 0 where
+  pub status : Status
   pub text : List ℕ
-  pub read : ReadsScript outside text
+  pub made : Makes command outside status text
   pub rose : Rose outside.writes_before outside.writes_after
   pub appended : AppendsPrefix outside.written_before outside.written_after text
 
 -- there was no memory: the source was read without a fault, no further than in the other cases, and nothing is written
-pub record LacksMemory (outside : Outside) : Type 0 where
+pub record LacksMemory (command : Command) (outside : Outside) : Type 0 where
   pub input : Input
-  pub takes : TakesInput outside.left_before outside.left_after input
+  pub takes : IsTakenFor command outside.left_before outside.left_after input
   pub reads : ReadsWell outside
   pub written : WritesNothing outside
 
--- the source tells a script without fault, and neither count of faults rose
-pub record IsHonest (outside : Outside) : Type 0 where
+-- the source tells an input of the command without fault, and neither count of faults rose
+pub record IsHonest (command : Command) (outside : Outside) : Type 0 where
   pub bytes : List ℕ
   pub told : outside.left_before ≡ Some bytes
-  pub sound : HasNoFault plain_lines record { bytes = bytes; ended = true; audit = false }
+  pub sound : HasNoneFor command record { bytes = bytes; ended = true; audit = has_journal command }
   pub no_read_fault : ¬ Rose outside.reads_before outside.reads_after
   pub no_write_fault : ¬ Rose outside.writes_before outside.writes_after
 
@@ -116,17 +112,19 @@ pub record CountsOn (outside : Outside) : Type 0 where
   pub reads : outside.reads_before ≤ outside.reads_after
   pub writes : outside.writes_before ≤ outside.writes_after
 
--- how a call ends, by its status
-abbrev pub Ends : Status → Outside → Type 0
--- the input was read to its end, it is a script, and the whole text of its replay was written
-Ends Done outside = Replays outside
--- the arguments are no form: nothing was read or written
-Ends Usage outside = TouchesNothing outside
--- the input isn't a script, and this is its first fault: nothing was written
-Ends (BadScript line kind) outside = Refuses outside line kind
+-- how a call for a command ends, by its status
+abbrev pub Ends : Status → Command → Outside → Type 0
+-- the input was read to its end, it has no fault, and the whole text that answers it with Done was written
+Ends Done command outside = Writes command Done outside
+-- the same with a text that answers it with Illegal
+Ends Illegal command outside = Writes command Illegal outside
+-- no command ends so
+Ends Usage command outside = ⊥
+-- the input has this fault: nothing was written
+Ends (BadScript line number) command outside = Refuses command outside line number
 -- a read failed: nothing was written
-Ends ReadFault outside = FailsToRead outside
+Ends ReadFault command outside = FailsToRead command outside
 -- a write failed: a prefix of the text was written
-Ends WriteFault outside = FailsToWrite outside
+Ends WriteFault command outside = FailsToWrite command outside
 -- out of memory: nothing was written
-Ends OutOfMemory outside = LacksMemory outside
+Ends OutOfMemory command outside = LacksMemory command outside

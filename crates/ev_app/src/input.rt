@@ -1,16 +1,15 @@
 ghost use Rattle.std.specs.Prelude.{◌≡◌, ◌≤◌, ◌⊎◌, Err};
 ghost use Rattle.ev_io.specs.Outside.{Rose};
-ghost use Rattle.ev_script.specs.Faults.{Input};
-ghost use Rattle.ev_app.specs.Input.{TakesInput, IsInputAnswer};
+ghost use Rattle.ev_app.specs.Scripts.{ReadsScript};
 
 use ev_io::{Lines, ScriptFault, Source};
-use ev_script::{ScriptEnd, read_script};
+use ev_script::read_script;
 use ev_types::Script;
 use std::alloc::Global;
 
 // Reads the script that the source's bytes are.
 pub(crate) fn read_input<S: Source>(alloc: Global, source: &mut S) -> Result<Script, ScriptFault>
-    ensures reads { (input : Input) × TakesInput (S.left source.old) (S.left source.new) input × IsInputAnswer input result }
+    ensures reads { ReadsScript (S.left source.old) (S.left source.new) result }
     ensures failed { result ≡ Err ScriptFault.Read → Rose (S.faults source.old) (S.faults source.new) }
     ensures same_count { (S.faults source.new ≡ S.faults source.old) ⊎ (result ≡ Err ScriptFault.Read) }
     ensures count { S.faults source.old ≤ S.faults source.new }
@@ -18,8 +17,5 @@ pub(crate) fn read_input<S: Source>(alloc: Global, source: &mut S) -> Result<Scr
     let Ok(mut lines) = Lines::new(alloc) else {
         return Err(ScriptFault::OutOfMemory);
     };
-    match read_script(alloc, &mut lines, source, false)? {
-        ScriptEnd::Whole(script) => Ok(script),
-        ScriptEnd::Journal(_, _) => unreachable!(),
-    }
+    read_script(alloc, &mut lines, source)
 }

@@ -1,93 +1,75 @@
-ghost use Rattle.std.specs.Prelude.{◌≡◌, ◌≢◌, ◌↔◌, ◌⊎◌, IsTrue};
-ghost use Rattle.ev_app.specs.Status.{outside_of, replay_arguments, IsHonest, CountsOn, Ends};
+ghost use Rattle.std.specs.Prelude.{◌≡◌, ◌↔◌};
+ghost use Rattle.ev_app.specs.declared.commands.Command.{Command};
+ghost use Rattle.ev_app.specs.Commands.{Asks};
+ghost use Rattle.ev_app.specs.Texts.{IsAnswered};
+ghost use Rattle.ev_app.specs.Status.{outside_of, TouchesNothing, IsHonest, CountsOn, Ends};
 
-use crate::input::read_input;
-use crate::replay::replay_text;
+use crate::commands::{Command, command_of};
+use crate::made::make;
+use crate::status::Status;
 use ev_io::{ScriptFault, Sink, Source, write_all};
+use ev_pace::Pace;
 use ev_types::Text;
 use std::alloc::Global;
-
-/// How a call of the program ends.
-#[derive(Clone, Copy, Debug, PartialEq, Eq)]
-pub enum Status {
-    /// The input was read to its end, and the whole text was written.
-    Done,
-    /// The arguments aren't a form that is built.
-    Usage,
-    /// The input isn't a script: the line, counted from 1, and the kind of its first fault.
-    BadScript { line: u32, kind: u8 },
-    /// A read failed.
-    ReadFault,
-    /// A write failed.
-    WriteFault,
-    /// There was no memory.
-    OutOfMemory,
-}
-
-impl Status {
-    ghost use Rattle.ev_app.specs.Exit.{exit_of};
-
-    /// The exit status of the process: 0 for Done, then 2 to 6 in the order in which the statuses stand.
-    pub fn exit_status(self) -> u8
-        ensures { result ≡ exit_of self }
-    {
-        match self {
-            Status::Done => 0,
-            Status::Usage => 2,
-            Status::BadScript { .. } => 3,
-            Status::ReadFault => 4,
-            Status::WriteFault => 5,
-            Status::OutOfMemory => 6,
-        }
-    }
-}
+use std::sync::Wait;
+use std::thread::Threads;
 
 /// Runs the program on the arguments of its command line. The one argument `replay` reads a script, replays it on one
-/// thread and writes its journal, in format 2; other arguments are `Usage`.
+/// thread and writes its journal, in format 2; other arguments are `Usage`. A run with a thread for each actor takes its
+/// threads of `rt`, and is told to `pace` at each step.
 ///
 /// `BadScript` tells the first fault of the bytes taken, those at the end of the input only where the source gave its
 /// end. A read that failed is told only where the bytes taken have no fault. Out of memory, nothing is written. An answer
 /// without a fault of the source leaves the source's count of faults as it was, and so it is of the sink. The journal whose
 /// text is written, in full or cut off by a write that failed, has the laws of runs.
-pub fn run_program<S: Source, K: Sink>(
+pub fn run_program<R: Threads + Wait + Sync, S: Source, K: Sink, P: Pace + Sync>(
+    _rt: &R,
     alloc: Global,
     arguments: &[Text],
     source: &mut S,
     sink: &mut K,
+    _pace: &P,
 ) -> Status
-    ensures usage { (result ≡ Status.Usage) ↔ (arguments.now ≢ replay_arguments) }
-    ensures ends { Ends result
+    ensures usage { (result ≡ Status.Usage) ↔ ((command : Command) → ¬ (Asks arguments.now command)) }
+    ensures untouched { result ≡ Status.Usage → TouchesNothing
+        (outside_of S.left S.faults K.written K.faults source.old source.new sink.old sink.new) }
+    ensures ends { (command : Command) → Asks arguments.now command → Ends result command
         (outside_of S.left S.faults K.written K.faults source.old source.new sink.old sink.new) }
     ensures counts { CountsOn
         (outside_of S.left S.faults K.written K.faults source.old source.new sink.old sink.new) }
-    ensures completes { arguments.now ≡ replay_arguments → IsHonest
+    ensures completes { (command : Command) → Asks arguments.now command → IsHonest command
         (outside_of S.left S.faults K.written K.faults source.old source.new sink.old sink.new)
-        → (result ≡ Status.Done) ⊎ (result ≡ Status.OutOfMemory) }
+        → IsAnswered command result }
 {
-    if !is_replay(arguments) {
+    let Some(command) = command_of(arguments) else {
         return Status::Usage;
-    }
-    let script = match read_input(alloc, source) {
-        Ok(script) => script,
+    };
+    run_command(alloc, command, source, sink)
+}
+
+// Runs a command.
+fn run_command<S: Source, K: Sink>(
+    alloc: Global,
+    command: Command,
+    source: &mut S,
+    sink: &mut K,
+) -> Status
+    ensures ends { Ends result command
+        (outside_of S.left S.faults K.written K.faults source.old source.new sink.old sink.new) }
+    ensures counts { CountsOn
+        (outside_of S.left S.faults K.written K.faults source.old source.new sink.old sink.new) }
+    ensures completes { IsHonest command
+        (outside_of S.left S.faults K.written K.faults source.old source.new sink.old sink.new)
+        → IsAnswered command result }
+{
+    let made = match make(alloc, command, source) {
+        Ok(made) => made,
         Err(ScriptFault::Bad { line, kind }) => return Status::BadScript { line, kind },
         Err(ScriptFault::Read) => return Status::ReadFault,
         Err(ScriptFault::OutOfMemory) => return Status::OutOfMemory,
     };
-    let Ok(text) = replay_text(alloc, &script) else {
-        return Status::OutOfMemory;
-    };
-    match write_all(sink, text.as_slice()) {
-        Ok(()) => Status::Done,
+    match write_all(sink, made.text.as_slice()) {
+        Ok(()) => made.status,
         Err(_) => Status::WriteFault,
-    }
-}
-
-// Whether the arguments are the one argument `replay`.
-fn is_replay(arguments: &[Text]) -> bool
-    ensures { IsTrue result ↔ (arguments.now ≡ replay_arguments) }
-{
-    match arguments {
-        [argument] => argument.as_str() == "replay",
-        _ => false,
     }
 }

@@ -1,8 +1,15 @@
-ghost use Rattle.std.specs.Prelude.{IfOk};
+ghost use Rattle.std.specs.Prelude.{◌≡◌, ◌≤◌, ◌⊎◌, Err, IfOk};
+ghost use Rattle.ev_io.specs.Outside.{Rose};
+ghost use Rattle.ev_app.specs.declared.commands.Command.TheVariants.{Replay};
 ghost use Rattle.ev_actors.specs.Journals.{HasReplayed};
 ghost use Rattle.ev_app.specs.Replay.{IsReplayText};
+ghost use Rattle.ev_app.specs.Texts.{IsMadeBy};
 
+use crate::input::read_input;
+use crate::made::Made;
+use crate::status::Status;
 use ev_actors::Journaled;
+use ev_io::{ScriptFault, Source};
 use ev_journal::render_journal;
 use ev_model_laws::runs_have_the_laws;
 use ev_registry::Registry;
@@ -10,8 +17,25 @@ use ev_types::{Format, Script};
 use std::alloc::{AllocError, Global};
 use std::mem::drop;
 
+// Makes the journal of the script that the source's bytes are.
+pub(crate) fn make_replay<S: Source>(alloc: Global, source: &mut S) -> Result<Made, ScriptFault>
+    ensures made { IsMadeBy Replay (S.left source.old) (S.left source.new) result }
+    ensures failed { result ≡ Err ScriptFault.Read → Rose (S.faults source.old) (S.faults source.new) }
+    ensures same_count { (S.faults source.new ≡ S.faults source.old) ⊎ (result ≡ Err ScriptFault.Read) }
+    ensures count { S.faults source.old ≤ S.faults source.new }
+{
+    let script = read_input(alloc, source)?;
+    match replay_text(alloc, &script) {
+        Ok(text) => Ok(Made {
+            text,
+            status: Status::Done,
+        }),
+        Err(_) => Err(ScriptFault::OutOfMemory),
+    }
+}
+
 // The text of the journal of a script's replay on one thread, by the rules of format 2.
-pub(crate) fn replay_text(alloc: Global, script: &Script) -> Result<Vec<u8>, AllocError>
+fn replay_text(alloc: Global, script: &Script) -> Result<Vec<u8>, AllocError>
     ensures { IfOk result (λ text. IsReplayText script.now text.items) }
 {
     // the journal is a run, and each run has the laws

@@ -1,15 +1,16 @@
 -- Network filters (`envoy.config.listener.v3.Filter`) and filter chains (`envoy.config.listener.v3.FilterChain`).
 -- Connection managers and TCP proxies are read; filters of other types are passed over.
-use Rattle.std.specs.Prelude.{ℕ, ◌||◌, List, map, Bool, not, if◌then◌else◌, Option, Some, None, is_some, codes}
+use Rattle.std.specs.Prelude.{ℕ, ◌||◌, List, [], map, Bool, false, not, if◌then◌else◌, Option, Some, None, is_some, unwrap_or, Result, codes}
 use Rattle.std.specs.Str.{bytes_eq}
 use Rattle.serde_json.specs.Data.{Data}
 use Rattle.ev_types.specs.declared.listeners.Serve.{Serve}
-use Rattle.ev_types.specs.declared.listeners.Serve.TheVariants.{Tcp}
+use Rattle.ev_types.specs.declared.listeners.Serve.TheVariants.{Tcp, Inline}
 use Rattle.ev_tree.specs.declared.broken.BrokenRules.{BrokenRules}
 use Rattle.ev_tree.specs.declared.outcome.Found.{Found}
 use Rattle.ev_tree.specs.declared.outcome.Found.TheVariants.{Absent, Wrong, Given}
 use Rattle.ev_tree.specs.Forms.{is_wrong, inside, listed, text_of, object_of, objects_of}
-use Rattle.ev_tree.specs.Broken.{none_broken, either_broken, any_broken}
+use Rattle.ev_tree.specs.Rules.{judged}
+use Rattle.ev_tree.specs.Broken.{none_broken, either_broken, any_broken, least_of}
 use Rattle.ev_route_json.specs.Presence.{exactly_one}
 use Rattle.ev_route_json.specs.Targets.{target_of, target_broken}
 use Rattle.ev_listener_json.specs.declared.filters.FilterKind.{FilterKind}
@@ -88,3 +89,13 @@ chain_broken chain = either_broken (any_broken filter_broken (filters_of chain))
   v16 = has_member (inside (object_of (codes "filter_chain_match") chain));
   v17 = not (exactly_one (map filter_serves (filters_of chain)));
 })
+
+-- ---- a filter chain among several, which may have a match
+
+-- what it breaks but V16
+abbrev pub chain_refused : Data → BrokenRules
+chain_refused chain = record (chain_broken chain) { v16 = false }
+
+-- what it reads as
+abbrev pub chain_reading : Data → Result Serve ℕ
+chain_reading chain = judged (least_of (chain_refused chain)) (unwrap_or (chain_serve chain) (Inline (record { hosts = [] })))

@@ -7,5 +7,5 @@ mod listeners;
 mod managers;
 mod objects;
 
-pub use chains::inspect_chain;
+pub use chains::{chain_rule_is_least, inspect_chain, read_chain};
 pub use listeners::{listener_rule_is_least, read_listener};

@@ -1,15 +1,14 @@
-ghost use Rattle.std.specs.Prelude.{◌≡◌, ◌==◌, IfOk, true, unwrap_or, [], length};
+ghost use Rattle.std.specs.Prelude.{◌≡◌, ◌==◌, IfOk, true, length};
 ghost use Rattle.serde_json.specs.Data.{Data};
-ghost use Rattle.ev_types.specs.declared.listeners.Serve.TheVariants.{Inline};
 ghost use Rattle.serde_json.specs.View.{view};
 ghost use Rattle.ev_tree.specs.Addresses.{address_text_of, port_of};
 ghost use Rattle.ev_tree.specs.Rules.{ReadsAs, IsLeast, is_name};
 ghost use Rattle.ev_tree.specs.Broken.{rules_of, least_of};
 ghost use Rattle.ev_listener_json.specs.Listeners.{listener_reading, listener_broken, name_of, serve_of, is_udp};
 
-use crate::chains::inspect_chains;
+use crate::chains::{inspect_chains, serve_or_none};
 use ev_tree::{BrokenRules, EnumTable, Found, ReadError, is_name, member, socket_address};
-use ev_types::{Host, Listener, Name, NameError, RouteTable, Seq, Serve, Shared};
+use ev_types::{Host, Listener, Name, NameError, Serve};
 use serde_json::Value;
 use std::alloc::{AllocError, Global};
 
@@ -99,21 +98,6 @@ fn is_udp(protocol: Found<u32>) -> bool
     ensures { result ≡ is_udp protocol }
 {
     matches!(protocol, Found::Given(1))
-}
-
-// What is served: a table with no hosts where nothing is.
-fn serve_or_none(alloc: Global, serve: Option<Serve>) -> Result<Serve, AllocError>
-    ensures { IfOk result (λ served. served ≡ unwrap_or serve (Inline (record { hosts = [] }))) }
-{
-    match serve {
-        Some(serve) => Ok(serve),
-        None => {
-            let table = RouteTable {
-                hosts: Seq::new(alloc),
-            };
-            Ok(Serve::Inline(Shared::new(alloc, table)?))
-        }
-    }
 }
 
 // The name that a text is which was found to have 1 to 512 bytes.

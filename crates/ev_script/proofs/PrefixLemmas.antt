@@ -8,8 +8,7 @@ use Rattle.ev_io.proofs.LineLemmas.{lines_of-append, feeds_in-closed, closed-app
 use Rattle.ev_script.specs.declared.fault_kinds.FaultKind.{FaultKind}
 use Rattle.ev_script.specs.declared.fault_kinds.FaultKind.TheVariants.{TooLong, TooMany, TooLarge, NotJson, NotHeader, NotLine, NoSuchWorker, NoByte, NotJournal}
 use Rattle.ev_script.specs.Members.{tree_of}
-use Rattle.ev_script.specs.Header.{header_of}
-use Rattle.ev_script.specs.Faults.{Input, index_at, tree_at, EndsLine, BeginsJournal, EndsScriptLine, Stands}
+use Rattle.ev_script.specs.Faults.{LineForms, Input, index_at, tree_at, EndsLine, BeginsJournal, EndsScriptLine, Stands}
 use Rattle.ev_script.proofs.LimitLemmas.{feeds_with}
 
 -- the bytes taken, the source not having given its end, and an input that begins with them
@@ -76,10 +75,10 @@ line_same xs ys ended audit place s =
       before = λ start h b. s.before start h (begins_before xs ys ended audit place start within h b);
     }
 
-named_same : (forms : ℕ → Data → Option (Option ℕ)) (xs ys : List ℕ) (ended audit : Bool) (place : ℕ) → place < length xs → get_or xs place 0 ≡ 10 → option_and_then (forms (index_at (whole xs ys ended audit) place + 1)) (tree_at (whole xs ys ended audit) place) ≡ option_and_then (forms (index_at (part xs audit) place + 1)) (tree_at (part xs audit) place)
+named_same : (forms : LineForms) (xs ys : List ℕ) (ended audit : Bool) (place : ℕ) → place < length xs → get_or xs place 0 ≡ 10 → option_and_then (forms.lines (index_at (whole xs ys ended audit) place + 1)) (tree_at (whole xs ys ended audit) place) ≡ option_and_then (forms.lines (index_at (part xs audit) place + 1)) (tree_at (part xs audit) place)
 named_same forms xs ys ended audit place h feed =
-    ap (λ (i : ℕ). option_and_then (forms (i + 1)) (tree_at (whole xs ys ended audit) place)) (index_same xs ys place (omega arith))
-    ∙ ap (option_and_then (forms (feeds_in (take place xs) + 1))) (tree_same xs ys ended audit place h feed)
+    ap (λ (i : ℕ). option_and_then (forms.lines (i + 1)) (tree_at (whole xs ys ended audit) place)) (index_same xs ys place (omega arith))
+    ∙ ap (option_and_then (forms.lines (feeds_in (take place xs) + 1))) (tree_same xs ys ended audit place h feed)
 
 later_same : (xs ys : List ℕ) (place : ℕ) → place ≤ length xs → 0 < feeds_in (take place xs) → 0 < feeds_in (take place (xs ++ ys))
 later_same xs ys place h later =
@@ -87,7 +86,7 @@ later_same xs ys place h later =
     omega arith
 
 -- a fault of the bytes taken stands in the whole input
-pub stands_more : (forms : ℕ → Data → Option (Option ℕ)) (xs ys : List ℕ) (ended audit : Bool) (place : ℕ) (kind : FaultKind) → Stands forms (part xs audit) place kind → Stands forms (whole xs ys ended audit) place kind
+pub stands_more : (forms : LineForms) (xs ys : List ℕ) (ended audit : Bool) (place : ℕ) (kind : FaultKind) → Stands forms (part xs audit) place kind → Stands forms (whole xs ys ended audit) place kind
 stands_more forms xs ys ended audit place TooLong s =
     let within : place < length xs = s.0 in
     (omega (arith, length-append xs ys), (s.1.0, λ k low high f. s.1.1 k low high (sym (byte_same xs ys k (omega arith)) ∙ f)))
@@ -104,7 +103,7 @@ stands_more forms xs ys ended audit place NotJson s =
 stands_more forms xs ys ended audit place NotHeader s =
     let feed = feed_at xs audit place s.0.ends in
     let within : place < length xs = feed.0 in
-    (line_same xs ys ended audit place s.0, index_same xs ys place (omega arith) ∙ s.1, ap (option_and_then header_of) (tree_same xs ys ended audit place feed.0 feed.1) ∙ s.2)
+    (line_same xs ys ended audit place s.0, index_same xs ys place (omega arith) ∙ s.1, ap (option_and_then forms.heads) (tree_same xs ys ended audit place feed.0 feed.1) ∙ s.2)
 stands_more forms xs ys ended audit place NotLine s =
     let feed = feed_at xs audit place s.0.ends in
     let within : place < length xs = feed.0 in
@@ -116,9 +115,9 @@ stands_more forms xs ys ended audit place NoSuchWorker s =
       later_same xs ys place (omega arith) s.1,
       record {
         worker = s.2.worker;
-        header = s.2.header;
+        workers = s.2.workers;
         names = named_same forms xs ys ended audit place feed.0 feed.1 ∙ s.2.names;
-        heads = ap (λ (text : List ℕ). option_and_then header_of (tree_of text)) (text_same xs ys place 0 feed.0 feed.1 (omega arith)) ∙ s.2.heads;
+        heads = ap (λ (text : List ℕ). option_and_then forms.heads (tree_of text)) (text_same xs ys place 0 feed.0 feed.1 (omega arith)) ∙ s.2.heads;
         above = s.2.above;
       },
     )

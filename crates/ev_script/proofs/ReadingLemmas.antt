@@ -15,12 +15,11 @@ use Rattle.ev_io.specs.ReadLine.{GivesLine, IsUnfinished, ReadsLine}
 use Rattle.ev_script.specs.declared.content.Content.{Content}
 use Rattle.ev_script.specs.declared.content.Content.TheVariants as is
 use Rattle.ev_script.specs.declared.content.First.TheVariants as first
-use Rattle.ev_script.specs.declared.header.Header.{Header}
 use Rattle.ev_script.specs.declared.fault_kinds.FaultKind.{FaultKind}
 use Rattle.ev_script.specs.declared.fault_kinds.FaultKind.TheVariants.{NoByte, NotJournal}
-use Rattle.ev_script.specs.declared.read_input.ReadInput.{ReadInput}
+use Rattle.ev_script.specs.declared.read_input.ReadLines.{ReadLines}
 use Rattle.ev_script.specs.Members.{tree_of}
-use Rattle.ev_script.specs.Faults.{fault_number, IsFaultOf}
+use Rattle.ev_script.specs.Faults.{LineForms, fault_number, IsFaultOf}
 use Rattle.ev_script.specs.Content.{first_content, IsContent, IsLineOf, IsKeptOf}
 use Rattle.ev_script.specs.ReadLines.{AreRead, AreKept}
 use Rattle.ev_script.specs.ReadInput.{IsFresh, input_of, script_fault, IsWhole, IsUpToJournal, IsAnswer, IsHeadAnswer}
@@ -33,18 +32,18 @@ abbrev pub Reads : Option (List ℕ) → Option (List ℕ) → LinesState → Li
 Reads now after old new out text answer = (more : List ℕ) × Takes now after more × ((bytes : List ℕ) → HasTaken old bytes → ReadsLine old new bytes more out text answer)
 
 -- the header and some lines were read
-pub record IsReading {A : Type 0} (forms : ℕ → Data → Option (Option ℕ)) (keeps : ℕ → Data → A → Type 0) (audit : Bool) (before now : Option (List ℕ)) (state : LinesState) (header : Header) (heading : List ℕ) (kept : List A) : Type 0 where
+pub record IsReading {A : Type 0} (forms : LineForms) (keeps : ℕ → Data → A → Type 0) (audit : Bool) (before now : Option (List ℕ)) (state : LinesState) (workers : ℕ) (heading : List ℕ) (kept : List A) : Type 0 where
   pub bytes : List ℕ
   pub takes : Takes before now bytes
   pub taken : HasTaken state bytes
   pub untold : state.told ≡ None
   pub given : state.given ≡ length kept + 1
   pub head : get_or (lines_of bytes) 0 [] ≡ heading
-  pub read : AreRead forms audit (lines_of bytes) header state.given
+  pub read : AreRead forms audit (lines_of bytes) workers state.given
   pub holds : AreKept keeps (lines_of bytes) kept
 
 -- what is ensured at the end
-abbrev pub Exits : {A : Type 0} → (ℕ → Data → Option (Option ℕ)) → (ℕ → Data → A → Type 0) → Bool → Option (List ℕ) → Option (List ℕ) → LinesState → Result (ReadInput A) ScriptFault → Type 0
+abbrev pub Exits : {A : Type 0} → LineForms → (ℕ → Data → A → Type 0) → Bool → Option (List ℕ) → Option (List ℕ) → LinesState → Result (ReadLines A) ScriptFault → Type 0
 Exits forms keeps audit before after new result = (bytes : List ℕ) × Takes before after bytes × HasTaken new bytes × IsAnswer forms keeps (input_of audit new bytes) result
 
 prepend_known-append : (xs ys : List ℕ) (known : Option (List ℕ)) → prepend_known xs (prepend_known ys known) ≡ prepend_known (xs ++ ys) known
@@ -57,20 +56,20 @@ takes_both before now after taken more e f = e ∙ ap (prepend_known taken) f �
 
 -- ---- the lines behind the header
 
-given_now : {A : Type 0} (forms : ℕ → Data → Option (Option ℕ)) (keeps : ℕ → Data → A → Type 0) (audit : Bool) (before now : Option (List ℕ)) (old new : LinesState) (header : Header) (heading : List ℕ) (kept : List A) (more out text : List ℕ) → (r : IsReading forms keeps audit before now old header heading kept) → ReadsLine old new r.bytes more out text (Ok Line) → IsGiven forms (input_of audit new (r.bytes ++ more)) header old.given text
-given_now forms keeps audit before now old new header heading kept more out text r reads = given_line forms audit header old new r.bytes more out text reads r.read
+given_now : {A : Type 0} (forms : LineForms) (keeps : ℕ → Data → A → Type 0) (audit : Bool) (before now : Option (List ℕ)) (old new : LinesState) (workers : ℕ) (heading : List ℕ) (kept : List A) (more out text : List ℕ) → (r : IsReading forms keeps audit before now old workers heading kept) → ReadsLine old new r.bytes more out text (Ok Line) → IsGiven forms (input_of audit new (r.bytes ++ more)) workers old.given text
+given_now forms keeps audit before now old new workers heading kept more out text r reads = given_line forms audit workers old new r.bytes more out text reads r.read
 
 -- one line more
-pub reading_more : {A : Type 0} (forms : ℕ → Data → Option (Option ℕ)) (keeps : ℕ → Data → A → Type 0) (audit : Bool) (before now after : Option (List ℕ)) (old new : LinesState) (header : Header) (heading : List ℕ) (kept : List A) (line : A) (out text : List ℕ) → IsReading forms keeps audit before now old header heading kept → Reads now after old new out text (Ok Line) → IsContent forms keeps audit header.workers new.given (tree_of text) (is.Line line) → IsReading forms keeps audit before after new header heading (kept ++ line ∷ [])
-reading_more forms keeps audit before now after old new header heading kept line out text r call content =
+pub reading_more : {A : Type 0} (forms : LineForms) (keeps : ℕ → Data → A → Type 0) (audit : Bool) (before now after : Option (List ℕ)) (old new : LinesState) (workers : ℕ) (heading : List ℕ) (kept : List A) (line : A) (out text : List ℕ) → IsReading forms keeps audit before now old workers heading kept → Reads now after old new out text (Ok Line) → IsContent forms keeps audit workers new.given (tree_of text) (is.Line line) → IsReading forms keeps audit before after new workers heading (kept ++ line ∷ [])
+reading_more forms keeps audit before now after old new workers heading kept line out text r call content =
     let more : List ℕ = call.0 in
     let reads : ReadsLine old new r.bytes more out text (Ok Line) = call.2 r.bytes r.taken in
     let means : GivesLine old new (r.bytes ++ more) text = reads.means in
-    let g : IsGiven forms (input_of audit new (r.bytes ++ more)) header old.given text = given_now forms keeps audit before now old new header heading kept more out text r reads in
+    let g : IsGiven forms (input_of audit new (r.bytes ++ more)) workers old.given text = given_now forms keeps audit before now old new workers heading kept more out text r reads in
     let some : 0 < old.given = omega (arith, r.given) in
     let number : new.given ≡ old.given + 1 = means.number in
-    let line_here : IsLineOf forms audit header.workers (old.given + 1) (tree_of (get_or (lines_of (r.bytes ++ more)) old.given [])) =
-    subst (λ (t : List ℕ). IsLineOf forms audit header.workers (old.given + 1) (tree_of t)) (sym g.here) (subst (λ (n : ℕ). IsLineOf forms audit header.workers n (tree_of text)) number content.0) in
+    let line_here : IsLineOf forms audit workers (old.given + 1) (tree_of (get_or (lines_of (r.bytes ++ more)) old.given [])) =
+    subst (λ (t : List ℕ). IsLineOf forms audit workers (old.given + 1) (tree_of t)) (sym g.here) (subst (λ (n : ℕ). IsLineOf forms audit workers n (tree_of text)) number content.0) in
     let place : old.given ≡ length kept + 1 = r.given in
     let kept_at : new.given ≡ length kept + 2 = omega arith in
     let kept_here : IsKeptOf keeps (length kept + 2) (tree_of (get_or (lines_of (r.bytes ++ more)) (length kept + 1) [])) line =
@@ -83,8 +82,8 @@ reading_more forms keeps audit before now after old new header heading kept line
       untold = means.untold;
       given = omega (arith, length-append kept (line ∷ []));
       head = same_at old.given (lines_of r.bytes) (lines_of (r.bytes ++ more)) 0 reads.kept some ∙ r.head;
-      read = subst (AreRead forms audit (lines_of (r.bytes ++ more)) header) (sym number)
-          (are_read_more forms audit (lines_of (r.bytes ++ more)) header old.given (are_read_same forms audit (lines_of r.bytes) (lines_of (r.bytes ++ more)) header old.given reads.kept r.read) some line_here);
+      read = subst (AreRead forms audit (lines_of (r.bytes ++ more)) workers) (sym number)
+          (are_read_more forms audit (lines_of (r.bytes ++ more)) workers old.given (are_read_same forms audit (lines_of r.bytes) (lines_of (r.bytes ++ more)) workers old.given reads.kept r.read) some line_here);
       holds = are_kept_more keeps (lines_of (r.bytes ++ more)) kept line (are_kept_same keeps (lines_of r.bytes) (lines_of (r.bytes ++ more)) old.given kept reads.kept (omega arith) r.holds) kept_here;
     }
 
@@ -100,13 +99,13 @@ one_more now after old new bytes out text taken call =
     let means : GivesLine old new (bytes ++ call.0) text = reads.means in
     means.number
 
-pub exit_fault : {A : Type 0} (forms : ℕ → Data → Option (Option ℕ)) (keeps : ℕ → Data → A → Type 0) (audit : Bool) (before now after : Option (List ℕ)) (old new : LinesState) (header : Header) (heading : List ℕ) (kept : List A) (fault : LineFault) (out text : List ℕ) → IsReading forms keeps audit before now old header heading kept → Reads now after old new out text (Err fault) → Exits forms keeps audit before after new (Err (script_fault new.given fault))
-exit_fault forms keeps audit before now after old new header heading kept fault out text r call =
+pub exit_fault : {A : Type 0} (forms : LineForms) (keeps : ℕ → Data → A → Type 0) (audit : Bool) (before now after : Option (List ℕ)) (old new : LinesState) (workers : ℕ) (heading : List ℕ) (kept : List A) (fault : LineFault) (out text : List ℕ) → IsReading forms keeps audit before now old workers heading kept → Reads now after old new out text (Err fault) → Exits forms keeps audit before after new (Err (script_fault new.given fault))
+exit_fault forms keeps audit before now after old new workers heading kept fault out text r call =
     let reads : ReadsLine old new r.bytes call.0 out text (Err fault) = call.2 r.bytes r.taken in
-    (r.bytes ++ call.0, takes_both before now after r.bytes call.0 r.takes call.1, reads.taken, fault_told forms audit header old new r.bytes call.0 out text fault reads r.read)
+    (r.bytes ++ call.0, takes_both before now after r.bytes call.0 r.takes call.1, reads.taken, fault_told forms audit workers old new r.bytes call.0 out text fault reads r.read)
 
-pub exit_content : {A : Type 0} (forms : ℕ → Data → Option (Option ℕ)) (keeps : ℕ → Data → A → Type 0) (audit : Bool) (before now after : Option (List ℕ)) (old new : LinesState) (header : Header) (heading : List ℕ) (kept : List A) (kind : FaultKind) (out text : List ℕ) → IsReading forms keeps audit before now old header heading kept → Reads now after old new out text (Ok Line) → IsContent forms keeps audit header.workers new.given (tree_of text) (is.Fault kind) → Exits forms keeps audit before after new (Err (Bad new.given (fault_number kind)))
-exit_content forms keeps audit before now after old new header heading kept kind out text r call content =
+pub exit_content : {A : Type 0} (forms : LineForms) (keeps : ℕ → Data → A → Type 0) (audit : Bool) (before now after : Option (List ℕ)) (old new : LinesState) (workers : ℕ) (heading : List ℕ) (kept : List A) (kind : FaultKind) (out text : List ℕ) → IsReading forms keeps audit before now old workers heading kept → Reads now after old new out text (Ok Line) → IsContent forms keeps audit workers new.given (tree_of text) (is.Fault kind) → Exits forms keeps audit before after new (Err (Bad new.given (fault_number kind)))
+exit_content forms keeps audit before now after old new workers heading kept kind out text r call content =
     let reads : ReadsLine old new r.bytes call.0 out text (Ok Line) = call.2 r.bytes r.taken in
     let means : GivesLine old new (r.bytes ++ call.0) text = reads.means in
     let input = input_of audit new (r.bytes ++ call.0) in (
@@ -114,51 +113,51 @@ exit_content forms keeps audit before now after old new header heading kept kind
       takes_both before now after r.bytes call.0 r.takes call.1,
       reads.taken,
       subst (λ (n : ℕ). IsFaultOf forms input n (fault_number kind)) (sym means.number)
-          (content_told forms keeps input header old.given text kind (given_now forms keeps audit before now old new header heading kept call.0 out text r reads) (omega (arith, r.given))
-          (subst (λ (n : ℕ). IsContent forms keeps audit header.workers n (tree_of text) (is.Fault kind)) means.number content)),
+          (content_told forms keeps input workers old.given text kind (given_now forms keeps audit before now old new workers heading kept call.0 out text r reads) (omega (arith, r.given))
+          (subst (λ (n : ℕ). IsContent forms keeps audit workers n (tree_of text) (is.Fault kind)) means.number content)),
     )
 
-pub exit_journal : {A : Type 0} (forms : ℕ → Data → Option (Option ℕ)) (keeps : ℕ → Data → A → Type 0) (audit : Bool) (before now after : Option (List ℕ)) (old new : LinesState) (header : Header) (heading : Vec ℕ Global) (kept : Vec A Global) (out : List ℕ) (text : Vec ℕ Global) → IsReading forms keeps audit before now old header heading.items kept.items → Reads now after old new out text.items (Ok Line) → IsContent forms keeps audit header.workers new.given (tree_of text.items) is.Journal → Exits forms keeps audit before after new (Ok record { header = header; heading = heading; kept = kept; journal = Some text })
-exit_journal forms keeps audit before now after old new header heading kept out text r call content =
+pub exit_journal : {A : Type 0} (forms : LineForms) (keeps : ℕ → Data → A → Type 0) (audit : Bool) (before now after : Option (List ℕ)) (old new : LinesState) (workers : ℕ) (heading : Vec ℕ Global) (kept : Vec A Global) (out : List ℕ) (text : Vec ℕ Global) → IsReading forms keeps audit before now old workers heading.items kept.items → Reads now after old new out text.items (Ok Line) → IsContent forms keeps audit workers new.given (tree_of text.items) is.Journal → Exits forms keeps audit before after new (Ok record { workers = workers; heading = heading; kept = kept; journal = Some text })
+exit_journal forms keeps audit before now after old new workers heading kept out text r call content =
     let reads : ReadsLine old new r.bytes call.0 out text.items (Ok Line) = call.2 r.bytes r.taken in
     let input = input_of audit new (r.bytes ++ call.0) in
-    let here : AreRead forms audit (lines_of (r.bytes ++ call.0)) header old.given = are_read_same forms audit (lines_of r.bytes) (lines_of (r.bytes ++ call.0)) header old.given reads.kept r.read in (
+    let here : AreRead forms audit (lines_of (r.bytes ++ call.0)) workers old.given = are_read_same forms audit (lines_of r.bytes) (lines_of (r.bytes ++ call.0)) workers old.given reads.kept r.read in (
       r.bytes ++ call.0,
       takes_both before now after r.bytes call.0 r.takes call.1,
       reads.taken,
       record {
         heading = same_at old.given (lines_of r.bytes) (lines_of (r.bytes ++ call.0)) 0 reads.kept (omega (arith, r.given)) ∙ r.head;
-        lines = subst (AreRead forms audit (lines_of (r.bytes ++ call.0)) header) r.given here;
+        lines = subst (AreRead forms audit (lines_of (r.bytes ++ call.0)) workers) r.given here;
         kept = are_kept_same keeps (lines_of r.bytes) (lines_of (r.bytes ++ call.0)) old.given kept.items reads.kept (omega (arith, r.given)) r.holds;
         ends = subst (λ (n : ℕ). IsUpToJournal forms input n text.items) r.given
-            (journal_reached forms input header old.given text.items (given_now forms keeps audit before now old new header heading.items kept.items call.0 out text.items r reads) (omega (arith, r.given)) content);
+            (journal_reached forms input workers old.given text.items (given_now forms keeps audit before now old new workers heading.items kept.items call.0 out text.items r reads) (omega (arith, r.given)) content);
       },
     )
 
-pub exit_whole : {A : Type 0} (forms : ℕ → Data → Option (Option ℕ)) (keeps : ℕ → Data → A → Type 0) (audit : Bool) (before now after : Option (List ℕ)) (old new : LinesState) (header : Header) (heading : Vec ℕ Global) (kept : Vec A Global) (out text : List ℕ) → audit ≡ false → IsReading forms keeps audit before now old header heading.items kept.items → Reads now after old new out text (Ok End) → Exits forms keeps audit before after new (Ok record { header = header; heading = heading; kept = kept; journal = None })
-exit_whole forms keeps true before now after old new header heading kept out text plain r call = absurd cc
-exit_whole forms keeps false before now after old new header heading kept out text plain r call =
+pub exit_whole : {A : Type 0} (forms : LineForms) (keeps : ℕ → Data → A → Type 0) (audit : Bool) (before now after : Option (List ℕ)) (old new : LinesState) (workers : ℕ) (heading : Vec ℕ Global) (kept : Vec A Global) (out text : List ℕ) → audit ≡ false → IsReading forms keeps audit before now old workers heading.items kept.items → Reads now after old new out text (Ok End) → Exits forms keeps audit before after new (Ok record { workers = workers; heading = heading; kept = kept; journal = None })
+exit_whole forms keeps true before now after old new workers heading kept out text plain r call = absurd cc
+exit_whole forms keeps false before now after old new workers heading kept out text plain r call =
     let reads : ReadsLine old new r.bytes call.0 out text (Ok End) = call.2 r.bytes r.taken in
-    let here : AreRead forms false (lines_of (r.bytes ++ call.0)) header old.given = are_read_same forms false (lines_of r.bytes) (lines_of (r.bytes ++ call.0)) header old.given reads.kept r.read in (
+    let here : AreRead forms false (lines_of (r.bytes ++ call.0)) workers old.given = are_read_same forms false (lines_of r.bytes) (lines_of (r.bytes ++ call.0)) workers old.given reads.kept r.read in (
       r.bytes ++ call.0,
       takes_both before now after r.bytes call.0 r.takes call.1,
       reads.taken,
       record {
         heading = same_at old.given (lines_of r.bytes) (lines_of (r.bytes ++ call.0)) 0 reads.kept (omega (arith, r.given)) ∙ r.head;
-        lines = subst (AreRead forms false (lines_of (r.bytes ++ call.0)) header) r.given here;
+        lines = subst (AreRead forms false (lines_of (r.bytes ++ call.0)) workers) r.given here;
         kept = are_kept_same keeps (lines_of r.bytes) (lines_of (r.bytes ++ call.0)) old.given kept.items reads.kept (omega (arith, r.given)) r.holds;
-        ends = subst (IsWhole forms (input_of false new (r.bytes ++ call.0))) r.given (whole_read forms header old new r.bytes call.0 out text reads r.read (omega (arith, r.given)));
+        ends = subst (IsWhole forms (input_of false new (r.bytes ++ call.0))) r.given (whole_read forms workers old new r.bytes call.0 out text reads r.read (omega (arith, r.given)));
       },
     )
 
-pub exit_missing : {A : Type 0} (forms : ℕ → Data → Option (Option ℕ)) (keeps : ℕ → Data → A → Type 0) (audit : Bool) (before now after : Option (List ℕ)) (old new : LinesState) (header : Header) (heading : List ℕ) (kept : List A) (out text : List ℕ) → audit ≡ true → IsReading forms keeps audit before now old header heading kept → Reads now after old new out text (Ok End) → Exits forms keeps audit before after new (Err (Bad (new.given + 1) (fault_number NotJournal)))
-exit_missing forms keeps false before now after old new header heading kept out text asked r call = absurd cc
-exit_missing forms keeps true before now after old new header heading kept out text asked r call =
+pub exit_missing : {A : Type 0} (forms : LineForms) (keeps : ℕ → Data → A → Type 0) (audit : Bool) (before now after : Option (List ℕ)) (old new : LinesState) (workers : ℕ) (heading : List ℕ) (kept : List A) (out text : List ℕ) → audit ≡ true → IsReading forms keeps audit before now old workers heading kept → Reads now after old new out text (Ok End) → Exits forms keeps audit before after new (Err (Bad (new.given + 1) (fault_number NotJournal)))
+exit_missing forms keeps false before now after old new workers heading kept out text asked r call = absurd cc
+exit_missing forms keeps true before now after old new workers heading kept out text asked r call =
     let reads : ReadsLine old new r.bytes call.0 out text (Ok End) = call.2 r.bytes r.taken in
-    (r.bytes ++ call.0, takes_both before now after r.bytes call.0 r.takes call.1, reads.taken, journal_missing forms header old new r.bytes call.0 out text reads r.read (omega (arith, r.given)))
+    (r.bytes ++ call.0, takes_both before now after r.bytes call.0 r.takes call.1, reads.taken, journal_missing forms workers old new r.bytes call.0 out text reads r.read (omega (arith, r.given)))
 
-pub exit_memory : {A : Type 0} (forms : ℕ → Data → Option (Option ℕ)) (keeps : ℕ → Data → A → Type 0) (audit : Bool) (before now after : Option (List ℕ)) (old new : LinesState) (header : Header) (heading : List ℕ) (kept : List A) (answer : Result LineEnd LineFault) (out text : List ℕ) → IsReading forms keeps audit before now old header heading kept → Reads now after old new out text answer → Exits forms keeps audit before after new (Err OutOfMemory)
-exit_memory forms keeps audit before now after old new header heading kept answer out text r call =
+pub exit_memory : {A : Type 0} (forms : LineForms) (keeps : ℕ → Data → A → Type 0) (audit : Bool) (before now after : Option (List ℕ)) (old new : LinesState) (workers : ℕ) (heading : List ℕ) (kept : List A) (answer : Result LineEnd LineFault) (out text : List ℕ) → IsReading forms keeps audit before now old workers heading kept → Reads now after old new out text answer → Exits forms keeps audit before after new (Err OutOfMemory)
+exit_memory forms keeps audit before now after old new workers heading kept answer out text r call =
     let reads : ReadsLine old new r.bytes call.0 out text answer = call.2 r.bytes r.taken in
     (r.bytes ++ call.0, takes_both before now after r.bytes call.0 r.takes call.1, reads.taken, tt)
 
@@ -175,14 +174,11 @@ fresh_taken state e = subst (λ (s : LinesState). HasTaken s []) (sym e) record 
   sound = λ place h. absurd (omega arith);
 }
 
-no_header : Header
-no_header = record { workers = 1; auto = false; node = [] }
-
-none_read : (forms : ℕ → Data → Option (Option ℕ)) (audit : Bool) (texts : List (List ℕ)) (n : ℕ) → n ≡ 0 → AreRead forms audit texts no_header n
+none_read : (forms : LineForms) (audit : Bool) (texts : List (List ℕ)) (n : ℕ) → n ≡ 0 → AreRead forms audit texts 1 n
 none_read forms audit texts n none = record { head = λ h. absurd (omega arith); others = λ i some within. absurd (omega arith) }
 
-abbrev pub HeadExits : Option (List ℕ) → Option (List ℕ) → LinesState → List ℕ → Result Header ScriptFault → Type 0
-HeadExits before after new text result = (bytes : List ℕ) × Takes before after bytes × HasTaken new bytes × IsHeadAnswer new bytes text result
+abbrev pub HeadExits : LineForms → Option (List ℕ) → Option (List ℕ) → LinesState → List ℕ → Result ℕ ScriptFault → Type 0
+HeadExits forms before after new text result = (bytes : List ℕ) × Takes before after bytes × HasTaken new bytes × IsHeadAnswer forms new bytes text result
 
 fresh_given : (state : LinesState) → IsFresh state → state.given ≡ 0
 fresh_given state e = ap (λ (s : LinesState). s.given) e
@@ -190,44 +186,44 @@ fresh_given state e = ap (λ (s : LinesState). s.given) e
 pub fresh_untold : (state : LinesState) → IsFresh state → state.told ≡ None
 fresh_untold state e = ap (λ (s : LinesState). s.told) e
 
-pub head_read : (before after : Option (List ℕ)) (old new : LinesState) (header : Header) (out text : List ℕ) → IsFresh old → Reads before after old new out text (Ok Line) → first.Header header ≡ first_content text → HeadExits before after new text (Ok header)
-head_read before after old new header out text fresh call told =
+pub head_read : (forms : LineForms) (before after : Option (List ℕ)) (old new : LinesState) (workers : ℕ) (out text : List ℕ) → IsFresh old → Reads before after old new out text (Ok Line) → first.Workers workers ≡ first_content forms text → HeadExits forms before after new text (Ok workers)
+head_read forms before after old new workers out text fresh call told =
     let reads : ReadsLine old new [] call.0 out text (Ok Line) = call.2 [] (fresh_taken old fresh) in
     let means : GivesLine old new call.0 text = reads.means in
     let zero : old.given ≡ 0 = fresh_given old fresh in
-    let g : IsGiven (λ at tree. None) (input_of false new call.0) no_header old.given text = given_line (λ at tree. None) false no_header old new [] call.0 out text reads (none_read (λ at tree. None) false [] old.given zero) in
+    let g : IsGiven forms (input_of false new call.0) 1 old.given text = given_line forms false 1 old new [] call.0 out text reads (none_read forms false [] old.given zero) in
     let here : get_or (lines_of call.0) 0 [] ≡ text = ap (λ (i : ℕ). get_or (lines_of call.0) i []) (sym zero) ∙ g.here in
-    (call.0, call.1, reads.taken, (means.untold, means.number ∙ ap (λ (n : ℕ). n + 1) zero, ap first_content here ∙ sym told, here))
+    (call.0, call.1, reads.taken, (means.untold, means.number ∙ ap (λ (n : ℕ). n + 1) zero, ap (first_content forms) here ∙ sym told, here))
 
-pub head_fault : (before after : Option (List ℕ)) (old new : LinesState) (kind : FaultKind) (out text : List ℕ) → IsFresh old → Reads before after old new out text (Ok Line) → first.Fault kind ≡ first_content text → HeadExits before after new text (Err (Bad 1 (fault_number kind)))
-head_fault before after old new kind out text fresh call told =
+pub head_fault : (forms : LineForms) (before after : Option (List ℕ)) (old new : LinesState) (kind : FaultKind) (out text : List ℕ) → IsFresh old → Reads before after old new out text (Ok Line) → first.Fault kind ≡ first_content forms text → HeadExits forms before after new text (Err (Bad 1 (fault_number kind)))
+head_fault forms before after old new kind out text fresh call told =
     let reads : ReadsLine old new [] call.0 out text (Ok Line) = call.2 [] (fresh_taken old fresh) in
     let zero : old.given ≡ 0 = fresh_given old fresh in (
       call.0,
       call.1,
       reads.taken,
-      λ forms audit. first_told forms (input_of audit new call.0) no_header text kind
-          (subst (λ (n : ℕ). IsGiven forms (input_of audit new call.0) no_header n text) zero (given_line forms audit no_header old new [] call.0 out text reads (none_read forms audit [] old.given zero)))
+      λ audit. first_told forms (input_of audit new call.0) 1 text kind
+          (subst (λ (n : ℕ). IsGiven forms (input_of audit new call.0) 1 n text) zero (given_line forms audit 1 old new [] call.0 out text reads (none_read forms audit [] old.given zero)))
           (sym told),
     )
 
-pub head_missing : (before after : Option (List ℕ)) (old new : LinesState) (out text : List ℕ) → IsFresh old → Reads before after old new out text (Ok End) → HeadExits before after new text (Err (Bad 1 (fault_number NoByte)))
-head_missing before after old new out text fresh call =
+pub head_missing : (forms : LineForms) (before after : Option (List ℕ)) (old new : LinesState) (out text : List ℕ) → IsFresh old → Reads before after old new out text (Ok End) → HeadExits forms before after new text (Err (Bad 1 (fault_number NoByte)))
+head_missing forms before after old new out text fresh call =
     let reads : ReadsLine old new [] call.0 out text (Ok End) = call.2 [] (fresh_taken old fresh) in
-    (call.0, call.1, reads.taken, λ forms audit. nothing_told forms audit old new [] call.0 out text reads (fresh_given old fresh))
+    (call.0, call.1, reads.taken, λ audit. nothing_told forms audit old new [] call.0 out text reads (fresh_given old fresh))
 
-pub head_limit : (before after : Option (List ℕ)) (old new : LinesState) (fault : LineFault) (out text : List ℕ) → IsFresh old → Reads before after old new out text (Err fault) → HeadExits before after new text (Err (script_fault new.given fault))
-head_limit before after old new fault out text fresh call =
+pub head_limit : (forms : LineForms) (before after : Option (List ℕ)) (old new : LinesState) (fault : LineFault) (out text : List ℕ) → IsFresh old → Reads before after old new out text (Err fault) → HeadExits forms before after new text (Err (script_fault new.given fault))
+head_limit forms before after old new fault out text fresh call =
     let reads : ReadsLine old new [] call.0 out text (Err fault) = call.2 [] (fresh_taken old fresh) in
-    (call.0, call.1, reads.taken, λ forms audit. fault_told forms audit no_header old new [] call.0 out text fault reads (none_read forms audit [] old.given (fresh_given old fresh)))
+    (call.0, call.1, reads.taken, λ audit. fault_told forms audit 1 old new [] call.0 out text fault reads (none_read forms audit [] old.given (fresh_given old fresh)))
 
-pub head_memory : (before after : Option (List ℕ)) (old new : LinesState) (answer : Result LineEnd LineFault) (out text : List ℕ) → IsFresh old → Reads before after old new out text answer → HeadExits before after new text (Err OutOfMemory)
-head_memory before after old new answer out text fresh call =
+pub head_memory : (forms : LineForms) (before after : Option (List ℕ)) (old new : LinesState) (answer : Result LineEnd LineFault) (out text : List ℕ) → IsFresh old → Reads before after old new out text answer → HeadExits forms before after new text (Err OutOfMemory)
+head_memory forms before after old new answer out text fresh call =
     let reads : ReadsLine old new [] call.0 out text answer = call.2 [] (fresh_taken old fresh) in
-    (call.0, call.1, reads.taken, λ forms audit. tt)
+    (call.0, call.1, reads.taken, λ audit. tt)
 
 -- what a line is, by equal places and texts
-pub content_at : {A : Type 0} (forms : ℕ → Data → Option (Option ℕ)) (keeps : ℕ → Data → A → Type 0) (audit : Bool) (workers at given : ℕ) (now text : List ℕ) (content other : Content A) → at ≡ given → now ≡ text → content ≡ other → IsContent forms keeps audit workers at (tree_of now) content → IsContent forms keeps audit workers given (tree_of text) other
+pub content_at : {A : Type 0} (forms : LineForms) (keeps : ℕ → Data → A → Type 0) (audit : Bool) (workers at given : ℕ) (now text : List ℕ) (content other : Content A) → at ≡ given → now ≡ text → content ≡ other → IsContent forms keeps audit workers at (tree_of now) content → IsContent forms keeps audit workers given (tree_of text) other
 content_at {A = A} forms keeps audit workers at given now text content other e f g h =
     subst (λ (n : ℕ). IsContent forms keeps audit workers n (tree_of text) other) e
     (subst (λ (t : List ℕ). IsContent forms keeps audit workers at (tree_of t) other) f

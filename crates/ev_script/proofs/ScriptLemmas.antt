@@ -1,5 +1,5 @@
 -- The script of lines that were read.
-use Rattle.std.proofs.Common.{◌≡◌, ℕ, zero, suc, ◌+◌, ◌<◌, Bool, true, false, cond, ◌&&◌, List, [], ◌∷◌, Vec, length, map, take, get_or, Option, None, Some, option_map, option_and_then, refl, sym, ap, subst, ◌∙◌, arith, add-zero}
+use Rattle.std.proofs.Common.{◌≡◌, ℕ, zero, suc, ◌+◌, ◌<◌, Bool, true, false, cond, ◌&&◌, List, [], ◌∷◌, Vec, length, map, take, get_or, Option, None, Some, Ok, option_map, option_and_then, refl, sym, ap, subst, ◌∙◌, arith, add-zero}
 use Rattle.std.proofs.lemmas.List.{length-map, get_or-map, get_or-take, length-take-le}
 use Rattle.std.specs.declared.alloc.Global.{Global}
 use Rattle.std.specs.List.Sorted.{IsStrictlyIncreasing}
@@ -12,16 +12,16 @@ use Rattle.ev_types.specs.declared.events.Actor.TheVariants.{Stream}
 use Rattle.ev_types.specs.declared.events.Event.TheVariants.{Connect}
 use Rattle.ev_io.specs.declared.limits.TheConstants.{MAX_LINES}
 use Rattle.ev_script.specs.declared.header.Header.{Header}
-use Rattle.ev_script.specs.declared.read_input.ReadInput.{ReadInput}
+use Rattle.ev_script.specs.declared.read_input.ReadLines.{ReadLines}
 use Rattle.ev_script.specs.Header.{header_of, IsHeader}
 use Rattle.ev_script.specs.Members.{tree_of}
 use Rattle.ev_script.specs.Lines.{line_of}
-use Rattle.ev_script.specs.Faults.{Input, index_at, has_format, worker_of}
+use Rattle.ev_script.specs.Faults.{LineForms, Input, index_at, has_format, worker_of, plain_lines}
 use Rattle.ev_script.specs.Script.{lines_from, script_with, script_from, begins_journal, before_journal, script_texts, script_of}
 use Rattle.ev_script.specs.Content.{is_above, IsLineOf, IsKeptOf}
 use Rattle.ev_script.specs.ReadLines.{AreRead, AreKept}
 use Rattle.ev_script.specs.ReadInput.{IsWhole, IsUpToJournal, EndsBefore, IsReadOf}
-use Rattle.ev_script.specs.ReadScript.{KeepsLines, AreNumbered, AreOfForms}
+use Rattle.ev_script.specs.ReadScript.{HeadsScripts, KeepsLines, IsHeaderOf, IsScriptAnswer, AreNumbered, AreOfForms, script_made}
 use Rattle.ev_script.proofs.PlaceLemmas.{ends_within}
 use Rattle.ev_script.proofs.ContentLemmas.{first_is}
 use Rattle.ev_script.proofs.SoundLemmas.{some_same}
@@ -30,31 +30,31 @@ use Rattle.ev_script.proofs.KeptLemmas.{kept_line}
 -- ---- what each line keeps
 
 -- the number of a line, and an actor that may make its event
-line_at : (forms : ℕ → Data → Option (Option ℕ)) (keeps : ℕ → Data → Line → Type 0) (audit : Bool) (texts : List (List ℕ)) (header : Header) (kept : List Line)
-    → KeepsLines forms keeps → AreRead forms audit texts header (length kept + 1) → AreKept keeps texts kept
-    → (i : ℕ) (other : Line) → i < length kept → ((get_or kept i other).at ≡ i + 2) × MayMake header.workers (get_or kept i other).actor (get_or kept i other).event
-line_at forms keeps audit texts header kept plain read are i other h =
+line_at : (forms : LineForms) (keeps : ℕ → Data → Line → Type 0) (audit : Bool) (texts : List (List ℕ)) (workers : ℕ) (kept : List Line)
+    → KeepsLines forms keeps → AreRead forms audit texts workers (length kept + 1) → AreKept keeps texts kept
+    → (i : ℕ) (other : Line) → i < length kept → ((get_or kept i other).at ≡ i + 2) × MayMake workers (get_or kept i other).actor (get_or kept i other).event
+line_at forms keeps audit texts workers kept plain read are i other h =
     let line : Line = get_or kept i other in
     let k : IsKeptOf keeps (i + 2) (tree_of (get_or texts (i + 1) [])) line = are i other h in
-    let r : IsLineOf forms audit header.workers (i + 1 + 1) (tree_of (get_or texts (i + 1) [])) = read.others (i + 1) (omega arith) (omega arith) in
+    let r : IsLineOf forms audit workers (i + 1 + 1) (tree_of (get_or texts (i + 1) [])) = read.others (i + 1) (omega arith) (omega arith) in
     let both = plain (i + 2) k.tree line k.holds in
     let same : k.tree ≡ r.tree = some_same k.tree r.tree (tree_of (get_or texts (i + 1) [])) k.is r.is in
     let place : i + 1 + 1 ≡ i + 2 = omega arith in
-    let reads : forms (i + 2) k.tree ≡ Some r.named = ap (forms (i + 2)) same ∙ ap (λ (n : ℕ). forms n r.tree) (sym place) ∙ r.reads in
-    let named : r.named ≡ worker_of line.actor = some_same r.named (worker_of line.actor) (forms (i + 2) k.tree) reads both.1 in
-    kept_line header.workers (i + 2) k.tree line both.0 (ap (is_above header.workers) (sym named) ∙ r.below)
+    let reads : forms.lines (i + 2) k.tree ≡ Some r.named = ap (forms.lines (i + 2)) same ∙ ap (λ (n : ℕ). forms.lines n r.tree) (sym place) ∙ r.reads in
+    let named : r.named ≡ worker_of line.actor = some_same r.named (worker_of line.actor) (forms.lines (i + 2) k.tree) reads both.1 in
+    kept_line workers (i + 2) k.tree line both.0 (ap (is_above workers) (sym named) ∙ r.below)
 
-pub are_numbered : (forms : ℕ → Data → Option (Option ℕ)) (keeps : ℕ → Data → Line → Type 0) (audit : Bool) (texts : List (List ℕ)) (header : Header) (kept : List Line) → KeepsLines forms keeps → AreRead forms audit texts header (length kept + 1) → AreKept keeps texts kept → AreNumbered header.workers kept
-are_numbered forms keeps audit texts header kept plain read are = record {
-  places = λ k other h. (line_at forms keeps audit texts header kept plain read are k other h).0;
-  allowed = λ k other h. (line_at forms keeps audit texts header kept plain read are k other h).1;
+pub are_numbered : (forms : LineForms) (keeps : ℕ → Data → Line → Type 0) (audit : Bool) (texts : List (List ℕ)) (workers : ℕ) (kept : List Line) → KeepsLines forms keeps → AreRead forms audit texts workers (length kept + 1) → AreKept keeps texts kept → AreNumbered workers kept
+are_numbered forms keeps audit texts workers kept plain read are = record {
+  places = λ k other h. (line_at forms keeps audit texts workers kept plain read are k other h).0;
+  allowed = λ k other h. (line_at forms keeps audit texts workers kept plain read are k other h).1;
 }
 
 -- each line is of the forms, by its own number
-pub are_of_forms : (forms : ℕ → Data → Option (Option ℕ)) (keeps : ℕ → Data → Line → Type 0) (audit : Bool) (texts : List (List ℕ)) (header : Header) (kept : List Line) → KeepsLines forms keeps → AreRead forms audit texts header (length kept + 1) → AreKept keeps texts kept → AreOfForms keeps kept
-are_of_forms forms keeps audit texts header kept plain read are = λ i other h.
+pub are_of_forms : (forms : LineForms) (keeps : ℕ → Data → Line → Type 0) (audit : Bool) (texts : List (List ℕ)) (workers : ℕ) (kept : List Line) → KeepsLines forms keeps → AreRead forms audit texts workers (length kept + 1) → AreKept keeps texts kept → AreOfForms keeps kept
+are_of_forms forms keeps audit texts workers kept plain read are = λ i other h.
     let k : IsKeptOf keeps (i + 2) (tree_of (get_or texts (i + 1) [])) (get_or kept i other) = are i other h in
-    (k.tree, subst (λ (n : ℕ). keeps n k.tree (get_or kept i other)) (sym (line_at forms keeps audit texts header kept plain read are i other h).0) k.holds)
+    (k.tree, subst (λ (n : ℕ). keeps n k.tree (get_or kept i other)) (sym (line_at forms keeps audit texts workers kept plain read are i other h).0) k.holds)
 
 -- ---- what a script keeps
 
@@ -83,7 +83,7 @@ script_kept header lines kept numbered few items = record {
 -- ---- the script of the texts
 
 -- a line of a script is kept
-abbrev IsLine : ℕ → Data → Line → Type 0
+abbrev pub IsLine : ℕ → Data → Line → Type 0
 IsLine at tree line = line_of at tree ≡ Some line
 
 lines_by : (at : ℕ) (texts : List (List ℕ)) (lines : List Line) → length texts ≡ length lines → ((i : ℕ) (other : Line) → i < length lines → IsKeptOf IsLine (at + i) (tree_of (get_or texts i [])) (get_or lines i other)) → lines_from at texts ≡ Some lines
@@ -116,11 +116,11 @@ from_parts first others header lines e f =
     ∙ ap (option_map (λ (lines : List Line). record { workers = header.workers; auto = header.auto; node = header.node; lines = lines; count = length lines + 1 })) f
 
 -- the script of an input's lines, all of which were read
-pub whole_script : (forms : ℕ → Data → Option (Option ℕ)) (keeps : ℕ → Data → Line → Type 0) (audit : Bool) (texts : List (List ℕ)) (header : Header) (kept : List Line) → KeepsLines forms keeps → AreRead forms audit texts header (length kept + 1) → AreKept keeps texts kept → length texts ≡ length kept + 1
+pub whole_script : (forms : LineForms) (keeps : ℕ → Data → Line → Type 0) (audit : Bool) (texts : List (List ℕ)) (header : Header) (kept : List Line) → KeepsLines forms keeps → IsHeaderOf (get_or texts 0 []) header → AreRead forms audit texts header.workers (length kept + 1) → AreKept keeps texts kept → length texts ≡ length kept + 1
     → script_from texts ≡ Some record { workers = header.workers; auto = header.auto; node = header.node; lines = kept; count = length kept + 1 }
-whole_script forms keeps audit [] header kept plain read are long = absurd (omega (arith, long))
-whole_script forms keeps audit (first ∷ others) header kept plain read are long =
-    from_parts first others header kept (first_is (tree_of first) header (read.head (omega arith)))
+whole_script forms keeps audit [] header kept plain heads read are long = absurd (omega (arith, long))
+whole_script forms keeps audit (first ∷ others) header kept plain heads read are long =
+    from_parts first others header kept heads
     (lines_by 2 others kept (omega (arith, long)) (λ i other h.
     let k : IsKeptOf keeps (i + 2) (tree_of (get_or (first ∷ others) (i + 1) [])) (get_or kept i other) = are i other h in
     let next : get_or (first ∷ others) (i + 1) [] ≡ get_or others i [] = ap (λ (n : ℕ). get_or (first ∷ others) n []) (next_is i) in
@@ -134,20 +134,20 @@ plain_tree : (tree : Data) → (true && has_format tree) ≡ false → has_forma
 plain_tree tree e = e
 
 -- no line that was read begins a journal
-not_begun : (forms : ℕ → Data → Option (Option ℕ)) (texts : List (List ℕ)) (header : Header) (n i : ℕ) → AreRead forms true texts header n → 0 < i → i < n → begins_journal (tree_of (get_or texts i [])) ≡ false
-not_begun forms texts header n i read some within =
-    let r : IsLineOf forms true header.workers (i + 1) (tree_of (get_or texts i [])) = read.others i some within in
+not_begun : (forms : LineForms) (texts : List (List ℕ)) (workers : ℕ) (n i : ℕ) → AreRead forms true texts workers n → 0 < i → i < n → begins_journal (tree_of (get_or texts i [])) ≡ false
+not_begun forms texts workers n i read some within =
+    let r : IsLineOf forms true workers (i + 1) (tree_of (get_or texts i [])) = read.others i some within in
     ap begins_journal r.is ∙ plain_tree r.tree r.plain
 
 -- the script of the lines before the journal
-pub script_before : (forms : ℕ → Data → Option (Option ℕ)) (keeps : ℕ → Data → Line → Type 0) (texts : List (List ℕ)) (header : Header) (kept : List Line) → KeepsLines forms keeps → AreRead forms true texts header (length kept + 1) → AreKept keeps texts kept → length kept + 1 < length texts → begins_journal (tree_of (get_or texts (length kept + 1) [])) ≡ true
+pub script_before : (forms : LineForms) (keeps : ℕ → Data → Line → Type 0) (texts : List (List ℕ)) (header : Header) (kept : List Line) → KeepsLines forms keeps → IsHeaderOf (get_or texts 0 []) header → AreRead forms true texts header.workers (length kept + 1) → AreKept keeps texts kept → length kept + 1 < length texts → begins_journal (tree_of (get_or texts (length kept + 1) [])) ≡ true
     → script_from (script_texts true texts) ≡ Some record { workers = header.workers; auto = header.auto; node = header.node; lines = kept; count = length kept + 1 }
-script_before forms keeps [] header kept plain read are long begins = absurd (omega arith)
-script_before forms keeps (first ∷ others) header kept plain read are long begins =
+script_before forms keeps [] header kept plain heads read are long begins = absurd (omega arith)
+script_before forms keeps (first ∷ others) header kept plain heads read are long begins =
     ap (λ (ts : List (List ℕ)). script_from (first ∷ ts)) (before_is others (length kept) (omega arith) (λ i h.
-    ap (λ (n : ℕ). begins_journal (tree_of (get_or (first ∷ others) n []))) (sym (next_is i)) ∙ not_begun forms (first ∷ others) header (length kept + 1) (i + 1) read (omega arith) (omega arith))
+    ap (λ (n : ℕ). begins_journal (tree_of (get_or (first ∷ others) n []))) (sym (next_is i)) ∙ not_begun forms (first ∷ others) header.workers (length kept + 1) (i + 1) read (omega arith) (omega arith))
     (ap (λ (n : ℕ). begins_journal (tree_of (get_or (first ∷ others) n []))) (sym (next_is (length kept))) ∙ begins))
-    ∙ from_parts first (take (length kept) others) header kept (first_is (tree_of first) header (read.head (omega arith)))
+    ∙ from_parts first (take (length kept) others) header kept heads
     (lines_by 2 (take (length kept) others) kept (length-take-le (length kept) others (omega arith)) (λ i other h.
     let k : IsKeptOf keeps (i + 2) (tree_of (get_or (first ∷ others) (i + 1) [])) (get_or kept i other) = are i other h in
     let next : get_or (first ∷ others) (i + 1) [] ≡ get_or (take (length kept) others) i [] = ap (λ (n : ℕ). get_or (first ∷ others) n []) (next_is i) ∙ sym (get_or-take (length kept) others i [] h) in
@@ -157,33 +157,71 @@ script_before forms keeps (first ∷ others) header kept plain read are long beg
     next_is : (i : ℕ) → i + 1 ≡ suc i
     next_is i = omega arith
 
+-- ---- the header
+
+-- the first line that was read is a header with these workers
+pub header_read : (forms : LineForms) (audit : Bool) (texts : List (List ℕ)) (workers n : ℕ) → HeadsScripts forms → AreRead forms audit texts workers n → 0 < n → (header : Header) × IsHeaderOf (get_or texts 0 []) header × (header.workers ≡ workers)
+header_read forms audit texts workers n plain read some = by_tree (tree_of (get_or texts 0 [])) (first_is forms (tree_of (get_or texts 0 [])) workers (read.head some))
+  where
+    by_header : (found : Option Header) → option_map (λ (h : Header). h.workers) found ≡ Some workers → (header : Header) × (found ≡ Some header) × (header.workers ≡ workers)
+    by_header None e = cc
+    by_header (Some header) e = let same : header.workers ≡ workers = cc in (header, refl, same)
+
+    by_tree : (tree : Option Data) → option_and_then forms.heads tree ≡ Some workers → (header : Header) × (option_and_then header_of tree ≡ Some header) × (header.workers ≡ workers)
+    by_tree None e = cc
+    by_tree (Some tree) e = by_header (header_of tree) (sym (plain tree) ∙ e)
+
+-- so its workers are those that were counted
+pub same_workers : {A : Type 0} (forms : LineForms) (keeps : ℕ → Data → A → Type 0) (input : Input) (read : ReadLines A) (header : Header) → HeadsScripts forms → IsReadOf forms keeps input read → IsHeaderOf read.heading.items header → read.workers ≡ header.workers
+same_workers forms keeps input read header plain of heads =
+    let found = header_read forms input.audit (lines_of input.bytes) read.workers (length read.kept.items + 1) plain of.lines (omega arith) in
+    let same : found.0 ≡ header = some_same found.0 header (option_and_then header_of (tree_of read.heading.items)) (sym (ap (λ (text : List ℕ). option_and_then header_of (tree_of text)) of.heading) ∙ found.1) heads in
+    sym found.2 ∙ ap (λ (h : Header). h.workers) same
+
+-- the lines are those of a script with this header
+pub numbered_read : (forms : LineForms) (keeps : ℕ → Data → Line → Type 0) (input : Input) (read : ReadLines Line) (header : Header) → HeadsScripts forms → KeepsLines forms keeps → IsReadOf forms keeps input read → IsHeaderOf read.heading.items header → AreNumbered header.workers read.kept.items
+numbered_read forms keeps input read header heads plain of is =
+    subst (λ (workers : ℕ). AreNumbered workers read.kept.items) (same_workers forms keeps input read header heads of is)
+    (are_numbered forms keeps input.audit (lines_of input.bytes) read.workers read.kept.items plain of.lines of.kept)
+
+-- what a script keeps of a line is the line
+pub keeps_plain : KeepsLines plain_lines IsLine
+keeps_plain at tree line e = (e, ap (option_map (λ (l : Line). worker_of l.actor)) e)
+
 -- ---- the answers
 
--- the script of what was read
-abbrev pub script_read : ReadInput Line → ScriptParts
-script_read read = record { workers = read.header.workers; auto = read.header.auto; node = read.header.node; lines = read.kept.items; count = length read.kept.items + 1 }
-
 -- the script of a whole input
-pub answer_whole : (forms : ℕ → Data → Option (Option ℕ)) (keeps : ℕ → Data → Line → Type 0) (input : Input) (read : ReadInput Line) (script : ScriptParts) → KeepsLines forms keeps → IsReadOf forms keeps input read → read.journal ≡ None → script ≡ script_read read → IsWhole forms input script.count × (script_of false input.bytes ≡ Some script)
-answer_whole forms keeps input read script plain of none is =
-    let ends : IsWhole forms input (length read.kept.items + 1) = subst (EndsBefore forms input (length read.kept.items + 1)) none of.ends in
-    subst (λ (s : ScriptParts). IsWhole forms input s.count × (script_of false input.bytes ≡ Some s)) (sym is)
-    (ends, whole_script forms keeps input.audit (lines_of input.bytes) read.header read.kept.items plain of.lines of.kept ends.lines)
+pub answer_whole : (forms : LineForms) (keeps : ℕ → Data → Line → Type 0) (input : Input) (read : ReadLines Line) (header : Header) (script : ScriptParts) → input.audit ≡ false → HeadsScripts forms → KeepsLines forms keeps → IsReadOf forms keeps input read → IsHeaderOf read.heading.items header → script ≡ script_made header read.kept.items → IsScriptAnswer forms input (Ok script)
+answer_whole forms keeps input read header script no_audit heads plain of is made =
+    let ends : IsWhole forms input (length read.kept.items + 1) = by_end read.journal of.ends in
+    let first : IsHeaderOf (get_or (lines_of input.bytes) 0 []) header = subst (λ (text : List ℕ). IsHeaderOf text header) (sym of.heading) is in
+    let lines : AreRead forms input.audit (lines_of input.bytes) header.workers (length read.kept.items + 1) =
+    subst (λ (workers : ℕ). AreRead forms input.audit (lines_of input.bytes) workers (length read.kept.items + 1)) (same_workers forms keeps input read header heads of is) of.lines in
+    subst (λ (s : ScriptParts). IsScriptAnswer forms input (Ok s)) (sym made)
+    (ends, whole_script forms keeps input.audit (lines_of input.bytes) header read.kept.items plain first lines of.kept ends.lines)
+  where
+    by_end : (journal : Option (Vec ℕ Global)) → EndsBefore forms input (length read.kept.items + 1) journal → IsWhole forms input (length read.kept.items + 1)
+    by_end None ends = ends
+    by_end (Some text) ends = let no : false ≡ true = sym no_audit ∙ ends.begins.audit in cc
 
 -- the script before a journal
-pub answer_journal : (forms : ℕ → Data → Option (Option ℕ)) (keeps : ℕ → Data → Line → Type 0) (input : Input) (read : ReadInput Line) (script : ScriptParts) (text : Vec ℕ Global) → KeepsLines forms keeps → IsReadOf forms keeps input read → read.journal ≡ Some text → script ≡ script_read read → IsUpToJournal forms input script.count text.items × (script_of true input.bytes ≡ Some script)
-answer_journal forms keeps input read script text plain of some is =
-    let ends : IsUpToJournal forms input (length read.kept.items + 1) text.items = subst (EndsBefore forms input (length read.kept.items + 1)) some of.ends in
+pub answer_audited : (keeps : ℕ → Data → Line → Type 0) (input : Input) (read : ReadLines Line) (header : Header) (script : ScriptParts) (text : Vec ℕ Global) → KeepsLines plain_lines keeps → IsReadOf plain_lines keeps input read → IsHeaderOf read.heading.items header → read.journal ≡ Some text → script ≡ script_made header read.kept.items → IsUpToJournal plain_lines input script.count text.items × (script_of true input.bytes ≡ Some script)
+answer_audited keeps input read header script text plain of is some made =
+    let ends : IsUpToJournal plain_lines input (length read.kept.items + 1) text.items = subst (EndsBefore plain_lines input (length read.kept.items + 1)) some of.ends in
     let asked : input.audit ≡ true = ends.begins.audit in
     let within : index_at input ends.place < length (lines_of input.bytes) = ends_within input ends.place ends.begins.ends in
     let behind : index_at input ends.place ≡ length read.kept.items + 1 = ends.behind in
     let tree : tree_of (get_or (lines_of input.bytes) (length read.kept.items + 1) []) ≡ Some ends.begins.format.0 = ap (λ (i : ℕ). tree_of (get_or (lines_of input.bytes) i [])) (sym behind) ∙ ends.begins.format.1 in
-    subst (λ (s : ScriptParts). IsUpToJournal forms input s.count text.items × (script_of true input.bytes ≡ Some s)) (sym is) (
+    let first : IsHeaderOf (get_or (lines_of input.bytes) 0 []) header = subst (λ (line : List ℕ). IsHeaderOf line header) (sym of.heading) is in
+    let lines : AreRead plain_lines true (lines_of input.bytes) header.workers (length read.kept.items + 1) =
+    subst (λ (a : Bool). AreRead plain_lines a (lines_of input.bytes) header.workers (length read.kept.items + 1)) asked
+    (subst (λ (workers : ℕ). AreRead plain_lines input.audit (lines_of input.bytes) workers (length read.kept.items + 1)) (same_workers plain_lines keeps input read header (λ tree. refl) of is) of.lines) in
+    subst (λ (s : ScriptParts). IsUpToJournal plain_lines input s.count text.items × (script_of true input.bytes ≡ Some s)) (sym made) (
       ends,
-      script_before forms keeps (lines_of input.bytes) read.header read.kept.items plain (subst (λ (a : Bool). AreRead forms a (lines_of input.bytes) read.header (length read.kept.items + 1)) asked of.lines) of.kept (omega arith) (ap begins_journal tree ∙ ends.begins.format.2),
+      script_before plain_lines keeps (lines_of input.bytes) header read.kept.items plain first lines of.kept (omega arith) (ap begins_journal tree ∙ ends.begins.format.2),
     )
 
 -- its lines are of the forms
-pub answer_forms : (forms : ℕ → Data → Option (Option ℕ)) (keeps : ℕ → Data → Line → Type 0) (input : Input) (read : ReadInput Line) (script : ScriptParts) → KeepsLines forms keeps → IsReadOf forms keeps input read → script ≡ script_read read → AreOfForms keeps script.lines
-answer_forms forms keeps input read script plain of is =
-    subst (λ (s : ScriptParts). AreOfForms keeps s.lines) (sym is) (are_of_forms forms keeps input.audit (lines_of input.bytes) read.header read.kept.items plain of.lines of.kept)
+pub answer_forms : (forms : LineForms) (keeps : ℕ → Data → Line → Type 0) (input : Input) (read : ReadLines Line) (header : Header) (script : ScriptParts) → KeepsLines forms keeps → IsReadOf forms keeps input read → script ≡ script_made header read.kept.items → AreOfForms keeps script.lines
+answer_forms forms keeps input read header script plain of is =
+    subst (λ (s : ScriptParts). AreOfForms keeps s.lines) (sym is) (are_of_forms forms keeps input.audit (lines_of input.bytes) read.workers read.kept.items plain of.lines of.kept)

@@ -3,17 +3,15 @@ use Rattle.std.proofs.Common.{◌≡◌, ℕ, zero, suc, ◌+◌, ◌<◌, ◌�
 use Rattle.std.proofs.lemmas.Bool.Decides.{nat_tests}
 use Rattle.serde_json.specs.Data.{Data}
 use Rattle.ev_io.specs.Lines.{lines_of}
-use Rattle.ev_script.specs.declared.header.Header.{Header}
 use Rattle.ev_script.specs.declared.fault_kinds.FaultKind.TheVariants.{NotJson, NotHeader, NotLine, NoSuchWorker}
 use Rattle.ev_script.specs.Members.{tree_of}
-use Rattle.ev_script.specs.Header.{header_of}
-use Rattle.ev_script.specs.Faults.{Input, index_at, tree_at, header_in, has_format, BeginsJournal, IsUnknownWorker, Stands}
+use Rattle.ev_script.specs.Faults.{LineForms, Input, index_at, tree_at, workers_in, has_format, BeginsJournal, IsUnknownWorker, Stands}
 use Rattle.ev_script.specs.Content.{is_above, IsLineOf}
 use Rattle.ev_script.specs.ReadLines.{AreRead}
 use Rattle.ev_script.proofs.ContentLemmas.{first_is}
 
 -- neither a fault of its content stands where a line ends, nor does a journal begin there
-pub record IsSoundAt (forms : ℕ → Data → Option (Option ℕ)) (input : Input) (place : ℕ) : Type 0 where
+pub record IsSoundAt (forms : LineForms) (input : Input) (place : ℕ) : Type 0 where
   pub json : ¬ (Stands forms input place NotJson)
   pub header : ¬ (Stands forms input place NotHeader)
   pub line : ¬ (Stands forms input place NotLine)
@@ -42,47 +40,47 @@ no_journal input place tree e f = λ b.
     let same : b.format.0 ≡ tree = some_same b.format.0 tree (tree_at input place) b.format.1 e in
     both_true input.audit (has_format tree) b.audit (subst (λ (d : Data). IsTrue (has_format d)) same b.format.2) f
 
--- the header that the first line is
-pub head_is : (forms : ℕ → Data → Option (Option ℕ)) (audit : Bool) (texts : List (List ℕ)) (header : Header) (n : ℕ) → AreRead forms audit texts header n → 0 < n → header_in texts ≡ Some header
-head_is forms audit texts header n read h = first_is (tree_of (get_or texts 0 [])) header (read.head h)
+-- how many workers the first line names
+pub head_is : (forms : LineForms) (audit : Bool) (texts : List (List ℕ)) (workers : ℕ) (n : ℕ) → AreRead forms audit texts workers n → 0 < n → workers_in forms texts ≡ Some workers
+head_is forms audit texts workers n read h = first_is forms (tree_of (get_or texts 0 [])) workers (read.head h)
 
 -- the first line
-sound_first : (forms : ℕ → Data → Option (Option ℕ)) (input : Input) (place n : ℕ) (header : Header) → AreRead forms input.audit (lines_of input.bytes) header n → 0 < n → index_at input place ≡ 0 → IsSoundAt forms input place
-sound_first forms input place n header read h e =
-    let same : option_and_then header_of (tree_at input place) ≡ Some header = ap (λ (i : ℕ). option_and_then header_of (tree_of (get_or (lines_of input.bytes) i []))) e ∙ head_is forms input.audit (lines_of input.bytes) header n read h in
+sound_first : (forms : LineForms) (input : Input) (place n : ℕ) (workers : ℕ) → AreRead forms input.audit (lines_of input.bytes) workers n → 0 < n → index_at input place ≡ 0 → IsSoundAt forms input place
+sound_first forms input place n workers read h e =
+    let same : option_and_then forms.heads (tree_at input place) ≡ Some workers = ap (λ (i : ℕ). option_and_then forms.heads (tree_of (get_or (lines_of input.bytes) i []))) e ∙ head_is forms input.audit (lines_of input.bytes) workers n read h in
     record {
-      json = λ s. none_some header (option_and_then header_of (tree_at input place)) (ap (option_and_then header_of) s.1) same;
-      header = λ s. none_some header (option_and_then header_of (tree_at input place)) s.2 same;
+      json = λ s. none_some workers (option_and_then forms.heads (tree_at input place)) (ap (option_and_then forms.heads) s.1) same;
+      header = λ s. none_some workers (option_and_then forms.heads (tree_at input place)) s.2 same;
       line = λ s. let k : 0 < index_at input place = s.1 in omega arith;
       worker = λ s. let k : 0 < index_at input place = s.1 in omega arith;
       journal = λ b. let k : 0 < index_at input place = b.later in omega arith;
     }
 
 -- another line
-sound_other : (forms : ℕ → Data → Option (Option ℕ)) (input : Input) (place n i : ℕ) (header : Header) → AreRead forms input.audit (lines_of input.bytes) header n → 0 < i → i < n → index_at input place ≡ i → IsSoundAt forms input place
-sound_other forms input place n i header read some within e =
-    let r : IsLineOf forms input.audit header.workers (i + 1) (tree_of (get_or (lines_of input.bytes) i [])) = read.others i some within in
+sound_other : (forms : LineForms) (input : Input) (place n i : ℕ) (workers : ℕ) → AreRead forms input.audit (lines_of input.bytes) workers n → 0 < i → i < n → index_at input place ≡ i → IsSoundAt forms input place
+sound_other forms input place n i workers read some within e =
+    let r : IsLineOf forms input.audit workers (i + 1) (tree_of (get_or (lines_of input.bytes) i [])) = read.others i some within in
     let tree : tree_at input place ≡ Some r.tree = ap (λ (i : ℕ). tree_of (get_or (lines_of input.bytes) i [])) e ∙ r.is in
-    let named : option_and_then (forms (index_at input place + 1)) (tree_at input place) ≡ Some r.named =
-    ap (λ (i : ℕ). option_and_then (forms (i + 1)) (tree_at input place)) e
-    ∙ ap (option_and_then (forms (i + 1))) tree
+    let named : option_and_then (forms.lines (index_at input place + 1)) (tree_at input place) ≡ Some r.named =
+    ap (λ (i : ℕ). option_and_then (forms.lines (i + 1)) (tree_at input place)) e
+    ∙ ap (option_and_then (forms.lines (i + 1))) tree
     ∙ r.reads in
-    let worker : IsUnknownWorker input (option_and_then (forms (index_at input place + 1)) (tree_at input place)) → ⊥ = λ u.
-    let actor : r.named ≡ Some u.worker = some_same r.named (Some u.worker) (option_and_then (forms (index_at input place + 1)) (tree_at input place)) named u.names in
-    let heads : u.header ≡ header = some_same u.header header (header_in (lines_of input.bytes)) u.heads (head_is forms input.audit (lines_of input.bytes) header n read (omega arith)) in
-    not_above header.workers u.worker r.named actor r.below (subst (λ (h : Header). h.workers ≤ u.worker) heads u.above) in
+    let worker : IsUnknownWorker forms input (option_and_then (forms.lines (index_at input place + 1)) (tree_at input place)) → ⊥ = λ u.
+    let actor : r.named ≡ Some u.worker = some_same r.named (Some u.worker) (option_and_then (forms.lines (index_at input place + 1)) (tree_at input place)) named u.names in
+    let heads : u.workers ≡ workers = some_same u.workers workers (workers_in forms (lines_of input.bytes)) u.heads (head_is forms input.audit (lines_of input.bytes) workers n read (omega arith)) in
+    not_above workers u.worker r.named actor r.below (subst (λ (w : ℕ). w ≤ u.worker) heads u.above) in
     record {
       json = λ s. none_some r.tree (tree_at input place) s.1 tree;
       header = λ s. let k : index_at input place ≡ 0 = s.1 in omega arith;
-      line = λ s. none_some r.named (option_and_then (forms (index_at input place + 1)) (tree_at input place)) s.2 named;
+      line = λ s. none_some r.named (option_and_then (forms.lines (index_at input place + 1)) (tree_at input place)) s.2 named;
       worker = λ s. worker s.2;
       journal = no_journal input place r.tree tree r.plain;
     }
 
 -- any line that was read
-pub sound_at : (forms : ℕ → Data → Option (Option ℕ)) (input : Input) (place n : ℕ) (header : Header) → AreRead forms input.audit (lines_of input.bytes) header n → index_at input place < n → IsSoundAt forms input place
-sound_at forms input place n header read within = by_index (index_at input place) refl
+pub sound_at : (forms : LineForms) (input : Input) (place n : ℕ) (workers : ℕ) → AreRead forms input.audit (lines_of input.bytes) workers n → index_at input place < n → IsSoundAt forms input place
+sound_at forms input place n workers read within = by_index (index_at input place) refl
   where
     by_index : (i : ℕ) → index_at input place ≡ i → IsSoundAt forms input place
-    by_index zero e = sound_first forms input place n header read (omega arith) e
-    by_index (suc i) e = sound_other forms input place n (suc i) header read (omega arith) (omega arith) e
+    by_index zero e = sound_first forms input place n workers read (omega arith) e
+    by_index (suc i) e = sound_other forms input place n (suc i) workers read (omega arith) (omega arith) e

@@ -5,24 +5,22 @@ use Rattle.ev_script.specs.declared.content.Content.{Content}
 use Rattle.ev_script.specs.declared.content.Content.TheVariants as is
 use Rattle.ev_script.specs.declared.content.First.{First}
 use Rattle.ev_script.specs.declared.content.First.TheVariants as first
-use Rattle.ev_script.specs.declared.header.Header.{Header}
 use Rattle.ev_script.specs.declared.fault_kinds.FaultKind.TheVariants.{NotJson, NotHeader, NotLine, NoSuchWorker}
 use Rattle.ev_script.specs.Members.{tree_of}
-use Rattle.ev_script.specs.Header.{header_of}
-use Rattle.ev_script.specs.Faults.{has_format}
+use Rattle.ev_script.specs.Faults.{LineForms, has_format}
 
--- what a tree of the first line is
-abbrev pub first_of : Option Header → First
+-- what the first line is, by how many workers it names as a header
+abbrev pub first_of : Option ℕ → First
 first_of None = first.Fault NotHeader
-first_of (Some header) = first.Header header
+first_of (Some workers) = first.Workers workers
 
-abbrev pub first_tree : Option Data → First
-first_tree None = first.Fault NotJson
-first_tree (Some tree) = first_of (header_of tree)
+abbrev pub first_tree : LineForms → Option Data → First
+first_tree forms None = first.Fault NotJson
+first_tree forms (Some tree) = first_of (forms.heads tree)
 
--- what the first line is: the header, or a fault
-abbrev pub first_content : List ℕ → First
-first_content text = first_tree (tree_of text)
+-- what the first line is by these forms: a header, or a fault
+abbrev pub first_content : LineForms → List ℕ → First
+first_content forms text = first_tree forms (tree_of text)
 
 -- a worker that isn't below the count
 abbrev pub is_above : ℕ → Option ℕ → Bool
@@ -31,28 +29,28 @@ is_above workers (Some worker) = nat_le workers worker
 
 -- a line by these forms, at its place, in a script of so many workers: its tree begins no journal and is a line, whose
 -- worker, where it names one, is below the count
-pub record IsLineOf (forms : ℕ → Data → Option (Option ℕ)) (audit : Bool) (workers at : ℕ) (found : Option Data) : Type 0 where
+pub record IsLineOf (forms : LineForms) (audit : Bool) (workers at : ℕ) (found : Option Data) : Type 0 where
   pub tree : Data
   pub is : found ≡ Some tree
   pub plain : (audit && has_format tree) ≡ false
   pub named : Option ℕ
-  pub reads : forms at tree ≡ Some named
+  pub reads : forms.lines at tree ≡ Some named
   pub below : is_above workers named ≡ false
 
 -- no line by these forms: its tree begins no journal and isn't one
-pub record IsNoLine (forms : ℕ → Data → Option (Option ℕ)) (audit : Bool) (at : ℕ) (found : Option Data) : Type 0 where
+pub record IsNoLine (forms : LineForms) (audit : Bool) (at : ℕ) (found : Option Data) : Type 0 where
   pub tree : Data
   pub is : found ≡ Some tree
   pub plain : (audit && has_format tree) ≡ false
-  pub none : forms at tree ≡ None
+  pub none : forms.lines at tree ≡ None
 
 -- a line whose worker isn't below the count
-pub record NamesAbove (forms : ℕ → Data → Option (Option ℕ)) (audit : Bool) (workers at : ℕ) (found : Option Data) : Type 0 where
+pub record NamesAbove (forms : LineForms) (audit : Bool) (workers at : ℕ) (found : Option Data) : Type 0 where
   pub tree : Data
   pub is : found ≡ Some tree
   pub plain : (audit && has_format tree) ≡ false
   pub named : Option ℕ
-  pub reads : forms at tree ≡ Some named
+  pub reads : forms.lines at tree ≡ Some named
   pub above : is_above workers named ≡ true
 
 -- the first line of a journal
@@ -69,7 +67,7 @@ pub record IsKeptOf {A : Type 0} (keeps : ℕ → Data → A → Type 0) (at : �
 
 -- what a line behind the first is, by its tree: a line of the script, of which this is kept, a fault, or, in an audit's
 -- input, the begin of the journal
-abbrev pub IsContent : {A : Type 0} → (ℕ → Data → Option (Option ℕ)) → (ℕ → Data → A → Type 0) → Bool → ℕ → ℕ → Option Data → Content A → Type 0
+abbrev pub IsContent : {A : Type 0} → LineForms → (ℕ → Data → A → Type 0) → Bool → ℕ → ℕ → Option Data → Content A → Type 0
 IsContent forms keeps audit workers at found (is.Line kept) = IsLineOf forms audit workers at found × IsKeptOf keeps at found kept
 IsContent forms keeps audit workers at found (is.Fault NotJson) = found ≡ None
 IsContent forms keeps audit workers at found (is.Fault NotLine) = IsNoLine forms audit at found

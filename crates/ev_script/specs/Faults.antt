@@ -42,6 +42,15 @@ fault_order NotLine = 6
 fault_order NoSuchWorker = 7
 fault_order NotJournal = 8
 
+-- ---- forms of lines
+
+-- What a tree is as a line of an input. `heads`: as the first line, how many workers it names, or none where it is no
+-- header. `lines`: as another one, by its line's number, the worker that it names, where it names one, or none where it is
+-- no line.
+pub record LineForms : Type 0 where
+  pub heads : Data → Option ℕ
+  pub lines : ℕ → Data → Option (Option ℕ)
+
 -- ---- inputs
 
 -- the bytes taken, whether the source gave its end, and whether a journal has to follow the script
@@ -64,9 +73,9 @@ EndsLine input place =
 abbrev pub tree_at : Input → ℕ → Option Data
 tree_at input place = tree_of (slice_index_or (lines_of input.bytes) (index_at input place) [])
 
--- the header of the first line
-abbrev pub header_in : List (List ℕ) → Option Header
-header_in texts = option_and_then header_of (tree_of (slice_index_or texts 0 []))
+-- how many workers the first line names, where it is a header
+abbrev pub workers_in : LineForms → List (List ℕ) → Option ℕ
+workers_in forms texts = option_and_then forms.heads (tree_of (slice_index_or texts 0 []))
 
 -- ---- the journal behind a script
 
@@ -96,37 +105,38 @@ worker_of Timer = None
 worker_of Main = None
 worker_of (Worker worker) = Some worker
 
--- What a tree is among the lines after the header, by its line's number: none where it isn't a line, else the worker that
--- it names, where it names one. These are the lines of a script; a command that reads more forms of lines has another
--- such function.
-abbrev pub plain_lines : ℕ → Data → Option (Option ℕ)
-plain_lines at tree = option_map (λ (line : Line). worker_of line.actor) (line_of at tree)
+-- the forms of a script's lines; a command whose input has other lines has other forms
+abbrev pub plain_lines : LineForms
+plain_lines = record {
+  heads = λ tree. option_map (λ (header : Header). header.workers) (header_of tree);
+  lines = λ at tree. option_map (λ (line : Line). worker_of line.actor) (line_of at tree);
+}
 
 -- the worker isn't below the header's count
-pub record IsUnknownWorker (input : Input) (named : Option (Option ℕ)) : Type 0 where
+pub record IsUnknownWorker (forms : LineForms) (input : Input) (named : Option (Option ℕ)) : Type 0 where
   pub worker : ℕ
-  pub header : Header
+  pub workers : ℕ
   pub names : named ≡ Some (Some worker)
-  pub heads : header_in (lines_of input.bytes) ≡ Some header
-  pub above : header.workers ≤ worker
+  pub heads : workers_in forms (lines_of input.bytes) ≡ Some workers
+  pub above : workers ≤ worker
 
 -- ---- faults
 
 -- a fault of this kind stands at the place
-abbrev pub Stands : (ℕ → Data → Option (Option ℕ)) → Input → ℕ → FaultKind → Type 0
+abbrev pub Stands : LineForms → Input → ℕ → FaultKind → Type 0
 Stands forms input place TooLong = (place < length input.bytes) × IsTooLong input.bytes place
 Stands forms input place TooMany = (place < length input.bytes) × IsTooMany input.bytes place
 Stands forms input place TooLarge = (place < length input.bytes) × IsTooLarge place
 Stands forms input place NotJson = EndsScriptLine input place × (tree_at input place ≡ None)
-Stands forms input place NotHeader = EndsScriptLine input place × (index_at input place ≡ 0) × (option_and_then header_of (tree_at input place) ≡ None)
-Stands forms input place NotLine = EndsScriptLine input place × (0 < index_at input place) × (option_and_then (forms (index_at input place + 1)) (tree_at input place) ≡ None)
-Stands forms input place NoSuchWorker = EndsScriptLine input place × (0 < index_at input place) × IsUnknownWorker input (option_and_then (forms (index_at input place + 1)) (tree_at input place))
+Stands forms input place NotHeader = EndsScriptLine input place × (index_at input place ≡ 0) × (option_and_then forms.heads (tree_at input place) ≡ None)
+Stands forms input place NotLine = EndsScriptLine input place × (0 < index_at input place) × (option_and_then (forms.lines (index_at input place + 1)) (tree_at input place) ≡ None)
+Stands forms input place NoSuchWorker = EndsScriptLine input place × (0 < index_at input place) × IsUnknownWorker forms input (option_and_then (forms.lines (index_at input place + 1)) (tree_at input place))
 Stands forms input place NoByte = IsTrue input.ended × (input.bytes ≡ []) × (place ≡ 0)
 Stands forms input place NotJournal =
     IsTrue input.audit × IsTrue input.ended × (place ≡ length input.bytes) × ((start : ℕ) → ¬ (BeginsJournal input start))
 
 -- the first fault: no other stands at an earlier place, or at its place with a kind that is looked at before
-pub record IsFirstFault (forms : ℕ → Data → Option (Option ℕ)) (input : Input) (place : ℕ) (kind : FaultKind) : Type 0 where
+pub record IsFirstFault (forms : LineForms) (input : Input) (place : ℕ) (kind : FaultKind) : Type 0 where
   pub stands : Stands forms input place kind
   pub first : (other : ℕ) (kind_there : FaultKind) → Stands forms input other kind_there → (place < other) ⊎ ((place ≡ other) × (fault_order kind ≤ fault_order kind_there))
 
@@ -143,7 +153,7 @@ fault_line input place NoByte = 1
 fault_line input place NotJournal = length (lines_of input.bytes) + 1
 
 -- the input's first fault has this line and this number
-pub record IsFaultOf (forms : ℕ → Data → Option (Option ℕ)) (input : Input) (line number : ℕ) : Type 0 where
+pub record IsFaultOf (forms : LineForms) (input : Input) (line number : ℕ) : Type 0 where
   pub place : ℕ
   pub kind : FaultKind
   pub first : IsFirstFault forms input place kind
@@ -151,5 +161,5 @@ pub record IsFaultOf (forms : ℕ → Data → Option (Option ℕ)) (input : Inp
   pub numbered : number ≡ fault_number kind
 
 -- no fault stands anywhere
-abbrev pub HasNoFault : (ℕ → Data → Option (Option ℕ)) → Input → Type 0
+abbrev pub HasNoFault : LineForms → Input → Type 0
 HasNoFault forms input = (place : ℕ) (kind : FaultKind) → ¬ (Stands forms input place kind)

@@ -10,9 +10,8 @@ use Rattle.ev_io.specs.Lines.{lines_of}
 use Rattle.ev_io.specs.LinesState.{LinesState}
 use Rattle.ev_script.specs.declared.fault_kinds.FaultKind.{FaultKind}
 use Rattle.ev_script.specs.declared.content.First.TheVariants as first
-use Rattle.ev_script.specs.declared.header.Header.{Header}
-use Rattle.ev_script.specs.declared.read_input.ReadInput.{ReadInput}
-use Rattle.ev_script.specs.Faults.{Input, index_at, BeginsJournal, Stands, IsFaultOf, HasNoFault}
+use Rattle.ev_script.specs.declared.read_input.ReadLines.{ReadLines}
+use Rattle.ev_script.specs.Faults.{LineForms, Input, index_at, BeginsJournal, Stands, IsFaultOf, HasNoFault}
 use Rattle.ev_script.specs.Content.{first_content}
 use Rattle.ev_script.specs.ReadLines.{AreRead, AreKept}
 
@@ -33,20 +32,20 @@ script_fault given limit.Failed = Read
 script_fault given limit.OutOfMemory = OutOfMemory
 
 -- a fault is the first of the bytes taken; a failed read is told where they have none, and go on
-abbrev pub IsTold : (ℕ → Data → Option (Option ℕ)) → Input → ScriptFault → Type 0
+abbrev pub IsTold : LineForms → Input → ScriptFault → Type 0
 IsTold forms input (Bad line kind) = IsFaultOf forms input line kind
 IsTold forms input Read = HasNoFault forms input × (¬ (IsTrue input.ended))
 IsTold forms input OutOfMemory = ⊤
 
 -- the input is no audit's, was read to its end, has no fault and so many lines
-pub record IsWhole (forms : ℕ → Data → Option (Option ℕ)) (input : Input) (count : ℕ) : Type 0 where
+pub record IsWhole (forms : LineForms) (input : Input) (count : ℕ) : Type 0 where
   pub script : input.audit ≡ false
   pub ended : IsTrue input.ended
   pub sound : HasNoFault forms input
   pub lines : length (lines_of input.bytes) ≡ count
 
 -- behind so many lines the journal begins, by a line of this text, and no fault stands up to that line's end
-pub record IsUpToJournal (forms : ℕ → Data → Option (Option ℕ)) (input : Input) (count : ℕ) (text : List ℕ) : Type 0 where
+pub record IsUpToJournal (forms : LineForms) (input : Input) (count : ℕ) (text : List ℕ) : Type 0 where
   pub place : ℕ
   pub begins : BeginsJournal input place
   pub first : (other : ℕ) → other < place → ¬ (BeginsJournal input other)
@@ -55,7 +54,7 @@ pub record IsUpToJournal (forms : ℕ → Data → Option (Option ℕ)) (input :
   pub here : slice_index_or (lines_of input.bytes) count [] ≡ text
 
 -- where the script ends: at the end of the input, or before its journal
-abbrev pub EndsBefore : (ℕ → Data → Option (Option ℕ)) → Input → ℕ → Option (Vec ℕ Global) → Type 0
+abbrev pub EndsBefore : LineForms → Input → ℕ → Option (Vec ℕ Global) → Type 0
 EndsBefore forms input count None = IsWhole forms input count
 EndsBefore forms input count (Some text) = IsUpToJournal forms input count text.items
 
@@ -64,21 +63,21 @@ abbrev pub through_journal : Option (Vec ℕ Global) → ℕ
 through_journal None = 1
 through_journal (Some text) = 2
 
--- the header, with the text of its line, what is kept of the lines behind it, and where they end
-pub record IsReadOf {A : Type 0} (forms : ℕ → Data → Option (Option ℕ)) (keeps : ℕ → Data → A → Type 0) (input : Input) (read : ReadInput A) : Type 0 where
+-- how many workers the header names, the text of its line, what is kept of the lines behind it, and where they end
+pub record IsReadOf {A : Type 0} (forms : LineForms) (keeps : ℕ → Data → A → Type 0) (input : Input) (read : ReadLines A) : Type 0 where
   pub heading : slice_index_or (lines_of input.bytes) 0 [] ≡ read.heading.items
-  pub lines : AreRead forms input.audit (lines_of input.bytes) read.header (length read.kept.items + 1)
+  pub lines : AreRead forms input.audit (lines_of input.bytes) read.workers (length read.kept.items + 1)
   pub kept : AreKept keeps (lines_of input.bytes) read.kept.items
   pub ends : EndsBefore forms input (length read.kept.items + 1) read.journal
 
 -- what an answer means
-abbrev pub IsAnswer : {A : Type 0} → (ℕ → Data → Option (Option ℕ)) → (ℕ → Data → A → Type 0) → Input → Result (ReadInput A) ScriptFault → Type 0
+abbrev pub IsAnswer : {A : Type 0} → LineForms → (ℕ → Data → A → Type 0) → Input → Result (ReadLines A) ScriptFault → Type 0
 IsAnswer forms keeps input (Ok read) = IsReadOf forms keeps input read
 IsAnswer forms keeps input (Err fault) = IsTold forms input fault
 
--- what an answer about the first line means: the header was given, and the line is this text, or the first fault of the
--- bytes taken stands in the first line, whatever forms the others have
-abbrev pub IsHeadAnswer : LinesState → List ℕ → List ℕ → Result Header ScriptFault → Type 0
-IsHeadAnswer state bytes text (Ok header) =
-    (state.told ≡ None) × (state.given ≡ 1) × (first_content (slice_index_or (lines_of bytes) 0 []) ≡ first.Header header) × (slice_index_or (lines_of bytes) 0 [] ≡ text)
-IsHeadAnswer state bytes text (Err fault) = (forms : ℕ → Data → Option (Option ℕ)) (audit : Bool) → IsTold forms (input_of audit state bytes) fault
+-- what an answer about the first line means: a header was given, and the line is this text, or the first fault of the bytes
+-- taken stands in the first line, whether a journal has to follow or not
+abbrev pub IsHeadAnswer : LineForms → LinesState → List ℕ → List ℕ → Result ℕ ScriptFault → Type 0
+IsHeadAnswer forms state bytes text (Ok workers) =
+    (state.told ≡ None) × (state.given ≡ 1) × (first_content forms (slice_index_or (lines_of bytes) 0 []) ≡ first.Workers workers) × (slice_index_or (lines_of bytes) 0 [] ≡ text)
+IsHeadAnswer forms state bytes text (Err fault) = (audit : Bool) → IsTold forms (input_of audit state bytes) fault

@@ -2,14 +2,14 @@
 use Rattle.std.specs.Prelude.{◌≡◌, ℕ, ◌+◌, ◌<◌, Bool, List, [], length, slice_index_or, Option}
 use Rattle.serde_json.specs.Data.{Data}
 use Rattle.ev_script.specs.declared.content.First.TheVariants as first
-use Rattle.ev_script.specs.declared.header.Header.{Header}
 use Rattle.ev_script.specs.Members.{tree_of}
+use Rattle.ev_script.specs.Faults.{LineForms}
 use Rattle.ev_script.specs.Content.{first_content, IsLineOf, IsKeptOf}
 
--- of the first n lines the first is this header, and each other a line by these forms with its workers
-pub record AreRead (forms : ℕ → Data → Option (Option ℕ)) (audit : Bool) (texts : List (List ℕ)) (header : Header) (n : ℕ) : Type 0 where
-  pub head : 0 < n → first_content (slice_index_or texts 0 []) ≡ first.Header header
-  pub others : (i : ℕ) → 0 < i → i < n → IsLineOf forms audit header.workers (i + 1) (tree_of (slice_index_or texts i []))
+-- by these forms, of the first n lines the first is a header with so many workers, and each other a line
+pub record AreRead (forms : LineForms) (audit : Bool) (texts : List (List ℕ)) (workers n : ℕ) : Type 0 where
+  pub head : 0 < n → first_content forms (slice_index_or texts 0 []) ≡ first.Workers workers
+  pub others : (i : ℕ) → 0 < i → i < n → IsLineOf forms audit workers (i + 1) (tree_of (slice_index_or texts i []))
 
 -- this is kept of the lines behind the first, one after another
 abbrev pub AreKept : {A : Type 0} → (ℕ → Data → A → Type 0) → List (List ℕ) → List A → Type 0

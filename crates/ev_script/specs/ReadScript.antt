@@ -1,37 +1,44 @@
 -- What a reader of scripts answers.
-use Rattle.std.specs.Prelude.{◌≡◌, ℕ, ◌+◌, ◌<◌, true, false, All, slice_index_or, List, length, Option, Some, Result, Ok, Err}
+use Rattle.std.specs.Prelude.{◌≡◌, ℕ, ◌+◌, ◌<◌, true, false, All, slice_index_or, List, length, Option, Some, Result, Ok, Err, option_and_then}
 use Rattle.serde_json.specs.Data.{Data}
 use Rattle.ev_io.specs.declared.faults.ScriptFault.{ScriptFault}
 use Rattle.ev_types.specs.Events.{MayMake}
 use Rattle.ev_types.specs.Scripts.{ScriptParts}
 use Rattle.ev_types.specs.declared.events.Line.{Line}
-use Rattle.ev_script.specs.declared.script.ScriptEnd.{ScriptEnd}
-use Rattle.ev_script.specs.declared.script.ScriptEnd.TheVariants.{Whole, Journal}
+use Rattle.ev_script.specs.declared.header.Header.{Header}
+use Rattle.ev_script.specs.declared.script.AuditedScript.{AuditedScript}
+use Rattle.ev_script.specs.Members.{tree_of}
+use Rattle.ev_script.specs.Header.{header_of}
 use Rattle.ev_script.specs.Lines.{line_of}
-use Rattle.ev_script.specs.Faults.{Input, worker_of}
+use Rattle.ev_script.specs.Faults.{LineForms, Input, worker_of, plain_lines}
 use Rattle.ev_script.specs.Script.{script_of}
 use Rattle.ev_script.specs.ReadInput.{IsTold, IsWhole, IsUpToJournal}
 
--- what is kept of a line by these forms is the line of a script
-abbrev pub KeepsLines : (ℕ → Data → Option (Option ℕ)) → (ℕ → Data → Line → Type 0) → Type 0
-KeepsLines forms keeps = (at : ℕ) (tree : Data) (line : Line) → keeps at tree line → (line_of at tree ≡ Some line) × (forms at tree ≡ Some (worker_of line.actor))
+-- a first line by these forms is the header of a script
+abbrev pub HeadsScripts : LineForms → Type 0
+HeadsScripts forms = (tree : Data) → forms.heads tree ≡ plain_lines.heads tree
 
--- what an answer means: the script of an input without fault, or of the lines before the journal of an audit's input, or
--- the first fault of the bytes taken
-abbrev pub IsScriptAnswer : (ℕ → Data → Option (Option ℕ)) → Input → Result ScriptEnd ScriptFault → Type 0
-IsScriptAnswer forms input (Ok (Whole script)) = IsWhole forms input script.count × (script_of false input.bytes ≡ Some script)
-IsScriptAnswer forms input (Ok (Journal script text)) = IsUpToJournal forms input script.count text.items × (script_of true input.bytes ≡ Some script)
+-- what is kept of a line by these forms is the line of a script
+abbrev pub KeepsLines : LineForms → (ℕ → Data → Line → Type 0) → Type 0
+KeepsLines forms keeps = (at : ℕ) (tree : Data) (line : Line) → keeps at tree line → (line_of at tree ≡ Some line) × (forms.lines at tree ≡ Some (worker_of line.actor))
+
+-- the text is that of this header
+abbrev pub IsHeaderOf : List ℕ → Header → Type 0
+IsHeaderOf text header = option_and_then header_of (tree_of text) ≡ Some header
+
+-- the script of a header and the lines behind it
+abbrev pub script_made : Header → List Line → ScriptParts
+script_made header lines = record { workers = header.workers; auto = header.auto; node = header.node; lines = lines; count = length lines + 1 }
+
+-- what an answer means: the script of an input without fault, or the first fault of the bytes taken
+abbrev pub IsScriptAnswer : LineForms → Input → Result ScriptParts ScriptFault → Type 0
+IsScriptAnswer forms input (Ok script) = IsWhole forms input script.count × (script_of false input.bytes ≡ Some script)
 IsScriptAnswer forms input (Err fault) = IsTold forms input fault
 
--- the script
-abbrev pub script_in : ScriptEnd → ScriptParts
-script_in (Whole script) = script
-script_in (Journal script text) = script
-
--- how many lines were given: those of the script, and the journal's first
-abbrev pub lines_through : ScriptEnd → ℕ
-lines_through (Whole script) = script.count
-lines_through (Journal script text) = script.count + 1
+-- the same of an audit's input: the script of the lines before the journal, and the journal's first line
+abbrev pub IsAuditedAnswer : Input → Result AuditedScript ScriptFault → Type 0
+IsAuditedAnswer input (Ok audited) = IsUpToJournal plain_lines input audited.script.count audited.journal.items × (script_of true input.bytes ≡ Some audited.script)
+IsAuditedAnswer input (Err fault) = IsTold plain_lines input fault
 
 -- lines that are numbered one after another from 2 on, each with an actor that may make its event, where there are so many
 -- workers

@@ -6,12 +6,10 @@ use Rattle.serde_json.specs.declared.value.Value.{Value}
 use Rattle.ev_io.specs.Lines.{lines_of}
 use Rattle.ev_io.specs.declared.faults.ScriptFault.{ScriptFault}
 use Rattle.ev_script.specs.declared.trees.ScriptTrees.{ScriptTrees}
-use Rattle.ev_script.specs.declared.trees.TreesEnd.{TreesEnd}
-use Rattle.ev_script.specs.declared.trees.TreesEnd.TheVariants.{Whole, Journal}
 use Rattle.ev_script.specs.Members.{tree_of}
 use Rattle.ev_script.specs.Header.{header_of}
-use Rattle.ev_script.specs.Faults.{Input}
-use Rattle.ev_script.specs.ReadInput.{IsTold, IsWhole, IsUpToJournal}
+use Rattle.ev_script.specs.Faults.{LineForms, Input}
+use Rattle.ev_script.specs.ReadInput.{IsTold, IsWhole}
 
 -- what is kept of a line is its tree
 abbrev pub KeepsTrees : (ℕ → Data → Value → Type 0) → Type 0
@@ -27,14 +25,7 @@ pub record AreTrees (texts : List (List ℕ)) (trees : ScriptTrees) : Type 0 whe
   pub header : header_of (view trees.head) ≡ Some trees.header
   pub lines : (i : ℕ) (other : Value) → i < length trees.lines.items → IsTreeOf (slice_index_or texts (i + 1) []) (slice_index_or trees.lines.items i other)
 
--- what an answer means: the trees of all lines of an input without fault, or of the lines before the journal of an audit's
--- input, or the first fault of the bytes taken
-abbrev pub IsTreesAnswer : (ℕ → Data → Option (Option ℕ)) → Input → Result TreesEnd ScriptFault → Type 0
-IsTreesAnswer forms input (Ok (Whole trees)) = IsWhole forms input (length trees.lines.items + 1) × AreTrees (lines_of input.bytes) trees
-IsTreesAnswer forms input (Ok (Journal trees text)) = IsUpToJournal forms input (length trees.lines.items + 1) text.items × AreTrees (lines_of input.bytes) trees
+-- what an answer means: the trees of all lines of an input without fault, or the first fault of the bytes taken
+abbrev pub IsTreesAnswer : LineForms → Input → Result ScriptTrees ScriptFault → Type 0
+IsTreesAnswer forms input (Ok trees) = IsWhole forms input (length trees.lines.items + 1) × AreTrees (lines_of input.bytes) trees
 IsTreesAnswer forms input (Err fault) = IsTold forms input fault
-
--- how many lines were given: those of the script, and the journal's first
-abbrev pub trees_through : TreesEnd → ℕ
-trees_through (Whole trees) = length trees.lines.items + 1
-trees_through (Journal trees text) = length trees.lines.items + 2

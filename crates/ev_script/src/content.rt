@@ -6,7 +6,6 @@ ghost use Rattle.ev_script.specs.Content.{first_of, first_content, is_above, IsC
 
 use crate::fault_kinds::FaultKind;
 use crate::forms::Forms;
-use crate::header::{Header, read_header};
 use crate::members::read_tree;
 use serde_json::Value;
 use std::alloc::{AllocError, Global};
@@ -14,8 +13,8 @@ use std::alloc::{AllocError, Global};
 // What the first line of an input is.
 #[derive(Drop)]
 pub(crate) enum First {
-    /// The header.
-    Header(Header),
+    /// A header, which names so many workers.
+    Workers(u32),
     /// No header, with this fault.
     Fault(FaultKind),
 }
@@ -31,22 +30,26 @@ pub(crate) enum Content<T> {
     Journal,
 }
 
-// What the first line is, by its text without its line feed: the header, or a fault of kind 4 or 5.
-pub(crate) fn read_first(alloc: Global, text: &[u8]) -> Result<First, AllocError>
-    ensures { IfOk result (λ first. first ≡ first_content text.now) }
+// What the first line is, by its text without its line feed: a header, or a fault of kind 4 or 5.
+pub(crate) fn read_first<F: Forms>(
+    alloc: Global,
+    forms: &F,
+    text: &[u8],
+) -> Result<First, AllocError>
+    ensures { IfOk result (λ first. first ≡ first_content F.forms text.now) }
 {
     match read_tree(alloc, text)? {
-        Some(tree) => Ok(first_of(read_header(alloc, &tree)?)),
+        Some(tree) => Ok(first_of(forms.read_head(alloc, &tree)?)),
         None => Ok(First::Fault(FaultKind::NotJson)),
     }
 }
 
-// What a first line is, by its header.
-fn first_of(header: Option<Header>) -> First
-    ensures { result ≡ first_of header }
+// What a first line is, by how many workers it names as a header.
+fn first_of(workers: Option<u32>) -> First
+    ensures { result ≡ first_of workers }
 {
-    match header {
-        Some(header) => First::Header(header),
+    match workers {
+        Some(workers) => First::Workers(workers),
         None => First::Fault(FaultKind::NotHeader),
     }
 }

@@ -1,31 +1,38 @@
 ghost use Rattle.std.specs.Prelude.{◌≡◌, ℕ, Option, option_map, IfOk, IfSome};
 ghost use Rattle.serde_json.specs.Data.{Data};
 ghost use Rattle.serde_json.specs.View.{view};
-ghost use Rattle.ev_script.specs.Faults.{worker_of};
+ghost use Rattle.ev_script.specs.Faults.{LineForms, worker_of};
 
+use crate::header::read_workers;
 use crate::lines::read_line;
 use ev_types::{Actor, Line};
 use serde_json::Value;
 use std::alloc::{AllocError, Global};
 
-/// A line of a script: what is kept of it, and the worker that it names, where it names one.
+/// A line behind the first: what is kept of it, and the worker that it names, where it names one.
 #[derive(Drop)]
 pub struct FormedLine<T> {
     pub kept: T,
     pub worker: Option<u32>,
 }
 
-/// Which lines a script may have behind its header, and what is kept of each.
+/// Which lines an input may have, and what is kept of each behind the first.
 pub trait Forms {
     /// What is kept of a line.
     type Kept: Drop;
 
-    // What a tree is among the lines, by its line's number: none where it isn't one, else the worker
-    // that it names, where it names one.
-    ghost forms: { ℕ → Data → Option (Option ℕ) };
+    // What a tree is as the first line, and as another one.
+    ghost forms: { LineForms };
 
     // This may be kept of the line, by its number and its tree.
     ghost keeps: { ℕ → Data → Self.Kept → Type 0 };
+
+    /// How many workers a tree names as the first line, or none where it is no header.
+    ///
+    /// # Errors
+    /// `AllocError` where there is no memory for it.
+    fn read_head(&self, alloc: Global, tree: &Value) -> Result<Option<u32>, AllocError>
+        ensures workers { IfOk result (λ workers. workers ≡ forms.heads (view tree.now)) };
 
     /// The line that a tree is, by its number, or none where it isn't one. Whether its worker is one
     /// of the script's is not looked at.
@@ -38,7 +45,7 @@ pub trait Forms {
         at: u32,
         tree: Value,
     ) -> Result<Option<FormedLine<Self::Kept>>, AllocError>
-        ensures line { IfOk result (λ line. option_map (λ line. line.worker) line ≡ forms at (view tree)) }
+        ensures line { IfOk result (λ line. option_map (λ line. line.worker) line ≡ forms.lines at (view tree)) }
         ensures kept { IfOk result (λ line. IfSome line (λ line. keeps at (view tree) line.kept)) };
 }
 
@@ -56,6 +63,10 @@ impl Forms for ScriptLines {
     ghost forms = { plain_lines };
 
     ghost keeps = { λ at tree line. line_of at tree ≡ Some line };
+
+    fn read_head(&self, alloc: Global, tree: &Value) -> Result<Option<u32>, AllocError> {
+        read_workers(alloc, tree)
+    }
 
     fn read(
         &self,

@@ -3,6 +3,7 @@ ghost use Rattle.serde_json.specs.View.{view};
 ghost use Rattle.ev_types.specs.Texts.{IsName};
 ghost use Rattle.ev_script.specs.Members.{name_of, member_or};
 ghost use Rattle.ev_script.specs.Header.{header_of, IsHeader};
+ghost use Rattle.ev_script.specs.Faults.{plain_lines};
 
 use crate::members::{flag_or, has_only, number_at, text_within};
 use ev_types::{MAX_NAME_LENGTH, MAX_WORKERS, Text};
@@ -50,6 +51,16 @@ pub fn read_header(alloc: Global, tree: &Value) -> Result<Option<Header>, AllocE
         auto,
         node: Text::new(alloc, node)?,
     }))
+}
+
+// How many workers a header names, or none where the tree isn't one.
+pub(crate) fn read_workers(alloc: Global, tree: &Value) -> Result<Option<u32>, AllocError>
+    ensures { IfOk result (λ workers. workers ≡ plain_lines.heads (view tree.now)) }
+{
+    match read_header(alloc, tree)? {
+        Some(header) => Ok(Some(header.workers)),
+        None => Ok(None),
+    }
 }
 
 // The id of a header's node: a text of 1 to 512 bytes, or the default.

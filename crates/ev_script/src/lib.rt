@@ -24,5 +24,6 @@ pub use header::{Header, read_header};
 pub use limits::{MAX_NUMBER, MAX_PATH_LENGTH, MAX_WORKER};
 pub use lines::read_line;
 pub use members::read_tree;
-pub use script::{ScriptEnd, read_script, read_script_with};
-pub use trees::{LineTrees, ScriptTrees, TreesEnd, read_trees, read_trees_with};
+pub use read_input::{ReadLines, read_lines_with};
+pub use script::{AuditedScript, read_audited_script, read_script, read_script_with};
+pub use trees::{LineTrees, ScriptTrees, read_trees, read_trees_with};

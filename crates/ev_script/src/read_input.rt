@@ -3,42 +3,45 @@ ghost use Rattle.std.specs.Io.KnownBytes.{IsAtEnd};
 ghost use Rattle.ev_io.specs.Outside.{Rose, Takes};
 ghost use Rattle.ev_io.specs.LinesState.{HasTaken, IsWithin};
 ghost use Rattle.ev_script.specs.Faults.{fault_number};
-ghost use Rattle.ev_script.specs.Header.{IsHeader};
 ghost use Rattle.ev_script.specs.ReadInput.{IsFresh, input_of, script_fault, through_journal, IsAnswer, IsHeadAnswer};
 
 use crate::content::{Content, First, read_content, read_first};
 use crate::fault_kinds::FaultKind;
 use crate::forms::Forms;
-use crate::header::Header;
 use ev_io::{LineEnd, LineFault, Lines, MAX_LINES, ScriptFault, Source};
 use std::alloc::Global;
 
-// What was read of an input.
+/// The lines that were read of an input.
 #[derive(Drop)]
-pub(crate) struct ReadInput<T> {
-    /// What the first line says.
-    pub header: Header,
-    /// The text of the first line.
+pub struct ReadLines<T> {
+    /// How many workers the first line names.
+    pub workers: u32,
+    /// The text of the first line, without its line feed.
     pub heading: Vec<u8>,
     /// What is kept of each line behind it.
     pub kept: Vec<T>,
-    /// The first line of the journal, where one follows.
+    /// The first line of the journal, without its line feed, where one follows.
     pub journal: Option<Vec<u8>>,
 }
 
-// Reads an input's header and the lines behind it, by these forms, to the end of the input or, in an
-// audit's input, to the first line of the journal.
-pub(crate) fn read_input<S: Source, F: Forms>(
+/// Reads an input's header and the lines behind it, by these forms, to the end of the input or, in an audit's input, to the
+/// first line of the journal. The reader of lines is a fresh one; behind a script with a journal it goes on with the journal's
+/// second line.
+///
+/// # Errors
+/// `Bad` with the line and the kind of the first fault of the bytes taken, those at the end of the input only where the source
+/// gave its end; `Read` where a read failed and the bytes taken have no fault. `OutOfMemory` where there is no memory for the
+/// lines; the bytes taken are those of the reader of lines, and no read failed.
+pub fn read_lines_with<S: Source, F: Forms>(
     alloc: Global,
     forms: &F,
     audit: bool,
     lines: &mut Lines,
     source: &mut S,
-) -> Result<ReadInput<F::Kept>, ScriptFault>
+) -> Result<ReadLines<F::Kept>, ScriptFault>
     requires fresh { IsFresh lines.old }
     ensures reads { (bytes : List ℕ) × Takes (S.left source.old) (S.left source.new) bytes × HasTaken lines.new bytes
         × IsAnswer F.forms F.keeps (input_of audit lines.new bytes) result }
-    ensures header { IfOk result (λ read. IsHeader read.header) }
     ensures number { IfOk result (λ read. lines.new.given ≡ length read.kept.items + through_journal read.journal) }
     ensures few { IfOk result (λ read. length read.kept.items < MAX_LINES) }
     ensures untold { OnOk result (lines.new.told ≡ None) }
@@ -49,22 +52,22 @@ pub(crate) fn read_input<S: Source, F: Forms>(
     ensures count { S.faults source.old ≤ S.faults source.new }
 {
     let mut heading = Vec::new(alloc);
-    let header = read_head(alloc, lines, source, &mut heading)?;
+    let workers = read_head(alloc, forms, lines, source, &mut heading)?;
     let mut text = Vec::new(alloc);
     let mut kept = Vec::new(alloc);
     'lines: loop {
         match lines.read_line(source, &mut text) {
             Ok(LineEnd::Line) => {
                 let at = lines.number();
-                match read_content(alloc, forms, audit, header.workers, at, text.as_slice()) {
+                match read_content(alloc, forms, audit, workers, at, text.as_slice()) {
                     Ok(Content::Line(line)) => match kept.push(line) {
                         Ok(()) => {}
                         Err(_) => return Err(ScriptFault::OutOfMemory),
                     },
                     Ok(Content::Fault(kind)) => return Err(fault_at(at, kind)),
                     Ok(Content::Journal) => {
-                        return Ok(ReadInput {
-                            header,
+                        return Ok(ReadLines {
+                            workers,
                             heading,
                             kept,
                             journal: Some(text),
@@ -78,8 +81,8 @@ pub(crate) fn read_input<S: Source, F: Forms>(
                 FaultKind::NotJournal,
             )),
             Ok(LineEnd::End) => {
-                return Ok(ReadInput {
-                    header,
+                return Ok(ReadLines {
+                    workers,
                     heading,
                     kept,
                     journal: None,
@@ -90,17 +93,17 @@ pub(crate) fn read_input<S: Source, F: Forms>(
     }
 }
 
-// Reads the first line of an input, which is its header.
-fn read_head<S: Source>(
+// Reads the first line of an input, which is its header, and says how many workers it names.
+fn read_head<S: Source, F: Forms>(
     alloc: Global,
+    forms: &F,
     lines: &mut Lines,
     source: &mut S,
     text: &mut Vec<u8>,
-) -> Result<Header, ScriptFault>
+) -> Result<u32, ScriptFault>
     requires fresh { IsFresh lines.old }
     ensures reads { (bytes : List ℕ) × Takes (S.left source.old) (S.left source.new) bytes × HasTaken lines.new bytes
-        × IsHeadAnswer lines.new bytes text.new.items result }
-    ensures header { IfOk result IsHeader }
+        × IsHeadAnswer F.forms lines.new bytes text.new.items result }
     ensures at_end { IsTrue lines.new.ended → IsAtEnd (S.left source.new) }
     ensures at_most { IsWithin lines.new }
     ensures failed { result ≡ Err ScriptFault.Read → Rose (S.faults source.old) (S.faults source.new) }
@@ -108,8 +111,8 @@ fn read_head<S: Source>(
     ensures count { S.faults source.old ≤ S.faults source.new }
 {
     match lines.read_line(source, text) {
-        Ok(LineEnd::Line) => match read_first(alloc, text.as_slice()) {
-            Ok(First::Header(header)) => Ok(header),
+        Ok(LineEnd::Line) => match read_first(alloc, forms, text.as_slice()) {
+            Ok(First::Workers(workers)) => Ok(workers),
             Ok(First::Fault(kind)) => Err(fault_at(1, kind)),
             Err(_) => Err(ScriptFault::OutOfMemory),
         },

@@ -1,31 +1,23 @@
-ghost use Rattle.std.specs.Prelude.{◌≡◌, ◌+◌, ◌<◌, ◌≤◌, ◌⊎◌, List, ℕ, None, Err, IsTrue, OnOk, IfOk, length};
+ghost use Rattle.std.specs.Prelude.{◌≡◌, ◌+◌, ◌<◌, ◌≤◌, ◌⊎◌, List, ℕ, None, Err, IsTrue, IsSome, true, false, OnOk, IfOk, option_and_then, length};
 ghost use Rattle.std.specs.Io.KnownBytes.{IsAtEnd};
 ghost use Rattle.ev_io.specs.Outside.{Rose, Takes};
 ghost use Rattle.ev_io.specs.LinesState.{HasTaken, IsWithin};
 ghost use Rattle.ev_types.specs.Scripts.{items_in, items_of};
+ghost use Rattle.ev_script.specs.Members.{tree_of};
 ghost use Rattle.ev_script.specs.Faults.{plain_lines};
-ghost use Rattle.ev_script.specs.Header.{IsHeader};
+ghost use Rattle.ev_script.specs.Header.{header_of, IsHeader};
 ghost use Rattle.ev_script.specs.ReadInput.{IsFresh, input_of};
-ghost use Rattle.ev_script.specs.ReadScript.{KeepsLines, IsScriptAnswer, AreNumbered, AreOfForms, script_in, lines_through};
+ghost use Rattle.ev_script.specs.ReadScript.{HeadsScripts, KeepsLines, IsHeaderOf, IsScriptAnswer, IsAuditedAnswer, AreNumbered, AreOfForms, script_made};
 
 use crate::forms::{Forms, ScriptLines};
-use crate::header::Header;
-use crate::read_input::{ReadInput, read_input};
+use crate::header::{Header, read_header};
+use crate::members::read_tree;
+use crate::read_input::{ReadLines, read_lines_with};
 use ev_io::{Lines, MAX_LINES, ScriptFault, Source};
 use ev_types::{Event, Line, Script, Seq};
 use std::alloc::{AllocError, Global};
 
-/// How the reading of a script ends.
-#[derive(Drop)]
-pub enum ScriptEnd {
-    /// The input is a script.
-    Whole(Script),
-    /// The input is a script with a journal behind it, whose first line this is, without its line feed.
-    Journal(Script, Vec<u8>),
-}
-
-/// Reads a script: of the whole input, or, for an audit, of what stands before the journal. The reader
-/// of lines is a fresh one; behind a script with a journal it goes on with the journal's second line.
+/// Reads a script, which is the whole input. The reader of lines is a fresh one.
 ///
 /// # Errors
 /// `Bad` with the line and the kind of the first fault of the bytes taken, those at the end of the
@@ -36,20 +28,19 @@ pub fn read_script<S: Source>(
     alloc: Global,
     lines: &mut Lines,
     source: &mut S,
-    audit: bool,
-) -> Result<ScriptEnd, ScriptFault>
+) -> Result<Script, ScriptFault>
     requires fresh { IsFresh lines.old }
     ensures reads { (bytes : List ℕ) × Takes (S.left source.old) (S.left source.new) bytes × HasTaken lines.new bytes
-        × IsScriptAnswer plain_lines (input_of audit lines.new bytes) result }
+        × IsScriptAnswer plain_lines (input_of false lines.new bytes) result }
     ensures untold { OnOk result (lines.new.told ≡ None) }
-    ensures number { IfOk result (λ end. lines.new.given ≡ lines_through end) }
+    ensures number { IfOk result (λ script. lines.new.given ≡ script.count) }
     ensures at_end { IsTrue lines.new.ended → IsAtEnd (S.left source.new) }
     ensures at_most { IsWithin lines.new }
     ensures failed { result ≡ Err ScriptFault.Read → Rose (S.faults source.old) (S.faults source.new) }
     ensures same_count { (S.faults source.new ≡ S.faults source.old) ⊎ (result ≡ Err ScriptFault.Read) }
     ensures count { S.faults source.old ≤ S.faults source.new }
 {
-    read_script_with(alloc, &ScriptLines, lines, source, audit)
+    read_script_with(alloc, &ScriptLines, lines, source)
 }
 
 /// The same, where the lines of the script have these forms alone.
@@ -61,33 +52,90 @@ pub fn read_script_with<S: Source, F: Forms<Kept = Line>>(
     forms: &F,
     lines: &mut Lines,
     source: &mut S,
-    audit: bool,
-) -> Result<ScriptEnd, ScriptFault>
+) -> Result<Script, ScriptFault>
     requires fresh { IsFresh lines.old }
+    requires heads { HeadsScripts F.forms }
     requires plain { KeepsLines F.forms F.keeps }
     ensures reads { (bytes : List ℕ) × Takes (S.left source.old) (S.left source.new) bytes × HasTaken lines.new bytes
-        × IsScriptAnswer F.forms (input_of audit lines.new bytes) result }
-    ensures forms { IfOk result (λ end. AreOfForms F.keeps (script_in end).lines) }
+        × IsScriptAnswer F.forms (input_of false lines.new bytes) result }
+    ensures forms { IfOk result (λ script. AreOfForms F.keeps script.lines) }
     ensures untold { OnOk result (lines.new.told ≡ None) }
-    ensures number { IfOk result (λ end. lines.new.given ≡ lines_through end) }
+    ensures number { IfOk result (λ script. lines.new.given ≡ script.count) }
     ensures at_end { IsTrue lines.new.ended → IsAtEnd (S.left source.new) }
     ensures at_most { IsWithin lines.new }
     ensures failed { result ≡ Err ScriptFault.Read → Rose (S.faults source.old) (S.faults source.new) }
     ensures same_count { (S.faults source.new ≡ S.faults source.old) ⊎ (result ≡ Err ScriptFault.Read) }
     ensures count { S.faults source.old ≤ S.faults source.new }
 {
-    let ReadInput {
-        header,
+    let ReadLines { heading, kept, .. } = read_lines_with(alloc, forms, false, lines, source)?;
+    let Ok(header) = read_heading(alloc, heading.as_slice()) else {
+        return Err(ScriptFault::OutOfMemory);
+    };
+    match made_script(header, kept) {
+        Ok(script) => Ok(script),
+        Err(_) => Err(ScriptFault::OutOfMemory),
+    }
+}
+
+/// A script with a journal behind it.
+#[derive(Drop)]
+pub struct AuditedScript {
+    pub script: Script,
+    /// The first line of the journal, without its line feed.
+    pub journal: Vec<u8>,
+}
+
+/// Reads a script that stands before a journal, and the journal's first line. The reader of lines is a fresh one, and goes on
+/// with the journal's second line.
+///
+/// # Errors
+/// As of `read_script`; a journal that is missing is one of kind 9.
+pub fn read_audited_script<S: Source>(
+    alloc: Global,
+    lines: &mut Lines,
+    source: &mut S,
+) -> Result<AuditedScript, ScriptFault>
+    requires fresh { IsFresh lines.old }
+    ensures reads { (bytes : List ℕ) × Takes (S.left source.old) (S.left source.new) bytes × HasTaken lines.new bytes
+        × IsAuditedAnswer (input_of true lines.new bytes) result }
+    ensures untold { OnOk result (lines.new.told ≡ None) }
+    ensures number { IfOk result (λ audited. lines.new.given ≡ audited.script.count + 1) }
+    ensures at_end { IsTrue lines.new.ended → IsAtEnd (S.left source.new) }
+    ensures at_most { IsWithin lines.new }
+    ensures failed { result ≡ Err ScriptFault.Read → Rose (S.faults source.old) (S.faults source.new) }
+    ensures same_count { (S.faults source.new ≡ S.faults source.old) ⊎ (result ≡ Err ScriptFault.Read) }
+    ensures count { S.faults source.old ≤ S.faults source.new }
+{
+    let ReadLines {
+        heading,
         kept,
         journal,
         ..
-    } = read_input(alloc, forms, audit, lines, source)?;
-    let Ok(script) = made_script(header, kept) else {
+    } = read_lines_with(alloc, &ScriptLines, true, lines, source)?;
+    let Some(journal) = journal else {
+        unreachable!()
+    };
+    let Ok(header) = read_heading(alloc, heading.as_slice()) else {
         return Err(ScriptFault::OutOfMemory);
     };
-    match journal {
-        Some(text) => Ok(ScriptEnd::Journal(script, text)),
-        None => Ok(ScriptEnd::Whole(script)),
+    match made_script(header, kept) {
+        Ok(script) => Ok(AuditedScript { script, journal }),
+        Err(_) => Err(ScriptFault::OutOfMemory),
+    }
+}
+
+// What the text of a header says.
+pub(crate) fn read_heading(alloc: Global, text: &[u8]) -> Result<Header, AllocError>
+    requires { IsSome (option_and_then header_of (tree_of text.now)) }
+    ensures header { IfOk result (IsHeaderOf text.now) }
+    ensures kept { IfOk result IsHeader }
+{
+    let Some(tree) = read_tree(alloc, text)? else {
+        unreachable!()
+    };
+    match read_header(alloc, &tree)? {
+        Some(header) => Ok(header),
+        None => unreachable!(),
     }
 }
 
@@ -96,13 +144,7 @@ fn made_script(header: Header, lines: Vec<Line>) -> Result<Script, AllocError>
     requires header { IsHeader header }
     requires numbered { AreNumbered header.workers lines.items }
     requires few { length lines.items < MAX_LINES }
-    ensures { IfOk result (λ script. script ≡ record {
-      workers = header.workers;
-      auto = header.auto;
-      node = header.node;
-      lines = lines.items;
-      count = length lines.items + 1;
-    }) }
+    ensures { IfOk result (λ script. script ≡ script_made header lines.items) }
 {
     count_items(lines.as_slice())?;
     Ok(Script {

@@ -1,17 +1,20 @@
-ghost use Rattle.std.specs.Prelude.{◌≡◌, ◌≤◌, ◌⊎◌, List, ℕ, None, Err, IsTrue, IsSome, OnOk, IfOk};
+ghost use Rattle.std.specs.Prelude.{◌≡◌, ◌+◌, ◌≤◌, ◌⊎◌, List, ℕ, None, Some, Err, IsTrue, IsSome, false, OnOk, IfOk, option_and_then, length};
 ghost use Rattle.std.specs.Io.KnownBytes.{IsAtEnd};
+ghost use Rattle.serde_json.specs.View.{view};
 ghost use Rattle.ev_io.specs.Outside.{Rose, Takes};
 ghost use Rattle.ev_io.specs.LinesState.{HasTaken, IsWithin};
 ghost use Rattle.ev_script.specs.Faults.{plain_lines};
 ghost use Rattle.ev_script.specs.Members.{tree_of};
 ghost use Rattle.ev_script.specs.ReadInput.{IsFresh, input_of};
-ghost use Rattle.ev_script.specs.ReadTrees.{KeepsTrees, IsTreeOf, IsTreesAnswer, trees_through};
+ghost use Rattle.ev_script.specs.Header.{header_of};
+ghost use Rattle.ev_script.specs.ReadScript.{HeadsScripts};
+ghost use Rattle.ev_script.specs.ReadTrees.{KeepsTrees, IsTreeOf, IsTreesAnswer};
 
 use crate::forms::{FormedLine, Forms, worker_of};
-use crate::header::Header;
+use crate::header::{Header, read_header, read_workers};
 use crate::lines::read_line;
 use crate::members::read_tree;
-use crate::read_input::{ReadInput, read_input};
+use crate::read_input::{ReadLines, read_lines_with};
 use ev_io::{Lines, ScriptFault, Source};
 use serde_json::Value;
 use std::alloc::{AllocError, Global};
@@ -21,7 +24,6 @@ use std::alloc::{AllocError, Global};
 pub struct LineTrees;
 
 impl Forms for LineTrees {
-    ghost use Rattle.serde_json.specs.View.{view};
     ghost use Rattle.ev_script.specs.Faults.{plain_lines};
 
     type Kept = Value;
@@ -29,6 +31,10 @@ impl Forms for LineTrees {
     ghost forms = { plain_lines };
 
     ghost keeps = { λ at tree kept. view kept ≡ tree };
+
+    fn read_head(&self, alloc: Global, tree: &Value) -> Result<Option<u32>, AllocError> {
+        read_workers(alloc, tree)
+    }
 
     fn read(
         &self,
@@ -57,17 +63,7 @@ pub struct ScriptTrees {
     pub lines: Vec<Value>,
 }
 
-/// How the reading of a script's trees ends.
-#[derive(Drop)]
-pub enum TreesEnd {
-    /// The input is a script.
-    Whole(ScriptTrees),
-    /// The input is a script with a journal behind it, whose first line this is, without its line feed.
-    Journal(ScriptTrees, Vec<u8>),
-}
-
-/// Reads the trees of a script's lines, under the faults of `read_script`. The reader of lines is a fresh one; behind a script
-/// with a journal it goes on with the journal's second line.
+/// Reads the trees of a script's lines, under the faults of `read_script`. The reader of lines is a fresh one.
 ///
 /// # Errors
 /// As of `read_script`.
@@ -75,20 +71,19 @@ pub fn read_trees<S: Source>(
     alloc: Global,
     lines: &mut Lines,
     source: &mut S,
-    audit: bool,
-) -> Result<TreesEnd, ScriptFault>
+) -> Result<ScriptTrees, ScriptFault>
     requires fresh { IsFresh lines.old }
     ensures reads { (bytes : List ℕ) × Takes (S.left source.old) (S.left source.new) bytes × HasTaken lines.new bytes
-        × IsTreesAnswer plain_lines (input_of audit lines.new bytes) result }
+        × IsTreesAnswer plain_lines (input_of false lines.new bytes) result }
     ensures untold { OnOk result (lines.new.told ≡ None) }
-    ensures number { IfOk result (λ end. lines.new.given ≡ trees_through end) }
+    ensures number { IfOk result (λ trees. lines.new.given ≡ length trees.lines.items + 1) }
     ensures at_end { IsTrue lines.new.ended → IsAtEnd (S.left source.new) }
     ensures at_most { IsWithin lines.new }
     ensures failed { result ≡ Err ScriptFault.Read → Rose (S.faults source.old) (S.faults source.new) }
     ensures same_count { (S.faults source.new ≡ S.faults source.old) ⊎ (result ≡ Err ScriptFault.Read) }
     ensures count { S.faults source.old ≤ S.faults source.new }
 {
-    read_trees_with(alloc, &LineTrees, lines, source, audit)
+    read_trees_with(alloc, &LineTrees, lines, source)
 }
 
 /// The same, where the lines of the script have these forms alone.
@@ -100,49 +95,39 @@ pub fn read_trees_with<S: Source, F: Forms<Kept = Value>>(
     forms: &F,
     lines: &mut Lines,
     source: &mut S,
-    audit: bool,
-) -> Result<TreesEnd, ScriptFault>
+) -> Result<ScriptTrees, ScriptFault>
     requires fresh { IsFresh lines.old }
+    requires heads { HeadsScripts F.forms }
     requires trees { KeepsTrees F.keeps }
     ensures reads { (bytes : List ℕ) × Takes (S.left source.old) (S.left source.new) bytes × HasTaken lines.new bytes
-        × IsTreesAnswer F.forms (input_of audit lines.new bytes) result }
+        × IsTreesAnswer F.forms (input_of false lines.new bytes) result }
     ensures untold { OnOk result (lines.new.told ≡ None) }
-    ensures number { IfOk result (λ end. lines.new.given ≡ trees_through end) }
+    ensures number { IfOk result (λ trees. lines.new.given ≡ length trees.lines.items + 1) }
     ensures at_end { IsTrue lines.new.ended → IsAtEnd (S.left source.new) }
     ensures at_most { IsWithin lines.new }
     ensures failed { result ≡ Err ScriptFault.Read → Rose (S.faults source.old) (S.faults source.new) }
     ensures same_count { (S.faults source.new ≡ S.faults source.old) ⊎ (result ≡ Err ScriptFault.Read) }
     ensures count { S.faults source.old ≤ S.faults source.new }
 {
-    let ReadInput {
-        header,
-        heading,
-        kept,
-        journal,
-    } = read_input(alloc, forms, audit, lines, source)?;
-    let Ok(trees) = made_trees(alloc, header, heading.as_slice(), kept) else {
-        return Err(ScriptFault::OutOfMemory);
-    };
-    match journal {
-        Some(text) => Ok(TreesEnd::Journal(trees, text)),
-        None => Ok(TreesEnd::Whole(trees)),
+    let ReadLines { heading, kept, .. } = read_lines_with(alloc, forms, false, lines, source)?;
+    match made_trees(alloc, heading.as_slice(), kept) {
+        Ok(trees) => Ok(trees),
+        Err(_) => Err(ScriptFault::OutOfMemory),
     }
 }
 
-// The trees of a script whose header's text is JSON.
-fn made_trees(
-    alloc: Global,
-    header: Header,
-    heading: &[u8],
-    lines: Vec<Value>,
-) -> Result<ScriptTrees, AllocError>
-    requires { IsSome (tree_of heading.now) }
+// The trees of a script whose first line is a header of this text.
+fn made_trees(alloc: Global, heading: &[u8], lines: Vec<Value>) -> Result<ScriptTrees, AllocError>
+    requires { IsSome (option_and_then header_of (tree_of heading.now)) }
     ensures head { IfOk result (λ trees. IsTreeOf heading.now trees.head) }
-    ensures header { IfOk result (λ trees. trees.header ≡ header) }
+    ensures header { IfOk result (λ trees. header_of (view trees.head) ≡ Some trees.header) }
     ensures lines { IfOk result (λ trees. trees.lines ≡ lines) }
 {
-    match read_tree(alloc, heading)? {
-        Some(head) => Ok(ScriptTrees {
+    let Some(head) = read_tree(alloc, heading)? else {
+        unreachable!()
+    };
+    match read_header(alloc, &head)? {
+        Some(header) => Ok(ScriptTrees {
             header,
             head,
             lines,

@@ -4,27 +4,40 @@
 
 use ev_app::{Status, run_program};
 use ev_io::{StdSink, StdSource};
+use ev_pace::Free;
 use ev_types::Text;
+use std::alloc::AllocError;
 use std::io;
 use std::process::ExitCode;
 use std::rt::Env;
 
 fn main(rt: HostRuntime) -> ExitCode {
-    let status = status_of(&rt);
+    let status = match given_arguments(&rt) {
+        Ok(arguments) => {
+            let mut source = StdSource::new(rt.reader());
+            let mut sink = StdSink::new(io::writer(&rt));
+            run_program(
+                &rt,
+                rt.alloc(),
+                arguments.as_slice(),
+                &mut source,
+                &mut sink,
+                &Free,
+            )
+        }
+        Err(AllocError) => Status::OutOfMemory,
+    };
     let _ = report(&rt, status);
     ExitCode::from(status.exit_status())
 }
 
-// Runs the program over the command line's arguments and the standard streams.
-fn status_of(rt: &HostRuntime) -> Status {
-    let arguments = match arguments_of(rt) {
-        Ok(arguments) => arguments,
-        Err(error) if error.kind() == io::ErrorKind::OutOfMemory => return Status::OutOfMemory,
-        Err(_) => Vec::new(rt.alloc()),
-    };
-    let mut source = StdSource::new(rt.reader());
-    let mut sink = StdSink::new(io::writer(rt));
-    run_program(rt.alloc(), arguments.as_slice(), &mut source, &mut sink)
+// The arguments of the command line, or none where they can't be had for another cause than being out of memory.
+fn given_arguments(rt: &(impl Env + AllocGlobal)) -> Result<Vec<Text>, AllocError> {
+    match arguments_of(rt) {
+        Ok(arguments) => Ok(arguments),
+        Err(error) if error.kind() == io::ErrorKind::OutOfMemory => Err(AllocError),
+        Err(_) => Ok(Vec::new(rt.alloc())),
+    }
 }
 
 // The arguments of the command line after the program's name. One that isn't text is an error of another kind than being
@@ -40,7 +53,7 @@ fn arguments_of(rt: &(impl Env + AllocGlobal)) -> io::Result<Vec<Text>> {
 // Says on standard error why the program ended, where it did not end well.
 fn report(rt: &impl Eprint, status: Status) -> io::Result<()> {
     match status {
-        Status::Done => Ok(()),
+        Status::Done | Status::Illegal => Ok(()),
         Status::Usage => eprintln!(rt; "usage: warmgate replay"),
         Status::BadScript { line, kind } => eprintln!(rt; "line {line}: fault {kind}"),
         Status::ReadFault => eprintln!(rt; "read fault"),

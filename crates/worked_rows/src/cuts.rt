@@ -6,7 +6,7 @@ use std::io;
 /// end, with its line feed or without, they are a script of the lines up to there; elsewhere their last line is no JSON.
 pub(crate) fn is_told(alloc: Global, input: &[u8], bytes: usize) -> io::Result<bool> {
     let bytes = bytes.min(input.len());
-    let told = script_end(alloc, &input[..bytes], false)?;
+    let told = script_end(alloc, &input[..bytes])?;
     let wanted = wanted_of(alloc, &input[..bytes], input.get(bytes).copied())?;
     Ok(told.as_str() == wanted.as_str())
 }

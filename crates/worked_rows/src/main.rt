@@ -19,8 +19,11 @@ use crate::row_texts::{try_journals, try_texts};
 use crate::script_inputs::{try_cuts, try_inputs};
 use ev_app::{Status, run_program};
 use ev_io::{MemSink, MemSource};
+use ev_pace::Free;
 use std::alloc::Global;
 use std::rt::Files;
+use std::sync::Wait;
+use std::thread::Threads;
 use std::{fs, io};
 
 /// The room for an output, in bytes, beyond that of the one that is wanted.
@@ -50,7 +53,7 @@ fn main(rt: HostRuntime) -> io::Result<()> {
 }
 
 // Runs each row, and prints a line a row, and the sum.
-fn try_rows<R: Files + Print + AllocGlobal>(rt: &R) -> io::Result<()> {
+fn try_rows<R: Files + Print + AllocGlobal + Threads + Wait + Sync>(rt: &R) -> io::Result<()> {
     let list = fs::read_to_string(rt, "rows")?;
     let mut passed = 0u32;
     let mut failed = 0u32;
@@ -70,37 +73,38 @@ fn try_rows<R: Files + Print + AllocGlobal>(rt: &R) -> io::Result<()> {
 
 // Whether the program ends a row with its status and writes its output, in whatever pieces its input is read, and whether
 // a read that fails is told, whichever it is, and so a write.
-fn passes<R: Files + AllocGlobal>(rt: &R, row: &Row) -> io::Result<bool> {
+fn passes<R: Files + AllocGlobal + Threads + Wait + Sync>(rt: &R, row: &Row) -> io::Result<bool> {
     let alloc = rt.alloc();
     let name = row.name.as_str();
     let input = read_bytes(rt, name, "in")?;
     let wanted = read_bytes(rt, name, "out")?;
-    if !answers(alloc, row, input.as_slice(), wanted.as_slice(), PIECE)? {
+    if !answers(rt, alloc, row, input.as_slice(), wanted.as_slice(), PIECE)? {
         return Ok(false);
     }
     if input.len() <= SHORT {
         for piece in PIECES {
-            if !answers(alloc, row, input.as_slice(), wanted.as_slice(), piece)? {
+            if !answers(rt, alloc, row, input.as_slice(), wanted.as_slice(), piece)? {
                 return Ok(false);
             }
         }
     }
     if input.len() <= SHORTEST && row.is_replay() {
         for number in 1..=input.len() as u64 + 1 {
-            if !tells_failure(alloc, row, input.as_slice(), number)? {
+            if !tells_failure(rt, alloc, row, input.as_slice(), number)? {
                 return Ok(false);
             }
         }
         return Ok(
-            reads_no_further(alloc, row, input.as_slice(), wanted.as_slice())?
-                && tells_lost_writes(alloc, row, input.as_slice(), wanted.as_slice())?,
+            reads_no_further(rt, alloc, row, input.as_slice(), wanted.as_slice())?
+                && tells_lost_writes(rt, alloc, row, input.as_slice(), wanted.as_slice())?,
         );
     }
     Ok(true)
 }
 
 // Whether the program, which reads so many bytes at once, ends a row with its status and writes its output.
-fn answers(
+fn answers<R: Threads + Wait + Sync>(
+    rt: &R,
     alloc: Global,
     row: &Row,
     input: &[u8],
@@ -115,39 +119,66 @@ fn answers(
         piece,
         Vec::new(alloc),
     )?;
-    let status = run_program(alloc, row.arguments.as_slice(), &mut source, &mut sink);
+    let status = run_program(
+        rt,
+        alloc,
+        row.arguments.as_slice(),
+        &mut source,
+        &mut sink,
+        &Free,
+    );
     Ok(row.is_end(status) && sink.as_bytes() == wanted)
 }
 
 // Whether the program, which reads one byte at once, tells that the read of this number fails, or, where the row is no
 // script, its fault, and writes nothing.
-fn tells_failure(alloc: Global, row: &Row, input: &[u8], number: u64) -> io::Result<bool> {
+fn tells_failure<R: Threads + Wait + Sync>(
+    rt: &R,
+    alloc: Global, row: &Row, input: &[u8], number: u64) -> io::Result<bool> {
     let mut fails = Vec::new(alloc);
     fails.push(number)?;
     let mut source = MemSource::new(input.to_vec(alloc)?, 1, fails);
     let mut sink = MemSink::new(alloc, 1, 1, Vec::new(alloc))?;
-    let status = run_program(alloc, row.arguments.as_slice(), &mut source, &mut sink);
+    let status = run_program(
+        rt,
+        alloc,
+        row.arguments.as_slice(),
+        &mut source,
+        &mut sink,
+        &Free,
+    );
     let told = status == Status::ReadFault || (status != Status::Done && row.is_end(status));
     Ok(told && sink.as_bytes().is_empty())
 }
 
 // Whether the program, which reads one byte at once, ends a row as it has to where each read behind the end of the input fails.
-fn reads_no_further(alloc: Global, row: &Row, input: &[u8], wanted: &[u8]) -> io::Result<bool> {
+fn reads_no_further<R: Threads + Wait + Sync>(
+    rt: &R,
+    alloc: Global, row: &Row, input: &[u8], wanted: &[u8]) -> io::Result<bool> {
     let mut fails = Vec::new(alloc);
     fails.push((input.len() as u64).saturating_add(2))?;
     let mut source = MemSource::new(input.to_vec(alloc)?, 1, fails);
     let room = wanted.len().saturating_add(ROOM);
     let mut sink = MemSink::new(alloc, room, PIECE, Vec::new(alloc))?;
-    let status = run_program(alloc, row.arguments.as_slice(), &mut source, &mut sink);
+    let status = run_program(
+        rt,
+        alloc,
+        row.arguments.as_slice(),
+        &mut source,
+        &mut sink,
+        &Free,
+    );
     Ok(row.is_end(status) && sink.as_bytes() == wanted)
 }
 
 // Whether the program tells of each write of a row's output that it fails, with what was written before it in the sink.
-fn tells_lost_writes(alloc: Global, row: &Row, input: &[u8], wanted: &[u8]) -> io::Result<bool> {
+fn tells_lost_writes<R: Threads + Wait + Sync>(
+    rt: &R,
+    alloc: Global, row: &Row, input: &[u8], wanted: &[u8]) -> io::Result<bool> {
     for (place, _) in wanted.chunks(WRITTEN).enumerate() {
         let written = place.saturating_mul(WRITTEN).min(wanted.len());
         let number = (place as u64).saturating_add(1);
-        if !tells_lost_write(alloc, row, input, &wanted[..written], number)? {
+        if !tells_lost_write(rt, alloc, row, input, &wanted[..written], number)? {
             return Ok(false);
         }
     }
@@ -155,7 +186,8 @@ fn tells_lost_writes(alloc: Global, row: &Row, input: &[u8], wanted: &[u8]) -> i
 }
 
 // Whether the program, of whose writes each takes ten bytes, tells that the write of this number fails, behind these bytes.
-fn tells_lost_write(
+fn tells_lost_write<R: Threads + Wait + Sync>(
+    rt: &R,
     alloc: Global,
     row: &Row,
     input: &[u8],
@@ -167,6 +199,13 @@ fn tells_lost_write(
     let mut source = MemSource::new(input.to_vec(alloc)?, PIECE, Vec::new(alloc));
     let room = written.len().saturating_add(ROOM);
     let mut sink = MemSink::new(alloc, room, WRITTEN, fails)?;
-    let status = run_program(alloc, row.arguments.as_slice(), &mut source, &mut sink);
+    let status = run_program(
+        rt,
+        alloc,
+        row.arguments.as_slice(),
+        &mut source,
+        &mut sink,
+        &Free,
+    );
     Ok(status == Status::WriteFault && sink.as_bytes() == written)
 }

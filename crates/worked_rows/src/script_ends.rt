@@ -1,5 +1,5 @@
 use ev_io::{Lines, MemSource, ScriptFault};
-use ev_script::{Header, ScriptEnd, ScriptTrees, TreesEnd, read_script, read_trees};
+use ev_script::{Header, ScriptTrees, read_audited_script, read_script, read_trees};
 use ev_types::Script;
 use std::alloc::Global;
 use std::io;
@@ -8,35 +8,39 @@ use std::io;
 const PIECE: usize = 65_536;
 
 /// How the reading of an input as a script ends, as a text.
-pub(crate) fn script_end(alloc: Global, input: &[u8], audit: bool) -> io::Result<String> {
+pub(crate) fn script_end(alloc: Global, input: &[u8]) -> io::Result<String> {
     let mut source = MemSource::new(input.to_vec(alloc)?, PIECE, Vec::new(alloc));
     let mut lines = Lines::new(alloc)?;
-    match read_script(alloc, &mut lines, &mut source, audit) {
-        Ok(ScriptEnd::Whole(script)) => {
+    match read_script(alloc, &mut lines, &mut source) {
+        Ok(script) => {
             let said = script_text(alloc, &script)?;
             Ok(format!(in alloc; "whole:{said}")?)
-        }
-        Ok(ScriptEnd::Journal(script, text)) => {
-            let said = script_text(alloc, &script)?;
-            let bytes = text.len();
-            Ok(format!(in alloc; "journal:{said}:{bytes}")?)
         }
         Err(fault) => fault_text(alloc, fault),
     }
 }
 
 /// The same, where it is read as trees.
-pub(crate) fn trees_end(alloc: Global, input: &[u8], audit: bool) -> io::Result<String> {
+pub(crate) fn trees_end(alloc: Global, input: &[u8]) -> io::Result<String> {
     let mut source = MemSource::new(input.to_vec(alloc)?, PIECE, Vec::new(alloc));
     let mut lines = Lines::new(alloc)?;
-    match read_trees(alloc, &mut lines, &mut source, audit) {
-        Ok(TreesEnd::Whole(trees)) => {
+    match read_trees(alloc, &mut lines, &mut source) {
+        Ok(trees) => {
             let said = trees_text(alloc, &trees)?;
             Ok(format!(in alloc; "whole:{said}")?)
         }
-        Ok(TreesEnd::Journal(trees, text)) => {
-            let said = trees_text(alloc, &trees)?;
-            let bytes = text.len();
+        Err(fault) => fault_text(alloc, fault),
+    }
+}
+
+/// How the reading of an input as a script with a journal behind it ends, as a text.
+pub(crate) fn audited_end(alloc: Global, input: &[u8]) -> io::Result<String> {
+    let mut source = MemSource::new(input.to_vec(alloc)?, PIECE, Vec::new(alloc));
+    let mut lines = Lines::new(alloc)?;
+    match read_audited_script(alloc, &mut lines, &mut source) {
+        Ok(audited) => {
+            let said = script_text(alloc, &audited.script)?;
+            let bytes = audited.journal.len();
             Ok(format!(in alloc; "journal:{said}:{bytes}")?)
         }
         Err(fault) => fault_text(alloc, fault),

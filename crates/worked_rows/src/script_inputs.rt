@@ -1,9 +1,9 @@
 //! Inputs of scripts, as files. Each line of `inputs` says whether the input is `plain` or an `audit`'s, how the reading has to
 //! end (`whole:WORKERS:AUTO:NODE:LINES`, `journal:WORKERS:AUTO:NODE:LINES:BYTES` or `bad:LINE:KIND`), and the input, with `~` for
-//! a line feed. Each is read as a script and as trees. Then the input in `realistic.in` is cut behind each of its bytes.
+//! a line feed. A plain one is read as a script and as trees. Then the input in `realistic.in` is cut behind each of its bytes.
 
 use crate::cuts::is_told;
-use crate::script_ends::{script_end, trees_end};
+use crate::script_ends::{audited_end, script_end, trees_end};
 use std::alloc::Global;
 use std::rt::Files;
 use std::{fs, io};
@@ -44,14 +44,18 @@ pub(crate) fn try_cuts<R: Files + Print + AllocGlobal>(rt: &R) -> io::Result<()>
     println!(rt; "{told} cuts told")
 }
 
-// Whether the reading of an input ends as its line says, as a script and as trees.
+// Whether the reading of an input ends as its line says: of a plain one as a script and as trees.
 fn passes(alloc: Global, line: &str) -> io::Result<bool> {
     let mut words = line.splitn(3, ' ');
     let audit = words.next().unwrap_or("") == "audit";
     let wanted = words.next().unwrap_or("");
     let input = input_of(alloc, words.next().unwrap_or(""))?;
-    let script = script_end(alloc, input.as_slice(), audit)?;
-    let trees = trees_end(alloc, input.as_slice(), audit)?;
+    if audit {
+        let audited = audited_end(alloc, input.as_slice())?;
+        return Ok(audited.as_str() == wanted);
+    }
+    let script = script_end(alloc, input.as_slice())?;
+    let trees = trees_end(alloc, input.as_slice())?;
     Ok(script.as_str() == wanted && trees.as_str() == wanted)
 }
 

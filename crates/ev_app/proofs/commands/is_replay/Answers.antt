@@ -1,8 +1,9 @@
 use Rattle.std.proofs.Common.{◌≡◌, ◌↔◌, ◌≤◌, ◌<◌, ℕ, List, [], ◌∷◌, length, get_or, Bool, true, IsTrue, codes, ap, sym, ◌∙◌, arith}
 use Rattle.std.specs.Str.{bytes_eq}
 use Rattle.std.proofs.lemmas.Slice.Eq.{bytes_eq-Decides}
-use Rattle.ev_app.specs.Status.{replay_arguments}
-use Rattle.ev_app.proofs.program.is_replay.Goals as goal
+use Rattle.ev_app.specs.declared.commands.Command.TheVariants.{Replay}
+use Rattle.ev_app.specs.Commands.{words_of}
+use Rattle.ev_app.proofs.commands.is_replay.Goals as goal
 
 holds : (b : Bool) → IsTrue b → b ≡ true
 holds b h = search h
@@ -12,7 +13,7 @@ told b e = search e
 
 -- one word is the one word of the form exactly where its bytes are
 one_word : (words : List (List ℕ)) (word : List ℕ) (b : Bool) → 1 ≤ length words → length words < 2 → word ≡ get_or words 0 word
-    → b ≡ bytes_eq word (codes "replay") → IsTrue b ↔ (words ≡ replay_arguments)
+    → b ≡ bytes_eq word (codes "replay") → IsTrue b ↔ (words ≡ words_of Replay)
 one_word [] word b some few is tested = absurd (omega arith)
 one_word (w ∷ []) word b some few is tested = (
   λ h. ap (λ v. v ∷ []) (sym is ∙ (bytes_eq-Decides word (codes "replay")).0 (sym tested ∙ holds b h)),

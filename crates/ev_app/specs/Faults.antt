@@ -1,0 +1,53 @@
+-- The faults of an input, for each command. A command has a line in `IsEarly`, `IsToldOn` and `IsLate`.
+use Rattle.std.specs.Prelude.{◌≡◌, ℕ, ◌<◌, ◌≤◌, ◌⊎◌, IsTrue, List}
+use Rattle.ev_script.specs.declared.fault_kinds.FaultKind.{FaultKind}
+use Rattle.ev_script.specs.Faults.{Input, Stands, fault_order, fault_line, fault_number, plain_lines}
+use Rattle.ev_app.specs.declared.commands.Command.{Command}
+use Rattle.ev_app.specs.declared.commands.Command.TheVariants.{Replay}
+
+-- ---- early faults: of kinds 1 to 9, at a place
+
+-- a fault that stands at a place of the bytes taken
+abbrev pub IsEarly : Command → Input → ℕ → FaultKind → Type 0
+IsEarly Replay input place kind = Stands plain_lines input place kind
+
+-- the line with which it is told
+abbrev pub IsToldOn : Command → Input → ℕ → FaultKind → ℕ → Type 0
+IsToldOn Replay input place kind line = line ≡ fault_line input place kind
+
+abbrev pub NoneEarly : Command → Input → Type 0
+NoneEarly command input = (place : ℕ) (kind : FaultKind) → ¬ (IsEarly command input place kind)
+
+-- the first early fault, which has this line and this number: no other stands at an earlier place, or at its place with a
+-- kind that is looked at before
+pub record IsFirstEarly (command : Command) (input : Input) (line number : ℕ) : Type 0 where
+  pub place : ℕ
+  pub kind : FaultKind
+  pub stands : IsEarly command input place kind
+  pub first : (other : ℕ) (kind_there : FaultKind) → IsEarly command input other kind_there → (place < other) ⊎ ((place ≡ other) × (fault_order kind ≤ fault_order kind_there))
+  pub told : IsToldOn command input place kind line
+  pub numbered : number ≡ fault_number kind
+
+-- ---- late faults: of kinds 10 to 12, of a whole input that has no early one
+
+-- a late fault, by its line and its number
+abbrev pub IsLate : Command → List ℕ → ℕ → ℕ → Type 0
+IsLate Replay bytes line number = ⊥
+
+-- ---- the fault that is told
+
+-- the first early fault of the bytes taken, or a late one, where they are the whole input and have no early one
+abbrev pub IsFaultFor : Command → Input → ℕ → ℕ → Type 0
+IsFaultFor command input line number =
+    IsFirstEarly command input line number
+    ⊎ (IsTrue input.ended × NoneEarly command input × IsLate command input.bytes line number)
+
+-- the bytes taken have no fault
+pub record HasNoneFor (command : Command) (input : Input) : Type 0 where
+  pub early : NoneEarly command input
+  pub late : IsTrue input.ended → (line number : ℕ) → ¬ (IsLate command input.bytes line number)
+
+-- a read failed before the end of the input and before a fault of the bytes taken
+pub record IsCutOff (command : Command) (input : Input) : Type 0 where
+  pub goes_on : ¬ (IsTrue input.ended)
+  pub sound : NoneEarly command input
