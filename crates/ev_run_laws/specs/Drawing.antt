@@ -1,5 +1,5 @@
 -- For what numbers of generations are drawn.
-use Rattle.std.specs.Prelude.{◌≡◌, ℕ, ◌+◌, ◌≤◌, List}
+use Rattle.std.specs.Prelude.{◌≡◌, ℕ, ◌+◌, ◌≤◌, ◌<◌, ◌^◌, List}
 use Rattle.std.specs.List.{sum_by}
 use Rattle.ev_types.specs.Scripts.{items_in}
 use Rattle.ev_types.specs.declared.events.Actor.{Actor}
@@ -9,6 +9,10 @@ use Rattle.ev_types.specs.declared.journals.Format.{Format}
 use Rattle.ev_model.specs.World.{World, opening}
 use Rattle.ev_model.specs.Runs.{world_after}
 use Rattle.ev_model.specs.Step.{step}
+
+-- the numbers suffice for the event's resources, where it brings some
+abbrev pub NumbersSuffice : World → Event → Type 0
+NumbersSuffice world event = 0 < items_in event → world.made + items_in event < 2 ^ 32
 
 -- how many resources the events of these entries bring together
 abbrev pub items_entered : List Entry → ℕ
