@@ -2,10 +2,11 @@ ghost use Rattle.std.specs.Prelude.{◌≡◌, false, List, [], ◌∷◌, ◌++
 ghost use Rattle.ev_model.specs.World.{OpenMember};
 ghost use Rattle.ev_model.specs.Sorted.{put_by};
 ghost use Rattle.ev_model.specs.Connections.{is_open, member_on, closed};
-ghost use Rattle.ev_ledger.specs.Members.{comes_before, in_order, AreApart, StandsFor, count_of, held_of, on_in};
+ghost use Rattle.std.specs.List.{list_any};
+ghost use Rattle.ev_ledger.specs.Members.{comes_before, in_order, is_of_worker, AreApart, StandsFor, count_of, held_of, on_in};
 
 use crate::counts::{count_in, lower_on, raise_on};
-use crate::members::{Members, found, held, is_there, put, take};
+use crate::members::{Members, found, has_any, held, is_there, put, take};
 use ev_types::{Gen, TryCopy};
 use indexmap::IndexMap;
 use std::alloc::{AllocError, Global};
@@ -111,6 +112,14 @@ impl Ledger {
         ensures apart { AreApart self.now }
     {
         found(&self.members, (worker as u64, conn))
+    }
+
+    /// Whether a worker has a connection open. It is a look-up.
+    pub fn has_any(&self, worker: u32) -> bool
+        ensures any { result ≡ list_any (is_of_worker worker) self.now }
+        ensures world { (opened : List OpenMember) → StandsFor self.now opened → result ≡ list_any (is_of_worker worker) opened }
+    {
+        has_any(&self.members, worker as u64)
     }
 
     /// The connections that a worker has open, each with its listener, by their numbers from the least.

@@ -1,4 +1,5 @@
 ghost use Rattle.std.specs.Prelude.{◌≡◌, ◌<◌, ◌^◌, ◌+◌, ◌==◌, length, map, filter, is_some, IfOk, OnOk, OnErr};
+ghost use Rattle.std.specs.List.{list_any};
 ghost use Rattle.std.specs.Map.{lookup, remove_entry};
 ghost use Rattle.std.specs.BTreeMap.{insert_entry, is_at, IsOrdered};
 ghost use Rattle.ev_ledger.specs.Entries.{key_order, held_at, is_at_worker};
@@ -56,6 +57,14 @@ pub(crate) fn is_there(members: &Members, place: (u64, u64)) -> bool
     ensures { result ≡ is_some (lookup (is_at (key_order place)) members.now.entries) }
 {
     members.contains_key(&place)
+}
+
+/// Whether a worker has a connection. It looks at one at most.
+pub(crate) fn has_any(members: &Members, worker: u64) -> bool
+    requires { worker + 1 < 2 ^ 64 }
+    ensures { result ≡ list_any (is_at_worker worker) members.now.entries }
+{
+    members.range((worker, 0)..(worker + 1, 0)).next().is_some()
 }
 
 /// The numbers of a worker's connections, each with its listener.

@@ -4,15 +4,13 @@ ghost use Rattle.std.specs.List.{list_any};
 ghost use Rattle.std.specs.Option.{option_copied, option_map};
 ghost use Rattle.ev_model.specs.World.{World, opening};
 ghost use Rattle.ev_model.specs.Picture.{has_number, shown_of};
-ghost use Rattle.ev_model.specs.Choice.{choice_of};
 ghost use Rattle.ev_model.specs.Dead.{numbers_in_use, picture_held};
 ghost use Rattle.ev_model.specs.Publishing.{publish};
 ghost use Rattle.ev_snapshot.specs.Changes.{IsOrdered, empty_picture};
 ghost use Rattle.ev_pictures.specs.Pictures.{StandsFor, is_shown_by, is_shown_in, next_version, published_answer, settled_on, shown_after, version_showing, with_shown, with_settled};
 
-use ev_model::Choice;
 use ev_snapshot::{Changes, Snapshot};
-use ev_types::{Ask, Gen};
+use ev_types::Gen;
 use std::alloc::{AllocError, Global};
 use std::marker::Model;
 use std::sync::Arc;
@@ -88,13 +86,14 @@ impl Pictures {
         Ok(given)
     }
 
-    /// Where a connection of a worker goes, by the snapshot that the worker holds here: for an event that is made once more out of
-    /// a journal, since a worker at work asks its own. It takes no memory.
-    pub fn choose(&self, worker: u32, ask: &Ask) -> Choice
+    /// The snapshot that a worker holds here: for an event that is made once more out of a journal, since a worker at work has its
+    /// own. It takes no memory.
+    pub fn held(&self, worker: u32) -> &Snapshot
         requires known { worker < length self.now.held }
-        ensures choice { (world : World) → StandsFor self.now world → result ≡ choice_of (picture_held world worker) ask.now }
+        ensures held { slice_get self.now.held worker ≡ Some result.now }
+        ensures world { (world : World) → StandsFor self.now world → result.now ≡ picture_held world worker }
     {
-        self.held[worker as usize].choose(ask)
+        &*self.held[worker as usize]
     }
 
     /// Whether a picture in use shows the generation of this number: one that a worker holds, or the last. It looks two numbers

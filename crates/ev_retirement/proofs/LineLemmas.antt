@@ -22,7 +22,7 @@ use Rattle.ev_model.specs.declared.pictures.Choice.TheVariants.{NoListener, NoRo
 use Rattle.ev_snapshot.specs.Chosen.{host_of, host_in as place_in}
 use Rattle.ev_ledger.specs.Members.{comes_before, in_order, StandsFor as HasOpened}
 use Rattle.ev_ledger.proofs.OrderLemmas.{any_put}
-use Rattle.ev_worker.specs.Batches.{accepted_as, entries_of}
+use Rattle.ev_worker.specs.Batches.{accepted_as, closed_answer, closed_as, entries_of, outcome_answer}
 use Rattle.ev_worker.specs.Members.{chosen_on, on_of}
 use Rattle.ev_worker.specs.Workers.{AreAnswered, IsAnswer}
 use Rattle.ev_worker.specs.declared.lines.Outcome.{Outcome}
@@ -122,6 +122,23 @@ accept_stands ask worker holders ledger world stands has =
     ≡ accept_leaves worker ask.conn (by_accept (accepted_as (picture_held world worker) ask (is_open world.opened worker ask.conn))) world.opened =
     accept_opens (picture_held world worker) ask worker world.opened in
     opened_stands holders ledger (accepted (picture_held world worker) ask worker world.opened).opened world stands (has ∙ ap in_order (sym opens))
+
+-- how the machine answers it, and a close
+pub accept_answers : (picture : Picture) (ask : Ask) (worker : ℕ) (opened : List OpenMember)
+    → outcome_answer picture (by_accept (accepted_as picture ask (is_open opened worker ask.conn))) ≡ (accepted picture ask worker opened).answer
+accept_answers picture ask worker opened = by (is_open opened worker ask.conn) refl
+  where
+    by : (t : Bool) → is_open opened worker ask.conn ≡ t → outcome_answer picture (by_accept (accepted_as picture ask t)) ≡ (accepted picture ask worker opened).answer
+    by true is = simp is refl
+    by false is = simp is refl
+
+pub close_answers : (connection worker : ℕ) (opened : List OpenMember)
+    → closed_answer (closed_as (is_open opened worker connection)) ≡ (closed connection worker opened).answer
+close_answers connection worker opened = by (is_open opened worker connection) refl
+  where
+    by : (t : Bool) → is_open opened worker connection ≡ t → closed_answer (closed_as t) ≡ (closed connection worker opened).answer
+    by true is = simp is refl
+    by false is = simp is refl
 
 -- a close that is made once more
 pub close_stands : (connection worker : ℕ) (holders : HoldersParts) (ledger : List OpenMember) (world : World) → StandsFor holders world

@@ -1,12 +1,15 @@
 ghost use Rattle.std.specs.Prelude.{◌≡◌, ◌<◌, ◌++◌, ◌∷◌, ℕ, List, true, false, length, IfOk, OnOk, OnErr};
 ghost use Rattle.std.specs.Arc.{arc_value};
+ghost use Rattle.std.specs.List.{list_any};
 ghost use Rattle.ev_types.specs.Statuses.{is_live};
 ghost use Rattle.ev_types.specs.declared.rows.GenRow.{GenRow};
 ghost use Rattle.ev_model.specs.World.{World, opening};
+ghost use Rattle.ev_model.specs.Dead.{last_picture};
 ghost use Rattle.ev_model.specs.Picture.{shown_of};
 ghost use Rattle.ev_model.specs.Publishing.{publish, dead_numbers, without_dead};
 ghost use Rattle.ev_model.specs.Signals.{drain_timeout};
 ghost use Rattle.ev_snapshot.specs.Changes.{IsOrdered};
+ghost use Rattle.ev_ledger.specs.Members.{count_of, is_of_worker};
 ghost use Rattle.ev_pictures.specs.Pictures.{published_answer, shown_after};
 ghost use Rattle.ev_drain.specs.Retired.{has_row};
 ghost use Rattle.ev_types.specs.declared.journals.Format.{Format};
@@ -79,7 +82,7 @@ impl Holders {
     /// The drain timeout of a listener's old generations: it came for those of this name that drain. It answers whether there
     /// was one for which it hadn't come; where there was none, the machine ignores it, and else the world is to be tidied. Out
     /// of memory, all stays as it was.
-    pub fn drain_timeout(&mut self, name: &Name) -> Result<bool, AllocError>
+    pub fn drain_timeout(&mut self, _alloc: Global, name: &Name) -> Result<bool, AllocError>
         ensures answer { IfOk result (λ meant. (world : World) → StandsFor self.old world → (drain_timeout name.now world).1 ≡ timeout_answer meant) }
         ensures machine { IfOk result (λ meant. (world : World) → StandsFor self.old world → (drain_timeout name.now world).0 ≡ timed_out meant name.now world) }
         ensures world { OnOk result ((world : World) → StandsFor self.old world → StandsFor self.new (with_expired name.now world)) }
@@ -173,6 +176,30 @@ impl Holders {
         ensures { result ≡ has_row self.now.drain number }
     {
         self.drain.kind(number).is_some()
+    }
+
+    /// Whether a worker has a connection open. It is a look-up.
+    pub fn has_open(&self, worker: u32) -> bool
+        ensures parts { result ≡ list_any (is_of_worker worker) self.now.ledger }
+        ensures world { (world : World) → StandsFor self.now world → result ≡ list_any (is_of_worker worker) world.opened }
+    {
+        self.ledger.has_any(worker)
+    }
+
+    /// How many connections are open on a generation, as their listener or their cluster. It is a look-up.
+    pub fn count(&self, number: Gen) -> u64
+        ensures parts { result ≡ count_of number self.now.ledger }
+        ensures world { (world : World) → StandsFor self.now world → result ≡ count_of number world.opened }
+    {
+        self.ledger.count(number)
+    }
+
+    /// The version of the last picture.
+    pub fn version(&self) -> u64
+        ensures parts { result ≡ self.now.pictures.last.version }
+        ensures world { (world : World) → StandsFor self.now world → result ≡ (last_picture world).version }
+    {
+        self.pictures.version()
     }
 
     /// How many workers there are.

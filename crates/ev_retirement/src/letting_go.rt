@@ -1,6 +1,6 @@
-ghost use Rattle.std.specs.Prelude.{◌≡◌, ◌<◌, ◌||◌, ◌==◌, ℕ, true, false, List, length, OnOk, OnErr};
+ghost use Rattle.std.specs.Prelude.{◌≡◌, ◌<◌, ◌||◌, ◌==◌, ℕ, true, false, List, length, IfOk, OnOk, OnErr};
 ghost use Rattle.ev_model.specs.World.{OpenMember};
-ghost use Rattle.ev_model.specs.Connections.{closed, is_member};
+ghost use Rattle.ev_model.specs.Connections.{closed, is_member, is_open};
 ghost use Rattle.ev_model.specs.Dead.{is_forwarded_to};
 ghost use Rattle.ev_ledger.specs.Members.{StandsFor as HasOpened};
 ghost use Rattle.ev_drain.specs.Retired.{has_row};
@@ -14,14 +14,16 @@ use ev_pictures::Pictures;
 use ev_types::Gen;
 use std::alloc::{AllocError, Global};
 
-/// Closes a worker's connection; what it was open on is to be asked about, where it was retired. Out of memory, it stays open.
+/// Closes a worker's connection, and answers whether it was open; what it was open on is to be asked about, where it was retired. Out
+/// of memory, it stays open.
 pub(crate) fn close_one(
     asking: &mut Asking,
     drain: &Drain,
     ledger: &mut Ledger,
     worker: u32,
     conn: u64,
-) -> Result<(), AllocError>
+) -> Result<bool, AllocError>
+    ensures answer { IfOk result (λ answer. (opened : List OpenMember) → HasOpened ledger.old opened → answer ≡ is_open opened worker conn) }
     ensures world { OnOk result ((opened : List OpenMember) → HasOpened ledger.old opened → HasOpened ledger.new (closed conn worker opened).opened) }
     ensures goes { LetsGo drain.now asking.old asking.new ledger.old ledger.new }
     ensures err { OnErr result (ledger.new ≡ ledger.old) }
@@ -29,8 +31,7 @@ pub(crate) fn close_one(
     let Ok(_) = ask_on(asking, drain, ledger, worker, conn) else {
         return Err(AllocError);
     };
-    ledger.close(worker, conn);
-    Ok(())
+    Ok(ledger.close(worker, conn))
 }
 
 /// What a worker's connections of these numbers are open on is to be asked about, where it was retired. Out of memory, some of it is.

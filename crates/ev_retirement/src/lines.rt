@@ -1,12 +1,12 @@
 ghost use Rattle.std.specs.Prelude.{◌≡◌, ◌<◌, ℕ, true, length, List, IfOk, OnOk, OnErr};
 ghost use Rattle.std.specs.List.{list_any};
 ghost use Rattle.ev_model.specs.World.{OpenMember, World};
-ghost use Rattle.ev_model.specs.Connections.{answer_of, is_open, served_by};
+ghost use Rattle.ev_model.specs.Connections.{answer_of, closed, is_open, served_by};
 ghost use Rattle.ev_model.specs.Dead.{is_open_on, picture_held};
 ghost use Rattle.ev_pictures.specs.Pictures.{StandsFor as HasPictures};
 ghost use Rattle.ev_snapshot.specs.Chosen.{host_of};
 ghost use Rattle.ev_ledger.specs.Members.{StandsFor as HasOpened};
-ghost use Rattle.ev_worker.specs.Batches.{outcome_answer, accepted_answer, accepted_as, closed_answer};
+ghost use Rattle.ev_worker.specs.Batches.{outcome_answer, accepted_answer, accepted_as, closed_answer, closed_as};
 ghost use Rattle.ev_worker.specs.declared.lines.Outcome.TheVariants.{Accepted as by_accept};
 ghost use Rattle.ev_retirement.specs.Asking.{LetsGo};
 ghost use Rattle.ev_retirement.specs.Lines.{accept_leaves, event_leaves, lines_leave, opened_on};
@@ -53,9 +53,24 @@ fn take_line(
 {
     match &line.event {
         Event::Accept(ask) => take_accept(ledger, worker, ask.conn, &line.outcome),
-        Event::Close(conn) => close_one(asking, drain, ledger, worker, *conn),
+        Event::Close(conn) => take_close(asking, drain, ledger, worker, *conn),
         _ => Ok(()),
     }
+}
+
+// Closes what a close closed.
+fn take_close(
+    asking: &mut Asking,
+    drain: &Drain,
+    ledger: &mut Ledger,
+    worker: u32,
+    conn: u64,
+) -> Result<(), AllocError>
+    ensures opened { OnOk result ((opened : List OpenMember) → HasOpened ledger.old opened → HasOpened ledger.new (closed conn worker opened).opened) }
+    ensures goes { LetsGo drain.now asking.old asking.new ledger.old ledger.new }
+{
+    let _ = close_one(asking, drain, ledger, worker, conn)?;
+    Ok(())
 }
 
 /// How the machine answers a worker's accept, by the snapshot that the worker holds and by its connections that are open.
@@ -66,7 +81,7 @@ pub(crate) fn answer_accept(pictures: &Pictures, ledger: &Ledger, worker: u32, a
     if ledger.is_open(worker, ask.conn) {
         return Outcome::Accepted(Accepted::InUse);
     }
-    Outcome::Accepted(Accepted::Chosen(pictures.choose(worker, ask)))
+    Outcome::Accepted(Accepted::Chosen(pictures.held(worker).choose(ask)))
 }
 
 /// Opens what an accept opened. Out of memory, all stays as it was.
@@ -128,6 +143,17 @@ fn closed_answer(closed: Closed) -> Answer
     match closed {
         Closed::Done => Answer::Done,
         Closed::NotOpen => Answer::NotOpen,
+    }
+}
+
+/// The answer to a close, by whether the connection was open.
+pub(crate) fn close_answer(was_open: bool) -> Answer
+    ensures { result ≡ closed_answer (closed_as was_open) }
+{
+    if was_open {
+        Answer::Done
+    } else {
+        Answer::NotOpen
     }
 }
 

@@ -13,8 +13,8 @@ ghost use Rattle.ev_retirement.specs.Holders.{StandsFor};
 use crate::Holders;
 use crate::closing::{close_all, numbers_closing};
 use crate::letting_go::{ask_on_each, close_one, recall_left};
-use crate::lines::{answer_accept, take_accept, take_lines};
-use ev_types::{Ask, Seq};
+use crate::lines::{answer_accept, answer_of, close_answer, take_accept, take_lines};
+use ev_types::{Answer, Ask, Seq};
 use ev_worker::{Batch, Settled};
 use std::alloc::{AllocError, Global};
 
@@ -63,29 +63,41 @@ impl Holders {
         )
     }
 
-    /// A worker accepts a connection, by the snapshot that it holds here: for an event that is made once more out of a journal.
-    /// Where it has one of this number open, nothing is done. Out of memory, all stays as it was.
-    pub fn accept(&mut self, worker: u32, ask: &Ask) -> Result<(), AllocError>
+    /// A worker accepts a connection, by the snapshot that it holds here: for an event that is made once more out of a journal. It
+    /// is answered as the machine answers it; where the worker has one of this number open, nothing is done. Out of memory, all
+    /// stays as it was.
+    pub fn accept(&mut self, alloc: Global, worker: u32, ask: &Ask) -> Result<Answer, AllocError>
         requires known { worker < length self.old.pictures.held }
+        ensures answer { IfOk result (λ answer. (world : World) → StandsFor self.old world → answer ≡ (accept ask.now worker world).1) }
         ensures world { OnOk result ((world : World) → StandsFor self.old world → StandsFor self.new (accept ask.now worker world).0) }
         ensures err { OnErr result (self.new ≡ self.old) }
     {
         let outcome = answer_accept(&self.pictures, &self.ledger, worker, ask);
-        take_accept(&mut self.ledger, worker, ask.conn, &outcome)
+        let Ok(answer) = answer_of(alloc, self.pictures.held(worker), &outcome) else {
+            return Err(AllocError);
+        };
+        let Ok(_) = take_accept(&mut self.ledger, worker, ask.conn, &outcome) else {
+            return Err(AllocError);
+        };
+        Ok(answer)
     }
 
-    /// A worker closes a connection: for an event that is made once more out of a journal. Where it isn't open there, nothing is
-    /// done. Out of memory, all stays as it was.
-    pub fn close(&mut self, worker: u32, conn: u64) -> Result<(), AllocError>
+    /// A worker closes a connection: for an event that is made once more out of a journal. It is answered as the machine answers it;
+    /// where the connection isn't open there, nothing is done. Out of memory, all stays as it was.
+    pub fn close(&mut self, worker: u32, conn: u64) -> Result<Answer, AllocError>
+        ensures answer { IfOk result (λ answer. (world : World) → StandsFor self.old world → answer ≡ (close conn worker world).1) }
         ensures world { OnOk result ((world : World) → StandsFor self.old world → StandsFor self.new (close conn worker world).0) }
         ensures err { OnErr result (self.new ≡ self.old) }
     {
-        close_one(
+        let Ok(was_open) = close_one(
             &mut self.asking,
             &self.drain,
             &mut self.ledger,
             worker,
             conn,
-        )
+        ) else {
+            return Err(AllocError);
+        };
+        Ok(close_answer(was_open))
     }
 }

@@ -13,3 +13,4 @@ pub mod Covers
 pub mod Touched
 pub mod Grouped
 pub mod Shown
+pub mod LengthLemmas

@@ -1,5 +1,5 @@
 -- A table in two layers: a base, which many snapshots share, and over it what is another entry since the base was made.
-use Rattle.std.specs.Prelude.{Bool, List, ◌++◌, Option, Some, None}
+use Rattle.std.specs.Prelude.{ℕ, ◌*◌, Bool, ◌&&◌, nat_lt, List, ◌++◌, Option, Some, None}
 use Rattle.std.specs.Arc.{arc_value}
 use Rattle.indexmap.specs.IndexMap.{get_by, keys}
 use Rattle.ev_snapshot.specs.declared.table.Table.{Table}
@@ -20,3 +20,7 @@ found eq table key = found_by (eq key) table
 -- the keys of both layers
 abbrev pub keys_in : {K V : Type 0} → Table K V → List K
 keys_in table = keys table.over ++ keys (arc_value table.base)
+
+-- more than eight entries stand over a base of this length, and more than its square root
+abbrev pub is_long : ℕ → ℕ → Bool
+is_long over base = nat_lt 8 over && nat_lt base (over * over)

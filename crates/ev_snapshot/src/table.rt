@@ -1,7 +1,7 @@
 ghost use Rattle.std.specs.Prelude.{◌≡◌, None, Some, cond, IfOk, OnOk};
 ghost use Rattle.std.specs.Option.{option_copied};
 ghost use Rattle.indexmap.specs.IndexMap.{get};
-ghost use Rattle.ev_snapshot.specs.Layers.{found, found_by, over_base};
+ghost use Rattle.ev_snapshot.specs.Layers.{found, found_by, is_long, over_base};
 
 use ev_types::TryCopy;
 use indexmap::{Equivalent, IndexMap};
@@ -73,8 +73,11 @@ impl<K: Eq + Hash + TryCopy + Drop, V: TryCopy + Drop> Table<K, V> {
 }
 
 // Whether so much stands over a base of this length that a new one is made.
-fn is_long(over: usize, base: usize) -> bool {
-    over > 8 && over.saturating_mul(over) > base
+#[tactic(auto, using(crate::proofs::LengthLemmas::above_root))]
+fn is_long(over: usize, base: usize) -> bool
+    ensures { result ≡ is_long over base }
+{
+    over > 8 && base / over < over
 }
 
 // Puts a value in the place of that of its key.

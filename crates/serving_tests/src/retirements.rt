@@ -111,8 +111,8 @@ fn drain(rt: &impl Abort, alloc: Global, holders: &mut Holders) -> Result<(), Fa
     retire(alloc, holders, Gen::new(1), &name)?;
     assert_eq!(rt; publish(alloc, holders, false)?, Some(2));
     assert_eq!(rt; count_dead(alloc, holders, Format::One)?, 0);
-    let first = holders.drain_timeout(&name)?;
-    let again = holders.drain_timeout(&name)?;
+    let first = holders.drain_timeout(alloc, &name)?;
+    let again = holders.drain_timeout(alloc, &name)?;
     assert!(rt; first && !again);
     assert_eq!(rt; count_dead(alloc, holders, Format::Two)?, 0);
     settle(rt, alloc, holders)
