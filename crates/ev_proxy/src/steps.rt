@@ -55,7 +55,7 @@ impl Proxy {
         ensures answer { IfOk result (λ answer. answer ≡ (drain_timeout listener.now here).1) }
         ensures deferred { OnOk result (self.new.deferred ≡ self.old.deferred) }
     {
-        let meant = self.holders.drain_timeout(listener)?;
+        let meant = self.holders.drain_timeout(alloc, listener)?;
         if !meant {
             return Ok(Answer::Ignored);
         }
