@@ -33,7 +33,7 @@ use Rattle.ev_retirement.specs.Holders.{HoldersParts, StandsFor as HoldsFor, wit
 use Rattle.ev_state.proofs.FrameLemmas.{at-frame}
 use Rattle.ev_retirement.specs.Retiring.{HoldTheSame}
 use Rattle.ev_proxy.specs.declared.proxy.Proxy.{Proxy}
-use Rattle.ev_proxy.specs.Proxies.{IsAt}
+use Rattle.ev_proxy.specs.Proxies.{IsAt, IsKnown}
 use Rattle.ev_proxy.proofs.ShownLemmas.{still_shown}
 
 -- the managers' part is the same
@@ -193,3 +193,10 @@ pub worked_at : (p : Proxy) (holders : HoldersParts) (world : World) (held : Lis
 worked_at p holders world held opened at stands =
     let same : SameManaged world (record world { held = held; opened = opened }) = same_but world world.pictures held opened world.expired in
     record { managed = at-frame p.state world _ same at.managed; held = stands; shown = still_shown p.changed world _ same refl at.shown }
+
+-- a worker that is known is one of those that hold a picture
+pub known_there : (holders : HoldersParts) (world : World) (actor : Actor) (worker : ℕ) → HoldsFor holders world → actor ≡ by_worker worker → IsKnown actor world
+    → worker < length holders.pictures.held
+known_there holders world actor worker stands is known =
+    let within : worker < length world.held = subst (λ (a : Actor). IsKnown a world) is known in
+    subst (λ n. worker < n) (sym (ap length stands.pictures.held ∙ length-map world.held _)) within
