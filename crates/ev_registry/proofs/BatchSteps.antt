@@ -18,7 +18,7 @@ use Rattle.ev_model.specs.Step.{step}
 use Rattle.ev_model.specs.declared.pictures.Picture.{Picture}
 use Rattle.ev_model.proofs.RunLemmas.{world_after-more}
 use Rattle.ev_worker.specs.Batches.{entries_of}
-use Rattle.ev_worker.specs.Workers.{IsToldBy, WorkerParts}
+use Rattle.ev_worker.specs.Workers.{WorkerParts}
 use Rattle.ev_worker.specs.declared.lines.BatchLine.{BatchLine}
 use Rattle.ev_actors.specs.Journals.{JournalParts, WorksIn, entries_made, settle_made, with_settled, world_behind, world_now}
 use Rattle.ev_actors.proofs.SettleLemmas.{held_now}

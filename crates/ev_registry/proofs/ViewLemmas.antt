@@ -1,5 +1,5 @@
 -- What is shown of one generation more.
-use Rattle.std.proofs.Common.{◌≡◌, ℕ, suc, ◌+◌, List, [], ◌∷◌, ◌++◌, Option, None, Some, map, option_map, option_to_list, refl, sym, ap, ◌∙◌, add-one}
+use Rattle.std.proofs.Common.{◌≡◌, ℕ, suc, ◌+◌, List, ◌++◌, Option, None, Some, map, option_map, option_to_list, refl, sym, ap, ◌∙◌, add-one}
 use Rattle.std.proofs.lemmas.List.{map-append}
 use Rattle.ev_types.specs.declared.rows.GenRow.{GenRow}
 use Rattle.ev_model.specs.World.{World}
