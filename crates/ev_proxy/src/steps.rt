@@ -22,11 +22,7 @@ use std::alloc::{AllocError, Global};
 impl Proxy {
     /// What an event of the stream, the health checker or a timer does, but a drain timeout. The generations that it retired are noted
     /// among those that drain, and those of which it changed what is to be shown among those that changed.
-    pub(crate) fn manage(
-        &mut self,
-        alloc: Global,
-        event: Managed<'_>,
-    ) -> Result<Answer, AllocError>
+    pub(crate) fn manage(&mut self, alloc: Global, event: Managed<'_>) -> Result<Answer, AllocError>
         ghost here: { World }
         requires at { IsAt self.old here }
         requires room { NumbersSuffice here (event_of event) }
