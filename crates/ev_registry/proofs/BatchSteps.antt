@@ -18,7 +18,7 @@ use Rattle.ev_model.specs.Step.{step}
 use Rattle.ev_model.specs.declared.pictures.Picture.{Picture}
 use Rattle.ev_model.proofs.RunLemmas.{world_after-more}
 use Rattle.ev_worker.specs.Batches.{entries_of}
-use Rattle.ev_worker.specs.Workers.{WorkerParts}
+use Rattle.ev_worker.specs.Workers.{AreAnswered, WorkerParts}
 use Rattle.ev_worker.specs.declared.lines.BatchLine.{BatchLine}
 use Rattle.ev_actors.specs.Journals.{JournalParts, WorksIn, entries_made, settle_made, with_settled, world_behind, world_now}
 use Rattle.ev_actors.proofs.SettleLemmas.{held_now}
@@ -126,3 +126,17 @@ pub known_after : (parts : JournalParts) (number : ℕ) (here : World) (entries 
     → here ≡ world_after parts.format (world_now parts) entries → number < parts.workers → number < length here.held
 known_after parts number here entries is below =
     subst (λ (w : World). number < length w.held) (sym is) (subst (λ n. number < n) (sym (held_now parts entries)) below)
+
+-- what a batch leads to, where its worker works in the world before it
+pub leads_behind : (proxy : Proxy) (parts : JournalParts) (worker : WorkerParts) (here behind : World) (number : ℕ) (lines : List BatchLine)
+    → number ≡ worker.number → lines ≡ worker.lines → here ≡ world_now parts → behind ≡ world_behind worker parts → WorksIn worker here
+    → ((format : Format) (picture : Picture) → AreAnswered format number here lines → IsAt proxy (world_after format here (entries_of number picture lines)))
+    → IsAt proxy behind
+leads_behind proxy parts worker here behind number lines own same is there works leads =
+    let chosen : AreAnswered parts.format worker.number here worker.lines = works.made.chosen parts.format here works.has in
+    let answered : AreAnswered parts.format number here lines =
+    subst (λ (n : ℕ). AreAnswered parts.format n here lines) (sym own)
+    (subst (λ (ls : List BatchLine). AreAnswered parts.format worker.number here ls) (sym same) chosen) in
+    let path : world_after parts.format here (entries_of number worker.picture lines) ≡ world_behind worker parts =
+    (λ i. world_after parts.format (is i) (entries_of (own i) worker.picture (same i))) in
+    subst (IsAt proxy) (path ∙ sym there) (leads parts.format worker.picture answered)

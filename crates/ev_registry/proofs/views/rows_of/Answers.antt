@@ -10,11 +10,11 @@ pub loop-drawn-preserved : goal.loop-drawn-preserved
 loop-drawn-preserved c = λ world at.
     shown_more world c.loop-drawn.drawn c.loop-drawn.rows c.put_row.new.rows (c.loop-drawn.invariant world at)
     (c.in_ok-put_row.ensures world at
-    ∙ ap (λ (n : ℕ). c.loop-drawn.rows ++ option_to_list (option_map (view_row world) (row_in n world.rows))) c.new-2.ensures)
+    ∙ ap (λ (n : ℕ). c.loop-drawn.rows ++ option_to_list (option_map (view_row world) (row_in n world.rows))) c.new.ensures.number)
 
 pub returns : goal.returns
 returns c = λ world at numbered.
-    let made : c.made.result ≡ world.made = c.made.ensures world at in
+    let made : c.made-drawn-end.result ≡ world.made = c.made-drawn-end.ensures world at in
     let last : c.loop-drawn.drawn ≡ world.made = omega arith in
     c.loop-drawn.invariant world at
     ∙ ap (λ (n : ℕ). map (view_row world) (rows_numbered n world.rows)) last

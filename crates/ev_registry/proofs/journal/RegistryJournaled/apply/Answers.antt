@@ -16,11 +16,11 @@ invariant_of-self-2 c =
     let there : World = (machine_step given.format (world_now given) c.args.actor c.args.event.now).0 in
     let proxy : Proxy = record c.step_after.new.proxy { deferred = c.enter.new.reaped } in
     let led : IsAt proxy there = at_but c.step_after.new.proxy c.enter.new.reaped there c.in_ok-answer.ensures.at in
-    enters c.version.result proxy parts c.args.self.now.journaled given c.enter.new.journal.items c.in_ok-entry.entry c.args.actor c.args.at c.args.step c.args.event.now c.in_ok-answer.answer
+    enters c.version-self-inside.result proxy parts c.args.self.now.journaled given c.enter.new.journal.items c.in_ok-entry.entry c.args.actor c.args.at c.args.step c.args.event.now c.in_ok-answer.answer
     c.self.invariant.run c.self.invariant.stepped (ap (λ r. r.journaled) c.self.view_is)
     (λ i. record { format = c.self.inside.format; workers = c.self.inside.workers; node = c.self.inside.node; journal = c.as_slice.ensures.value i })
     c.in_ok-enter.ensures.journal c.in_ok-entry.ensures
-    c.requires.main c.requires.allowed c.requires.numbered c.in_ok-answer.ensures.answer (c.version.ensures there led) led
+    c.requires.main c.requires.allowed c.requires.numbered c.in_ok-answer.ensures.answer (c.version-self-inside.ensures there led) led
 
 pub returns-clause-drawn : goal.returns-clause-drawn
 returns-clause-drawn c =
