@@ -2,7 +2,13 @@
 #![tactic(auto)]
 
 mod batches;
+mod entries;
 mod journal;
+mod past;
+mod sending;
 mod steps;
+mod views;
 
 pub use journal::Registry;
+pub use sending::registry_is_sendable;
+pub use views::{View, ViewRow};

@@ -3,6 +3,7 @@
 
 mod changed;
 mod known;
+mod managed;
 mod moves;
 mod reads;
 mod remove;
@@ -13,5 +14,6 @@ mod step;
 mod stepped;
 mod stream;
 
+pub use managed::Managed;
 pub use state::State;
 pub use stepped::{Altered, Stepped};

@@ -1,0 +1,8 @@
+//! Laws of the flat machine's runs, for the crates that make runs. Each function does nothing, and its contract is a law.
+#![tactic(auto)]
+
+mod by_number;
+mod drawing;
+
+pub use by_number::rows_stand_by_number;
+pub use drawing::numbers_are_drawn_for_resources;
