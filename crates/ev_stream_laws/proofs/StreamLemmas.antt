@@ -124,16 +124,16 @@ step_stream : (format : Format) (world : World) (actor : Actor) (event : Event)
     → (step format world actor event).0.stream ≡ unwrap_or (stream_told event) world.stream
 step_stream format world actor Connect =
     by_connect world.stream refl
-    where
-      by_connect : (stream : Bool) → world.stream ≡ stream → (step format world actor Connect).0.stream ≡ true
-      by_connect true is = simp is refl
-      by_connect false is = simp is refl
+  where
+    by_connect : (stream : Bool) → world.stream ≡ stream → (step format world actor Connect).0.stream ≡ true
+    by_connect true is = simp is refl
+    by_connect false is = simp is refl
 step_stream format world actor Disconnect =
     by_disconnect world.stream refl
-    where
-      by_disconnect : (stream : Bool) → world.stream ≡ stream → (step format world actor Disconnect).0.stream ≡ false
-      by_disconnect true is = simp is refl
-      by_disconnect false is = simp is refl
+  where
+    by_disconnect : (stream : Bool) → world.stream ≡ stream → (step format world actor Disconnect).0.stream ≡ false
+    by_disconnect true is = simp is refl
+    by_disconnect false is = simp is refl
 step_stream format world actor (Response response) = either (HasSame world) _ _ _ (respond_same response.kind response world) refl
 step_stream format world actor (Health cluster host healthy) = health_same host healthy (rows_meant world.arrivals cluster host world.rows) world
 step_stream format world actor (FetchTimeout timeout) = fetch_same timeout.kind timeout.name world
@@ -160,11 +160,11 @@ more_told : (entry : Entry) (entries : List Entry)
     → filter_map (λ (e : Entry). stream_told e.event) (entry ∷ entries)
     ≡ cons_some (stream_told entry.event) (filter_map (λ (e : Entry). stream_told e.event) entries)
 more_told entry entries = by (stream_told entry.event) refl
-    where
-      by : (told : Option Bool) → stream_told entry.event ≡ told
-          → filter_map (λ (e : Entry). stream_told e.event) (entry ∷ entries) ≡ cons_some (stream_told entry.event) (filter_map (λ (e : Entry). stream_told e.event) entries)
-      by None is = simp is refl
-      by (Some opens) is = simp is refl
+  where
+    by : (told : Option Bool) → stream_told entry.event ≡ told
+        → filter_map (λ (e : Entry). stream_told e.event) (entry ∷ entries) ≡ cons_some (stream_told entry.event) (filter_map (λ (e : Entry). stream_told e.event) entries)
+    by None is = simp is refl
+    by (Some opens) is = simp is refl
 
 pub stream_after : (format : Format) (world : World) (entries : List Entry)
     → (world_after format world entries).stream
