@@ -18,6 +18,7 @@ use Rattle.ev_model.specs.declared.pictures.Picture.{Picture}
 use Rattle.ev_run_laws.specs.Drawing.{NumbersSuffice}
 use Rattle.ev_worker.specs.Workers.{HasWorker, IsMadeFrom, IsToldBy, WorkerParts}
 
+-- the format, the workers, the node and the entries in order
 pub record JournalParts : Type 0 where
   pub format : Format
   pub workers : ℕ
