@@ -7,6 +7,7 @@ import difflib
 from . import journal
 from .fields import MAX_NAME, MAX_U32, size
 from .json_text import NotJson, read_tree
+from .progress import Progress
 from .resources import KINDS, read_message
 from .shown import quoted, value_shown
 
@@ -40,14 +41,17 @@ class Reading:
         return self.lines[at - 2] if 2 <= at <= len(self.lines) + 1 else None
 
 
-def read_script(data, audit=False, go_on=False):
-    """Reads a script, or with `audit` a script and its journal. Stops at the first fault, or with `go_on` notes those of all lines."""
+def read_script(data, audit=False, go_on=False, progress=None):
+    """Reads a script, or with `audit` a script and its journal. Stops at the first fault, or with `go_on` notes those of all lines.
+    `progress` is the tool that says how far it is."""
     reading = Reading()
     if not data:
         reading.faults.append(Fault(1, 8, [(None, 'the input is empty')]))
         return reading
-    ended = None
+    ended, told = None, Progress(progress, 'line', data.count(b'\n')) if progress else None
     for number, text, fault in cut(data):
+        if told:
+            told.at(number)
         if fault:
             reading.faults.append(fault)
             return reading
