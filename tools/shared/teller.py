@@ -164,12 +164,12 @@ class Teller:
             else:
                 left += 1
             number += verdict == 'new'
-        self.more(left, 'resources that were taken')
-        self.more(refused - MOST_RESOURCES, 'resources that were refused', news=True)
+        self.more(left, 'that were taken')
+        self.more(refused - MOST_RESOURCES, 'that were refused', news=True)
 
     def more(self, count, words, color=None, news=False):
         if count > 0:
-            self.page.line(f'and {count} {words} more', color, news)
+            self.page.line(f'and {count} more {words}', color, news)
 
     def taken(self, kind, item, verdict, number, live):
         if verdict == 'new':
@@ -192,7 +192,7 @@ class Teller:
         self.page.line(f'{text}refused by {verdict} ({tag}): {rules.WORDS.get(rule, "a rule this tool does not know")}', 'bad', news=True)
         for path, words in complaints[:MOST_NAMES]:
             self.page.line(f'    {shown(path, 120)} {shown(words, 200)}', news=True)
-        self.more(len(complaints) - MOST_NAMES, 'members')
+        self.more(len(complaints) - MOST_NAMES, 'members that break it')
         if rule in rules.ADVICE:
             self.page.line(f'    {rules.ADVICE[rule]}')
 
@@ -229,7 +229,7 @@ class Teller:
         dead, held = before
         for number in reaped[:MOST_CHANGES]:
             self.page.line(f'destroyed: {held[number].words() if held.get(number) else f"generation {number}"}')
-        self.more(len(reaped) - MOST_CHANGES, 'destroyed')
+        self.more(len(reaped) - MOST_CHANGES, 'that are destroyed')
         ended = self.machine.ended
         for number in ended[:MOST_NAMES]:
             for words in self.machine.keeps(self.machine.rows[number]):
