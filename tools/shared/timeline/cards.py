@@ -62,8 +62,8 @@ def never_served(view):
     items += [dropped_words(life) for life in sorted(dropped, key=lambda life: (-(life.stop - life.born), life.number))]
     if not count and not empty:
         return Card('Never came to serve', 0, 'Every generation came to serve.', [], False)
-    summary = (f'{len(waits)} still wait, {len(dropped)} were dropped (an update or a removal came first); '
-               f'{len(empty)} serve without hosts or routes.')
+    summary = (f'Still wait: {len(waits)}; dropped, since an update or a removal came first: {len(dropped)}; '
+               f'serve without hosts or routes: {len(empty)}.')
     return Card('Never came to serve', count, summary, items, bool(waits or empty))
 
 
@@ -100,7 +100,7 @@ def refused_words(key, group):
     lines = [str(refusal.at) for refusal in group]
     times = f'line {lines[0]}' if len(lines) == 1 else f'{len(lines)} times, lines {", ".join(lines[:MOST_LINES])}{" .." if len(lines) > MOST_LINES else ""}'
     why = group[0].why() or rules.WORDS.get(int(rule[1:]), '')
-    return f'{sign(tag)} {WORD[kind]} <b>{text(name, 40)}</b> by <b>{rule}</b> ({TAG_WORDS[tag]}), {times}: {text(why, 120)}'
+    return f'{sign(tag)} {WORD[kind]} <b>{text(name, 40)}</b> by <b>{rule}</b> ({TAG_WORDS[tag]}), {times}: {text(why, 90)}'
 
 
 # Draining
@@ -110,7 +110,7 @@ def draining(view):
     now = [life for life in lives if life.end is None]
     if not lives:
         return Card('Draining', 0, 'Nothing drained.', [], False)
-    summary = f'{len(now)} drain at the end, {len(lives) - len(now)} were reaped.'
+    summary = f'Drain at the end: {len(now)}; reaped: {len(lives) - len(now)}.'
     items, free = [], 0
     for life in now:
         keepers = [words for words, until in view.history.keepers(life) if until is None]
@@ -194,7 +194,7 @@ def holding_words(holding, end):
 def connections(view):
     found, lost = view.connections(), view.lost()
     bad = [connection for connection in found if connection.not_served()]
-    summary = f'{len(found) - len(bad)} served, {len(bad)} not served, {len(lost)} found no listener.'
+    summary = f'Served: {len(found) - len(bad)}; not served: {len(bad)}; found no listener: {len(lost)}.'
     items = lost_items(view, lost)
     if len(found) <= 12:
         items += [connection_words(view, connection) for connection in sorted(found, key=lambda c: (not c.not_served(), c.x))]

@@ -5,6 +5,7 @@ A place on the axis is a line of the script, and a quarter more for each step be
 import bisect
 import collections
 
+from .. import rules
 from ..machine import Machine
 from ..resources import WORD, WORDS
 from ..shown import quoted, shown
@@ -64,7 +65,15 @@ class Refusal:
         self.x, self.at, self.kind, self.name, self.rule, self.tag, self.complaints = x, at, kind, name, rule, tag, complaints
 
     def why(self):
-        return '; '.join(f'{path} {words}' for path, words in self.complaints[:2])
+        """The first members that break the rule, each by the end of its path."""
+        return '; '.join(f'{tail(path)} {words}' for path, words in rules.telling(self.complaints)[:2])
+
+
+def tail(path, most=40):
+    """The end of a long path, from a member on."""
+    while len(path) > most and '.' in path:
+        path = path.split('.', 1)[1]
+    return path
 
 
 class Band:

@@ -12,6 +12,8 @@ FOLDER = os.path.dirname(os.path.realpath(__file__))
 MANY_LINES = 1000
 MOST_WORDS = 6
 MANY_QUIET = 40
+MOST_FOLDED = 500
+MOST_ENTRIES = 20000
 BAR = '<svg width="26" height="12"><rect class="{}" x="1" y="1" width="24" height="10"/></svg>'
 
 
@@ -47,11 +49,12 @@ def heading(view):
 
 
 def all_rows(view):
-    """(head rows, folded workers, open bands, folded bands, quiet bands)."""
+    """(head rows, folded workers, open bands, folded bands, quiet bands, how many more bands of the last two there are)."""
     head, workers = rows.head_rows(view)
-    opened, folded, quiet = view.ordered()
+    opened, hidden, quiet = view.ordered()
+    left = [max(0, len(bands) - MOST_FOLDED) for bands in (hidden, quiet)]
     draw = lambda bands, dense: [rows.BandDrawer(view, band, dense).row() for band in bands]
-    return [rows.axis(view), *head], workers, draw(opened, False), draw(folded, False), draw(quiet, True)
+    return [rows.axis(view), *head], workers, draw(opened, False), draw(hidden[:MOST_FOLDED], False), draw(quiet[:MOST_FOLDED], True), left
 
 
 # HTML
@@ -72,10 +75,12 @@ def row_html(row):
             f'<div class="track"><svg width="100%" height="{row.height:g}" role="group" aria-label="{aria}">{row.svg}</svg></div></div>')
 
 
-def folded(words, found, is_open=False):
+def folded(word, words, found, left=0, is_open=False):
     if not found:
         return ''
-    return f'<details{" open" if is_open else ""}><summary>{words}</summary>{"".join(map(row_html, found))}</details>'
+    more = f'<p class="label">and {counted(left, word)} more, which --only shows</p>' if left else ''
+    return (f'<details{" open" if is_open else ""}><summary>{counted(len(found) + left, word)} {words}</summary>'
+            f'{"".join(map(row_html, found))}{more}</details>')
 
 
 def zooms(view):
@@ -92,13 +97,16 @@ def journal_words(view):
     """The journal as explain tells it: whole under 1,000 lines, else a few lines an entry."""
     chosen = [entry for entry in view.history.words if view.first <= entry[0] <= view.after]
     short, parts = len(view.history.reading.lines) >= MANY_LINES, []
-    for at, place, actor, text, lines in chosen:
+    for at, place, actor, text, lines in chosen[:MOST_ENTRIES]:
         told = [pair for pair in lines if not pair[0].startswith('not yet')] if short else lines
         left = len(told) - MOST_WORDS if short else 0
         body = ''.join(words_html(*pair, 160 if short else 400) for pair in (told[:MOST_WORDS] if short else told))
         more = f'    and {left} lines more\n' if left > 0 else ''
         parts.append(f'<span data-l="{at}">{html.escape(f"{place:<9} {actor:<7} {shown(text, 300)}")}\n{body}{more}</span>')
-    return f'<details class="words"><summary>The journal in words: {counted(len(chosen), "entrie" if len(chosen) != 1 else "entry")}</summary><pre>{"".join(parts)}</pre></details>'
+    if len(chosen) > MOST_ENTRIES:
+        parts.append(f'and {len(chosen) - MOST_ENTRIES} entries more, which --from and --to show\n')
+    count = f'{len(chosen)} {"entry" if len(chosen) == 1 else "entries"}'
+    return f'<details class="words"><summary>The journal in words: {count}</summary><pre>{"".join(parts)}</pre></details>'
 
 
 def words_html(text, color, most):
@@ -108,7 +116,7 @@ def words_html(text, color, most):
 
 def html_page(view):
     name, what = heading(view)
-    head, workers, opened, hidden, quiet = all_rows(view)
+    head, workers, opened, hidden, quiet, left = all_rows(view)
     legend = ''.join(f'<span>{picture}{words}</span> ' for picture, words in legend_items())
     return ''.join([
         '<!DOCTYPE html>\n<html lang="en"><head><meta charset="utf-8"><meta name="viewport" content="width=device-width">',
@@ -116,9 +124,9 @@ def html_page(view):
         f'<svg width="0" height="0" style="position:absolute" aria-hidden="true">{drawing.defs()}</svg>',
         f'<h1>{html.escape(name)} <small>{html.escape(what)}</small></h1>\n<div class="cards">', '\n'.join(card.html() for card in cards(view)),
         f'</div>\n<div class="legend">{legend}</div>\n{zooms(view)}\n<main class="tracks">{grid(view)}\n', '\n'.join(map(row_html, head)),
-        folded(f'{counted(len(workers), "worker")} more', workers), '\n'.join(map(row_html, opened)),
-        folded(f'{counted(len(hidden), "name")} with trouble more', hidden),
-        folded(f'{counted(len(quiet), "name")} without trouble', quiet, len(quiet) <= MANY_QUIET),
+        folded('worker', 'more', workers), '\n'.join(map(row_html, opened)),
+        folded('name', 'more with trouble', hidden, left[0]),
+        folded('name', 'without trouble', quiet, left[1], len(quiet) <= MANY_QUIET),
         f'\n{journal_words(view)}</main>\n<output id="panel" aria-live="polite"></output>\n<script>\n{file_text("script.js")}</script>\n</body></html>\n'])
 
 
@@ -148,7 +156,7 @@ def svg_legend(y):
 
 def svg_picture(view):
     name, what = heading(view)
-    head, workers, opened, hidden, quiet = all_rows(view)
+    head, workers, opened, hidden, quiet, _ = all_rows(view)
     legend, y = svg_legend(34)
     parts, top = [], y
     for row in [*head, *workers, *opened, *hidden, *quiet]:

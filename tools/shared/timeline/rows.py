@@ -51,10 +51,13 @@ def stream(view):
     open_at = [span for span in history.streams if view.overlaps(*span)]
     for start, stop in open_at:
         parts.append(drawing.rect('stream', view.percent(start), view.percent(stop) - view.percent(start), 2, 5))
+    last = -20
     for (_, stop), (start, _) in zip(history.streams, history.streams[1:] + [[history.end, None]]):
         if stop < history.end and view.overlaps(stop, start) and start > stop:
             parts.append(drawing.rect('lost', view.percent(stop), view.percent(start) - view.percent(stop), 0, 8))
-            parts.append(write(view.percent(stop), 20, 'stream lost', 'red'))
+            if 8 <= view.percent(stop) - last and view.percent(stop) < 92:
+                last = view.percent(stop)
+                parts.append(write(last, 20, 'stream lost', 'red'))
     responses = [(x, error) for x, error in history.responses if view.at(x)]
     parts += [f'<rect class="{"red" if error else "dim"}" x="{view.percent(x):g}%" y="{22 if error else 24}" width="1.2" height="{8 if error else 6}"/>'
               for x, error in responses]
@@ -85,11 +88,11 @@ def picture_row(view):
     parts, last, free = [], -9, 8 if len(view.pictures()) > 40 else 3
     for x, version in view.pictures():
         at = view.percent(x)
-        parts.append(f'<rect class="picture" x="{at:g}%" y="6" width="1.5" height="10"/>')
+        parts.append(f'<rect class="picture" x="{at:g}%" y="13" width="1.5" height="8"/>')
         if at - last >= free:
-            parts.append(write(at, 12, str(version)))
+            parts.append(write(at - 0.4, 10, str(version)))
             last = at
-    return Row('', 'pictures', [f'{len(view.pictures())} published'], ''.join(parts), 20)
+    return Row('', 'pictures', [f'{len(view.pictures())} published'], ''.join(parts), 23)
 
 
 def lost_row(view):

@@ -212,37 +212,42 @@ def busy(lines, workers=4, names=60, seed=7):
     ports, opened, conn = {f'ingress-{place}': 8000 + place for place in range(5)}, [], 0
     made.event('connect')
     made.response('cds', [cluster(name, checked=place % 3 == 0) for place, name in enumerate(services)])
+    made.response('eds', [endpoints(name, range(2)) for name in services])
+    for name in services[::3]:
+        for place in range(2):
+            made.event('health', cluster=name, address=f'10.0.0.{place}', port=80, healthy=True)
     made.response('lds', [listener(name, port, routes=f'r-{port}') for name, port in ports.items()])
+    made.response('rds', [routes(f'r-{port}', draw.choice(services)) for port in ports.values()])
     while len(made.lines) < lines:
         name, port = draw.choice(services), draw.choice(list(ports.items()))
         way = draw.random()
-        if way < 0.22:
+        if way < 0.12:
             made.response('eds', [endpoints(name, range(draw.randrange(1, 4)))])
-        elif way < 0.30:
-            made.response('cds', [cluster(name, f'{name}~{draw.randrange(9)}' if draw.random() < 0.3 else name, draw.random() < 0.3,
+        elif way < 0.16:
+            made.response('cds', [cluster(name, f'{name}~{draw.randrange(9)}' if draw.random() < 0.1 else name, draw.random() < 0.3,
                                           connectTimeout='0s' if draw.random() < 0.15 else '1s')])
-        elif way < 0.34:
+        elif way < 0.26:
             made.event('health', cluster=name, address='10.0.0.' + str(draw.randrange(3)), port=80, healthy=draw.random() < 0.8)
-        elif way < 0.38:
+        elif way < 0.29:
             refused = {'safeRegex': {}} if draw.random() < 0.3 else {}
             made.response('rds', [routes(f'r-{port[1]}', draw.choice(services), **refused)])
-        elif way < 0.40:
+        elif way < 0.30:
             made.response('lds', [listener(port[0], port[1], **({'target': name} if draw.random() < 0.5 else {'routes': f'r-{port[1]}'}))])
-        elif way < 0.405:
+        elif way < 0.304:
             made.response('lds', [listener('shadow', port[1], target=name)])
-        elif way < 0.41:
+        elif way < 0.308:
             made.event('drainTimeout', listener=port[0])
-        elif way < 0.42:
+        elif way < 0.318:
             made.event('fetchTimeout', type='eds', name=name)
-        elif way < 0.421:
+        elif way < 0.3185:
             made.event('disconnect' if made.machine.open else 'connect')
-        elif way < 0.47:
+        elif way < 0.38:
             made.event('publish')
-        elif way < 0.50:
+        elif way < 0.42:
             made.event('reap')
-        elif way < 0.62:
+        elif way < 0.56:
             made.event('settle', worker=min(draw.randrange(workers), draw.randrange(workers)))
-        elif way < 0.86:
+        elif way < 0.80:
             conn += 1
             opened.append((draw.randrange(workers), conn))
             made.event('accept', worker=opened[-1][0], conn=conn, address='10.1.0.1', port=port[1], pick=draw.randrange(9))
