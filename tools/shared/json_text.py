@@ -41,9 +41,13 @@ def read_tree(line):
     return tree
 
 
+COMPRESSED = {b'\x1f\x8b': 'gzip', b'\x28\xb5\x2f\xfd': 'zstd', b'\xfd7zXZ': 'xz', b'BZh': 'bzip2'}
+
+
 def decoded(line):
-    if line[:2] == b'\x1f\x8b':
-        raise NotJson('the input is compressed (gzip)', 1, ['decompress it first: gzip -dc FILE'])
+    for magic, tool in COMPRESSED.items():
+        if line.startswith(magic):
+            raise NotJson(f'the input is compressed ({tool})', 1, [f'decompress it first: {tool} -dc FILE'])
     if line[:2] in (b'\xff\xfe', b'\xfe\xff') or (len(line) > 3 and line[1::2].count(0) > len(line) // 4):
         raise NotJson('the text is UTF-16', 1, ['write it as UTF-8 without a byte order mark'])
     try:

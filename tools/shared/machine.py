@@ -1,21 +1,33 @@
 """What the managers know after each entry of a journal, for a person who reads it.
 
 It follows the journal's own verdicts and answers, and reckons from the script what they leave unsaid: which generation
-serves, what each warming one waits for, what drains. Where its reckoning and the journal disagree it says so. Not
+serves, what each warming one waits for, what drains. Where its reckoning and the journal disagree it says so. Nothing is
+searched: who has a name, who waits for one, what a picture shows and what keeps a generation are kept as they change. Not
 proved: the definitions in docs/DEFINITIONS.md and the program decide.
 """
-from .resources import WORD
+import bisect
+import heapq
+
+from . import rules
+from .resources import WORD, WORDS
 from .shown import quoted, shown
 
 EMPTY = ()
+PICTURE = 'the last picture'
 
 
 class Row:
-    """A generation."""
+    """A generation, with what a picture shows of it and who uses it."""
 
     def __init__(self, kind, number, name, version, content):
         self.kind, self.number, self.name, self.version, self.content = kind, number, name, version, content
         self.status, self.expired = 'warming', False
+        self.checked = kind == 'cds' and bool(content.get('checked'))
+        self.assigned, self.usable, self.eligible = EMPTY, {}, 0
+        self.results, self.missing = {}, []
+        self.first_shown, self.last_shown = None, None
+        self.before, self.toggled = None, set()
+        self.users = []
 
     def live(self):
         return self.status in ('warming', 'active')
@@ -34,141 +46,293 @@ class Row:
     def words(self):
         return f'{WORD[self.kind]} {quoted(self.name)} (generation {self.number})'
 
+    def is_shown(self):
+        """Whether the last picture shows it."""
+        return self.first_shown is not None and self.last_shown is None
+
+    def in_picture(self, version, last):
+        """Whether the picture of this version shows it; `last` is the version of the last one."""
+        if self.first_shown is None or version > last:
+            return False
+        return self.first_shown <= version and (self.last_shown is None or version <= self.last_shown)
+
+    def empty(self):
+        """Whether it has no host that may be chosen, or no virtual host of the routes that it asks for."""
+        return not self.eligible if self.kind == 'cds' else self.depends() is not None and not self.assigned
+
+    def shows(self):
+        """What a picture shows of it: its eligible hosts, or its routes. Of a checked cluster with the results that the last picture
+        had where `toggled` says which changed since."""
+        if self.kind != 'cds':
+            return self.assigned
+        if not self.checked:
+            return tuple(host for host in self.assigned if host[3])
+        return tuple(host for host in self.assigned
+                     if host[3] and (self.results.get(host[0]) is True) != (host[0] in self.toggled))
+
+    def assign(self, value):
+        """Takes the hosts of an assignment, or routes."""
+        self.assigned = value
+        if self.kind != 'cds':
+            return
+        self.usable = {}
+        for host, _, _, usable in value:
+            self.usable[host] = self.usable.get(host, 0) + usable
+        if self.checked:
+            self.results = {host: healthy for host, healthy in self.results.items() if host in self.usable}
+            self.missing = sorted((str(host), host) for host in self.usable if host not in self.results)
+        self.eligible = sum(count for host, count in self.usable.items() if not self.checked or self.results.get(host))
+
+    def take_result(self, host, healthy):
+        """Takes a health result; says whether what is shown changes."""
+        was = self.results.get(host)
+        self.results[host] = healthy
+        if was is None:
+            place = bisect.bisect_left(self.missing, (str(host), host))
+            if self.missing[place:place + 1] == [(str(host), host)]:
+                del self.missing[place]
+        if bool(was) == healthy or not self.usable[host]:
+            return False
+        self.eligible += self.usable[host] if healthy else -self.usable[host]
+        if self.is_shown() and self.before is None:
+            self.toggled ^= {host}
+        return True
+
 
 class Machine:
+    """The managers and what workers hold. `step` applies an entry; `changes`, `touched` and `watch_changes` say what it changed."""
+
     def __init__(self, workers, format):
         self.format, self.rows, self.next, self.phase, self.open = format, {}, 1, 'clusters', False
-        self.values, self.told, self.timed, self.results = {}, set(), set(), {}
-        self.versions, self.ttls = {}, set()
-        self.first, self.timed_out = {}, set()
-        self.pictures, self.held, self.connections = [self.picture()], {w: 0 for w in range(workers)}, {}
+        self.named, self.dependents, self.drains = {}, {}, {}
+        self.values, self.told, self.timed = {}, {}, set()
+        self.first, self.awaited = {}, {}
+        self.last, self.held, self.connections = 0, {w: 0 for w in range(workers)}, {}
+        self.picture_lines = [0]
+        self.active, self.ended = {'cds': [], 'lds': []}, []
+        self.unpublished, self.kept, self.dead_ones = set(), {}, set()
+        self.forget_changes()
+
+    def forget_changes(self):
+        self.changes, self.touched, self.watched_before, self.loose = {}, set(), {}, set()
 
     # Looking
 
-    def live(self, kind=None):
-        return [row for row in self.rows.values() if row.live() and kind in (None, row.kind)]
-
-    def of_status(self, kind, name, status):
-        return [row for row in self.rows.values() if (row.kind, row.name, row.status) == (kind, name, status)]
-
     def newest(self, kind, name):
-        found = [row for row in self.live(kind) if row.name == name]
-        return max(found, key=lambda row: row.number, default=None)
+        """The live generation of a name that was made last, or None."""
+        found = self.named.get((kind, name), {})
+        return found.get('warming') or found.get('active')
 
-    def watched(self):
-        return {row.depends() for row in self.live()} - {None}
+    def is_watched(self, key):
+        return key in self.dependents
 
-    def assignment(self, row):
-        if row.kind != 'cds':
-            return EMPTY
-        if row.content.get('eds'):
-            return self.values.get(('eds', row.content['eds']), EMPTY)
-        return row.content.get('rows', EMPTY)
+    def watch_changes(self):
+        """(names newly watched, names no longer watched) of the last step."""
+        now = {key: key in self.dependents for key in self.watched_before}
+        return ({key for key, was in self.watched_before.items() if now[key] and not was},
+                {key for key, was in self.watched_before.items() if was and not now[key]})
+
+    def is_answered(self, row):
+        name = row.depends()
+        return not name or name in self.told or (name in self.timed and row.limited())
 
     def waits(self, row):
         """What a warming generation still waits for, in words; empty where it is ready."""
         found, name = [], row.depends()
-        if name and name not in self.told and not (name in self.timed and row.limited()):
-            found.append(f'{"endpoints" if name[0] == "eds" else "routes"} {quoted(name[1])}')
-        if row.kind == 'cds' and row.content.get('checked'):
-            missing = sorted({host for host, *_ in self.assignment(row) if (row.number, host) not in self.results}, key=str)
-            found += [f'a health result of {shown(address)}:{port}' for address, port in missing[:8]]
-            if len(missing) > 8:
-                found.append(f'and of {len(missing) - 8} hosts more')
+        if not self.is_answered(row):
+            found.append(f'{WORDS[name[0]]} {quoted(name[1])}')
+        if row.missing:
+            found += [f'a health result of {shown(address)}:{port}' for _, (address, port) in row.missing[:8]]
+            if len(row.missing) > 8:
+                found.append(f'and of {len(row.missing) - 8} hosts more')
         return found
 
-    def picture(self):
-        """What workers may serve: the active generations with what a picture shows of them."""
-        shown = []
-        for row in self.rows.values():
-            if row.status != 'active':
-                continue
-            if row.kind == 'cds':
-                hosts = [host for host in self.assignment(row) if host[3] and (
-                    not row.content.get('checked') or self.results.get((row.number, host[0])) is True)]
-                shown.append((row.number, tuple(hosts)))
-            elif self.phase == 'serving':
-                shown.append((row.number, self.values.get(row.depends()) if row.depends() else None))
-        return sorted(shown, key=lambda row: row[0])
+    def without(self, row):
+        """What a serving generation lacks and why, in words; None where it lacks nothing."""
+        if not row.empty():
+            return None
+        name, what = row.depends(), 'HOSTS' if row.kind == 'cds' else 'ROUTES'
+        if name is None:
+            return f'WITHOUT {what}: none that may be chosen'
+        refusal = self.told.get(name)
+        if name in self.values:
+            why = 'none that may be chosen' if row.kind == 'cds' else f'{quoted(name[1])} has no virtual host'
+        elif isinstance(refusal, tuple):
+            whose = {rules.PROFILE: 'which Envoy takes', rules.ENVOY: 'which Envoy refuses too',
+                     rules.UNKNOWN: 'and whether Envoy takes them is not known'}
+            why = f'refused by {refusal[0]}, {whose[refusal[1]]}'
+        else:
+            why = f'{WORDS[name[0]]} {quoted(name[1])} were removed' if name in self.told else 'their fetch timeout came'
+        return f'WITHOUT {what}: {why}'
 
-    def numbers_shown(self, version):
-        return {number for number, _ in self.pictures[version]} if version < len(self.pictures) else set()
+    def would_show(self, row):
+        return row.status == 'active' and (row.kind == 'cds' or self.phase == 'serving')
+
+    def showing(self):
+        """The numbers of the generations that a picture of now shows, in order, and how many they are."""
+        kinds = ('cds', 'lds') if self.phase == 'serving' else ('cds',)
+        return heapq.merge(*(self.active[kind] for kind in kinds)), sum(len(self.active[kind]) for kind in kinds)
+
+    def is_changed(self):
+        """Whether a picture of now would show something else than the last."""
+        return any(self.differs(self.rows[number]) for number in self.unpublished if number in self.rows)
+
+    def differs(self, row):
+        if self.would_show(row) != row.is_shown():
+            return True
+        return row.is_shown() and (bool(row.toggled) or (row.before is not None and row.before != row.shows()))
+
+    def published_before(self, line):
+        """The version of the last picture that a line before this one published."""
+        return bisect.bisect_left(self.picture_lines, line) - 1
 
     def keeps(self, row):
         """Why a draining generation is not reaped, in words; empty where it is dead."""
         if row.status == 'dropped':
             return []
-        found = []
-        for worker, version in sorted(self.held.items()):
-            if row.number in self.numbers_shown(version):
-                found.append(f'w{worker} holds picture {version}, which shows it')
-        if row.number in self.numbers_shown(len(self.pictures) - 1):
+        found = [f'w{worker} holds picture {version}, which shows it' for worker, version in sorted(self.held.items())
+                 if row.in_picture(version, self.last)]
+        if row.is_shown():
             found.append('the last picture shows it')
-        users = [f'w{worker} {conn}' for (worker, conn), numbers in sorted(self.connections.items()) if row.number in numbers]
-        if users:
-            found.append('open connections: ' + ', '.join(users[:8]) + (' ..' if len(users) > 8 else ''))
-        if self.format == 2 and row.kind == 'lds' and not row.expired:
+        if row.users:
+            users = [f'w{worker} {conn}' for worker, conn in row.users[:8]]
+            found.append('open connections: ' + ', '.join(users) + (f' and {len(row.users) - 8} more' if len(row.users) > 8 else ''))
+        if self.waits_for_timeout(row):
             found.append('its drain timeout has not come')
         return found
 
+    def waits_for_timeout(self, row):
+        return self.format == 2 and row.kind == 'lds' and not row.expired
+
     def dead(self):
-        return sorted(row.number for row in self.rows.values() if not row.live() and not self.keeps(row))
+        """The numbers of the generations that nothing keeps, ascending."""
+        for number in [number for number in self.dead_ones if self.keeper(self.rows[number]) is not None]:
+            self.dead_ones.discard(number)
+            self.file(self.rows[number])
+        return sorted(self.dead_ones)
+
+    # What keeps a generation that ended: one thing that does, at which it is looked at again
+
+    def keeper(self, row):
+        if row.status == 'dropped':
+            return None
+        if row.is_shown():
+            return PICTURE
+        if row.users:
+            return row.users[0]
+        if self.waits_for_timeout(row):
+            return 'timeout', row.number
+        return next((worker for worker, version in self.held.items() if row.in_picture(version, self.last)), None)
+
+    def file(self, row):
+        keeper = self.keeper(row)
+        if keeper is None:
+            self.dead_ones.add(row.number)
+        else:
+            self.kept.setdefault(keeper, set()).add(row.number)
+
+    def release(self, keeper):
+        for number in self.kept.pop(keeper, ()):
+            if number in self.rows:
+                self.file(self.rows[number])
 
     # Events
 
-    def step(self, line, op, answer, worker):
-        """Applies one entry. The journal's answer says what came of it."""
+    def step(self, line, op, answer, worker, at=0):
+        """Applies one entry, of line `at`. The journal's answer says what came of it."""
+        self.forget_changes()
         if op in ('accept', 'close', 'settle'):
             self.worker_step(line, op, answer, worker)
-            return
-        if answer == 'ignored':
-            return
+        elif op == 'publish':
+            if answer != 'unchanged':
+                self.publish(at)
+        elif op == 'reap':
+            for number in answer['reaped']:
+                self.destroy(number)
+        elif answer != 'ignored':
+            self.manager_step(line, op, answer)
+            self.tidy()
+
+    def manager_step(self, line, op, answer):
         members = line.members if line else {}
         if op in ('connect', 'disconnect'):
             self.open = op == 'connect'
         elif op == 'response':
             self.respond(line.response, answer['verdicts'])
         elif op == 'health':
-            host = (members['address'], members['port'])
-            for row in self.checked(members['cluster'], host):
-                self.results[row.number, host] = members['healthy']
+            self.take_result(members['cluster'], (members['address'], members['port']), members['healthy'])
         elif op == 'fetchTimeout':
             if 'name' in members:
                 self.timed.add((members['type'], members['name']))
+                self.touch((members['type'], members['name']))
             else:
-                self.timed_out.add(members['type'])
-                self.first.setdefault(members['type'], [])
+                self.note_first(members['type'], [])
         elif op == 'drainTimeout':
-            for row in self.of_status('lds', members['listener'], 'draining'):
+            for row in self.drains.pop(members['listener'], []):
                 row.expired = True
+                self.release(('timeout', row.number))
         elif op == 'ttlExpired':
             self.expire(members['type'], members['name'])
-        elif op == 'publish':
-            if answer != 'unchanged':
-                self.pictures.append(self.picture())
-            return
-        elif op == 'reap':
-            for number in answer['reaped']:
-                self.rows.pop(number, None)
-            return
-        self.tidy()
 
-    def checked(self, cluster, host):
-        return [row for row in self.live('cds') if row.name == cluster and row.content.get('checked')
-                and host in {found for found, *_ in self.assignment(row)}]
+    def take_result(self, cluster, host, healthy):
+        for row in self.named.get(('cds', cluster), {}).values():
+            if row.checked and host in row.usable:
+                if row.take_result(host, healthy):
+                    self.unpublished.add(row.number)
+                self.touched.add(row.number)
 
     def worker_step(self, line, op, answer, worker):
         if op == 'accept':
             if isinstance(answer, dict):
-                used = {answer['listener'], answer.get('cluster')} - {None}
-                self.connections[worker, line.members['conn']] = used
+                self.use(worker, line.members['conn'], {answer['listener'], answer.get('cluster')} - {None})
         elif op == 'close':
             if answer == 'done':
-                self.connections.pop((worker, line.members['conn']), None)
+                self.leave(worker, line.members['conn'])
         else:
             for conn in answer['closed']:
-                self.connections.pop((worker, conn), None)
+                self.leave(worker, conn)
             self.held[worker] = answer['version']
+            self.release(worker)
+
+    def use(self, worker, conn, numbers):
+        self.connections[worker, conn] = numbers
+        for number in numbers:
+            if number in self.rows:
+                bisect.insort(self.rows[number].users, (worker, conn))
+
+    def leave(self, worker, conn):
+        for number in self.connections.pop((worker, conn), ()):
+            users = self.rows[number].users if number in self.rows else []
+            place = bisect.bisect_left(users, (worker, conn))
+            if users[place:place + 1] == [(worker, conn)]:
+                del users[place]
+        self.release((worker, conn))
+
+    def publish(self, at):
+        self.last += 1
+        self.picture_lines.append(max(at, self.picture_lines[-1]))
+        for number in self.unpublished:
+            row = self.rows.get(number)
+            if row is None:
+                continue
+            if self.would_show(row) and row.first_shown is None:
+                row.first_shown = self.last
+            elif row.is_shown() and not self.would_show(row):
+                row.last_shown = self.last - 1
+            row.before, row.toggled = None, set()
+        self.unpublished = set()
+        self.release(PICTURE)
+
+    def destroy(self, number):
+        row = self.rows.pop(number, None)
+        if row is None:
+            return
+        if row.live():
+            self.unname(row)
+        else:
+            del self.ended[bisect.bisect_left(self.ended, number)]
+            self.drains.get(row.name, set()).discard(row)
+        self.dead_ones.discard(number)
 
     def respond(self, response, verdicts):
         kind, names = response.kind, {item.name for item in response.items}
@@ -180,74 +344,144 @@ class Machine:
             key = (kind, item.name)
             if verdict == 'new':
                 self.retire(kind, item.name, drop_alone=True)
-                row = Row(kind, self.next, item.name, item.version, item.content or {})
-                self.rows[row.number] = row
-                self.next += 1
+                self.make(kind, item)
                 made.append(item.name)
             elif verdict == 'kept':
-                self.values[key] = EMPTY if item.content is None else item.content
-                self.told.add(key)
-            elif verdict[0] == 'V' and kind in ('eds', 'rds') and key in self.watched():
-                self.told.add(key)
-            if verdict in ('new', 'same', 'kept'):
-                self.versions[key] = item.version
-                (self.ttls.add if item.ttl else self.ttls.discard)(key)
-            elif verdict == 'renewed':
-                self.ttls.add(key)
+                self.give(key, EMPTY if item.content is None else item.content)
+            elif verdict[0] == 'V' and kind in ('eds', 'rds') and self.is_watched(key):
+                self.told[key] = (verdict, item.whose(kind, verdict))
+                self.touch(key)
         if kind in ('cds', 'lds') and kind not in self.first:
-            self.first[kind] = made
+            self.note_first(kind, made)
+
+    def make(self, kind, item):
+        row = Row(kind, self.next, item.name, item.version, item.content or {})
+        self.rows[row.number] = row
+        self.next += 1
+        self.changes[row.number] = None
+        self.named.setdefault((kind, item.name), {})['warming'] = row
+        name = row.depends()
+        if name:
+            self.note_watch(name)
+            self.dependents.setdefault(name, {})[row.number] = row
+        row.assign(self.values.get(name, EMPTY) if name or kind != 'cds' else row.content.get('rows', EMPTY))
+        self.touched.add(row.number)
+        self.note_awaited(row)
+
+    def give(self, key, value):
+        """A value comes for a name of endpoints or routes."""
+        self.values[key], self.told[key] = value, 'told'
+        for row in self.dependents.get(key, {}).values():
+            if row.is_shown() and row.before is None:
+                row.before, row.toggled = row.shows(), set()
+                self.unpublished.add(row.number)
+            row.assign(value)
+        self.touch(key)
+
+    def touch(self, key):
+        """Who depends on the name may be ready now, and what nobody depends on goes."""
+        self.touched.update(self.dependents.get(key, ()))
+        self.loose.add(key)
 
     def remove(self, kind, name):
         if kind in ('cds', 'lds'):
             self.retire(kind, name)
-        elif (kind, name) in self.watched():
-            self.told.add((kind, name))
-        self.forget_version((kind, name))
-
-    def forget_version(self, key):
-        self.versions.pop(key, None)
-        self.ttls.discard(key)
+        elif self.is_watched((kind, name)):
+            self.told[kind, name] = 'removed'
+            self.touch((kind, name))
 
     def retire(self, kind, name, drop_alone=False):
-        for row in self.of_status(kind, name, 'warming'):
-            row.status = 'dropped'
-        for row in [] if drop_alone else self.of_status(kind, name, 'active'):
-            row.status = 'draining'
+        found = dict(self.named.get((kind, name), {}))
+        if 'warming' in found:
+            self.move(found['warming'], 'dropped')
+        if 'active' in found and not drop_alone:
+            self.move(found['active'], 'draining')
 
     def expire(self, kind, name):
-        self.forget_version((kind, name))
         if kind in ('cds', 'lds'):
             self.retire(kind, name)
         else:
-            self.values[kind, name] = EMPTY
-            self.told.add((kind, name))
+            self.give((kind, name), EMPTY)
+
+    # Changes of a generation
+
+    def move(self, row, status):
+        self.changes.setdefault(row.number, row.status)
+        self.unname(row)
+        row.status = status
+        if row.live():
+            self.named.setdefault((row.kind, row.name), {})[status] = row
+            bisect.insort(self.active[row.kind], row.number)
+            if row.depends():
+                self.dependents.setdefault(row.depends(), {})[row.number] = row
+        else:
+            bisect.insort(self.ended, row.number)
+            if row.kind == 'lds' and status == 'draining':
+                self.drains.setdefault(row.name, set()).add(row)
+            self.file(row)
+        self.unpublished.add(row.number)
+        self.note_awaited(row)
+
+    def unname(self, row):
+        """Takes a live generation out of the indices."""
+        found = self.named.get((row.kind, row.name), {})
+        if found.get(row.status) is row:
+            del found[row.status]
+        if not found:
+            self.named.pop((row.kind, row.name), None)
+        if row.status == 'active':
+            del self.active[row.kind][bisect.bisect_left(self.active[row.kind], row.number)]
+        name = row.depends()
+        if name:
+            self.note_watch(name)
+            self.dependents[name].pop(row.number, None)
+            self.loose.add(name)
+            if not self.dependents[name]:
+                del self.dependents[name]
+
+    def note_watch(self, name):
+        self.watched_before.setdefault(name, name in self.dependents)
 
     def tidy(self):
-        for row in [row for row in self.rows.values() if row.status == 'warming']:
-            if not self.waits(row):
-                for old in self.of_status(row.kind, row.name, 'active'):
-                    old.status = 'draining'
-                row.status = 'active'
-        watched = self.watched()
-        self.values = {key: value for key, value in self.values.items() if key in watched}
-        self.told &= watched
-        self.timed &= watched
-        for key in [key for key in self.versions if key[0] in ('eds', 'rds') and key not in watched]:
-            self.forget_version(key)
-        hosts = {row.number: {host for host, *_ in self.assignment(row)} for row in self.live('cds')}
-        self.results = {(number, host): healthy for (number, host), healthy in self.results.items()
-                        if host in hosts.get(number, ())}
+        for number in sorted(self.touched):
+            row = self.rows.get(number)
+            if row and row.status == 'warming' and not row.missing and self.is_answered(row):
+                old = self.named[row.kind, row.name].get('active')
+                if old:
+                    self.move(old, 'draining')
+                self.move(row, 'active')
+        for key in self.loose:
+            if key not in self.dependents:
+                self.values.pop(key, None)
+                self.told.pop(key, None)
+                self.timed.discard(key)
         if self.phase == 'clusters' and self.phase_ends('cds'):
             self.phase = 'listeners'
         if self.phase == 'listeners' and self.phase_ends('lds'):
             self.phase = 'serving'
+            self.unpublished.update(self.active['lds'])
+
+    # The first responses
+
+    def note_first(self, kind, names):
+        if kind not in self.first:
+            self.first[kind], self.awaited[kind] = dict.fromkeys(names), set()
+            for name in names:
+                self.look_at_awaited(kind, name)
+
+    def note_awaited(self, row):
+        if row.name in self.first.get(row.kind, ()):
+            self.look_at_awaited(row.kind, row.name)
+
+    def look_at_awaited(self, kind, name):
+        found = self.named.get((kind, name), {})
+        (self.awaited[kind].add if 'warming' in found and 'active' not in found else self.awaited[kind].discard)(name)
 
     def phase_waits(self, kind):
         """The names of the first response that are still warming, or None where that response has not come."""
         if kind not in self.first:
             return None
-        return [name for name in self.first[kind]
-                if not self.of_status(kind, name, 'active') and self.of_status(kind, name, 'warming')]
+        return [name for name in self.first[kind] if name in self.awaited[kind]]
 
     def phase_ends(self, kind):
-        return self.phase_waits(kind) == []
+        return kind in self.first and not self.awaited[kind]

@@ -2,6 +2,7 @@
 
 A second reading of the rules in docs/RULES.md, for people. Not proved; what the program says decides.
 """
+from . import rules
 from .fields import DISCOVERY, HEALTH, MAX_NAME, MAX_U32, PROTOCOL, WRONG, Reader, size
 from .shown import quoted, shown
 
@@ -26,6 +27,14 @@ class Item:
         self.name, self.version = name, version
         self.content, self.beat, self.ttl, self.broken, self.least = None, False, False, [], None
         self.read = None  # the content as far as it was read, whatever is broken
+
+    def complaints(self, verdict):
+        """What breaks the rule of a verdict: (path, words)."""
+        return [(path, words) for rule, path, words in self.broken if f'V{rule}' == verdict]
+
+    def whose(self, kind, verdict):
+        """Whose rule refuses it: one of the tags of rules.whose."""
+        return rules.whose(int(verdict[1:]), kind, self.complaints(verdict))
 
 
 class Response:

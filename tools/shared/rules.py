@@ -64,14 +64,18 @@ WHOSE = [
 MISSING = r'has 0 of|has neither'
 
 
+def telling(complaints):
+    """The complaints without those that something is missing where another member in its place is given."""
+    given = any(words.startswith('is given') for _, words in complaints)
+    return [(path, words) for path, words in complaints if not (given and re.search(MISSING, words))]
+
+
 def whose(rule, kind, complaints):
     """Whether Envoy refuses a resource of this kind too that this rule refuses: `Envoy too`, `profile` (this profile alone does) or
     `not known`. The complaints are those of this rule, each a path and words."""
     if rule == 4:
         return ENVOY if kind in ('cds', 'lds') else UNKNOWN
-    given = any(words.startswith('is given') for _, words in complaints)
     found = set()
-    for path, words in complaints or [('', '')]:
-        if not (given and re.search(MISSING, words)):
-            found.add(next((of for number, pattern, of in WHOSE if number == rule and re.search(pattern, f'{path} {words}')), UNKNOWN))
+    for path, words in telling(complaints) or [('', '')]:
+        found.add(next((of for number, pattern, of in WHOSE if number == rule and re.search(pattern, f'{path} {words}')), UNKNOWN))
     return next((of for of in (ENVOY, UNKNOWN, PROFILE) if of in found), UNKNOWN)

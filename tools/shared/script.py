@@ -7,6 +7,7 @@ import difflib
 from . import journal
 from .fields import MAX_NAME, MAX_U32, size
 from .json_text import NotJson, read_tree
+from .progress import Progress
 from .resources import KINDS, read_message
 from .shown import quoted, value_shown
 
@@ -40,14 +41,17 @@ class Reading:
         return self.lines[at - 2] if 2 <= at <= len(self.lines) + 1 else None
 
 
-def read_script(data, audit=False, go_on=False):
-    """Reads a script, or with `audit` a script and its journal. Stops at the first fault, or with `go_on` notes those of all lines."""
+def read_script(data, audit=False, go_on=False, progress=None):
+    """Reads a script, or with `audit` a script and its journal. Stops at the first fault, or with `go_on` notes those of all lines.
+    `progress` is the tool that says how far it is."""
     reading = Reading()
     if not data:
         reading.faults.append(Fault(1, 8, [(None, 'the input is empty')]))
         return reading
-    ended = None
+    ended, told = None, Progress(progress, 'line', data.count(b'\n')) if progress else None
     for number, text, fault in cut(data):
+        if told:
+            told.at(number)
         if fault:
             reading.faults.append(fault)
             return reading
@@ -142,6 +146,21 @@ def header_hints(tree):
         return JOURNAL_HINT
     if isinstance(tree, list):
         return ['one array of all lines: jq -c .[] FILE writes a line for each']
+    return whole_hints(tree)
+
+
+def whole_hints(tree):
+    """What an input is that is one object and no script."""
+    if not isinstance(tree, dict):
+        return []
+    if isinstance(tree.get('configs'), list):
+        return ['this is a config dump of Envoy\'s admin interface, and no script: docs/RECORDING.md says how to make one of it']
+    if 'typeUrl' in tree or 'type_url' in tree or ('resources' in tree and ('versionInfo' in tree or 'version_info' in tree)):
+        asks = any(name in tree for name in ('responseNonce', 'response_nonce', 'resourceNames', 'resourceNamesSubscribe', 'errorDetail'))
+        if asks:
+            return ['this is a request of the proxy, and no script: a script has the responses of the control plane']
+        return ['this is one response and no script: put {"workers":1} and {"op":"connect"} before it, each in a line of its own, '
+                'and wrap it as {"op":"response","message":..}, all in one line']
     return []
 
 
@@ -310,7 +329,7 @@ def journal_line(reading, number, text, ended):
 
 def journal_hints(text):
     if text.endswith(b'\r'):
-        return ['the line ends with a carriage return: a journal\'s lines end with a line feed alone']
+        return ['the line ends with a carriage return: a journal\'s lines end with a line feed alone. tr -d \'\\r\' < FILE takes them out']
     if not text.strip():
         return ['an empty line: take it out']
     return ['a journal is read byte by byte: copy it as it was written, not through jq or an editor']

@@ -1,0 +1,92 @@
+"""Members of resources that are read, by the object they stand in, and members that look like one of them and aren't.
+
+A resource may have any other member: it is passed over. One that differs from a member that is read by a letter or two, or by
+capitals and underscores alone, is likely not meant so. Not proved: docs/FORMATS.md lists what is read.
+"""
+import functools
+
+from .fields import camel
+from .resources import MANAGER, TCP_PROXY
+from .spelling import snake
+
+NONE = {}
+SOURCE = dict.fromkeys(('ads', 'self', 'path', 'path_config_source', 'api_config_source', 'initial_fetch_timeout'), NONE)
+ADDRESS = {'address': {'socket_address': dict.fromkeys(('address', 'port_value', 'named_port', 'protocol'), NONE), 'pipe': NONE}}
+HOST = {'endpoint': ADDRESS, 'health_status': NONE, 'load_balancing_weight': NONE, 'endpoint_name': NONE}
+GROUP = {'priority': NONE, 'lb_endpoints': HOST, 'load_balancing_weight': NONE}
+ASSIGNMENT = {'cluster_name': NONE, 'endpoints': GROUP}
+TARGET = {'cluster': NONE, 'weighted_clusters': {'clusters': dict.fromkeys(('name', 'weight', 'cluster_header'), NONE)}, 'cluster_header': NONE,
+          'cluster_specifier_plugin': NONE, 'inline_cluster_specifier_plugin': NONE}
+MATCH = dict.fromkeys(('prefix', 'path', 'path_separated_prefix', 'safe_regex', 'connect_matcher', 'path_match_policy', 'runtime_fraction', 'grpc',
+                       'tls_context', 'headers', 'query_parameters', 'dynamic_metadata', 'filter_state', 'case_sensitive'), NONE)
+ROUTE = {'match': MATCH, 'route': TARGET, 'redirect': NONE, 'direct_response': {'status': NONE}, 'filter_action': NONE, 'non_forwarding_action': NONE,
+         'name': NONE}
+ROUTES = {'name': NONE, 'virtual_hosts': {'name': NONE, 'domains': NONE, 'routes': ROUTE}}
+CONFIGS = {MANAGER: {'rds': {'config_source': SOURCE, 'route_config_name': NONE}, 'route_config': ROUTES, 'scoped_routes': NONE}, TCP_PROXY: TARGET}
+FILTER = {'name': NONE, 'typed_config': CONFIGS}
+BODIES = {
+    'cds': {'name': NONE, 'type': NONE, 'cluster_type': NONE, 'connect_timeout': NONE, 'load_assignment': ASSIGNMENT, 'health_checks': NONE,
+            'eds_cluster_config': {'eds_config': SOURCE, 'service_name': NONE}},
+    'eds': ASSIGNMENT,
+    'lds': {'name': NONE, **ADDRESS, 'default_filter_chain': NONE,
+            'filter_chains': {'name': NONE, 'filter_chain_match': NONE, 'filters': FILTER}},
+    'rds': ROUTES,
+}
+WRAPPER = dict.fromkeys(('name', 'version', 'resource', 'ttl', 'aliases', 'resource_name', 'cache_control', 'metadata'), NONE)
+MESSAGE = dict.fromkeys(('type_url', 'nonce', 'resources', 'removed_resources', 'removed_resource_names', 'system_version_info', 'control_plane'), NONE)
+
+
+def near_misses(kind, message):
+    """(path, member that is meant) of members of a message that look like one that is read."""
+    yield from misses(message, MESSAGE, 'message')
+    resources = message.get('resources') or message.get('Resources') or []
+    for place, resource in enumerate(resources if isinstance(resources, list) else []):
+        if isinstance(resource, dict):
+            yield from misses(resource, WRAPPER, f'resources[{place}]')
+            yield from misses(resource.get('resource'), BODIES[kind], f'resources[{place}].resource')
+
+
+def misses(holder, table, path):
+    if isinstance(holder, list):
+        for place, element in enumerate(holder):
+            yield from misses(element, table, f'{path}[{place}]')
+    if not isinstance(holder, dict):
+        return
+    if table is CONFIGS:
+        url = holder.get('@type')
+        table = CONFIGS.get(url, NONE) if isinstance(url, str) else NONE
+    names = tuple(table)
+    for name, value in holder.items():
+        known = snake(name)
+        if known in table and name in (known, camel(known)):
+            if table[known]:
+                yield from misses(value, table[known], f'{path}.{name}')
+        elif names and name[:1] != '@':
+            meant = near(name, names)
+            if meant and not ({meant, camel(meant)} & set(holder)):
+                yield f'{path}.{name}', camel(meant)
+
+
+@functools.lru_cache(None)
+def near(name, names):
+    """The member that a name is likely meant to be, or None."""
+    folded = fold(name)
+    for wanted in names:
+        most = 2 if len(folded) >= 7 else 1 if len(folded) >= 5 else 0
+        if folded == fold(wanted) or (most and abs(len(folded) - len(fold(wanted))) <= most and distance(folded, fold(wanted)) <= most):
+            return wanted
+    return None
+
+
+def fold(name):
+    return name[:100].replace('_', '').replace('-', '').lower()
+
+
+def distance(left, right):
+    """How many letters have to be put in, taken out or exchanged."""
+    row = list(range(len(right) + 1))
+    for place, letter in enumerate(left, 1):
+        before, row[0] = row[0], place
+        for at, other in enumerate(right, 1):
+            before, row[at] = row[at], min(row[at] + 1, row[at - 1] + 1, before + (letter != other))
+    return row[-1]
