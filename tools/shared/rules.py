@@ -61,7 +61,7 @@ WHOSE = [
 ]
 
 # Complaints that something is missing, which are no complaints where another member in its place is given.
-MISSING = r'has 0 of|has neither'
+MISSING = r'has 0 (of|chains)|has neither'
 
 
 def telling(complaints):

@@ -13,6 +13,7 @@ CASES = [
     (14, 'lds', [('address.socketAddress.protocol', 'is UDP')], rules.PROFILE),
     (16, 'lds', [('filterChains', 'has 2 chains: exactly one is read')], rules.PROFILE),
     (16, 'lds', [('filterChains', 'has 0 chains: exactly one is read')], rules.ENVOY),
+    (16, 'lds', [('filterChains', 'has 0 chains: exactly one is read'), ('defaultFilterChain', 'is given')], rules.PROFILE),
     (18, 'lds', [('hcm', 'has neither rds nor routeConfig'), ('hcm.scopedRoutes', 'is given')], rules.PROFILE),
     (21, 'rds', [('match', 'has 0 of prefix, path and pathSeparatedPrefix: exactly one is wanted'), ('match.safeRegex', 'is given')], rules.PROFILE),
     (21, 'rds', [('match', 'has 0 of prefix, path and pathSeparatedPrefix: exactly one is wanted')], rules.ENVOY),

@@ -1,0 +1,34 @@
+"""Events that Envoy's logs tell of. The texts are from memory of Envoy's documentation and were not checked on an Envoy."""
+import re
+
+from shared.resources import KINDS
+
+from .capture import get
+
+TIMEOUT = re.compile(r'initial fetch timed? ?out for (\S+)')
+DRAINED = re.compile(r'(?:removing draining listener|draining listener removal).*?name=([^,\s]+)')
+
+
+def of_text(text, report):
+    """The script's lines of a line of a log."""
+    timeout, drained = TIMEOUT.search(text), DRAINED.search(text)
+    if drained:
+        return [{'op': 'drainTimeout', 'listener': drained.group(1)}]
+    if not timeout:
+        return []
+    kind = KINDS.get(timeout.group(1).strip('"\'.,'))
+    if kind in ('cds', 'lds'):
+        return [{'op': 'fetchTimeout', 'type': kind}]
+    report.add('not-sent', kind, None, 'fetchTimeout', before=text[:200], after='the log doesn\'t say of which name', turns=True)
+    return []
+
+
+def of_health(event):
+    """The script's line of a health check event that says that a host is well, or isn't."""
+    socket = get(get(event, 'host'), 'socket_address')
+    good = get(event, 'add_healthy_event') is not None
+    bad = get(event, 'eject_unhealthy_event') is not None or get(event, 'health_check_failure_event') is not None
+    cluster = get(event, 'cluster_name')
+    if not isinstance(cluster, str) or get(socket, 'port_value') is None or good == bad:
+        return []
+    return [{'op': 'health', 'cluster': cluster, 'address': get(socket, 'address'), 'port': get(socket, 'port_value'), 'healthy': good}]

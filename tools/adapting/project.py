@@ -1,0 +1,215 @@
+"""What the profile refuses and Envoy takes, left out or stood in for; each such change has a line in the report."""
+import copy
+
+from shared import rules
+from shared.fields import DISCOVERY, Reader, camel, enumeration
+from shared.resources import MANAGER, TCP_PROXY, read_address, read_route
+
+from .capture import get
+
+OTHER_SOURCES = ('path', 'path_config_source', 'api_config_source')
+NO_HOSTS = ('STRICT_DNS', 'LOGICAL_DNS', 'ORIGINAL_DST')
+EMPTY_MANAGER = {'name': 'stand-in', 'typed_config': {'@type': MANAGER, 'route_config': {}}}
+
+
+def key_of(holder, name):
+    """The spelling in which a member stands in its holder."""
+    return name if holder.get(name) is not None or camel(name) not in holder else camel(name)
+
+
+def objects(holder, name):
+    found = get(holder, name)
+    return [element for element in found if isinstance(element, dict)] if isinstance(found, list) else []
+
+
+def take_out(holder, *names):
+    for name in names:
+        holder.pop(name, None)
+        holder.pop(camel(name), None)
+
+
+def only_profile(kind, broken, numbers):
+    """Whether the rules that are broken are of these numbers, and each this profile's alone."""
+    found = {rule for rule, _, _ in broken}
+    return bool(found) and found <= numbers and all(
+        rules.whose(rule, kind, [(path, words) for number, path, words in broken if number == rule]) == rules.PROFILE for rule in found)
+
+
+class Projection:
+    """`level` is none, safe or all. `apply` changes the resources of a message in place and gives those that stand in its stead."""
+
+    def __init__(self, level, report):
+        self.level, self.report, self.stood = level, report, {}
+        self.kind, self.name, self.of_udp = None, None, False
+
+    def apply(self, kind, message):
+        if self.level == 'none':
+            return
+        resources, added, removed = get(message, 'resources') or [], [], []
+        for resource in resources:
+            body = resource.get('resource') if isinstance(resource, dict) else None
+            self.kind, self.name = kind, get(resource, 'name') or ''
+            if isinstance(body, dict):
+                getattr(self, kind)(body)
+                added += [dict(resource, name=get(one, 'name'), resource=one) for one in self.parts_of(kind, body, removed)]
+        if kind == 'lds':
+            names = get(message, 'removed_resources')
+            for name in list(names) if isinstance(names, list) else []:
+                removed += self.stood.pop(name, [])
+            resources += added
+            if removed:
+                key = key_of(message, 'removed_resources')
+                message[key] = (message.get(key) or []) + removed
+
+    def change(self, action, member, before, after):
+        self.report.add(action, self.kind, self.name, member, before=before, after=after, turns=True)
+
+    # Clusters and endpoints
+
+    def cds(self, body):
+        kind = enumeration(get(body, 'type'), DISCOVERY) if get(body, 'type') is not None else 0
+        words = next((word for word in NO_HOSTS if kind == DISCOVERY[word]), None)
+        if self.level == 'all' and (words or isinstance(get(body, 'cluster_type'), dict)):
+            self.without_hosts(body, words or 'cluster_type')
+        elif kind == DISCOVERY['EDS'] and self.level == 'all':
+            self.source(get(body, 'eds_cluster_config'), 'eds_config')
+        elif kind == 0:
+            self.hosts(get(body, 'load_assignment'))
+
+    def without_hosts(self, body, words):
+        hosts = sum(len(objects(group, 'lb_endpoints')) for group in objects(get(body, 'load_assignment'), 'endpoints'))
+        take_out(body, 'cluster_type', 'load_assignment')
+        body['type'] = 'STATIC'
+        self.change('stand-in', 'type', f'{words} with {hosts} host names', 'STATIC without hosts')
+
+    def source(self, holder, name):
+        """`ads` for another config source."""
+        source = get(holder, name)
+        given = [other for other in OTHER_SOURCES if get(source, other) is not None]
+        if given:
+            take_out(source, 'self', *OTHER_SOURCES)
+            source['ads'] = {}
+            self.change('stand-in', name, given[0], 'ads')
+
+    def eds(self, body):
+        self.hosts(body)
+
+    def hosts(self, assignment):
+        """Leaves out hosts without an address that can be read."""
+        for group in objects(assignment, 'endpoints'):
+            kept = []
+            hosts = get(group, 'lb_endpoints')
+            for host in hosts if isinstance(hosts, list) else []:
+                reader = Reader()
+                read_address(reader, get(host, 'endpoint'), 'endpoint', 12)
+                if only_profile('eds', reader.broken, {12}):
+                    self.change('left-out', 'host', get(host, 'endpoint') or host, None)
+                else:
+                    kept.append(host)
+            if isinstance(hosts, list) and len(kept) < len(hosts):
+                group[key_of(group, 'lb_endpoints')] = kept
+
+    # Routes
+
+    def rds(self, body):
+        for host in objects(body, 'virtual_hosts'):
+            kept = []
+            routes = get(host, 'routes')
+            for place, route in enumerate(routes if isinstance(routes, list) else []):
+                reader = Reader()
+                if isinstance(route, dict):
+                    read_route(reader, route, '')
+                if only_profile('rds', reader.broken, {21, 22}):
+                    self.change('left-out', f'route {place} of virtual host {get(host, "name")}', route, None)
+                else:
+                    kept.append(route)
+            if isinstance(routes, list) and len(kept) < len(routes):
+                host[key_of(host, 'routes')] = kept
+
+    # Listeners
+
+    def lds(self, body):
+        if self.level == 'all':
+            self.address(body)
+        for chain in objects(body, 'filter_chains') + [get(body, 'default_filter_chain')]:
+            for one in objects(chain, 'filters'):
+                config = get(one, 'typed_config')
+                if isinstance(config, dict) and config.get('@type') == MANAGER:
+                    self.manager(config)
+
+    def manager(self, config):
+        self.rds(get(config, 'route_config'))
+        if self.level != 'all':
+            return
+        self.source(get(config, 'rds'), 'config_source')
+        if get(config, 'scoped_routes') is not None:
+            take_out(config, 'scoped_routes', 'rds', 'route_config')
+            config['route_config'] = {}
+            self.change('stand-in', 'scoped_routes', 'scoped routes', 'no routes')
+
+    def address(self, body):
+        """An address that a TCP connection can name, for a listener on UDP, a pipe or an internal one."""
+        self.of_udp = False
+        outer = get(body, 'address')
+        socket = get(outer, 'socket_address')
+        if isinstance(socket, dict):
+            if get(socket, 'protocol') in ('UDP', 1):
+                self.of_udp = True
+                socket.update(address=f'{get(socket, "address")}#udp', protocol='TCP')
+                self.change('stand-in', 'address', 'UDP', f'TCP at {socket["address"]}')
+            if get(socket, 'port_value') is None:
+                self.change('stand-in', 'address', get(socket, 'named_port'), 'port 0')
+                take_out(socket, 'named_port')
+                socket['port_value'] = 0
+        elif isinstance(outer, dict) or outer is None:
+            path = get(get(outer, 'pipe'), 'path') or f'internal:{self.name}'
+            body[key_of(body, 'address')] = {'socket_address': {'address': path, 'port_value': 0}}
+            self.change('stand-in', 'address', outer, f'{path}, port 0')
+
+    def parts_of(self, kind, body, removed):
+        """The listeners that stand beside this one, for its further filter chains. Names of such that are gone are added to `removed`."""
+        if kind != 'lds' or self.level != 'all':
+            return []
+        chains = objects(body, 'filter_chains')
+        default = get(body, 'default_filter_chain')
+        if isinstance(default, dict):
+            chains.append(dict(default, name=get(default, 'name') or 'default'))
+            take_out(body, 'default_filter_chain')
+            self.change('stand-in', 'default_filter_chain', 'a default chain', 'the last chain')
+        if not chains and not self.of_udp:
+            return []
+        chains = chains or [{}]
+        body[key_of(body, 'filter_chains')] = [self.alone(chains[0])]
+        names = [get(chain, 'name') for chain in chains]
+        beside = []
+        for place, chain in enumerate(chains[1:], 2):
+            label = names[place - 1]
+            beside.append(self.beside(body, chain, label if label and names.count(label) == 1 else place))
+        self.stand(beside, removed)
+        return beside
+
+    def stand(self, beside, removed):
+        now = [get(one, 'name') for one in beside]
+        removed += [name for name in self.stood.get(self.name, []) if name not in now]
+        self.stood[self.name] = now
+
+    def beside(self, body, chain, label):
+        one = {**copy.deepcopy({name: value for name, value in body.items() if name not in ('filter_chains', 'filterChains')}),
+               'name': f'{self.name}#{label}', 'filter_chains': [self.alone(chain)]}
+        socket = get(get(one, 'address'), 'socket_address')
+        if isinstance(socket, dict):
+            socket['address'] = f'{get(socket, "address")}#{label}'
+            self.change('stand-in', 'filter_chains', f'chain {label}', f'listener {one["name"]} at {socket["address"]}:{get(socket, "port_value")}')
+        return one
+
+    def alone(self, chain):
+        """A chain without its match, and with a filter that is read."""
+        match = get(chain, 'filter_chain_match')
+        if isinstance(match, dict) and any(value is not None for value in match.values()):
+            take_out(chain, 'filter_chain_match')
+            self.change('stand-in', 'filter_chain_match', match, 'no match')
+        kinds = [get(get(one, 'typed_config'), '@type') for one in objects(chain, 'filters')]
+        if MANAGER not in kinds and TCP_PROXY not in kinds:
+            chain[key_of(chain, 'filters')] = (get(chain, 'filters') or []) + [copy.deepcopy(EMPTY_MANAGER)]
+            self.change('stand-in', 'filters', 'no connection manager or TCP proxy', 'one more filter, a connection manager without routes')
+        return chain
