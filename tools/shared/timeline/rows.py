@@ -199,7 +199,8 @@ class BandDrawer:
         if height > 9:
             parts.append(self.bar_words(life, y, height))
         bases = ' '.join(str(number) for number in sorted(life.bases))
-        self.parts.append(f'<g id="g{life.number}" class="life" tabindex="-1"{f" data-d={chr(34)}{bases}{chr(34)}" if bases else ""}>'
+        joined = f' data-d="{bases}"' if bases else ''
+        self.parts.append(f'<g id="g{life.number}" class="life" tabindex="-1" data-l="{number_of(life.born)}"{joined}>'
                           f'{drawing.title(self.title(life))}{"".join(parts)}</g>')
 
     def end_mark(self, life, y, height):
