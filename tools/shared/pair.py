@@ -3,7 +3,12 @@ import sys
 
 from . import journal, script
 from .progress import Progress
+from .resources import WORDS
 from .shown import read_file
+
+
+# Verdicts that a resource of a kind never has.
+NEVER = {'cds': ('kept',), 'lds': ('kept',), 'eds': ('new', 'same'), 'rds': ('new', 'same')}
 
 
 class NotTheJournal(Exception):
@@ -89,6 +94,9 @@ def line_of(reading, row, place):
     if row.op == 'response' and isinstance(row.answer, dict):
         if line.response.kind is None or len(row.answer['verdicts']) != len(line.response.items):
             raise other(row, place, line)
+        for verdict in row.answer['verdicts']:
+            if verdict in NEVER[line.response.kind]:
+                raise NotTheJournal(f'line {place} of the journal has the verdict {verdict}, which {WORDS[line.response.kind]} never have')
     return line
 
 

@@ -12,7 +12,7 @@ from ..shown import quoted, shown
 from ..teller import ENDS, Teller, refusal_words
 from ..words import clusters_of, targets
 
-STATES = {'active': 'serves', 'draining': 'drains', 'dropped': 'dropped', 'warming': 'warms'}
+SIGNALS = ('health', 'drainTimeout', 'fetchTimeout', 'ttlExpired')
 
 
 class Life:
@@ -143,7 +143,7 @@ class History:
             self.streams.append([x, None])
         elif row.op == 'disconnect' and row.answer != 'ignored' and self.streams:
             self.streams[-1][1] = x
-        elif row.answer != 'ignored':
+        elif row.op in SIGNALS and row.answer != 'ignored':
             self.look_at_signal(x, row.op, line)
 
     def look_at_changes(self, x):

@@ -36,16 +36,22 @@ def legend_items():
     yield from ((symbol(name), words) for name, words in (
         ('arrival', 'endpoints or routes came'), ('removed', 'removed'), ('healthy', 'healthy'), ('unhealthy', 'unhealthy'), ('timeout', 'timeout'),
         ('opened', 'connection')))
-    yield '<svg width="26" height="8"><line class="connection counted" x1="1" y1="5" x2="25" y2="5"/></svg>', 'closed, counted as open until its worker settles'
+    counted_line = '<svg width="26" height="8"><line class="connection counted" x1="1" y1="5" x2="25" y2="5"/></svg>'
+    yield counted_line, 'closed, counted as open until its worker settles'
     yield symbol('failed'), 'connection not served'
     yield BAR.format('late'), 'worker behind the last picture'
 
 
 def heading(view):
-    lives, names = len(view.all_lives()), len(view.bands)
-    part = '' if view.whole and view.only is None else f', of which lines {view.first} to {view.after - 1}' + (f' and names like {shown(view.only, 60)}' if view.only else '')
-    return (shown(view.history.reading.node, 60), f'{counted(view.history.end - 1, "line")}{part}, {counted(view.history.reading.workers, "worker")}, '
-            f'{counted(lives, "generation")} of {counted(names, "name")}')
+    """(the node's name, how much is shown)."""
+    reading, words = view.history.reading, [counted(view.history.end - 1, 'line')]
+    if not view.whole:
+        words.append(f'shown {view.first} to {view.after - 1}')
+    if view.only is not None:
+        words.append(f'names like {shown(view.only, 60)}')
+    words.append(counted(reading.workers, 'worker'))
+    words.append(f'{counted(len(view.all_lives()), "generation")} of {counted(len(view.bands), "name")}')
+    return shown(reading.node, 60), ', '.join(words)
 
 
 def all_rows(view):
@@ -71,7 +77,8 @@ def row_html(row):
     kind = f'<i>{row.kind}</i> ' if row.kind else ''
     style = ' '.join(word for word in ('row', row.style, f'rank{row.rank}' if row.rank is not None else '', 'dense' if row.dense else '') if word)
     aria = html.escape(shown(row.label_words(), 400))
-    return (f'<div class="{style}"><div class="label" title="{html.escape(shown(row.name, 600))}">{kind}<b>{html.escape(middle(row.name))}</b>{words}{more}</div>'
+    name = f'{kind}<b>{html.escape(middle(row.name))}</b>'
+    return (f'<div class="{style}"><div class="label" title="{html.escape(shown(row.name, 600))}">{name}{words}{more}</div>'
             f'<div class="track"><svg width="100%" height="{row.height:g}" role="group" aria-label="{aria}">{row.svg}</svg></div></div>')
 
 
@@ -85,12 +92,13 @@ def folded(word, words, found, left=0, is_open=False):
 
 def zooms(view):
     levels = [(1, '1×')] + ([(4, '4×'), (16, '16×')] if view.span() > 60 else [])
-    return 'zoom' + ''.join(f'<input type="radio" name="zoom" class="zoom-in" id="z{level}"{" checked" if level == 1 else ""}><label for="z{level}">{words}</label>'
-                            for level, words in levels)
+    button = '<input type="radio" name="zoom" class="zoom-in" id="z{0}"{1}><label for="z{0}">{2}</label>'
+    return 'zoom' + ''.join(button.format(level, ' checked' if level == 1 else '', words) for level, words in levels)
 
 
 def grid(view):
-    return '<svg class="grid" aria-hidden="true">' + ''.join(f'<line x1="{x:g}%" x2="{x:g}%" y1="0" y2="100%"/>' for x in map(view.percent, rows.ticks(view))) + '</svg>'
+    lines = ''.join(f'<line x1="{x:g}%" x2="{x:g}%" y1="0" y2="100%"/>' for x in map(view.percent, rows.ticks(view)))
+    return f'<svg class="grid" aria-hidden="true">{lines}</svg>'
 
 
 def journal_words(view):
@@ -114,31 +122,38 @@ def words_html(text, color, most):
     return f'    <b class="{color}">{escaped}</b>\n' if color in ('bad', 'wait') else f'    {escaped}\n'
 
 
+POLICY = "default-src 'none'; style-src 'unsafe-inline'; script-src 'unsafe-inline'; img-src data:"
+
+
 def html_page(view):
+    """The whole page; its policy lets nothing be loaded."""
     name, what = heading(view)
     head, workers, opened, hidden, quiet, left = all_rows(view)
     legend = ''.join(f'<span>{picture}{words}</span> ' for picture, words in legend_items())
     return ''.join([
         '<!DOCTYPE html>\n<html lang="en"><head><meta charset="utf-8"><meta name="viewport" content="width=device-width">',
-        '<meta http-equiv="Content-Security-Policy" content="default-src \'none\'; style-src \'unsafe-inline\'; script-src \'unsafe-inline\'; img-src data:">',
-        '<link rel="icon" href="data:,">', f'<title>{html.escape(name)}: timeline</title><style>\n{file_text("style.css")}</style></head>\n<body class="page">',
+        f'<meta http-equiv="Content-Security-Policy" content="{POLICY}"><link rel="icon" href="data:,">',
+        f'<title>{html.escape(name)}: timeline</title><style>\n{file_text("style.css")}</style></head>\n<body class="page">',
         f'<svg width="0" height="0" style="position:absolute" aria-hidden="true">{drawing.defs()}</svg>',
         f'<h1>{html.escape(name)} <small>{html.escape(what)}</small></h1>\n<div class="cards">', '\n'.join(card.html() for card in cards(view)),
         f'</div>\n<div class="legend">{legend}</div>\n{zooms(view)}\n<main class="tracks">{grid(view)}\n', '\n'.join(map(row_html, head)),
         folded('worker', 'more', workers), '\n'.join(map(row_html, opened)),
         folded('name', 'more with trouble', hidden, left[0]),
         folded('name', 'without trouble', quiet, left[1], len(quiet) <= MANY_QUIET),
-        f'\n{journal_words(view)}</main>\n<output id="panel" aria-live="polite"></output>\n<script>\n{file_text("script.js")}</script>\n</body></html>\n'])
+        f'\n{journal_words(view)}</main>\n<output id="panel" aria-live="polite"></output>\n',
+        f'<script>\n{file_text("script.js")}</script>\n</body></html>\n'])
 
 
 # One SVG
 
 WIDTH, LABEL, TRACK = 1180, 250, 920
+SVG_STYLE = '.edge{fill:var(--red)}.rule{stroke:var(--edge)}svg .label-words{fill:var(--dim)}.ground{fill:var(--ground)}\n'
 
 
 def svg_label(row, y):
     """The lines of a label, and their height."""
-    lines = [f'<text x="8" y="{y + 14:g}">{html.escape(row.kind + " " if row.kind else "")}<tspan font-weight="bold">{html.escape(middle(row.name, 30))}</tspan></text>']
+    name = f'<tspan font-weight="bold">{html.escape(middle(row.name, 30))}</tspan>'
+    lines = [f'<text x="8" y="{y + 14:g}">{row.kind + " " if row.kind else ""}{name}</text>']
     wrapped = [part for words in row.words[:3] for part in textwrap.wrap(shown(words, 120), 42)[:2]] if not row.dense else []
     lines += [f'<text class="label-words" x="8" y="{y + 28 + 13 * place}">{html.escape(words)}</text>' for place, words in enumerate(wrapped)]
     return ''.join(lines), 20 + 13 * len(wrapped)
@@ -150,7 +165,8 @@ def svg_legend(y):
         width = int(picture.split('width="', 1)[1].split('"', 1)[0]) + 8 + 6.3 * len(words)
         if x + width > WIDTH:
             x, y = 8, y + 18
-        parts.append(picture.replace('<svg ', f'<svg x="{x:g}" y="{y:g}" overflow="visible" ', 1) + f'<text class="label-words" x="{x + width - 6.3 * len(words):g}" y="{y + 11:g}">{words}</text>')
+        parts.append(picture.replace('<svg ', f'<svg x="{x:g}" y="{y:g}" overflow="visible" ', 1))
+        parts.append(f'<text class="label-words" x="{x + width - 6.3 * len(words):g}" y="{y + 11:g}">{words}</text>')
         x += width + 14
     return ''.join(parts), y + 24
 
@@ -167,10 +183,12 @@ def svg_picture(view):
         parts.append(f'{edge}{label}<svg x="{LABEL}" y="{y + 2:g}" width="{TRACK}" height="{row.height:g}" overflow="visible">{row.svg}</svg>'
                      f'<line class="rule" x1="0" x2="{WIDTH}" y1="{y + height:g}" y2="{y + height:g}"/>\n')
         y += height
-    lines = ''.join(f'<line class="rule" x1="{x:g}" x2="{x:g}" y1="{top}" y2="{y:g}"/>' for x in (round(LABEL + TRACK * view.percent(at) / 100, 1) for at in rows.ticks(view)))
-    style = file_text('style.css').replace('var(--label)', '0') + '.edge{fill:var(--red)}.rule{stroke:var(--edge)}.label-words{fill:var(--dim)!important}.ground{fill:var(--ground)}'
-    return (f'<svg xmlns="http://www.w3.org/2000/svg" width="{WIDTH}" height="{y + 8:g}" viewBox="0 0 {WIDTH} {y + 8:g}">\n<style><![CDATA[\n{style}]]></style>\n{drawing.defs()}\n'
-            f'<rect class="ground" width="{WIDTH}" height="{y + 8:g}"/><text x="8" y="22" style="font-size:16px;font-weight:bold">{html.escape(name)}</text>'
+    places = (round(LABEL + TRACK * view.percent(at) / 100, 1) for at in rows.ticks(view))
+    lines = ''.join(f'<line class="rule" x1="{x:g}" x2="{x:g}" y1="{top}" y2="{y:g}"/>' for x in places)
+    size = f'width="{WIDTH}" height="{y + 8:g}"'
+    return (f'<svg xmlns="http://www.w3.org/2000/svg" {size} viewBox="0 0 {WIDTH} {y + 8:g}">\n'
+            f'<style><![CDATA[\n{file_text("style.css")}{SVG_STYLE}]]></style>\n{drawing.defs()}\n<rect class="ground" {size}/>'
+            f'<text x="8" y="22" style="font-size:16px;font-weight:bold">{html.escape(name)}</text>'
             f'<text x="{20 + 11 * len(name)}" y="22" class="label-words">{html.escape(what)}</text>{legend}{lines}\n{"".join(parts)}</svg>\n')
 
 

@@ -59,8 +59,7 @@ def stream(view):
                 last = view.percent(stop)
                 parts.append(write(last, 20, 'stream lost', 'red', last > 90))
     responses = [(x, error) for x, error in history.responses if view.at(x)]
-    parts += [f'<rect class="{"red" if error else "dim"}" x="{view.percent(x):g}%" y="{22 if error else 24}" width="1.2" height="{8 if error else 6}"/>'
-              for x, error in responses]
+    parts += [response_mark(view.percent(x), error) for x, error in responses]
     parts += [mark('timeout', view.percent(x), 27, words) for x, words in history.late if view.at(x)]
     refusals, y = view.refusals(), 41
     words = [f'{counted(len(responses), "response")}, {sum(error for _, error in responses)} with an error']
@@ -71,6 +70,11 @@ def stream(view):
             words.append(f'{sign} {len(found)} refused: {TAG_WORDS[tag]}')
             y += 15
     return Row('', 'stream and pushes', words, ''.join(parts), max(34, y - 6))
+
+
+def response_mark(x, error):
+    look = 'class="red" y="22" height="8"' if error else 'class="dim" y="24" height="6"'
+    return f'<rect x="{x:g}%" width="1.2" {look}/>'
 
 
 def refusal_mark(view, refusal, y):
@@ -195,7 +199,8 @@ class BandDrawer:
         if height > 9:
             parts.append(self.bar_words(life, y, height))
         bases = ' '.join(str(number) for number in sorted(life.bases))
-        self.parts.append(f'<g id="g{life.number}" class="life" tabindex="-1"{f" data-d={chr(34)}{bases}{chr(34)}" if bases else ""}>'
+        joined = f' data-d="{bases}"' if bases else ''
+        self.parts.append(f'<g id="g{life.number}" class="life" tabindex="-1" data-l="{number_of(life.born)}"{joined}>'
                           f'{drawing.title(self.title(life))}{"".join(parts)}</g>')
 
     def end_mark(self, life, y, height):
@@ -226,11 +231,17 @@ class BandDrawer:
             spans.append(f'{STATE_WORDS[state]}{more} ({number_of(start)}–{"end" if stop >= self.view.history.end else number_of(stop)})')
         if len(spans) > 8:
             spans[4:-4] = [f'{len(spans) - 8} changes more']
-        end = {'dropped': f'; dropped at line {number_of(life.stop or 0)}, it never served', 'reaped': f'; reaped at line {number_of(life.stop or 0)}'}
-        keepers = self.view.history.keepers(life)
-        kept = '; '.join(words if until is None else f'{words} until {line_words(until, self.view.history.end)}' for words, until in reversed(keepers[-6:]))
-        kept = f'. Kept by: {kept}' + (f'; and {len(keepers) - 6} more' if len(keepers) > 6 else '') if keepers else ''
-        return f'{life.title()}, version {shown(life.version, 40)}: {"; ".join(spans)}{end.get(life.end, "")}{kept}'
+        stop = number_of(life.stop or 0)
+        end = {'dropped': f'; dropped at line {stop}, it never served', 'reaped': f'; reaped at line {stop}', None: ''}[life.end]
+        return f'{life.title()}, version {shown(life.version, 40)}: {"; ".join(spans)}{end}{self.kept_by(life)}'
+
+    def kept_by(self, life):
+        """What kept it, the last first."""
+        keepers, end = self.view.history.keepers(life), self.view.history.end
+        if not keepers:
+            return ''
+        kept = [words if until is None else f'{words} until {line_words(until, end)}' for words, until in reversed(keepers[-6:])]
+        return '. Kept by: ' + '; '.join(kept) + (f'; and {len(keepers) - 6} more' if len(keepers) > 6 else '')
 
     def marks(self):
         found = [(x, what, words) for x, what, words in self.band.marks if self.view.at(x)]
@@ -251,9 +262,10 @@ class BandDrawer:
     def keeper(self, life, words, until, more):
         view, y = self.view, self.y + 7
         start, stop = view.percent(life.drained), view.percent(view.history.end if until is None else until)
-        self.parts.append(drawing.line('keeper', start, y, stop, y) + ('' if until is None else drawing.line('keeper', stop, y - 3, stop, y + 3)))
-        words, end = f'g{life.number} kept: {words}{more}', stop > 60
-        self.parts.append(write(start if end else stop, y + 4, words, 'small', end))
+        lines = drawing.line('keeper', start, y, stop, y) + ('' if until is None else drawing.line('keeper', stop, y - 3, stop, y + 3))
+        end = stop > 60
+        text = write(start if end else stop, y + 4, f'g{life.number} kept: {words}{more}', 'small', end)
+        self.parts.append(f'<g data-g="{life.number}">{lines}{text}</g>')
         self.y += 13
 
     def connections(self):
@@ -269,7 +281,8 @@ class BandDrawer:
         placed, count = drawing.lanes(spans, view.span() * 0.004)
         drawn = [(c, lane) for c, lane in zip(found, placed) if lane < 10]
         bad = sum(c.not_served() for c in found)
-        self.parts.append(write(-0.4, self.y + 9, f'{len(found)} connections, {bad} not served ✕; at most {count} open at once, {len(found) - len(drawn)} not drawn', 'small'))
+        words = f'{len(found)} connections, {bad} not served ✕; at most {count} open at once, {len(found) - len(drawn)} not drawn'
+        self.parts.append(write(-0.4, self.y + 9, words, 'small'))
         for connection, lane in drawn:
             self.connection(connection, self.y + 16 + lane * 5, False)
         self.y += 18 + min(count, 10) * 5
@@ -282,7 +295,8 @@ class BandDrawer:
         parts.append(drawing.line(style, start, y, view.percent(closed), y))
         if connection.closed is not None:
             shut = view.percent(closed)
-            parts.append(drawing.line(style, shut, y - 3, shut, y + 3) + (drawing.line(style, shut + 0.25, y - 3, shut + 0.25, y + 3) if connection.forced else ''))
+            for place in (shut, shut + 0.25) if connection.forced else (shut,):
+                parts.append(drawing.line(style, place, y - 3, place, y + 3))
             if counted_at > closed:
                 parts.append(drawing.line(f'{style} counted', shut, y, view.percent(counted_at), y))
         parts.append(f'<use href="#m-{"failed" if bad else "opened"}" x="{start:g}%" y="{y:g}"/>')
@@ -297,9 +311,14 @@ class BandDrawer:
         return f'w{connection.worker} {connection.conn} {"✕" if connection.not_served() else "→"} {name}{connection.target}'
 
     def connection_title(self, connection):
-        closed = '' if connection.closed is None else f'; closes at line {number_of(connection.closed)}' + (', closed by its listener\'s drain timeout' if connection.forced else '')
-        counted_at = f', counted as open until line {number_of(connection.counted)}' if connection.counted and connection.counted > connection.closed else ''
-        return f'line {number_of(connection.x)}: {self.connection_words(connection)}, listener g{connection.listener}{closed}{counted_at}'
+        words = f'line {number_of(connection.x)}: {self.connection_words(connection)}, listener g{connection.listener}'
+        if connection.closed is not None:
+            words += f'; closes at line {number_of(connection.closed)}'
+        if connection.forced:
+            words += ', closed by its listener\'s drain timeout'
+        elif connection.counted is not None and connection.counted > connection.closed:
+            words += f', counted as open until line {number_of(connection.counted)}'
+        return words
 
     def label(self):
         """What is wrong with a name, in words: three of them stand at the band."""
@@ -328,7 +347,8 @@ class BandDrawer:
                 continue
             waited = sum(stop - start for _, start, stop, _ in life.of('warms'))
             if waited >= view.long_wait():
-                words.append(f'g{life.number} waited {number_of(life.born)}–{number_of(life.born + waited)}' + (', dropped' if life.end == 'dropped' else ''))
+                end = ', dropped' if life.end == 'dropped' else ''
+                words.append(f'g{life.number} waited {number_of(life.born)}–{number_of(life.born + waited)}{end}')
         drains = [life for life in lives if life.drained is not None and (life.end is None or life.stop - life.drained > view.span() * 0.05)]
         for life in sorted(drains, key=lambda life: (life.drained - self.stop(life), life.number)):
             keepers = view.history.keepers(life)

@@ -13,8 +13,8 @@
   }
   let pinned = null;
   function wordsOf(holder) {
-    const label = holder.getAttribute('aria-label'), line = /^line ([0-9]+)/.exec(label);
-    return label + (line && entries.has(line[1]) ? '\n' + entries.get(line[1]).trimEnd() : '');
+    const label = holder.getAttribute('aria-label'), line = holder.dataset.l || (/^line ([0-9]+)/.exec(label) || [])[1];
+    return label + (entries.has(line) ? '\n' + entries.get(line).trimEnd() : '');
   }
   function show(holder) { panel.textContent = holder ? wordsOf(holder) : ''; }
   function letGo() {

@@ -205,55 +205,88 @@ SERVICES = [f'{what}-{where}' for what in ('web', 'api', 'auth', 'cart', 'mail',
             for where in ('front', 'cache', 'job', 'edge', 'pay', 'db')]
 
 
-def busy(lines, workers=4, names=60, seed=7):
+class Busy:
     """A proxy with many names whose updates wait, are refused, drain and have connections."""
-    draw, made = random.Random(seed), Made(workers, 'edge-fra-7')
-    services = [SERVICES[place] if place < len(SERVICES) else f's{place}' for place in range(names)]
-    ports, opened, conn = {f'ingress-{place}': 8000 + place for place in range(5)}, [], 0
-    made.event('connect')
-    made.response('cds', [cluster(name, checked=place % 3 == 0) for place, name in enumerate(services)])
-    made.response('eds', [endpoints(name, range(2)) for name in services])
-    for name in services[::3]:
-        for place in range(2):
-            made.event('health', cluster=name, address=f'10.0.0.{place}', port=80, healthy=True)
-    made.response('lds', [listener(name, port, routes=f'r-{port}') for name, port in ports.items()])
-    made.response('rds', [routes(f'r-{port}', draw.choice(services)) for port in ports.values()])
-    while len(made.lines) < lines:
-        name, port = draw.choice(services), draw.choice(list(ports.items()))
-        way = draw.random()
-        if way < 0.12:
-            made.response('eds', [endpoints(name, range(draw.randrange(1, 4)))])
-        elif way < 0.16:
-            made.response('cds', [cluster(name, f'{name}~{draw.randrange(9)}' if draw.random() < 0.1 else name, draw.random() < 0.3,
-                                          connectTimeout='0s' if draw.random() < 0.15 else '1s')])
-        elif way < 0.26:
-            made.event('health', cluster=name, address='10.0.0.' + str(draw.randrange(3)), port=80, healthy=draw.random() < 0.8)
-        elif way < 0.29:
-            refused = {'safeRegex': {}} if draw.random() < 0.3 else {}
-            made.response('rds', [routes(f'r-{port[1]}', draw.choice(services), **refused)])
-        elif way < 0.30:
-            made.response('lds', [listener(port[0], port[1], **({'target': name} if draw.random() < 0.5 else {'routes': f'r-{port[1]}'}))])
-        elif way < 0.304:
-            made.response('lds', [listener('shadow', port[1], target=name)])
-        elif way < 0.308:
-            made.event('drainTimeout', listener=port[0])
-        elif way < 0.318:
-            made.event('fetchTimeout', type='eds', name=name)
-        elif way < 0.3185:
-            made.event('disconnect' if made.machine.open else 'connect')
-        elif way < 0.38:
-            made.event('publish')
-        elif way < 0.42:
-            made.event('reap')
-        elif way < 0.56:
-            made.event('settle', worker=min(draw.randrange(workers), draw.randrange(workers)))
-        elif way < 0.80:
-            conn += 1
-            opened.append((draw.randrange(workers), conn))
-            made.event('accept', worker=opened[-1][0], conn=conn, address='10.1.0.1', port=port[1], pick=draw.randrange(9))
-        elif opened:
-            worker, number = opened.pop(draw.randrange(len(opened)))
-            made.event('close', worker=worker, conn=number)
-        if not made.machine.open and draw.random() < 0.05:
-            made.event('connect')
-    return made.ended()
+
+    def __init__(self, workers, names, seed):
+        self.draw, self.made, self.workers = random.Random(seed), Made(workers, 'edge-fra-7'), workers
+        self.services = [SERVICES[place] if place < len(SERVICES) else f's{place}' for place in range(names)]
+        self.ports, self.opened, self.conn = {f'ingress-{place}': 8000 + place for place in range(5)}, [], 0
+
+    def boot(self):
+        made = self.made
+        made.event('connect')
+        made.response('cds', [cluster(name, checked=place % 3 == 0) for place, name in enumerate(self.services)])
+        made.response('eds', [endpoints(name, range(2)) for name in self.services])
+        for name in self.services[::3]:
+            for place in range(2):
+                made.event('health', cluster=name, address=f'10.0.0.{place}', port=80, healthy=True)
+        made.response('lds', [listener(name, port, routes=f'r-{port}') for name, port in self.ports.items()])
+        made.response('rds', [routes(f'r-{port}', self.draw.choice(self.services)) for port in self.ports.values()])
+
+    def line(self):
+        """A line of any kind, as often as the numbers say."""
+        ways = ((120, self.endpoints), (40, self.cluster), (100, self.health), (30, self.routes), (14, self.listener), (14, self.timeout),
+                (1, self.stream), (60, lambda: self.made.event('publish')), (40, lambda: self.made.event('reap')), (140, self.settle),
+                (240, self.accept), (200, self.close))
+        self.draw.choices([way for _, way in ways], [weight for weight, _ in ways])[0]()
+        if not self.made.machine.open and self.draw.random() < 0.05:
+            self.made.event('connect')
+
+    def name(self):
+        return self.draw.choice(self.services)
+
+    def port(self):
+        return self.draw.choice(list(self.ports.items()))
+
+    def likely(self, chance):
+        return self.draw.random() < chance
+
+    def endpoints(self):
+        self.made.response('eds', [endpoints(self.name(), range(self.draw.randrange(1, 4)))])
+
+    def cluster(self):
+        name = self.name()
+        service = f'{name}~{self.draw.randrange(9)}' if self.likely(0.1) else name
+        self.made.response('cds', [cluster(name, service, self.likely(0.3), connectTimeout='0s' if self.likely(0.15) else '1s')])
+
+    def health(self):
+        self.made.event('health', cluster=self.name(), address=f'10.0.0.{self.draw.randrange(3)}', port=80, healthy=self.likely(0.8))
+
+    def routes(self):
+        self.made.response('rds', [routes(f'r-{self.port()[1]}', self.name(), **({'safeRegex': {}} if self.likely(0.3) else {}))])
+
+    def listener(self):
+        name, port = self.port()
+        to = {'target': self.name()} if self.likely(0.5) else {'routes': f'r-{port}'}
+        self.made.response('lds', [listener('shadow' if self.likely(0.3) else name, port, **to)])
+
+    def timeout(self):
+        if self.likely(0.3):
+            self.made.event('drainTimeout', listener=self.port()[0])
+        else:
+            self.made.event('fetchTimeout', type='eds', name=self.name())
+
+    def stream(self):
+        self.made.event('disconnect' if self.made.machine.open else 'connect')
+
+    def settle(self):
+        self.made.event('settle', worker=min(self.draw.randrange(self.workers), self.draw.randrange(self.workers)))
+
+    def accept(self):
+        self.conn += 1
+        self.opened.append((self.draw.randrange(self.workers), self.conn))
+        self.made.event('accept', worker=self.opened[-1][0], conn=self.conn, address='10.1.0.1', port=self.port()[1], pick=self.draw.randrange(9))
+
+    def close(self):
+        if self.opened:
+            worker, number = self.opened.pop(self.draw.randrange(len(self.opened)))
+            self.made.event('close', worker=worker, conn=number)
+
+
+def busy(lines, workers=4, names=60, seed=7):
+    found = Busy(workers, names, seed)
+    found.boot()
+    while len(found.made.lines) < lines:
+        found.line()
+    return found.made.ended()
