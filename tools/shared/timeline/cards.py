@@ -59,11 +59,13 @@ def never_served(view):
     count = len(waits) + len(dropped)
     items = [wait_words(life, serving) for life in sorted(waits, key=lambda life: ((life.kind, life.name) in serving, life.number))]
     items += [f'{link(life)} serves <b>{text(life.spans[-1][3])}</b>, at the end, since line {number_of(life.spans[-1][1])}' for life in empty]
+    passed = [(life, span) for life in lives for span in life.of('empty') if span is not life.spans[-1] or life.end]
+    items += [empty_words(*pair) for pair in sorted(passed, key=lambda pair: (pair[1][1] - pair[1][2], pair[0].number))]
     items += [dropped_words(life) for life in sorted(dropped, key=lambda life: (-(life.stop - life.born), life.number))]
-    if not count and not empty:
+    if not count and not empty and not passed:
         return Card('Never came to serve', 0, 'Every generation came to serve.', [], False)
     summary = (f'Still wait: {len(waits)}; dropped, since an update or a removal came first: {len(dropped)}; '
-               f'serve without hosts or routes: {len(empty)}.')
+               f'serve without hosts or routes: {len(empty)}, for a while: {len(passed)}.')
     return Card('Never came to serve', count, summary, items, bool(waits or empty))
 
 
@@ -71,6 +73,10 @@ def wait_words(life, serving):
     before = serving.get((life.kind, life.name))
     old = f' (g{before.number} serves on)' if before else ''
     return f'{link(life)} waits for <b>{text(life.spans[-1][3])}</b> since line {number_of(life.born)}{old}'
+
+
+def empty_words(life, span):
+    return f'{link(life)} served <b>{text(span[3])}</b>, lines {number_of(span[1])}–{number_of(span[2])}'
 
 
 def dropped_words(life):

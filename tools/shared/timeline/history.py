@@ -141,7 +141,7 @@ class History:
             self.look_at_main(x, row)
         elif row.op == 'connect' and row.answer != 'ignored':
             self.streams.append([x, None])
-        elif row.op == 'disconnect' and row.answer != 'ignored':
+        elif row.op == 'disconnect' and row.answer != 'ignored' and self.streams:
             self.streams[-1][1] = x
         elif row.answer != 'ignored':
             self.look_at_signal(x, row.op, line)

@@ -120,6 +120,7 @@ def html_page(view):
     legend = ''.join(f'<span>{picture}{words}</span> ' for picture, words in legend_items())
     return ''.join([
         '<!DOCTYPE html>\n<html lang="en"><head><meta charset="utf-8"><meta name="viewport" content="width=device-width">',
+        '<meta http-equiv="Content-Security-Policy" content="default-src \'none\'; style-src \'unsafe-inline\'; script-src \'unsafe-inline\'; img-src data:">',
         '<link rel="icon" href="data:,">', f'<title>{html.escape(name)}: timeline</title><style>\n{file_text("style.css")}</style></head>\n<body class="page">',
         f'<svg width="0" height="0" style="position:absolute" aria-hidden="true">{drawing.defs()}</svg>',
         f'<h1>{html.escape(name)} <small>{html.escape(what)}</small></h1>\n<div class="cards">', '\n'.join(card.html() for card in cards(view)),
@@ -170,7 +171,7 @@ def svg_picture(view):
     style = file_text('style.css').replace('var(--label)', '0') + '.edge{fill:var(--red)}.rule{stroke:var(--edge)}.label-words{fill:var(--dim)!important}.ground{fill:var(--ground)}'
     return (f'<svg xmlns="http://www.w3.org/2000/svg" width="{WIDTH}" height="{y + 8:g}" viewBox="0 0 {WIDTH} {y + 8:g}">\n<style><![CDATA[\n{style}]]></style>\n{drawing.defs()}\n'
             f'<rect class="ground" width="{WIDTH}" height="{y + 8:g}"/><text x="8" y="22" style="font-size:16px;font-weight:bold">{html.escape(name)}</text>'
-            f'<text x="{18 + 10 * len(name)}" y="22" class="label-words">{html.escape(what)}</text>{legend}{lines}\n{"".join(parts)}</svg>\n')
+            f'<text x="{20 + 11 * len(name)}" y="22" class="label-words">{html.escape(what)}</text>{legend}{lines}\n{"".join(parts)}</svg>\n')
 
 
 # Text

@@ -55,9 +55,9 @@ def stream(view):
     for (_, stop), (start, _) in zip(history.streams, history.streams[1:] + [[history.end, None]]):
         if stop < history.end and view.overlaps(stop, start) and start > stop:
             parts.append(drawing.rect('lost', view.percent(stop), view.percent(start) - view.percent(stop), 0, 8))
-            if 8 <= view.percent(stop) - last and view.percent(stop) < 92:
+            if 8 <= view.percent(stop) - last:
                 last = view.percent(stop)
-                parts.append(write(last, 20, 'stream lost', 'red'))
+                parts.append(write(last, 20, 'stream lost', 'red', last > 90))
     responses = [(x, error) for x, error in history.responses if view.at(x)]
     parts += [f'<rect class="{"red" if error else "dim"}" x="{view.percent(x):g}%" y="{22 if error else 24}" width="1.2" height="{8 if error else 6}"/>'
               for x, error in responses]
@@ -109,6 +109,8 @@ def worker_row(view, holding):
     height = lambda value: 22 - 18 * value / top
     y = lambda held, last: height(last - held) if many else height(held)
     parts, points, before = [], [(view.first, y(0, 0))], 0
+    if not many:
+        parts.append(drawing.path(view, 'published', [(view.first, 22)] + [(x, height(last)) for x, _, last in holding.steps], 24))
     for start, stop, _ in holding.late:
         stop = stop or view.history.end
         if view.overlaps(start, stop) and (not many or stop - start >= view.span() * 0.02):
@@ -119,12 +121,12 @@ def worker_row(view, holding):
             parts.append(write(view.percent(x), 14, str(held)))
         before = held
     points.append((view.history.end, points[-1][1]))
-    if not many:
-        parts.append(drawing.path(view, 'published', [(view.first, 22)] + [(x, height(last)) for x, _, last in holding.steps], 24))
-    elif holding.peak[0]:
+    parts.append(drawing.path(view, 'step', points, 24))
+    if many and holding.peak[0]:
         parts.append(write(view.percent(holding.peak[1]), 13, f'{holding.peak[0]} behind'))
-    words = [f'picture {holding.held} since {line_words(holding.since, view.history.end)}; longest behind {counted(int(holding.long), "line")}']
-    return Row('', f'w{holding.worker} holds', words, drawing.path(view, 'step', points, 24) + ''.join(parts), 26)
+    behind = f'longest behind {counted(int(holding.long), "line")}' if holding.late else 'never behind'
+    words = [f'picture {holding.held} since {line_words(holding.since, view.history.end)}; {behind}']
+    return Row('', f'w{holding.worker} holds', words, ''.join(parts), 26)
 
 
 def head_rows(view):
