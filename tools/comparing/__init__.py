@@ -1,0 +1,1 @@
+"""The parts of tools/diff. Nothing here is proved."""
