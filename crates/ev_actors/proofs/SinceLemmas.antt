@@ -1,5 +1,6 @@
 -- Those elements of a list that pass a test and have none behind them that ends them.
 use Rattle.std.proofs.Common.{◌≡◌, Bool, true, false, not, ◌&&◌, ◌||◌, if◌then◌else◌, List, [], ◌∷◌, ◌++◌, filter, refl, ap, sym, ◌∙◌, subst, append_assoc}
+use Rattle.std.proofs.Math.Bool.{or-false, or-true}
 use Rattle.std.specs.List.{list_any}
 use Rattle.std.proofs.lemmas.List.Folds.{list_any-append}
 use Rattle.ev_model_laws.proofs.OperationLists.{IsIn}
@@ -10,25 +11,17 @@ abbrev pub last_run : {X : Type 0} → (X → Bool) → (X → Bool) → List X 
 last_run joins ends [] = []
 last_run joins ends (x ∷ xs) = if joins x && not (list_any ends xs) then x ∷ last_run joins ends xs else last_run joins ends xs
 
-or_none : (a : Bool) → (a || false) ≡ a
-or_none true = refl
-or_none false = refl
-
-or_all : (a : Bool) → (a || true) ≡ true
-or_all true = refl
-or_all false = refl
-
 and_none : (a : Bool) → (a && false) ≡ false
 and_none true = refl
 and_none false = refl
 
 any_same : {X : Type 0} (p : X → Bool) (xs : List X) (x : X) → p x ≡ false → list_any p (xs ++ x ∷ []) ≡ list_any p xs
 any_same p xs x h =
-    list_any-append p xs (x ∷ []) ∙ ap (λ b. list_any p xs || (b || false)) h ∙ or_none (list_any p xs)
+    list_any-append p xs (x ∷ []) ∙ ap (λ b. list_any p xs || (b || false)) h ∙ or-false (list_any p xs)
 
 any_more : {X : Type 0} (p : X → Bool) (xs : List X) (x : X) → p x ≡ true → list_any p (xs ++ x ∷ []) ≡ true
 any_more p xs x h =
-    list_any-append p xs (x ∷ []) ∙ ap (λ b. list_any p xs || (b || false)) h ∙ or_all (list_any p xs)
+    list_any-append p xs (x ∷ []) ∙ ap (λ b. list_any p xs || (b || false)) h ∙ or-true (list_any p xs)
 
 -- one more that neither joins nor ends
 pub run_same : {X : Type 0} (joins ends : X → Bool) (xs : List X) (x : X) → joins x ≡ false → ends x ≡ false
@@ -85,7 +78,7 @@ any_third p q front x middle back one other same last =
     ∙ ap (λ b. b || list_any p (middle ++ back)) other
     ∙ list_any-append p middle back
     ∙ ap (λ b. list_any p middle || b) last
-    ∙ or_none (list_any p middle)
+    ∙ or-false (list_any p middle)
     ∙ same
 
 -- two tests that agree on the list

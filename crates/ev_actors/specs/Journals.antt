@@ -2,7 +2,10 @@
 use Rattle.std.specs.Prelude.{ℕ, ◌≡◌, List, [], ◌∷◌, ◌++◌}
 use Rattle.ev_types.specs.Scripts.{ScriptParts}
 use Rattle.ev_types.specs.declared.events.Entry.{Entry}
+use Rattle.ev_types.specs.declared.events.Actor.{Actor}
 use Rattle.ev_types.specs.declared.events.Actor.TheVariants.{Worker}
+use Rattle.ev_types.specs.declared.events.Answer.{Answer}
+use Rattle.ev_types.specs.declared.events.Event.{Event}
 use Rattle.ev_types.specs.declared.events.Event.TheVariants.{Settle}
 use Rattle.ev_types.specs.declared.journals.Format.{Format}
 use Rattle.ev_types.specs.declared.journals.Format.TheVariants.{Two}
@@ -11,8 +14,11 @@ use Rattle.ev_model.specs.Step.{step as machine_step}
 use Rattle.ev_model.specs.Runs.{world_after}
 use Rattle.ev_model.specs.Operations.{IsReplay}
 use Rattle.ev_worker.specs.Batches.{entries_of}
-use Rattle.ev_worker.specs.Workers.{HasWorker, IsMadeFrom, WorkerParts}
+use Rattle.ev_model.specs.declared.pictures.Picture.{Picture}
+use Rattle.ev_run_laws.specs.Drawing.{NumbersSuffice}
+use Rattle.ev_worker.specs.Workers.{HasWorker, IsMadeFrom, IsToldBy, WorkerParts}
 
+-- the format, the workers, the node and the entries in order
 pub record JournalParts : Type 0 where
   pub format : Format
   pub workers : ℕ
@@ -22,6 +28,14 @@ pub record JournalParts : Type 0 where
 -- the world that the journal has led to
 abbrev pub world_now : JournalParts → World
 world_now parts = world_after parts.format (opening parts.workers parts.node) parts.journal
+
+-- the numbers suffice for the event's resources in that world, where it brings some
+abbrev pub SufficeFor : Event → JournalParts → Type 0
+SufficeFor event parts = NumbersSuffice (world_now parts) event
+
+-- the machine's answer there
+abbrev pub answer_now : Actor → Event → JournalParts → Answer
+answer_now actor event parts = (machine_step parts.format (world_now parts) actor event).1
 
 -- The worker works in this world: its batch was made on the picture that it holds there and the connections that it has open
 -- there. The world knows nothing of the batch yet.
@@ -51,6 +65,14 @@ settle_made worker at step parts = record {
 -- with these entries more
 abbrev pub with_entries : List Entry → JournalParts → JournalParts
 with_entries entries parts = record parts { journal = parts.journal ++ entries }
+
+-- with this entry more
+abbrev pub with_entry : Entry → JournalParts → JournalParts
+with_entry entry parts = with_entries (entry ∷ []) parts
+
+-- the worker takes over that its settle behind its batch closed these connections, and this picture
+abbrev pub IsToldBehind : WorkerParts → List ℕ → Picture → JournalParts → Type 0
+IsToldBehind worker closed picture parts = IsToldBy worker.number closed picture (world_behind worker parts)
 
 -- with the worker's batch and its settle
 abbrev pub with_settled : WorkerParts → ℕ → ℕ → JournalParts → JournalParts

@@ -1,15 +1,13 @@
-ghost use Rattle.std.specs.Prelude.{◌≡◌, ◌≤◌, ◌<◌, ◌+◌, [], ◌∷◌, IfOk, OnOk, OnErr};
+ghost use Rattle.std.specs.Prelude.{◌≡◌, ◌≤◌, ◌<◌, ◌+◌, IfOk, OnOk, OnErr};
 ghost use Rattle.std.specs.Arc.{arc_value};
 ghost use Rattle.ev_types.specs.Events.{IsMainSide, MayMake};
 ghost use Rattle.ev_types.specs.Scripts.{items_in};
 ghost use Rattle.ev_model.specs.Dead.{last_picture};
 ghost use Rattle.ev_model.specs.Runs.{IsRun};
-ghost use Rattle.ev_model.specs.Step.{step as machine_step};
-ghost use Rattle.ev_worker.specs.Workers.{IsToldBy};
-ghost use Rattle.ev_actors.specs.Journals.{JournalParts, WorksIn, with_entries, with_settled, world_behind, world_now};
+ghost use Rattle.ev_actors.specs.Journals.{IsToldBehind, JournalParts, SufficeFor, WorksIn, answer_now, with_entry, with_settled, world_now};
 
 use ev_snapshot::Snapshot;
-use ev_types::{Actor, Answer, Entry, Event};
+use ev_types::{Actor, Answer, Entry, Event, GenRow, Seq};
 use ev_worker::{Settled, Worker};
 use std::alloc::AllocError;
 use std::sync::Arc;
@@ -20,7 +18,7 @@ pub trait Journaled {
     ghost shows: { Self → JournalParts };
 
     /// Makes one step of an actor of the main side and enters it in the journal. Out of memory, all stays as it was. The numbers
-    /// of generations have to suffice for an event's resources; at most one is drawn for each.
+    /// of generations have to suffice for an event's resources, where it brings some; at most one is drawn for each.
     fn apply(
         &mut self,
         actor: Actor,
@@ -30,9 +28,10 @@ pub trait Journaled {
     ) -> Result<Answer, AllocError>
         requires main { IsMainSide actor }
         requires allowed { MayMake (shows self.old).workers actor event.now }
-        requires numbered { (world_now (shows self.old)).made + items_in event.now ≤ u32.MAX }
-        ensures answer { IfOk result (λ answer. answer ≡ (machine_step (shows self.old).format (world_now (shows self.old)) actor event.now).1) }
-        ensures entry { IfOk result (λ answer. shows self.new ≡ with_entries (record { actor = actor; at = at; step = step; event = event.now; answer = answer } ∷ []) (shows self.old)) }
+        requires numbered { SufficeFor event.now (shows self.old) }
+        ensures answer { IfOk result (λ answer. answer ≡ answer_now actor event.now (shows self.old)) }
+        ensures entry { IfOk result (λ answer. shows self.new
+            ≡ with_entry record { actor = actor; at = at; step = step; event = event.now; answer = answer } (shows self.old)) }
         ensures drawn { OnOk result ((world_now (shows self.new)).made ≤ (world_now (shows self.old)).made + items_in event.now) }
         ensures err { OnErr result (shows self.new ≡ shows self.old) };
 
@@ -42,12 +41,21 @@ pub trait Journaled {
         requires within { worker.now.number < (shows self.old).workers }
         requires works { WorksIn worker.now (world_now (shows self.old)) }
         ensures entries { OnOk result (shows self.new ≡ with_settled worker.now at step (shows self.old)) }
-        ensures told { IfOk result (λ settled. IsToldBy worker.now.number settled.closed (arc_value settled.snapshot) (world_behind worker.now (shows self.old))) }
+        ensures told { IfOk result (λ settled. IsToldBehind worker.now settled.closed (arc_value settled.snapshot) (shows self.old)) }
         ensures err { OnErr result (shows self.new ≡ shows self.old) };
 
-    /// The last picture.
+    /// The last picture. It may be refused.
     fn snapshot(&self) -> Result<Arc<Snapshot>, AllocError>
         ensures picture { IfOk result (λ snapshot. arc_value snapshot ≡ last_picture (world_now (shows self.now))) };
+
+    /// The version of the last picture. It takes no memory, and is never refused.
+    fn latest(&self) -> u64
+        ensures version { result ≡ (last_picture (world_now (shows self.now))).version };
+
+    /// The rows of the generations that were reaped and not yet taken, in the order in which they were named, for whoever drops
+    /// them outside a lock. It takes no memory.
+    fn take_deferred(&mut self) -> Seq<GenRow>
+        ensures same { shows self.new ≡ shows self.old };
 
     /// The entries of what was done, in order.
     fn journal(&self) -> &[Entry]

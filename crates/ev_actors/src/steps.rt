@@ -1,10 +1,9 @@
 ghost use Rattle.std.specs.Prelude.{◌≡◌, ◌≤◌, ◌<◌, ◌+◌, ◌&&◌, ◌↔◌, true, length, IsTrue, OnOk};
 ghost use Rattle.ev_types.specs.Events.{IsMainSide, MayMake};
-ghost use Rattle.ev_types.specs.Scripts.{items_in};
 ghost use Rattle.ev_types.specs.declared.events.Actor.TheVariants.{Worker as by_worker};
 ghost use Rattle.ev_model.specs.Operations.{batch_limit, is_automatic, is_settle as is_settle_event};
 ghost use Rattle.ev_model.specs.Runs.{is_batched};
-ghost use Rattle.ev_actors.specs.Journals.{WorksIn, world_now};
+ghost use Rattle.ev_actors.specs.Journals.{SufficeFor, WorksIn, world_now};
 ghost use Rattle.ev_actors.specs.Taken.{HasEntered, HasFollowed, HasGoneOut, HasJoined, HasSettled, HasWorked, IsTaken};
 ghost use Rattle.ev_actors.specs.Working.{AreAtWork, IsAtWork};
 
@@ -12,6 +11,7 @@ use crate::journaled::Journaled;
 use ev_types::{Actor, Event, Line, TryCopy};
 use ev_worker::Worker;
 use std::alloc::{AllocError, Global};
+use std::mem::drop;
 
 // The settle of a worker: its batch goes into the journal, and it takes over the last picture.
 pub(crate) fn settle<R: Journaled>(
@@ -96,7 +96,7 @@ fn is_followed(auto: bool, actor: Actor) -> bool
     auto && matches!(actor, Actor::Stream | Actor::Health | Actor::Timer)
 }
 
-// An event of the main side, whose answer is told to no one.
+// An event of the main side, whose answer is told to no one. The rows of what it reaped are dropped at once.
 fn enter<R: Journaled>(
     journaled: &mut R,
     actor: Actor,
@@ -106,17 +106,18 @@ fn enter<R: Journaled>(
 ) -> Result<(), AllocError>
     requires main { IsMainSide actor }
     requires allowed { MayMake (R.shows journaled.old).workers actor event.now }
-    requires numbered { (world_now (R.shows journaled.old)).made + items_in event.now ≤ u32.MAX }
-    ensures { OnOk result (HasEntered record { actor = actor; at = at; step = step; event = event.now } (R.shows journaled.old) (R.shows journaled.new)) }
+    requires numbered { SufficeFor event.now (R.shows journaled.old) }
+    ensures { OnOk result (HasEntered record { actor = actor; at = at; step = step; event = event.now }
+        (R.shows journaled.old) (R.shows journaled.new)) }
 {
     let _ = journaled.apply(actor, at, step, event)?;
+    drop(journaled.take_deferred());
     Ok(())
 }
 
 // The publication and the reaping behind a line.
 fn follow<R: Journaled>(journaled: &mut R, line: &Line) -> Result<(), AllocError>
     requires main { IsMainSide line.now.actor }
-    requires numbered { (world_now (R.shows journaled.old)).made ≤ u32.MAX }
     ensures { OnOk result (HasFollowed line.now (R.shows journaled.old) (R.shows journaled.new)) }
 {
     enter(journaled, line.actor, line.at, 1, &Event::Publish)?;
@@ -128,7 +129,7 @@ fn follow<R: Journaled>(journaled: &mut R, line: &Line) -> Result<(), AllocError
 fn main_line<R: Journaled>(journaled: &mut R, auto: bool, line: &Line) -> Result<(), AllocError>
     requires main { IsMainSide line.now.actor }
     requires allowed { MayMake (R.shows journaled.old).workers line.now.actor line.now.event }
-    requires numbered { (world_now (R.shows journaled.old)).made + items_in line.now.event ≤ u32.MAX }
+    requires numbered { SufficeFor line.now.event (R.shows journaled.old) }
     ensures { OnOk result (HasGoneOut auto line.now (R.shows journaled.old) (R.shows journaled.new)) }
 {
     enter(journaled, line.actor, line.at, 0, &line.event)?;
@@ -151,7 +152,7 @@ pub(crate) fn take_line<R: Journaled>(
     requires count { length workers.old ≡ (R.shows journaled.old).workers }
     requires working { AreAtWork (world_now (R.shows journaled.old)) workers.old }
     requires allowed { MayMake (R.shows journaled.old).workers line.now.actor line.now.event }
-    requires numbered { (world_now (R.shows journaled.old)).made + items_in line.now.event ≤ u32.MAX }
+    requires numbered { SufficeFor line.now.event (R.shows journaled.old) }
     ensures { OnOk result (IsTaken auto line.now (R.shows journaled.old) (R.shows journaled.new) workers.old workers.new) }
 {
     match line.actor {

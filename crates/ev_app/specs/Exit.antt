@@ -3,6 +3,7 @@ use Rattle.std.specs.Prelude.{ℕ}
 use Rattle.ev_app.specs.declared.status.Status.{Status}
 use Rattle.ev_app.specs.declared.status.Status.TheVariants.{Done, Illegal, Usage, BadScript, ReadFault, WriteFault, OutOfMemory}
 
+-- the exit status that says it
 abbrev pub exit_of : Status → ℕ
 exit_of Done = 0
 exit_of Illegal = 1

@@ -1,4 +1,10 @@
 //! The program: from the words of its command line and the bytes of its input to the bytes of its output.
+//!
+//! # Choices
+//!
+//! - The program reads by `ev_script`'s reader, and has no forms of lines of its own.
+//! - `completes` asks that the bytes told have no fault. That a front of them then has none is proved: more bytes
+//!   take no fault away.
 #![tactic(auto)]
 
 mod commands;

@@ -1,4 +1,4 @@
-ghost use Rattle.std.specs.Prelude.{◌≡◌, ◌≤◌, ◌<◌, ◌-◌, [], ◌∷◌, ◌++◌, OnOk};
+ghost use Rattle.std.specs.Prelude.{◌≡◌, ◌≤◌, ◌<◌, ◌-◌, [], ◌∷◌, ◌++◌, OnOk, OnErr};
 
 use ev_types::{GenRow, Seq};
 use std::alloc::{AllocError, Global};
@@ -46,6 +46,15 @@ impl Deferred {
         ensures room { self.new.1 ≡ self.old.1 - 1 }
     {
         self.rows.push_reserved(row);
+    }
+
+    /// Puts the rows of the other behind these, and leaves the other none. Out of memory, these stay as they were.
+    pub fn append(&mut self, other: &mut Deferred) -> Result<(), AllocError>
+        ensures ok { OnOk result (self.new.0 ≡ self.old.0 ++ other.old.0) }
+        ensures none { OnOk result (other.new.0 ≡ []) }
+        ensures err { OnErr result (self.new.0 ≡ self.old.0) }
+    {
+        self.rows.append(&mut other.rows)
     }
 
     /// The rows. It takes no memory.

@@ -1,4 +1,12 @@
 //! Laws of journals as text. No code that runs.
+//!
+//! # Choices
+//!
+//! - The laws on the text of whole journals stand in a crate of their own, which alone needs both the machine's laws
+//!   and the reader of rows.
+//! - Two journals with one text are compared with their events, which the text doesn't have: a row tells its
+//!   operation by its place in the script, and the machine the answer, so that an answer that is written as another
+//!   one would be is still the same.
 #![tactic(auto)]
 
 ghost use Rattle.ev_journal_laws.specs.OneJournal.{RendersJournals, TextTellsJournal};

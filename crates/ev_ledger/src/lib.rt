@@ -1,4 +1,22 @@
 //! The open connections of the workers, and how many are open on each generation.
+//!
+//! # Choices
+//!
+//! - The open connections stand in an ordered map by worker and number. So a worker's are listed from the least with
+//!   no sort and no second index, and the ledger's value is one list: that of the world, by worker and number. A
+//!   world's list is in the order of opening, which nothing asks for. The counts are an `indexmap` by number, with no
+//!   entry where nothing is open.
+//! - A worker's number has 64 bits as a key, so that a worker's connections are those from its first place on and
+//!   before the next worker's.
+//! - `open` makes room for two counts first, then puts the connection, and counts last, in that room: so it leaves
+//!   all as before where memory is refused. What a count could reach is bounded by the number of entries, so no count
+//!   overflows.
+//! - Each call has its clause over the ledger's own list and one over any list that it stands for. The second is what
+//!   the registry uses; the first is what `dead` and a worker's settle use.
+//! - The index by listener is an ordered set of listener, worker and number, so a listener's connections are a range,
+//!   and it has no entry for a listener without any. It is exact, not too large: `open` enters the key first and
+//!   takes it out again where the connection has no memory. Other than by listener nothing asks for it, so a
+//!   cluster's connections aren't in it.
 #![tactic(auto)]
 
 mod counts;

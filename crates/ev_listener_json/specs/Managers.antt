@@ -14,6 +14,7 @@ use Rattle.ev_tree.specs.Sources.{source_broken, source_is_limited}
 use Rattle.ev_route_json.specs.Presence.{exactly_one}
 use Rattle.ev_route_json.specs.Tables.{table_of, table_broken}
 
+-- what a connection manager says of routes that are asked for
 unfoldable pub rds_of : Data → Data
 rds_of manager = inside (object_of (codes "rds") manager)
 

@@ -1,5 +1,17 @@
 //! The listener manager: which generations of listeners stand, which wait for their routes, and which are due to serve. Whatever
 //! is asked for by a name or a number is found without a walk.
+//!
+//! # Choices
+//!
+//! - The index of addresses stands beside the core, in this crate, since clusters have no addresses. It is kept by
+//!   what the core's calls answer: rows behind those that stood before a response are new, and the numbers that
+//!   retired go out.
+//! - That the index is a search of the rows is a part of `StandsFor`, the relation to a world, and not of `AreKept`:
+//!   after a response or a promotion the core says what the rows are only by way of the world that it stands for. So
+//!   `holders` promises the world's holders in every world that the listeners stand for, and by itself only what the
+//!   index has.
+//! - An address whose last listener retired has no entry, so the index has no more entries than there are live
+//!   listeners. The index keeps it as an invariant (`HaveNumbers`).
 #![tactic(auto)]
 
 ghost use Rattle.std.specs.Prelude.{◌≡◌, ◌+◌, ◌*◌, ◌^◌, ◌≤◌, ◌<◌, [], ◌∷◌, ◌++◌, ℕ, List, Some, true, EachIndex, slice_index, length, option_to_list, IfOk, OnOk};

@@ -1,13 +1,10 @@
 -- What a publication makes of the last picture: where each change tells what is found of its number, and of all other numbers the same is
 -- found as before, that is what is found.
 use Rattle.std.proofs.Common.{◌≡◌, ◌∙◌, ℕ, Bool, true, false, not, ◌||◌, ◌==◌, cond, List, [], ◌∷◌, Option, Some, None, find, filter, map, refl, sym, ap}
+use Rattle.std.proofs.Math.Bool.{or-false}
 use Rattle.std.specs.List.{AllByRecursion}
 use Rattle.ev_model.specs.Picture.{has_number}
 use Rattle.ev_proxy.proofs.OrderLemmas.{AreInOrder, all_so, left_found, number_same, number_turned, numbered, order_left, pass_same, all_pass, put_among, put_in, same_lists}
-
-or_false : (t : Bool) → (t || false) ≡ t
-or_false true = refl
-or_false false = refl
 
 or_again : (a b c : Bool) → ((a || b) || c) ≡ (a || (b || c))
 or_again true b c = refl
@@ -52,7 +49,7 @@ module _ {X C : Type 0} (name : X → List ℕ) (number : X → ℕ) (changed : 
   -- those that serve now are put among the others of a list in order
   puts : (ys : List X) → AreInOrder name number ys → (cs : List C) → TellAll ys cs → (p : ℕ → Bool)
       → put cs (left p ys) ≡ left (λ n. p n || has_number n (map changed cs)) ys
-  puts ys order [] tell p = done (left p ys) ∙ pass_same (λ y. p (number y)) (λ y. p (number y) || false) ys (every (λ y. p (number y) ≡ (p (number y) || false)) (λ y. sym (or_false (p (number y)))) ys)
+  puts ys order [] tell p = done (left p ys) ∙ pass_same (λ y. p (number y)) (λ y. p (number y) || false) ys (every (λ y. p (number y) ≡ (p (number y) || false)) (λ y. sym (or-false (p (number y)))) ys)
   puts ys order (c ∷ cs) tell p =
       by (served c) refl tell.0
       ∙ puts ys order cs tell.1 (λ n. p n || (n == changed c))
@@ -65,7 +62,7 @@ module _ {X C : Type 0} (name : X → List ℕ) (number : X → ℕ) (changed : 
           gone c cs (left p ys) is
           ∙ ap (put cs) (pass_same (λ y. p (number y)) (λ y. p (number y) || (number y == changed c)) ys
           (all_so (λ y. (number y == changed c) ≡ false) (λ y. p (number y) ≡ (p (number y) || (number y == changed c))) ys
-          (λ y other. sym (ap (λ t. p (number y) || t) other ∙ or_false (p (number y)))) (each_fails (λ y. number y == changed c) ys (sym tells ∙ is))))
+          (λ y other. sym (ap (λ t. p (number y) || t) other ∙ or-false (p (number y)))) (each_fails (λ y. number y == changed c) ys (sym tells ∙ is))))
       by (Some x) is tells =
           let found : numbered name number ys (changed c) ≡ Some x = sym tells ∙ is in
           let at : number x ≡ changed c = number_same (number x) (changed c) (passes (λ y. number y == changed c) ys x found) in

@@ -6,3 +6,4 @@ pub mod OrderLemmas
 pub mod ChangeLemmas
 pub mod FoundLemmas
 pub mod ShownLemmas
+pub mod StepLemmas

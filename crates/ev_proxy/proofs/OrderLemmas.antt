@@ -1,6 +1,7 @@
 -- Lists in the order of their elements' names, whose numbers differ: two that find the same by number are one, and what changes by
 -- number is put to its place.
 use Rattle.std.proofs.Common.{◌≡◌, ◌∙◌, ℕ, Bool, true, false, not, ◌||◌, ◌==◌, cond, List, [], ◌∷◌, Option, Some, None, Ordering, find, filter, refl, sym, ap, subst, arith}
+use Rattle.std.proofs.Math.Bool.{or-false, or-true}
 use Rattle.std.specs.declared.cmp.Ordering.TheVariants.{Less, Equal, Greater}
 use Rattle.std.specs.Cmp.Lexicographic.{slice_cmp}
 use Rattle.std.specs.List.{AllByRecursion}
@@ -269,14 +270,6 @@ module _ {X : Type 0} (name : X → List ℕ) (number : X → ℕ) where
       left : List X
       left = filter (λ z. p (number z)) ys
 
-      or_true : (t : Bool) → (t || true) ≡ true
-      or_true true = refl
-      or_true false = refl
-
-      or_false : (t : Bool) → (t || false) ≡ t
-      or_false true = refl
-      or_false false = refl
-
       goes : X → Bool
       goes z = not (is_in_place_of x z)
 
@@ -288,7 +281,7 @@ module _ {X : Type 0} (name : X → List ℕ) (number : X → ℕ) where
           ap (put_by (λ z w. is_before (name z) (name w)) x) (first (p (number y)) ∙ all_pass goes left (all_left (λ z. goes z ≡ true) (λ z. p (number z)) ys kept))
           ∙ put_first x left (all_left (StandsBefore x) (λ z. p (number z)) ys behind)
           ∙ (λ i. sym same i ∷ pass_same (λ z. p (number z)) more ys others i)
-          ∙ ap (λ t. cond t (y ∷ filter more ys) (filter more ys)) (sym (ap (λ t. p (number y) || t) at ∙ or_true (p (number y))))
+          ∙ ap (λ t. cond t (y ∷ filter more ys) (filter more ys)) (sym (ap (λ t. p (number y) || t) at ∙ or-true (p (number y))))
         where
           behind : AllByRecursion (StandsBefore x) ys
           behind = subst (λ z. AllByRecursion (StandsBefore z) ys) same order.0
@@ -299,7 +292,7 @@ module _ {X : Type 0} (name : X → List ℕ) (number : X → ℕ) where
 
           others : AllByRecursion (λ z. p (number z) ≡ more z) ys
           others = all_so (StandsBefore x) (λ z. p (number z) ≡ more z) ys
-              (λ z stands. sym (ap (λ t. p (number z) || t) (number_turned (number z) (number x) ∙ stands.numbers) ∙ or_false (p (number z)))) behind
+              (λ z stands. sym (ap (λ t. p (number z) || t) (number_turned (number z) (number x) ∙ stands.numbers) ∙ or-false (p (number z)))) behind
 
           first : (t : Bool) → filter goes (cond t (y ∷ left) left) ≡ filter goes left
           first true = ap (λ t. cond (not (t || bytes_eq (name y) (name x))) (y ∷ filter goes left) (filter goes left)) at

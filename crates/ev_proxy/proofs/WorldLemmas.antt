@@ -25,11 +25,16 @@ use Rattle.ev_worker.specs.Batches.{entries_of}
 use Rattle.ev_worker.specs.Workers.{AreAnswered, IsAnswer}
 use Rattle.ev_worker.specs.declared.lines.Outcome.{Outcome}
 use Rattle.ev_worker.specs.declared.lines.BatchLine.{BatchLine}
-use Rattle.ev_state.specs.Managed.{is_managed}
+use Rattle.ev_state.specs.Managed.{event_of}
+use Rattle.ev_state.specs.declared.managed.Managed.{Managed}
+use Rattle.ev_state.specs.declared.managed.Managed.TheVariants.{Connect as connects, Disconnect as disconnects, Response as responds, Health as results, FetchTimeout as times_out, TtlExpired as expires}
 use Rattle.ev_state.specs.States.{SameManaged}
 use Rattle.ev_retirement.specs.Holders.{HoldersParts, StandsFor as HoldsFor, with_expired}
+use Rattle.ev_state.proofs.FrameLemmas.{at-frame}
 use Rattle.ev_retirement.specs.Retiring.{HoldTheSame}
-use Rattle.ev_proxy.specs.Proxies.{is_working}
+use Rattle.ev_proxy.specs.declared.proxy.Proxy.{Proxy}
+use Rattle.ev_proxy.specs.Proxies.{IsAt, IsKnown}
+use Rattle.ev_proxy.proofs.ShownLemmas.{still_shown}
 
 -- the managers' part is the same
 pub itself : (world : World) → SameManaged world world
@@ -110,36 +115,21 @@ reaped_same format world rows is = record {
   node = refl;
 }
 
--- an event of a worker
-pub worked_same : (format : Format) (world : World) (worker : ℕ) (event : Event) → is_working event ≡ true
-    → SameManaged world (step format world (by_worker worker) event).0
-worked_same format world worker Connect is = cc
-worked_same format world worker Disconnect is = cc
-worked_same format world worker (Response response) is = cc
-worked_same format world worker (Health cluster host healthy) is = cc
-worked_same format world worker (FetchTimeout timeout) is = cc
-worked_same format world worker (DrainTimeout listener) is = cc
-worked_same format world worker (TtlExpired kind name) is = cc
-worked_same format world worker Publish is = cc
-worked_same format world worker Reap is = cc
-worked_same format world worker (Accept ask) is = same_but world world.pictures world.held _ world.expired
-worked_same format world worker (Close connection) is = same_but world world.pictures world.held _ world.expired
-worked_same format world worker Settle is = same_but world world.pictures _ _ world.expired
-
--- what is answered is of a worker
-answered_working : (worker : ℕ) (world : World) (event : Event) (outcome : Outcome) → IsAnswer worker world event outcome → is_working event ≡ true
-answered_working worker world (Accept ask) outcome is = refl
-answered_working worker world (Close connection) outcome is = refl
-answered_working worker world Connect outcome is = absurd is
-answered_working worker world Disconnect outcome is = absurd is
-answered_working worker world (Response response) outcome is = absurd is
-answered_working worker world (Health cluster host healthy) outcome is = absurd is
-answered_working worker world (FetchTimeout timeout) outcome is = absurd is
-answered_working worker world (DrainTimeout listener) outcome is = absurd is
-answered_working worker world (TtlExpired kind name) outcome is = absurd is
-answered_working worker world Publish outcome is = absurd is
-answered_working worker world Reap outcome is = absurd is
-answered_working worker world Settle outcome is = absurd is
+-- a line of a batch
+answered_leaves : (format : Format) (worker : ℕ) (world : World) (event : Event) (outcome : Outcome) → IsAnswer worker world event outcome
+    → SameManaged world (step format world (by_worker worker) event).0 × ((step format world (by_worker worker) event).0.pictures ≡ world.pictures)
+answered_leaves format worker world (Accept ask) outcome is = (same_but world world.pictures world.held _ world.expired, refl)
+answered_leaves format worker world (Close connection) outcome is = (same_but world world.pictures world.held _ world.expired, refl)
+answered_leaves format worker world Connect outcome is = absurd is
+answered_leaves format worker world Disconnect outcome is = absurd is
+answered_leaves format worker world (Response response) outcome is = absurd is
+answered_leaves format worker world (Health cluster host healthy) outcome is = absurd is
+answered_leaves format worker world (FetchTimeout timeout) outcome is = absurd is
+answered_leaves format worker world (DrainTimeout listener) outcome is = absurd is
+answered_leaves format worker world (TtlExpired kind name) outcome is = absurd is
+answered_leaves format worker world Publish outcome is = absurd is
+answered_leaves format worker world Reap outcome is = absurd is
+answered_leaves format worker world Settle outcome is = absurd is
 
 -- a batch
 pub batch_same : (format : Format) (worker : ℕ) (picture : Picture) (lines : List BatchLine) (world : World) → AreAnswered format worker world lines
@@ -147,30 +137,16 @@ pub batch_same : (format : Format) (worker : ℕ) (picture : Picture) (lines : L
 batch_same format worker picture [] world all = itself world
 batch_same format worker picture (line ∷ lines) world all =
     let next : World = (step format world (by_worker worker) line.event).0 in
-    then_same world next _ (worked_same format world worker line.event (answered_working worker world line.event line.outcome all.0))
+    then_same world next _ (answered_leaves format worker world line.event line.outcome all.0).0
     (batch_same format worker picture lines next all.1)
 
 -- it publishes nothing
-worked_pictures : (format : Format) (world : World) (worker : ℕ) (event : Event) → is_working event ≡ true → (step format world (by_worker worker) event).0.pictures ≡ world.pictures
-worked_pictures format world worker Connect is = cc
-worked_pictures format world worker Disconnect is = cc
-worked_pictures format world worker (Response response) is = cc
-worked_pictures format world worker (Health cluster host healthy) is = cc
-worked_pictures format world worker (FetchTimeout timeout) is = cc
-worked_pictures format world worker (DrainTimeout listener) is = cc
-worked_pictures format world worker (TtlExpired kind name) is = cc
-worked_pictures format world worker Publish is = cc
-worked_pictures format world worker Reap is = cc
-worked_pictures format world worker (Accept ask) is = refl
-worked_pictures format world worker (Close connection) is = refl
-worked_pictures format world worker Settle is = refl
-
 pub batch_pictures : (format : Format) (worker : ℕ) (picture : Picture) (lines : List BatchLine) (world : World) → AreAnswered format worker world lines
     → (world_after format world (entries_of worker picture lines)).pictures ≡ world.pictures
 batch_pictures format worker picture [] world all = refl
 batch_pictures format worker picture (line ∷ lines) world all =
     let next : World = (step format world (by_worker worker) line.event).0 in
-    batch_pictures format worker picture lines next all.1 ∙ worked_pictures format world worker line.event (answered_working worker world line.event line.outcome all.0)
+    batch_pictures format worker picture lines next all.1 ∙ (answered_leaves format worker world line.event line.outcome all.0).1
 
 -- a drain timeout for which no generation waits
 pub left_alone : (numbers : List ℕ) (world : World) → (expire numbers world).1 ≡ Ignored → record world { expired = world.expired ++ numbers } ≡ world
@@ -181,45 +157,46 @@ pub no_timeout : (name : List ℕ) (world : World) → (drain_timeout name world
 no_timeout name world is = left_alone (unexpired world.expired name world.rows) world is
 
 -- an event of the managers
-managed_moving : (event : Event) → is_managed event ≡ true → is_moving event ≡ true
-managed_moving Connect is = refl
-managed_moving Disconnect is = refl
-managed_moving (Response response) is = refl
-managed_moving (Health cluster host healthy) is = refl
-managed_moving (FetchTimeout timeout) is = refl
-managed_moving (DrainTimeout listener) is = cc
-managed_moving (TtlExpired kind name) is = refl
-managed_moving Publish is = cc
-managed_moving Reap is = cc
-managed_moving (Accept ask) is = cc
-managed_moving (Close connection) is = cc
-managed_moving Settle is = cc
+managed_moving : (event : Managed) → is_moving (event_of event) ≡ true
+managed_moving connects = refl
+managed_moving disconnects = refl
+managed_moving (responds response) = refl
+managed_moving (results cluster host healthy) = refl
+managed_moving (times_out timeout) = refl
+managed_moving (expires kind name) = refl
 
-managed_for : (event : Event) → is_managed event ≡ true → is_for_managers event ≡ true
-managed_for Connect is = refl
-managed_for Disconnect is = refl
-managed_for (Response response) is = refl
-managed_for (Health cluster host healthy) is = refl
-managed_for (FetchTimeout timeout) is = refl
-managed_for (DrainTimeout listener) is = cc
-managed_for (TtlExpired kind name) is = refl
-managed_for Publish is = cc
-managed_for Reap is = cc
-managed_for (Accept ask) is = cc
-managed_for (Close connection) is = cc
-managed_for Settle is = cc
+managed_for : (event : Managed) → is_for_managers (event_of event) ≡ true
+managed_for connects = refl
+managed_for disconnects = refl
+managed_for (responds response) = refl
+managed_for (results cluster host healthy) = refl
+managed_for (times_out timeout) = refl
+managed_for (expires kind name) = refl
 
-pub managed_same : (format : Format) (world : World) (actor : Actor) (event : Event) → is_managed event ≡ true
-    → HoldTheSame world (step format world actor event).0
-managed_same format world actor event is =
-    let seen = same_seen format world actor event (managed_for event is) in
-    record { pictures = seen.pictures; held = seen.held; opened = seen.opened; expired = same_expired format world actor event (managed_moving event is) }
+pub managed_same : (format : Format) (world : World) (actor : Actor) (event : Managed) → HoldTheSame world (step format world actor (event_of event)).0
+managed_same format world actor event =
+    let seen = same_seen format world actor (event_of event) (managed_for event) in
+    record {
+      pictures = seen.pictures;
+      held = seen.held;
+      opened = seen.opened;
+      expired = same_expired format world actor (event_of event) (managed_moving event);
+    }
 
 -- tidying
 pub tidy_same : (world : World) → HoldTheSame world (tidy world)
 tidy_same world = record { pictures = refl; held = refl; opened = refl; expired = refl }
 
--- a worker that the world has is known
-pub known_there : (holders : HoldersParts) (world : World) (worker : ℕ) → HoldsFor holders world → worker < length world.held → worker < length holders.pictures.held
-known_there holders world worker stands known =
-    subst (λ n. worker < n) (sym (ap length stands.pictures.held ∙ length-map world.held _)) known
+-- what a worker does leaves what the managers know and what is published
+pub worked_at : (p : Proxy) (holders : HoldersParts) (world : World) (held : List ℕ) (opened : List OpenMember) → IsAt p world
+    → HoldsFor holders (record world { held = held; opened = opened }) → IsAt (record p { holders = holders }) (record world { held = held; opened = opened })
+worked_at p holders world held opened at stands =
+    let same : SameManaged world (record world { held = held; opened = opened }) = same_but world world.pictures held opened world.expired in
+    record { managed = at-frame p.state world _ same at.managed; held = stands; shown = still_shown p.changed world _ same refl at.shown }
+
+-- a worker that is known is one of those that hold a picture
+pub known_there : (holders : HoldersParts) (world : World) (actor : Actor) (worker : ℕ) → HoldsFor holders world → actor ≡ by_worker worker → IsKnown actor world
+    → worker < length holders.pictures.held
+known_there holders world actor worker stands is known =
+    let within : worker < length world.held = subst (λ (a : Actor). IsKnown a world) is known in
+    subst (λ n. worker < n) (sym (ap length stands.pictures.held ∙ length-map world.held _)) within

@@ -1,6 +1,8 @@
 -- What the managers know and what holds generations, together, and at which worlds they are.
-use Rattle.std.specs.Prelude.{◌≡◌, ℕ, Bool, true, false, if◌then◌else◌, List, [], ◌∷◌, ◌++◌, map, Option, None, Some, option_to_list}
+use Rattle.std.specs.Prelude.{◌≡◌, ℕ, ◌<◌, ⊤, if◌then◌else◌, length, List, [], ◌∷◌, ◌++◌, map, Option, None, Some, option_to_list}
 use Rattle.ev_types.specs.Statuses.{is_live}
+use Rattle.ev_types.specs.declared.events.Actor.{Actor}
+use Rattle.ev_types.specs.declared.events.Actor.TheVariants.{Stream, Health as health_checker, Timer, Main, Worker}
 use Rattle.ev_types.specs.declared.events.Event.{Event}
 use Rattle.ev_types.specs.declared.events.Event.TheVariants.{Connect, Disconnect, Response, Health, FetchTimeout, DrainTimeout, TtlExpired, Publish, Reap, Accept, Close, Settle}
 use Rattle.ev_types.specs.declared.journals.Format.{Format}
@@ -22,20 +24,13 @@ pub record IsAt (p : Proxy) (world : World) : Type 0 where
   pub held : HoldsFor p.holders world
   pub shown : IsShownBut p.changed world
 
--- the event is of a worker
-abbrev pub is_working : Event → Bool
-is_working Connect = false
-is_working Disconnect = false
-is_working (Response response) = false
-is_working (Health cluster host healthy) = false
-is_working (FetchTimeout timeout) = false
-is_working (DrainTimeout listener) = false
-is_working (TtlExpired kind name) = false
-is_working Publish = false
-is_working Reap = false
-is_working (Accept ask) = true
-is_working (Close connection) = true
-is_working Settle = true
+-- the actor is no worker, or one that the world has
+abbrev pub IsKnown : Actor → World → Type 0
+IsKnown Stream world = ⊤
+IsKnown health_checker world = ⊤
+IsKnown Timer world = ⊤
+IsKnown Main world = ⊤
+IsKnown (Worker worker) world = worker < length world.held
 
 -- the drain once a row that was found is noted, where it drains or was dropped
 abbrev pub noted_over : List Retired → Option GenRow → List Retired

@@ -1,8 +1,5 @@
-ghost use Rattle.std.specs.Prelude.{◌≡◌, ◌<◌, ◌+◌, ◌^◌, [], false, true, length, IfOk, OnOk};
+ghost use Rattle.std.specs.Prelude.{◌≡◌, ◌<◌, [], length, option_copied, IfOk, OnOk};
 ghost use Rattle.std.specs.Arc.{arc_value};
-ghost use Rattle.ev_types.specs.Scripts.{items_in};
-ghost use Rattle.ev_types.specs.declared.events.Actor.{Actor};
-ghost use Rattle.ev_types.specs.declared.events.Actor.TheVariants.{Worker as by_worker};
 ghost use Rattle.ev_types.specs.declared.events.Answer.TheVariants.{Settled as settled_answer};
 ghost use Rattle.ev_model.specs.World.{World, opening};
 ghost use Rattle.ev_model.specs.Connections.{settle};
@@ -11,16 +8,19 @@ ghost use Rattle.ev_model.specs.Runs.{world_after};
 ghost use Rattle.ev_model.specs.Step.{step as machine_step};
 ghost use Rattle.ev_model.specs.declared.pictures.Picture.{Picture};
 ghost use Rattle.ev_types.specs.declared.journals.Format.{Format};
+ghost use Rattle.ev_run_laws.specs.Drawing.{NumbersSuffice};
+ghost use Rattle.ev_generations.specs.Tables.{row_in};
+ghost use Rattle.ev_ledger.specs.Members.{count_of};
 ghost use Rattle.ev_worker.specs.Batches.{entries_of};
 ghost use Rattle.ev_worker.specs.Workers.{AreAnswered, IsToldBy};
-ghost use Rattle.ev_proxy.specs.Proxies.{AreRowsOf, IsAt, is_working, numbers_reaped};
+ghost use Rattle.ev_proxy.specs.Proxies.{AreRowsOf, IsAt, IsKnown, numbers_reaped};
 
 use crate::changed::Changed;
 use ev_drain::Deferred;
 use ev_retirement::Holders;
 use ev_snapshot::Snapshot;
-use ev_state::State;
-use ev_types::{Answer, Event, Format, Text};
+use ev_state::{Managed, State};
+use ev_types::{Actor, Answer, Event, Format, Gen, GenRow, Phase, Text};
 use ev_worker::{Batch, Settled};
 use std::alloc::{AllocError, Global};
 use std::sync::Arc;
@@ -33,7 +33,7 @@ pub struct Proxy {
     pub holders: Holders,
     /// The generations of which the next publication may show something else than the last one.
     pub changed: Changed,
-    /// The rows that the last event of the main side reaped, for whoever drops them.
+    /// The rows that the last event reaped, for whoever drops them; the next event drops those that are still here.
     pub deferred: Deferred,
 }
 
@@ -53,53 +53,53 @@ impl Proxy {
         })
     }
 
-    /// What an event of the main side does, and its answer: one step of the machine, by the rules of a journal's format. The rows of
-    /// the generations that it reaped are deferred, and no others.
+    /// What an event does, and its answer: one step of the machine, by the rules of a journal's format. What only a worker does is
+    /// ignored where another actor brings it. The rows of the generations that it reaped are deferred, and no others.
     pub fn step(
         &mut self,
         alloc: Global,
         format: Format,
+        actor: Actor,
         event: &Event,
     ) -> Result<Answer, AllocError>
         ghost here: { World }
         requires at { IsAt self.old here }
-        requires main { is_working event.now ≡ false }
-        requires room { here.made + items_in event.now < 2 ^ 32 }
-        ensures at { OnOk result ((actor : Actor) → IsAt self.new (machine_step format here actor event.now).0) }
-        ensures answer { IfOk result (λ answer. (actor : Actor) → answer ≡ (machine_step format here actor event.now).1) }
+        requires known { IsKnown actor here }
+        requires room { NumbersSuffice here event.now }
+        ensures at { OnOk result (IsAt self.new (machine_step format here actor event.now).0) }
+        ensures answer { IfOk result (λ answer. answer ≡ (machine_step format here actor event.now).1) }
         ensures deferred { OnOk result (AreRowsOf (numbers_reaped format here event.now) here.rows self.new.deferred.0) }
     {
         self.deferred = Deferred::new(alloc);
         match event {
-            Event::Connect
-            | Event::Disconnect
-            | Event::Response(_)
-            | Event::Health { .. }
-            | Event::FetchTimeout(_)
-            | Event::TtlExpired { .. } => self.manage(alloc, event),
+            Event::Connect => self.manage(alloc, Managed::Connect),
+            Event::Disconnect => self.manage(alloc, Managed::Disconnect),
+            Event::Response(response) => self.manage(alloc, Managed::Response(response)),
+            Event::Health {
+                cluster,
+                host,
+                healthy,
+            } => {
+                let healthy = *healthy;
+                self.manage(
+                    alloc,
+                    Managed::Health {
+                        cluster,
+                        host,
+                        healthy,
+                    },
+                )
+            }
+            Event::FetchTimeout(timeout) => self.manage(alloc, Managed::FetchTimeout(timeout)),
+            Event::TtlExpired { kind, name } => {
+                self.manage(alloc, Managed::TtlExpired { kind: *kind, name })
+            }
             Event::DrainTimeout(listener) => self.drain_timeout(alloc, listener),
             Event::Publish => self.publish(alloc),
             Event::Reap => self.reap(alloc, format),
-            Event::Accept(_) | Event::Close(_) | Event::Settle => unreachable!(),
-        }
-    }
-
-    /// What an event of a worker does, which is made once more out of a journal.
-    pub fn work(&mut self, alloc: Global, worker: u32, event: &Event) -> Result<(), AllocError>
-        ghost here: { World }
-        requires at { IsAt self.old here }
-        requires own { is_working event.now ≡ true }
-        requires known { worker < length here.held }
-        ensures at { OnOk result ((format : Format) → IsAt self.new (machine_step format here (by_worker worker) event.now).0) }
-    {
-        match event {
-            Event::Accept(ask) => self.holders.accept(worker, ask),
-            Event::Close(conn) => self.holders.close(worker, *conn),
-            Event::Settle => {
-                let _ = self.holders.settle(alloc, worker)?;
-                Ok(())
-            }
-            _ => unreachable!(),
+            Event::Accept(ask) => self.accept(alloc, actor, ask),
+            Event::Close(conn) => self.close(actor, *conn),
+            Event::Settle => self.settle_by(alloc, actor),
         }
     }
 
@@ -107,7 +107,9 @@ impl Proxy {
     pub fn take_batch(&mut self, batch: &Batch) -> Result<(), AllocError>
         ghost here: { World }
         requires at { IsAt self.old here }
-        ensures at { OnOk result ((format : Format) (picture : Picture) → AreAnswered format batch.now.worker here batch.now.lines → IsAt self.new (world_after format here (entries_of batch.now.worker picture batch.now.lines))) }
+        ensures at { OnOk result ((format : Format) (picture : Picture) → AreAnswered format batch.now.worker here batch.now.lines
+            → IsAt self.new (world_after format here (entries_of batch.now.worker picture batch.now.lines))) }
+        ensures deferred { self.new.deferred ≡ self.old.deferred }
     {
         self.holders.take_batch(batch)
     }
@@ -120,6 +122,7 @@ impl Proxy {
         ensures at { OnOk result (IsAt self.new (settle worker here).0) }
         ensures answer { IfOk result (λ settled. (settle worker here).1 ≡ settled_answer settled.closed settled.version) }
         ensures told { IfOk result (λ settled. IsToldBy worker settled.closed (arc_value settled.snapshot) here) }
+        ensures deferred { self.new.deferred ≡ self.old.deferred }
     {
         self.holders.settle(alloc, worker)
     }
@@ -129,6 +132,34 @@ impl Proxy {
         ensures { IfOk result (λ snapshot. (world : World) → IsAt self.now world → arc_value snapshot ≡ last_picture world) }
     {
         self.holders.snapshot()
+    }
+
+    /// The version of the last picture. It takes no memory.
+    pub fn version(&self) -> u64
+        ensures { (world : World) → IsAt self.now world → result ≡ (last_picture world).version }
+    {
+        self.holders.version()
+    }
+
+    /// How far the proxy has booted.
+    pub fn phase(&self) -> Phase
+        ensures { (world : World) → IsAt self.now world → result ≡ world.phase }
+    {
+        self.state.phase()
+    }
+
+    /// The generation of this number. It costs a look-up among clusters, and one among listeners where no cluster has the number.
+    pub fn row(&self, number: Gen) -> Option<&GenRow>
+        ensures { (world : World) → IsAt self.now world → option_copied result ≡ row_in number world.rows }
+    {
+        self.state.row(number)
+    }
+
+    /// How many connections are open on a generation, as their listener or their cluster. It is a look-up.
+    pub fn connections(&self, number: Gen) -> u64
+        ensures { (world : World) → IsAt self.now world → result ≡ count_of number world.opened }
+    {
+        self.holders.count(number)
     }
 
     /// How many numbers were drawn for generations.

@@ -1,32 +1,33 @@
-ghost use Rattle.std.specs.Prelude.{◌≡◌, ◌<◌, ◌+◌, ◌^◌, [], IsTrue, IfOk, OnOk};
-ghost use Rattle.ev_types.specs.Scripts.{items_in};
+ghost use Rattle.std.specs.Prelude.{◌≡◌, [], IfOk, OnOk};
 ghost use Rattle.ev_types.specs.declared.events.Actor.{Actor};
 ghost use Rattle.ev_types.specs.declared.journals.Format.{Format};
 ghost use Rattle.ev_model.specs.World.{World};
 ghost use Rattle.ev_model.specs.Publishing.{dead_numbers, publish, reap};
 ghost use Rattle.ev_model.specs.Signals.{drain_timeout};
-ghost use Rattle.ev_model.specs.Step.{step as machine_step};
+ghost use Rattle.ev_model.specs.Connections.{accept, close, settle};
+ghost use Rattle.ev_model.specs.Step.{of_worker, step as machine_step};
+ghost use Rattle.ev_run_laws.specs.Drawing.{NumbersSuffice};
 ghost use Rattle.ev_pictures.specs.Pictures.{published_answer};
-ghost use Rattle.ev_state.specs.Managed.{is_managed};
-ghost use Rattle.ev_proxy.specs.Proxies.{AreRowsOf, IsAt};
+ghost use Rattle.ev_state.specs.Managed.{event_of};
+ghost use Rattle.ev_proxy.specs.Proxies.{AreRowsOf, IsAt, IsKnown};
 
 use crate::Proxy;
 use crate::changed::Changed;
 use crate::changing::changes;
 use crate::noting::{note_each, remove_each};
-use ev_types::{Answer, Event, Format, Name, Seq};
+use ev_state::Managed;
+use ev_types::{Actor, Answer, Ask, Format, Name, Seq};
 use std::alloc::{AllocError, Global};
 
 impl Proxy {
     /// What an event of the stream, the health checker or a timer does, but a drain timeout. The generations that it retired are noted
     /// among those that drain, and those of which it changed what is to be shown among those that changed.
-    pub(crate) fn manage(&mut self, alloc: Global, event: &Event) -> Result<Answer, AllocError>
+    pub(crate) fn manage(&mut self, alloc: Global, event: Managed<'_>) -> Result<Answer, AllocError>
         ghost here: { World }
         requires at { IsAt self.old here }
-        requires managed { IsTrue (is_managed event.now) }
-        requires room { here.made + items_in event.now < 2 ^ 32 }
-        ensures at { OnOk result ((format : Format) (actor : Actor) → IsAt self.new (machine_step format here actor event.now).0) }
-        ensures answer { IfOk result (λ answer. (format : Format) (actor : Actor) → answer ≡ (machine_step format here actor event.now).1) }
+        requires room { NumbersSuffice here (event_of event) }
+        ensures at { OnOk result ((format : Format) (actor : Actor) → IsAt self.new (machine_step format here actor (event_of event.entry)).0) }
+        ensures answer { IfOk result (λ answer. (format : Format) (actor : Actor) → answer ≡ (machine_step format here actor (event_of event.entry)).1) }
         ensures deferred { OnOk result (self.new.deferred ≡ self.old.deferred) }
     {
         let stepped = self.state.step(alloc, event)?;
@@ -50,7 +51,7 @@ impl Proxy {
         ensures answer { IfOk result (λ answer. answer ≡ (drain_timeout listener.now here).1) }
         ensures deferred { OnOk result (self.new.deferred ≡ self.old.deferred) }
     {
-        let meant = self.holders.drain_timeout(listener)?;
+        let meant = self.holders.drain_timeout(alloc, listener)?;
         if !meant {
             return Ok(Answer::Ignored);
         }
@@ -92,6 +93,61 @@ impl Proxy {
         remove_each(&mut self.state, dead.as_slice(), &mut self.deferred);
         self.holders.remove_all(dead.as_slice());
         Ok(Answer::Reaped(Seq::from_vec(dead)))
+    }
+
+    /// A connection comes to a worker, and is answered as the worker's snapshot here says; of another actor nothing is done.
+    pub(crate) fn accept(
+        &mut self,
+        alloc: Global,
+        actor: Actor,
+        ask: &Ask,
+    ) -> Result<Answer, AllocError>
+        ghost here: { World }
+        requires at { IsAt self.old here }
+        requires known { IsKnown actor here }
+        ensures at { OnOk result (IsAt self.new (of_worker (accept ask.now) actor here).0) }
+        ensures answer { IfOk result (λ answer. answer ≡ (of_worker (accept ask.now) actor here).1) }
+        ensures deferred { OnOk result (self.new.deferred ≡ self.old.deferred) }
+    {
+        match actor {
+            Actor::Worker(worker) => self.holders.accept(alloc, worker, ask),
+            Actor::Stream | Actor::Health | Actor::Timer | Actor::Main => Ok(Answer::Ignored),
+        }
+    }
+
+    /// A connection of a worker closes; of another actor nothing is done.
+    pub(crate) fn close(&mut self, actor: Actor, conn: u64) -> Result<Answer, AllocError>
+        ghost here: { World }
+        requires at { IsAt self.old here }
+        ensures at { OnOk result (IsAt self.new (of_worker (close conn) actor here).0) }
+        ensures answer { IfOk result (λ answer. answer ≡ (of_worker (close conn) actor here).1) }
+        ensures deferred { OnOk result (self.new.deferred ≡ self.old.deferred) }
+    {
+        match actor {
+            Actor::Worker(worker) => self.holders.close(worker, conn),
+            Actor::Stream | Actor::Health | Actor::Timer | Actor::Main => Ok(Answer::Ignored),
+        }
+    }
+
+    /// A worker settles, and its answer alone is kept; of another actor nothing is done.
+    pub(crate) fn settle_by(&mut self, alloc: Global, actor: Actor) -> Result<Answer, AllocError>
+        ghost here: { World }
+        requires at { IsAt self.old here }
+        requires known { IsKnown actor here }
+        ensures at { OnOk result (IsAt self.new (of_worker settle actor here).0) }
+        ensures answer { IfOk result (λ answer. answer ≡ (of_worker settle actor here).1) }
+        ensures deferred { OnOk result (self.new.deferred ≡ self.old.deferred) }
+    {
+        match actor {
+            Actor::Worker(worker) => {
+                let settled = self.settle(alloc, worker)?;
+                Ok(Answer::Settled {
+                    closed: settled.closed,
+                    version: settled.version,
+                })
+            }
+            Actor::Stream | Actor::Health | Actor::Timer | Actor::Main => Ok(Answer::Ignored),
+        }
     }
 }
 

@@ -13,15 +13,15 @@ use Rattle.ev_types.specs.declared.journals.Format.{Format}
 use Rattle.ev_model.specs.Connections.{settle}
 use Rattle.ev_model.specs.World.{World, opening}
 use Rattle.ev_model.specs.Runs.{world_after, is_batched, GoesOnWith, IsRun, IsUnbroken, RunsFrom}
+use Rattle.ev_model.specs.Dead.{last_picture}
 use Rattle.ev_model.specs.Step.{step}
 use Rattle.ev_model.specs.declared.pictures.Picture.{Picture}
 use Rattle.ev_model.proofs.RunLemmas.{world_after-more}
 use Rattle.ev_worker.specs.Batches.{entries_of}
-use Rattle.ev_worker.specs.Workers.{IsToldBy, WorkerParts}
+use Rattle.ev_worker.specs.Workers.{AreAnswered, WorkerParts}
 use Rattle.ev_worker.specs.declared.lines.BatchLine.{BatchLine}
 use Rattle.ev_actors.specs.Journals.{JournalParts, WorksIn, entries_made, settle_made, with_settled, world_behind, world_now}
 use Rattle.ev_actors.proofs.SettleLemmas.{held_now}
-use Rattle.ev_actors.proofs.WorldLemmas.{worker_draws}
 use Rattle.ev_proxy.specs.Proxies.{IsAt}
 use Rattle.ev_proxy.specs.declared.proxy.Proxy.{Proxy}
 use Rattle.ev_registry.proofs.EventLemmas.{worker_works}
@@ -41,24 +41,19 @@ batch_unbroken number picture (line ∷ lines) last own alone =
     (λ h. batch_goes_on number picture lines last own, batch_unbroken number picture lines last own alone)
 
 -- a worker's entry brings no resource
-worker_step : (workers number : ℕ) (world : World) (entry : Entry) → entry.actor ≡ Worker number → MayMake workers entry.actor entry.event
-    → world.made < 4294967296 → MayStep workers world entry
-worker_step workers number world entry own may few =
+worker_step : (workers number : ℕ) (world : World) (entry : Entry) → entry.actor ≡ Worker number → MayMake workers entry.actor entry.event → MayStep workers world entry
+worker_step workers number world entry own may =
     let none : items_in entry.event ≡ 0 =
     (worker_works workers number entry.event (subst (λ (a : Actor). MayMake workers a entry.event) own may)).items in
-    record { allowed = may; room = omega (arith, none, few) }
+    record { allowed = may; room = λ some. absurd (omega (arith, none, some)) }
 
 batch_stepped : (format : Format) (workers number : ℕ) (picture : Picture) (lines : List BatchLine) (last : Entry) (world : World)
-    → last.actor ≡ Worker number → RunsFrom format workers world (entries_of number picture lines ++ last ∷ []) → world.made < 4294967296
+    → last.actor ≡ Worker number → RunsFrom format workers world (entries_of number picture lines ++ last ∷ [])
     → HaveStepped format workers world (entries_of number picture lines ++ last ∷ [])
-batch_stepped format workers number picture [] last world own run few = (worker_step workers number world last own run.0 few, tt)
-batch_stepped format workers number picture (line ∷ lines) last world own run few = (
-  record {
-    allowed = run.0;
-    room = let none : items_in line.event ≡ 0 = (worker_works workers number line.event run.0).items in omega (arith, none, few);
-  },
-  batch_stepped format workers number picture lines last (step format world (Worker number) line.event).0 own run.2
-      (subst (λ n. n < 4294967296) (sym (worker_draws format workers number world line.event run.0)) few),
+batch_stepped format workers number picture [] last world own run = (worker_step workers number world last own run.0, tt)
+batch_stepped format workers number picture (line ∷ lines) last world own run = (
+  worker_step workers number world _ refl run.0,
+  batch_stepped format workers number picture lines last (step format world (Worker number) line.event).0 own run.2,
 )
 
 -- the batch and the settle behind it are a run from the world in which the worker works
@@ -69,75 +64,79 @@ batch_runs parts worker at n works below =
     (works.made.answers parts.format parts.workers (world_now parts) below works.has) (below, refl, tt)
 
 -- with them the registry stands where the worker has settled
-settles_in : (proxy : Proxy) (parts : JournalParts) (worker : WorkerParts) (at n : ℕ) → IsRun parts.format parts.workers parts.node parts.journal
+settles_in : (version : ℕ) (proxy : Proxy) (parts : JournalParts) (worker : WorkerParts) (at n : ℕ) → IsRun parts.format parts.workers parts.node parts.journal
     → HaveStepped parts.format parts.workers (opening parts.workers parts.node) parts.journal
-    → WorksIn worker (world_now parts) → worker.number < parts.workers → (world_now parts).made < 4294967296
+    → WorksIn worker (world_now parts) → worker.number < parts.workers
+    → version ≡ (last_picture (settle worker.number (world_behind worker parts)).0).version
     → IsAt proxy (settle worker.number (world_behind worker parts)).0
-    → StandsFor false proxy (with_settled worker at n parts)
-settles_in proxy parts worker at n run stepped works below few led =
+    → StandsFor false version proxy (with_settled worker at n parts)
+settles_in version proxy parts worker at n run stepped works below latest led =
     let last : Entry = settle_made worker at n parts in
-    goes_on proxy parts (entries_made worker ++ last ∷ []) run stepped (batch_runs parts worker at n works below)
+    let more : world_after parts.format (world_now parts) (entries_made worker ++ last ∷ []) ≡ (settle worker.number (world_behind worker parts)).0 =
+    world_after-more parts.format (world_now parts) (entries_made worker) last in
+    goes_on version proxy parts (entries_made worker ++ last ∷ []) run stepped (batch_runs parts worker at n works below)
     (batch_unbroken worker.number worker.picture worker.lines last refl refl)
-    (batch_stepped parts.format parts.workers worker.number worker.picture worker.lines last (world_now parts) refl (batch_runs parts worker at n works below) few)
-    (subst (IsAt proxy) (sym (world_after-more parts.format (world_now parts) (entries_made worker) last)) led)
-
--- the world behind a batch, after these entries
-abbrev pub behind_of : JournalParts → List Entry → WorkerParts → World
-behind_of parts given worker = world_after parts.format (world_after parts.format (opening parts.workers parts.node) given) (entries_made worker)
+    (batch_stepped parts.format parts.workers worker.number worker.picture worker.lines last (world_now parts) refl (batch_runs parts worker at n works below))
+    (latest ∙ ap (λ (w : World). (last_picture w).version) (sym more))
+    (subst (IsAt proxy) (sym more) led)
 
 -- the settle that was told is the machine's
-pub is_entered : (parts : JournalParts) (given pushed : List Entry) (worker : WorkerParts) (at n : ℕ) (closed : List ℕ) (version : ℕ)
-    → given ≡ parts.journal
+pub is_entered : (parts given : JournalParts) (pushed : List Entry) (worker : WorkerParts) (at n : ℕ) (closed : List ℕ) (version : ℕ) → given ≡ parts
     → pushed ≡ parts.journal ++ (entries_made worker ++ settle_told worker.number at n closed version ∷ [])
-    → (settle worker.number (behind_of parts given worker)).1 ≡ Settled closed version
+    → (settle worker.number (world_behind worker given)).1 ≡ Settled closed version
     → pushed ≡ (with_settled worker at n parts).journal
 is_entered parts given pushed worker at n closed version same pushes answered =
     let machine : (settle worker.number (world_behind worker parts)).1 ≡ Settled closed version =
-    subst (λ (es : List Entry). (settle worker.number (behind_of parts es worker)).1 ≡ Settled closed version) same answered in
+    subst (λ (p : JournalParts). (settle worker.number (world_behind worker p)).1 ≡ Settled closed version) same answered in
     pushes
     ∙ ap (λ (answer : Answer). parts.journal ++ (entries_made worker ++ record { actor = Worker worker.number; at = at; step = n; event = Settle; answer = answer } ∷ [])) (sym machine)
 
 -- a batch and a settle that were made on what is known
-pub enters_batch : (proxy : Proxy) (parts now : JournalParts) (given known pushed : List Entry) (worker : WorkerParts) (at n made : ℕ) (closed : List ℕ) (version : ℕ)
+pub enters_batch : (latest : ℕ) (proxy : Proxy) (parts now given : JournalParts) (pushed : List Entry) (worker : WorkerParts) (at n : ℕ) (closed : List ℕ) (version : ℕ)
     → IsRun parts.format parts.workers parts.node parts.journal
     → HaveStepped parts.format parts.workers (opening parts.workers parts.node) parts.journal
-    → parts ≡ now → given ≡ parts.journal → known ≡ parts.journal
+    → parts ≡ now → given ≡ parts
     → pushed ≡ parts.journal ++ (entries_made worker ++ settle_told worker.number at n closed version ∷ [])
     → WorksIn worker (world_now now) → worker.number < now.workers
-    → made < 4294967296 → made ≡ (world_after parts.format (opening parts.workers parts.node) known).made
-    → (settle worker.number (behind_of parts given worker)).1 ≡ Settled closed version
-    → IsAt proxy (settle worker.number (behind_of parts given worker)).0
-    → StandsFor false proxy (record parts { journal = pushed })
-enters_batch proxy parts now given known pushed worker at n made closed version run stepped view same still pushes works below few count answered led =
-    let number : made ≡ (world_now parts).made = subst (λ (es : List Entry). made ≡ (world_after parts.format (opening parts.workers parts.node) es).made) still count in
-    subst (λ (es : List Entry). StandsFor false proxy (record parts { journal = es }))
+    → (settle worker.number (world_behind worker given)).1 ≡ Settled closed version
+    → latest ≡ (last_picture (settle worker.number (world_behind worker given)).0).version
+    → IsAt proxy (settle worker.number (world_behind worker given)).0
+    → StandsFor false latest proxy (record parts { journal = pushed })
+enters_batch latest proxy parts now given pushed worker at n closed version run stepped view same pushes works below answered last led =
+    subst (λ (es : List Entry). StandsFor false latest proxy (record parts { journal = es }))
     (sym (is_entered parts given pushed worker at n closed version same pushes answered))
-    (settles_in proxy parts worker at n run stepped
+    (settles_in latest proxy parts worker at n run stepped
     (subst (λ (p : JournalParts). WorksIn worker (world_now p)) (sym view) works)
     (subst (λ (p : JournalParts). worker.number < p.workers) (sym view) below)
-    (subst (λ m. m < 4294967296) number few)
-    (subst (λ (es : List Entry). IsAt proxy (settle worker.number (behind_of parts es worker)).0) same led))
+    (subst (λ (p : JournalParts). latest ≡ (last_picture (settle worker.number (world_behind worker p)).0).version) same last)
+    (subst (λ (p : JournalParts). IsAt proxy (settle worker.number (world_behind worker p)).0) same led))
 
 -- so the journal has them
-pub shows_batch : (parts now : JournalParts) (given pushed : List Entry) (worker : WorkerParts) (at n : ℕ) (closed : List ℕ) (version : ℕ)
-    → parts ≡ now → given ≡ parts.journal
+pub shows_batch : (parts now given : JournalParts) (pushed : List Entry) (worker : WorkerParts) (at n : ℕ) (closed : List ℕ) (version : ℕ)
+    → parts ≡ now → given ≡ parts
     → pushed ≡ parts.journal ++ (entries_made worker ++ settle_told worker.number at n closed version ∷ [])
-    → (settle worker.number (behind_of parts given worker)).1 ≡ Settled closed version
+    → (settle worker.number (world_behind worker given)).1 ≡ Settled closed version
     → record parts { journal = pushed } ≡ with_settled worker at n now
 shows_batch parts now given pushed worker at n closed version view same pushes answered =
     ap (λ (es : List Entry). record parts { journal = es }) (is_entered parts given pushed worker at n closed version same pushes answered)
     ∙ ap (with_settled worker at n) view
-
--- and the worker is told what it takes over
-pub told_behind : (parts now : JournalParts) (given : List Entry) (worker : WorkerParts) (closed : List ℕ) (picture : Picture)
-    → parts ≡ now → given ≡ parts.journal → IsToldBy worker.number closed picture (behind_of parts given worker)
-    → IsToldBy worker.number closed picture (world_behind worker now)
-told_behind parts now given worker closed picture view same told =
-    subst (λ (p : JournalParts). IsToldBy worker.number closed picture (world_behind worker p)) view
-    (subst (λ (es : List Entry). IsToldBy worker.number closed picture (behind_of parts es worker)) same told)
 
 -- in the world after more entries there are as many workers as the journal's
 pub known_after : (parts : JournalParts) (number : ℕ) (here : World) (entries : List Entry)
     → here ≡ world_after parts.format (world_now parts) entries → number < parts.workers → number < length here.held
 known_after parts number here entries is below =
     subst (λ (w : World). number < length w.held) (sym is) (subst (λ n. number < n) (sym (held_now parts entries)) below)
+
+-- what a batch leads to, where its worker works in the world before it
+pub leads_behind : (proxy : Proxy) (parts : JournalParts) (worker : WorkerParts) (here behind : World) (number : ℕ) (lines : List BatchLine)
+    → number ≡ worker.number → lines ≡ worker.lines → here ≡ world_now parts → behind ≡ world_behind worker parts → WorksIn worker here
+    → ((format : Format) (picture : Picture) → AreAnswered format number here lines → IsAt proxy (world_after format here (entries_of number picture lines)))
+    → IsAt proxy behind
+leads_behind proxy parts worker here behind number lines own same is there works leads =
+    let chosen : AreAnswered parts.format worker.number here worker.lines = works.made.chosen parts.format here works.has in
+    let answered : AreAnswered parts.format number here lines =
+    subst (λ (n : ℕ). AreAnswered parts.format n here lines) (sym own)
+    (subst (λ (ls : List BatchLine). AreAnswered parts.format worker.number here ls) (sym same) chosen) in
+    let path : world_after parts.format here (entries_of number worker.picture lines) ≡ world_behind worker parts =
+    (λ i. world_after parts.format (is i) (entries_of (own i) worker.picture (same i))) in
+    subst (IsAt proxy) (path ∙ sym there) (leads parts.format worker.picture answered)

@@ -1,13 +1,14 @@
 -- Who makes which events: the main side none of a worker, and a worker none that draws a number.
-use Rattle.std.proofs.Common.{◌≡◌, ℕ, ◌<◌, true, false, refl}
+use Rattle.std.proofs.Common.{◌≡◌, ℕ, ◌<◌, false, length, refl, sym, subst}
 use Rattle.ev_types.specs.Events.{IsMainSide, IsWorkerOf, MayMake}
 use Rattle.ev_types.specs.Scripts.{items_in}
 use Rattle.ev_types.specs.declared.events.Actor.{Actor}
 use Rattle.ev_types.specs.declared.events.Actor.TheVariants.{Stream, Health as health_checker, Timer, Main, Worker}
 use Rattle.ev_types.specs.declared.events.Event.{Event}
 use Rattle.ev_types.specs.declared.events.Event.TheVariants.{Connect, Disconnect, Response, Health, FetchTimeout, DrainTimeout, TtlExpired, Publish, Reap, Accept, Close, Settle}
+use Rattle.ev_model.specs.World.{World}
 use Rattle.ev_model.specs.Runs.{is_batched}
-use Rattle.ev_proxy.specs.Proxies.{is_working}
+use Rattle.ev_proxy.specs.Proxies.{IsKnown}
 
 -- an actor of the main side is no worker
 no_worker : (workers : ℕ) (actor : Actor) → IsMainSide actor → IsWorkerOf workers actor → ⊥
@@ -17,39 +18,23 @@ no_worker workers Timer main own = absurd own
 no_worker workers Main main own = absurd own
 no_worker workers (Worker worker) main own = absurd main
 
--- what the main side makes is no event of a worker
-pub main_works : (workers : ℕ) (actor : Actor) (event : Event) → IsMainSide actor → MayMake workers actor event → is_working event ≡ false
-main_works workers actor Connect main may = refl
-main_works workers actor Disconnect main may = refl
-main_works workers actor (Response response) main may = refl
-main_works workers actor (Health cluster host healthy) main may = refl
-main_works workers actor (FetchTimeout timeout) main may = refl
-main_works workers actor (DrainTimeout listener) main may = refl
-main_works workers actor (TtlExpired kind name) main may = refl
-main_works workers actor Publish main may = refl
-main_works workers actor Reap main may = refl
-main_works workers actor (Accept ask) main may = absurd (no_worker workers actor main may)
-main_works workers actor (Close connection) main may = absurd (no_worker workers actor main may)
-main_works workers actor Settle main may = absurd (no_worker workers actor main may)
-
--- so it is no accept or close
-pub working_alone : (event : Event) → is_working event ≡ false → is_batched event ≡ false
-working_alone Connect is = refl
-working_alone Disconnect is = refl
-working_alone (Response response) is = refl
-working_alone (Health cluster host healthy) is = refl
-working_alone (FetchTimeout timeout) is = refl
-working_alone (DrainTimeout listener) is = refl
-working_alone (TtlExpired kind name) is = refl
-working_alone Publish is = refl
-working_alone Reap is = refl
-working_alone (Accept ask) is = cc
-working_alone (Close connection) is = cc
-working_alone Settle is = refl
+-- what the main side makes is no accept or close
+pub main_alone : (workers : ℕ) (actor : Actor) (event : Event) → IsMainSide actor → MayMake workers actor event → is_batched event ≡ false
+main_alone workers actor Connect main may = refl
+main_alone workers actor Disconnect main may = refl
+main_alone workers actor (Response response) main may = refl
+main_alone workers actor (Health cluster host healthy) main may = refl
+main_alone workers actor (FetchTimeout timeout) main may = refl
+main_alone workers actor (DrainTimeout listener) main may = refl
+main_alone workers actor (TtlExpired kind name) main may = refl
+main_alone workers actor Publish main may = refl
+main_alone workers actor Reap main may = refl
+main_alone workers actor (Accept ask) main may = absurd (no_worker workers actor main may)
+main_alone workers actor (Close connection) main may = absurd (no_worker workers actor main may)
+main_alone workers actor Settle main may = refl
 
 -- an event of a worker: it is one of so many workers, and the event brings no resource
 pub record IsWorkers (workers number : ℕ) (event : Event) : Type 0 where
-  pub works : is_working event ≡ true
   pub within : number < workers
   pub items : items_in event ≡ 0
 
@@ -63,6 +48,14 @@ worker_works workers number (DrainTimeout listener) may = absurd may
 worker_works workers number (TtlExpired kind name) may = absurd may
 worker_works workers number Publish may = absurd may
 worker_works workers number Reap may = absurd may
-worker_works workers number (Accept ask) may = record { works = refl; within = may; items = refl }
-worker_works workers number (Close connection) may = record { works = refl; within = may; items = refl }
-worker_works workers number Settle may = record { works = refl; within = may; items = refl }
+worker_works workers number (Accept ask) may = record { within = may; items = refl }
+worker_works workers number (Close connection) may = record { within = may; items = refl }
+worker_works workers number Settle may = record { within = may; items = refl }
+
+-- who may make an event is known
+pub knows : (workers : ℕ) (actor : Actor) (event : Event) (world : World) → length world.held ≡ workers → MayMake workers actor event → IsKnown actor world
+knows workers Stream event world many may = tt
+knows workers health_checker event world many may = tt
+knows workers Timer event world many may = tt
+knows workers Main event world many may = tt
+knows workers (Worker worker) event world many may = subst (λ n. worker < n) (sym many) (worker_works workers worker event may).within

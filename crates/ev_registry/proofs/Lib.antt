@@ -1,4 +1,4 @@
-pub mod NumberLemmas
 pub mod EventLemmas
 pub mod RunSteps
 pub mod BatchSteps
+pub mod ViewLemmas

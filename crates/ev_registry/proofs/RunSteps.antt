@@ -1,6 +1,7 @@
 -- A registry's journal grows by entries of one step each, and what is known is made anew out of it.
-use Rattle.std.proofs.Common.{◌≡◌, ℕ, zero, suc, ◌+◌, ◌<◌, ◌≤◌, true, false, List, [], ◌∷◌, ◌++◌, length, take, get_or, sym, subst, arith}
+use Rattle.std.proofs.Common.{◌≡◌, ℕ, zero, suc, ◌+◌, ◌<◌, ◌≤◌, false, List, [], ◌∷◌, ◌++◌, length, take, get_or, map, Some, sym, ap, subst, ◌∙◌, arith}
 use Rattle.std.proofs.lemmas.Bool.{both_ways}
+use Rattle.std.proofs.lemmas.List.{map-append}
 use Rattle.ev_types.specs.Events.{IsMainSide, MayMake}
 use Rattle.ev_types.specs.Scripts.{items_in}
 use Rattle.ev_types.specs.declared.events.Actor.{Actor}
@@ -8,16 +9,18 @@ use Rattle.ev_types.specs.declared.events.Answer.{Answer}
 use Rattle.ev_types.specs.declared.events.Entry.{Entry}
 use Rattle.ev_types.specs.declared.events.Event.{Event}
 use Rattle.ev_types.specs.declared.journals.Format.{Format}
+use Rattle.ev_types.specs.declared.rows.GenRow.{GenRow}
 use Rattle.ev_model.specs.World.{World, opening}
 use Rattle.ev_model.specs.Runs.{world_after, is_batched, GoesOnWith, IsRun, IsUnbroken, RunsFrom}
+use Rattle.ev_model.specs.Dead.{last_picture}
 use Rattle.ev_model.specs.Step.{step}
-use Rattle.ev_actors.specs.Journals.{JournalParts, with_entries, world_now}
+use Rattle.ev_actors.specs.Journals.{JournalParts, SufficeFor, with_entries, world_now}
 use Rattle.ev_actors.proofs.WorldLemmas.{after_append}
-use Rattle.ev_proxy.specs.Proxies.{IsAt}
+use Rattle.ev_proxy.specs.Proxies.{AreRowsOf, IsAt, numbers_reaped}
 use Rattle.ev_proxy.specs.declared.proxy.Proxy.{Proxy}
-use Rattle.ev_registry.proofs.EventLemmas.{main_works, working_alone}
-use Rattle.ev_registry.proofs.NumberLemmas.{entry_made}
-use Rattle.ev_registry.specs.Registries.{MayStep, HaveStepped, StandsFor}
+use Rattle.ev_run_laws.proofs.NumberLemmas.{entry_made}
+use Rattle.ev_registry.proofs.EventLemmas.{main_alone}
+use Rattle.ev_registry.specs.Registries.{DefersReaped, MayStep, HaveStepped, StandsFor}
 
 -- a run, and one that goes on from the world behind it
 pub runs_append : (format : Format) (workers : ℕ) (world : World) (entries more : List Entry) → RunsFrom format workers world entries
@@ -51,62 +54,69 @@ stepped_at format workers world (entry ∷ entries) zero d had below = had.0
 stepped_at format workers world (entry ∷ entries) (suc k) d had below =
     stepped_at format workers (step format world entry.actor entry.event).0 entries k d had.1 (omega arith)
 
--- nothing was done yet
-pub begins : (format : Format) (workers : ℕ) (node other : List ℕ) (proxy : Proxy) (items : List Entry) → items ≡ [] → other ≡ node → IsAt proxy (opening workers node)
-    → StandsFor false proxy (record { format = format; workers = workers; node = other; journal = items })
-begins format workers node other proxy items none same at =
-    subst (λ (js : List Entry). StandsFor false proxy (record { format = format; workers = workers; node = other; journal = js })) (sym none)
-    (subst (λ (n : List ℕ). StandsFor false proxy (record { format = format; workers = workers; node = n; journal = [] })) (sym same)
-    (record { run = record { answers = tt; batches = tt }; stepped = tt; at = λ here. at }))
+-- what was done before is what is known
+pub starts : (version : ℕ) (proxy : Proxy) (format : Format) (workers : ℕ) (node kept : List ℕ) (journal given : List Entry) → IsRun format workers node journal
+    → HaveStepped format workers (opening workers node) journal → kept ≡ node → given ≡ journal
+    → version ≡ (last_picture (world_after format (opening workers node) given)).version → IsAt proxy (world_after format (opening workers node) given)
+    → StandsFor false version proxy (record { format = format; workers = workers; node = kept; journal = journal })
+starts version proxy format workers node kept journal given run stepped same is latest at =
+    subst (λ (n : List ℕ). StandsFor false version proxy (record { format = format; workers = workers; node = n; journal = journal })) (sym same)
+    (record {
+      run = run;
+      stepped = stepped;
+      latest = subst (λ (es : List Entry). version ≡ (last_picture (world_after format (opening workers node) es)).version) is latest;
+      at = λ here. subst (λ (es : List Entry). IsAt proxy (world_after format (opening workers node) es)) is at;
+    })
 
--- what is known was lost
-pub loses : (proxy : Proxy) (parts : JournalParts) → IsRun parts.format parts.workers parts.node parts.journal
-    → HaveStepped parts.format parts.workers (opening parts.workers parts.node) parts.journal
-    → StandsFor true proxy parts
-loses proxy parts run stepped = record { run = run; stepped = stepped; at = λ here. absurd (cc here) }
+-- what is known but for the rows that were reaped
+pub at_but : (p : Proxy) (deferred : List GenRow × ℕ) (world : World) → IsAt p world → IsAt (record p { deferred = deferred }) world
+at_but p deferred world at = record { managed = at.managed; held = at.held; shown = at.shown }
 
 -- more entries behind, at whose world what is known is
-pub goes_on : (proxy : Proxy) (parts : JournalParts) (more : List Entry) → IsRun parts.format parts.workers parts.node parts.journal
+pub goes_on : (version : ℕ) (proxy : Proxy) (parts : JournalParts) (more : List Entry) → IsRun parts.format parts.workers parts.node parts.journal
     → HaveStepped parts.format parts.workers (opening parts.workers parts.node) parts.journal
     → RunsFrom parts.format parts.workers (world_now parts) more → IsUnbroken more → HaveStepped parts.format parts.workers (world_now parts) more
+    → version ≡ (last_picture (world_after parts.format (world_now parts) more)).version
     → IsAt proxy (world_after parts.format (world_now parts) more)
-    → StandsFor false proxy (with_entries more parts)
-goes_on proxy parts more run stepped runs whole steps at =
+    → StandsFor false version proxy (with_entries more parts)
+goes_on version proxy parts more run stepped runs whole steps latest at =
     let begun : World = opening parts.workers parts.node in
+    let there : world_after parts.format begun (parts.journal ++ more) ≡ world_after parts.format (world_now parts) more = after_append parts.format begun parts.journal more in
     record {
       run = record {
         answers = runs_append parts.format parts.workers begun parts.journal more run.answers runs;
         batches = unbroken_append parts.journal more run.batches whole;
       };
       stepped = stepped_append parts.format parts.workers begun parts.journal more stepped steps;
-      at = λ here. subst (IsAt proxy) (sym (after_append parts.format begun parts.journal more)) at;
+      latest = latest ∙ ap (λ (w : World). (last_picture w).version) (sym there);
+      at = λ here. subst (IsAt proxy) (sym there) at;
     }
 
 -- an event of the main side that was made on what is known, and its entry
-pub enters : (proxy : Proxy) (parts now : JournalParts) (given pushed : List Entry) (entry : Entry) (actor : Actor) (at n : ℕ) (event : Event) (answer : Answer)
+pub enters : (version : ℕ) (proxy : Proxy) (parts now given : JournalParts) (pushed : List Entry) (entry : Entry) (actor : Actor) (at n : ℕ) (event : Event) (answer : Answer)
     → IsRun parts.format parts.workers parts.node parts.journal
     → HaveStepped parts.format parts.workers (opening parts.workers parts.node) parts.journal
-    → parts ≡ now → given ≡ parts.journal → pushed ≡ parts.journal ++ entry ∷ []
+    → parts ≡ now → given ≡ parts → pushed ≡ parts.journal ++ entry ∷ []
     → entry ≡ record { actor = actor; at = at; step = n; event = event; answer = answer }
-    → IsMainSide actor → MayMake now.workers actor event → (world_now now).made + items_in event ≤ 4294967295
-    → answer ≡ (step parts.format (world_after parts.format (opening parts.workers parts.node) given) actor event).1
-    → IsAt proxy (step parts.format (world_after parts.format (opening parts.workers parts.node) given) actor event).0
-    → StandsFor false proxy (record parts { journal = pushed })
-enters proxy parts now given pushed entry actor at n event answer run stepped view same pushes is main allowed room answered led =
-    let here : List Entry → World = λ entries. world_after parts.format (opening parts.workers parts.node) entries in
+    → IsMainSide actor → MayMake now.workers actor event → SufficeFor event now
+    → answer ≡ (step given.format (world_now given) actor event).1
+    → version ≡ (last_picture (step given.format (world_now given) actor event).0).version
+    → IsAt proxy (step given.format (world_now given) actor event).0
+    → StandsFor false version proxy (record parts { journal = pushed })
+enters version proxy parts now given pushed entry actor at n event answer run stepped view same pushes is main allowed room answered latest led =
     let made : Entry = record { actor = actor; at = at; step = n; event = event; answer = answer } in
-    let enough : (world_now parts).made + items_in event ≤ 4294967295 =
-    subst (λ (p : JournalParts). (world_now p).made + items_in event ≤ 4294967295) (sym view) room in
+    let enough : SufficeFor event parts = subst (SufficeFor event) (sym view) room in
     let may : MayMake parts.workers actor event = subst (λ (p : JournalParts). MayMake p.workers actor event) (sym view) allowed in
-    let alone : is_batched event ≡ false = working_alone event (main_works parts.workers actor event main may) in
-    let whole : StandsFor false proxy (with_entries (made ∷ []) parts) =
-    goes_on proxy parts (made ∷ []) run stepped
-    (may, subst (λ (es : List Entry). answer ≡ (step parts.format (here es) actor event).1) same answered, tt)
+    let alone : is_batched event ≡ false = main_alone parts.workers actor event main may in
+    let whole : StandsFor false version proxy (with_entries (made ∷ []) parts) =
+    goes_on version proxy parts (made ∷ []) run stepped
+    (may, subst (λ (p : JournalParts). answer ≡ (step p.format (world_now p) actor event).1) same answered, tt)
     (λ h. absurd (both_ways (is_batched event) alone h), tt)
-    (record { allowed = may; room = omega (arith, enough) }, tt)
-    (subst (λ (es : List Entry). IsAt proxy (step parts.format (here es) actor event).0) same led) in
-    subst (λ (es : List Entry). StandsFor false proxy (record parts { journal = es })) (sym pushes)
-    (subst (λ (e : Entry). StandsFor false proxy (record parts { journal = parts.journal ++ e ∷ [] })) (sym is) whole)
+    (record { allowed = may; room = enough }, tt)
+    (subst (λ (p : JournalParts). version ≡ (last_picture (step p.format (world_now p) actor event).0).version) same latest)
+    (subst (λ (p : JournalParts). IsAt proxy (step p.format (world_now p) actor event).0) same led) in
+    subst (λ (es : List Entry). StandsFor false version proxy (record parts { journal = es })) (sym pushes)
+    (subst (λ (e : Entry). StandsFor false version proxy (record parts { journal = parts.journal ++ e ∷ [] })) (sym is) whole)
 
 -- it drew at most one number for each of its resources
 pub draws : (parts now : JournalParts) (pushed : List Entry) (entry : Entry) (event : Event) → parts ≡ now → pushed ≡ parts.journal ++ entry ∷ []
@@ -118,3 +128,13 @@ draws parts now pushed entry event view pushes same =
     (subst (λ (p : JournalParts). (world_after parts.format begun (parts.journal ++ entry ∷ [])).made ≤ (world_now p).made + items_in event) view
     (subst (λ n. (world_after parts.format begun (parts.journal ++ entry ∷ [])).made ≤ (world_now parts).made + n) same
     (entry_made parts.format begun parts.journal entry)))
+
+-- the rows that it reaped wait behind those that waited
+pub defers : (parts now given : JournalParts) (event : Event) (waiting before taken after : List GenRow) → parts ≡ now → given ≡ parts → waiting ≡ before
+    → after ≡ waiting ++ taken → AreRowsOf (numbers_reaped given.format (world_now given) event) (world_now given).rows taken → DefersReaped event now before after
+defers parts now given event waiting before taken after view same was is told =
+    let there : AreRowsOf (numbers_reaped now.format (world_now now) event) (world_now now).rows taken =
+    subst (λ (p : JournalParts). AreRowsOf (numbers_reaped p.format (world_now p) event) (world_now p).rows taken) (same ∙ view) told in
+    ap (λ (rows : List GenRow). map Some rows) is
+    ∙ map-append Some waiting taken
+    ∙ (λ i. map Some (was i) ++ there i)

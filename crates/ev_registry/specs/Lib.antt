@@ -1,1 +1,3 @@
 pub mod Registries
+pub mod Pasts
+pub mod Views

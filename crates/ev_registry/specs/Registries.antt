@@ -1,29 +1,32 @@
 -- What a registry keeps of its journal, and of what is known beside it.
-use Rattle.std.specs.Prelude.{◌≡◌, ℕ, ◌+◌, ◌<◌, ◌^◌, ⊤, Bool, false, List, [], ◌∷◌}
+use Rattle.std.specs.Prelude.{◌≡◌, ℕ, ⊤, Bool, false, List, [], ◌∷◌, ◌++◌, map, Some}
 use Rattle.ev_types.specs.Events.{MayMake}
-use Rattle.ev_types.specs.Scripts.{items_in}
 use Rattle.ev_types.specs.declared.events.Actor.TheVariants.{Worker}
 use Rattle.ev_types.specs.declared.events.Answer.TheVariants.{Settled}
 use Rattle.ev_types.specs.declared.events.Entry.{Entry}
+use Rattle.ev_types.specs.declared.events.Event.{Event}
 use Rattle.ev_types.specs.declared.events.Event.TheVariants.{Settle}
 use Rattle.ev_types.specs.declared.journals.Format.{Format}
 use Rattle.ev_types.specs.declared.rows.GenRow.{GenRow}
 use Rattle.ev_model.specs.World.{World, opening}
+use Rattle.ev_model.specs.Dead.{last_picture}
 use Rattle.ev_model.specs.Runs.{IsRun}
 use Rattle.ev_model.specs.Step.{step}
+use Rattle.ev_run_laws.specs.Drawing.{NumbersSuffice}
+use Rattle.ev_generations.specs.Tables.{row_in}
 use Rattle.ev_actors.specs.Journals.{JournalParts, world_now}
 use Rattle.ev_proxy.specs.declared.proxy.Proxy.{Proxy}
-use Rattle.ev_proxy.specs.Proxies.{IsAt}
+use Rattle.ev_proxy.specs.Proxies.{IsAt, numbers_reaped}
 
--- what contracts see of a registry: what was done, and the rows that the last event of the main side reaped, until they are taken
+-- what contracts see of a registry: what was done, and the rows that reapings removed, until they are taken
 pub record RegistryParts : Type 0 where
   pub journaled : JournalParts
   pub deferred : List GenRow
 
--- the actor may make the event in this world, and the numbers suffice for its resources
+-- the actor may make the event in this world, and the numbers suffice for its resources, where it brings some
 pub record MayStep (workers : ℕ) (world : World) (entry : Entry) : Type 0 where
   pub allowed : MayMake workers entry.actor entry.event
-  pub room : world.made + items_in entry.event < 2 ^ 32
+  pub room : NumbersSuffice world entry.event
 
 -- so it was with each of these entries, from this world on
 abbrev pub HaveStepped : Format → ℕ → World → List Entry → Type 0
@@ -36,8 +39,18 @@ abbrev pub settle_told : ℕ → ℕ → ℕ → List ℕ → ℕ → Entry
 settle_told worker at n closed version =
     record { actor = Worker worker; at = at; step = n; event = Settle; answer = Settled closed version }
 
--- the journal is a run, and what is known is that of the world after it, where it wasn't lost
-pub record StandsFor (is_lost : Bool) (proxy : Proxy) (parts : JournalParts) : Type 0 where
+-- The journal is a run, and what is known is that of the world after it, where it wasn't lost; the version is that of the last picture
+-- in any case.
+pub record StandsFor (is_lost : Bool) (version : ℕ) (proxy : Proxy) (parts : JournalParts) : Type 0 where
   pub run : IsRun parts.format parts.workers parts.node parts.journal
   pub stepped : HaveStepped parts.format parts.workers (opening parts.workers parts.node) parts.journal
+  pub latest : version ≡ (last_picture (world_now parts)).version
   pub at : is_lost ≡ false → IsAt proxy (world_now parts)
+
+-- behind the rows that waited stand those of these numbers, in their order, each as it stands among the others
+abbrev pub AreDeferred : List ℕ → List GenRow → List GenRow → List GenRow → Type 0
+AreDeferred numbers rows before after = map Some after ≡ map Some before ++ map (λ number. row_in number rows) numbers
+
+-- behind the rows that waited stand those of the generations that the event destroys in the world that a journal has led to
+abbrev pub DefersReaped : Event → JournalParts → List GenRow → List GenRow → Type 0
+DefersReaped event parts before after = AreDeferred (numbers_reaped parts.format (world_now parts) event) (world_now parts).rows before after

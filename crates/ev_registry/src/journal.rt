@@ -1,12 +1,18 @@
-ghost use Rattle.std.specs.Prelude.{◌≡◌, ◌≤◌, ◌+◌, [], ◌∷◌, IfOk, OnOk, OnErr};
+ghost use Rattle.std.specs.Prelude.{◌≡◌, ◌≤◌, ◌<◌, ◌+◌, [], IfOk, OnOk, OnErr};
+ghost use Rattle.std.specs.Arc.{arc_value};
 ghost use Rattle.ev_types.specs.Events.{IsMainSide, MayMake};
 ghost use Rattle.ev_types.specs.Scripts.{items_in};
-ghost use Rattle.ev_model.specs.Step.{step as machine_step};
-ghost use Rattle.ev_actors.specs.Journals.{with_entries, world_now};
-ghost use Rattle.ev_proxy.specs.Proxies.{AreRowsOf, numbers_reaped};
+ghost use Rattle.ev_model.specs.World.{opening};
+ghost use Rattle.ev_model.specs.Runs.{IsRun};
+ghost use Rattle.ev_actors.specs.Journals.{IsToldBehind, SufficeFor, WorksIn, answer_now, with_entry, with_settled, world_now};
+ghost use Rattle.ev_registry.specs.Registries.{DefersReaped, HaveStepped};
+ghost use Rattle.ev_registry.specs.Views.{view_of};
 
 use crate::batches::enter_batch;
-use crate::steps::{recover, settle_after, step_after, take_after};
+use crate::entries::{enter, entry_of};
+use crate::past::Past;
+use crate::steps::{make_anew, recover, settle_after, step_after};
+use crate::views::{View, rows_of};
 use ev_actors::Journaled;
 use ev_drain::Deferred;
 use ev_proxy::Proxy;
@@ -19,7 +25,8 @@ use std::mem::{drop, replace};
 use std::sync::Arc;
 
 /// What is known, and the journal of what was done: a run of the machine. Where want of memory cut an event off, what is known counts as
-/// lost, and is made anew out of the journal with the next event.
+/// lost, and is made anew out of the journal with the next event; the version of the last picture and the rows that wait to be dropped
+/// stand beside it, and stay.
 #[derive(Drop)]
 pub struct Registry {
     alloc: Global,
@@ -28,6 +35,8 @@ pub struct Registry {
     node: Text,
     proxy: Proxy,
     is_lost: bool,
+    version: u64,
+    deferred: Deferred,
     journal: Vec<Entry>,
 }
 
@@ -38,10 +47,10 @@ impl Model for Registry {
 
     ghost view = { λ r. record {
       journaled = record { format = r.format; workers = r.workers; node = r.node; journal = r.journal.items };
-      deferred = r.proxy.deferred.0;
+      deferred = r.deferred.0;
     } };
 
-    ghost invariant = { λ r. StandsFor r.is_lost r.proxy record { format = r.format; workers = r.workers; node = r.node; journal = r.journal.items } };
+    ghost invariant = { λ r. StandsFor r.is_lost r.version r.proxy record { format = r.format; workers = r.workers; node = r.node; journal = r.journal.items } };
 }
 
 impl Registry {
@@ -57,8 +66,32 @@ impl Registry {
         ensures empty { IfOk result (λ made. made.journaled ≡ record { format = format; workers = workers; node = node.now; journal = [] }) }
         ensures none { IfOk result (λ made. made.deferred ≡ []) }
     {
+        let registry = Registry::of_journal(alloc, format, workers, node, Vec::new(alloc))?;
+        Ok(registry)
+    }
+
+    /// The registry in which these entries were done, which are a run: each event once more, in order. No row waits to be dropped.
+    pub fn of_journal(
+        alloc: Global,
+        format: Format,
+        workers: u32,
+        node: &Text,
+        journal: Vec<Entry>,
+    ) -> Result<Registry, AllocError>
+        requires run { IsRun format workers node.now journal.items }
+        requires stepped { HaveStepped format workers (opening workers node.now) journal.items }
+        ensures shown { IfOk result (λ made. made.journaled ≡ record { format = format; workers = workers; node = node.now; journal = journal.items }) }
+        ensures none { IfOk result (λ made. made.deferred ≡ []) }
+    {
         let kept = node.copy(alloc)?;
-        let proxy = Proxy::new(alloc, workers, node)?;
+        let past = Past {
+            format,
+            workers,
+            node,
+            journal: journal.as_slice(),
+        };
+        let proxy = make_anew(alloc, past)?;
+        let version = proxy.version();
         Ok(Registry {
             alloc,
             format,
@@ -66,19 +99,26 @@ impl Registry {
             node: kept,
             proxy,
             is_lost: false,
-            journal: Vec::new(alloc),
+            version,
+            deferred: Deferred::new(alloc),
+            journal,
         })
     }
 
-    /// The rows of the generations that the last event of the main side reaped, for whoever drops them outside a lock; once they
-    /// are taken there are none. The next event of the main side drops those that weren't taken. It takes no memory.
-    pub fn take_deferred(&mut self) -> Seq<GenRow>
-        ensures rows { result ≡ self.old.deferred }
-        ensures none { self.new.deferred ≡ [] }
-        ensures journaled { self.new.journaled ≡ self.old.journaled }
+    /// What is known, as it is shown: the generations by number, each with how many connections are open on it. It is refused where want
+    /// of memory cut an event off, until the next event. It costs look-ups of each number that was drawn.
+    pub fn view(&self, alloc: Global) -> Result<View, AllocError>
+        ensures { IfOk result (λ view. view ≡ view_of (world_now self.now.journaled)) }
     {
-        let none = Deferred::new(self.alloc);
-        replace(&mut self.proxy.deferred, none).into_rows()
+        if self.is_lost {
+            return Err(AllocError);
+        }
+        let rows = rows_of(alloc, &self.proxy)?;
+        Ok(View {
+            rows,
+            phase: self.proxy.phase(),
+            version: self.version,
+        })
     }
 }
 
@@ -94,75 +134,61 @@ impl Journaled for Registry {
     ) -> Result<Answer, AllocError>
         requires main { IsMainSide actor }
         requires allowed { MayMake self.old.journaled.workers actor event.now }
-        requires numbered { (world_now self.old.journaled).made + items_in event.now ≤ u32.MAX }
-        ensures answer { IfOk result (λ answer. answer ≡ (machine_step self.old.journaled.format (world_now self.old.journaled) actor event.now).1) }
-        ensures entry { IfOk result (λ answer. self.new.journaled ≡ with_entries (record { actor = actor; at = at; step = step; event = event.now; answer = answer } ∷ []) self.old.journaled) }
+        requires numbered { SufficeFor event.now self.old.journaled }
+        ensures answer { IfOk result (λ answer. answer ≡ answer_now actor event.now self.old.journaled) }
+        ensures entry { IfOk result (λ answer. self.new.journaled
+            ≡ with_entry record { actor = actor; at = at; step = step; event = event.now; answer = answer } self.old.journaled) }
         ensures drawn { OnOk result ((world_now self.new.journaled).made ≤ (world_now self.old.journaled).made + items_in event.now) }
-        // What a reaping names is deferred, each row as the world had it; no other event defers a row.
-        ensures deferred { OnOk result (AreRowsOf (numbers_reaped self.old.journaled.format (world_now self.old.journaled) event.now) (world_now self.old.journaled).rows self.new.deferred) }
+        // What a reaping names waits behind the rows that waited, each row as the world had it; no other event puts a row there.
+        ensures deferred { OnOk result (DefersReaped event.now self.old.journaled self.old.deferred self.new.deferred) }
         ensures err { OnErr result (self.new.journaled ≡ self.old.journaled) }
+        ensures kept { OnErr result (self.new.deferred ≡ self.old.deferred) }
     {
         let is_lost = replace(&mut self.is_lost, true);
-        recover(
-            &mut self.proxy,
-            is_lost,
-            self.alloc,
-            self.format,
-            self.workers,
-            &self.node,
-            self.journal.as_slice(),
-        )?;
-        let answer = step_after(
-            &mut self.proxy,
-            self.alloc,
-            self.format,
-            self.workers,
-            &self.node,
-            self.journal.as_slice(),
-            actor,
-            event,
-        )?;
+        let past = Past {
+            format: self.format,
+            workers: self.workers,
+            node: &self.node,
+            journal: self.journal.as_slice(),
+        };
+        recover(&mut self.proxy, is_lost, self.alloc, past)?;
+        let answer = step_after(&mut self.proxy, self.alloc, past, actor, event)?;
         let entry = entry_of(self.alloc, actor, at, step, event, &answer)?;
-        self.journal.push(entry)?;
+        enter(
+            &mut self.journal,
+            &mut self.deferred,
+            &mut self.proxy.deferred,
+            entry,
+        )?;
+        self.version = self.proxy.version();
         self.is_lost = false;
         Ok(answer)
     }
 
-    fn apply_batch(&mut self, worker: &Worker, at: u32, step: u32) -> Result<Settled, AllocError> {
+    fn apply_batch(&mut self, worker: &Worker, at: u32, step: u32) -> Result<Settled, AllocError>
+        requires within { worker.now.number < self.old.journaled.workers }
+        requires works { WorksIn worker.now (world_now self.old.journaled) }
+        ensures entries { OnOk result (self.new.journaled ≡ with_settled worker.now at step self.old.journaled) }
+        ensures told { IfOk result (λ settled. IsToldBehind worker.now settled.closed (arc_value settled.snapshot) self.old.journaled) }
+        ensures err { OnErr result (self.new.journaled ≡ self.old.journaled) }
+        // The rows that wait go on waiting.
+        ensures deferred { self.new.deferred ≡ self.old.deferred }
+    {
         let was_lost = replace(&mut self.is_lost, true);
-        recover(
-            &mut self.proxy,
-            was_lost,
-            self.alloc,
-            self.format,
-            self.workers,
-            &self.node,
-            self.journal.as_slice(),
-        )?;
-        // what was drawn for generations is a number
-        let _ = self.proxy.made();
-        take_after(
-            &mut self.proxy,
-            self.format,
-            self.workers,
-            &self.node,
-            self.journal.as_slice(),
-            worker,
-        )?;
-        let settled = settle_after(
-            &mut self.proxy,
-            self.alloc,
-            self.format,
-            self.workers,
-            &self.node,
-            self.journal.as_slice(),
-            worker,
-        )?;
+        let past = Past {
+            format: self.format,
+            workers: self.workers,
+            node: &self.node,
+            journal: self.journal.as_slice(),
+        };
+        recover(&mut self.proxy, was_lost, self.alloc, past)?;
+        let settled = settle_after(&mut self.proxy, self.alloc, past, worker)?;
         let entered = enter_batch(&mut self.journal, self.alloc, worker, at, step, &settled);
         if let Err(error) = entered {
             drop(settled);
             return Err(error);
         }
+        self.version = self.proxy.version();
         self.is_lost = false;
         Ok(settled)
     }
@@ -175,27 +201,21 @@ impl Journaled for Registry {
         self.proxy.snapshot()
     }
 
+    fn latest(&self) -> u64 {
+        self.version
+    }
+
+    // Exactly those that reapings removed since the last call.
+    fn take_deferred(&mut self) -> Seq<GenRow>
+        ensures same { self.new.journaled ≡ self.old.journaled }
+        ensures rows { result ≡ self.old.deferred }
+        ensures none { self.new.deferred ≡ [] }
+    {
+        let none = Deferred::new(self.alloc);
+        replace(&mut self.deferred, none).into_rows()
+    }
+
     fn journal(&self) -> &[Entry] {
         self.journal.as_slice()
     }
-}
-
-// An event with its answer, as an entry.
-fn entry_of(
-    alloc: Global,
-    actor: Actor,
-    at: u32,
-    step: u32,
-    event: &Event,
-    answer: &Answer,
-) -> Result<Entry, AllocError>
-    ensures { IfOk result (λ entry. entry ≡ record { actor = actor; at = at; step = step; event = event.now; answer = answer.now }) }
-{
-    Ok(Entry {
-        actor,
-        at,
-        step,
-        event: event.copy(alloc)?,
-        answer: answer.copy(alloc)?,
-    })
 }

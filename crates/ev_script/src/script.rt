@@ -1,4 +1,4 @@
-ghost use Rattle.std.specs.Prelude.{◌≡◌, ◌+◌, ◌<◌, ◌≤◌, ◌⊎◌, List, ℕ, None, Err, IsTrue, IsSome, true, false, OnOk, IfOk, option_and_then, length};
+ghost use Rattle.std.specs.Prelude.{◌≡◌, ◌+◌, ◌<◌, ◌≤◌, ◌⊎◌, List, ℕ, None, Err, IsTrue, IsSome, true, false, OnErr, OnOk, IfOk, option_and_then, length};
 ghost use Rattle.std.specs.Io.KnownBytes.{IsAtEnd};
 ghost use Rattle.ev_io.specs.Outside.{Rose, Takes};
 ghost use Rattle.ev_io.specs.LinesState.{HasTaken, IsWithin};
@@ -174,6 +174,7 @@ fn with_items(count: u32, items: usize) -> Result<u32, AllocError>
     requires { count < 4294967295 }
     ensures sum { IfOk result (λ sum. sum ≡ count + items) }
     ensures few { IfOk result (λ sum. sum < 4294967295) }
+    ensures full { OnErr result (4294967295 ≤ count + items) }
 {
     if items >= (u32::MAX - count) as usize {
         return Err(AllocError);

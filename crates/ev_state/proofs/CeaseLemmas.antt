@@ -1,5 +1,6 @@
 -- Which generations ceased to be live: those that retired, of either kind.
 use Rattle.std.proofs.Common.{◌≡◌, ◌∙◌, ℕ, Bool, true, false, cond, not, ◌&&◌, ◌||◌, List, Option, None, Some, refl, sym, ap}
+use Rattle.std.proofs.Math.Bool.{or-false}
 use Rattle.std.proofs.lemmas.Bool.{false≢true}
 use Rattle.ev_types.specs.Kinds.{kind_same}
 use Rattle.ev_types.specs.declared.contents.Kind.{Kind}
@@ -17,10 +18,6 @@ use Rattle.ev_state.proofs.AgeLemmas.{found-later}
 use Rattle.ev_state.proofs.FindLemmas.{only, found-only, whole-found}
 use Rattle.ev_state.proofs.WholeLemmas.{AreWhole}
 
-or_false : (b : Bool) → (b || false) ≡ b
-or_false true = refl
-or_false false = refl
-
 -- it is over now, and wasn't before
 abbrev ended : Option GenRow → Option GenRow → Bool
 ended before after = is_over after && not (is_over before)
@@ -35,7 +32,7 @@ new_one row whole = by row.kind whole
   where
     by : (kind : Kind) → is_by_name kind ≡ false
         → (ended None (cond (kind_same kind Cds) (Some row) None) || ended None (cond (kind_same kind Lds) (Some row) None)) ≡ ended None (Some row)
-    by Cds isnt = or_false (ended None (Some row))
+    by Cds isnt = or-false (ended None (Some row))
     by Eds isnt = absurd (false≢true (sym isnt))
     by Lds isnt = refl
     by Rds isnt = absurd (false≢true (sym isnt))
@@ -50,7 +47,7 @@ old_one first row same whole =
     by : (kind : Kind) → is_by_name kind ≡ false
         → (ended (cond (kind_same kind Cds) (Some first) None) (cond (kind_same kind Cds) (Some row) None)
         || ended (cond (kind_same kind Lds) (Some first) None) (cond (kind_same kind Lds) (Some row) None)) ≡ ended (Some first) (Some row)
-    by Cds isnt = or_false (ended (Some first) (Some row))
+    by Cds isnt = or-false (ended (Some first) (Some row))
     by Eds isnt = absurd (false≢true (sym isnt))
     by Lds isnt = refl
     by Rds isnt = absurd (false≢true (sym isnt))

@@ -1,5 +1,6 @@
 -- Sorted lists of names, each once: two with the same names are one, and what stands in those that generations left and brought.
 use Rattle.std.proofs.Common.{◌≡◌, ◌∙◌, ℕ, ◌-◌, Bool, true, false, cond, not, ◌&&◌, ◌||◌, List, [], ◌∷◌, Option, None, Some, option_to_list, refl, sym, ap, subst}
+use Rattle.std.proofs.Math.Bool.{or-false}
 use Rattle.std.specs.Prelude.{nat_le}
 use Rattle.std.specs.Cmp.Lexicographic.{slice_cmp}
 use Rattle.std.specs.List.{AllByRecursion, list_any, flat_map}
@@ -83,11 +84,7 @@ any_both p q b same (x ∷ xs) = (λ i. same x i || any_both p q b same xs i) �
 
 among_need : (name : List ℕ) (need : Option (List ℕ)) → is_among name (option_to_list need) ≡ is_needed name need
 among_need name None = refl
-among_need name (Some needed) = by (bytes_eq needed name)
-  where
-    by : (b : Bool) → (b || false) ≡ b
-    by true = refl
-    by false = refl
+among_need name (Some needed) = or-false (bytes_eq needed name)
 
 pub among-watched : (rows : List GenRow) (name : List ℕ) → is_among name (names_watched rows) ≡ list_any (depends_on name) rows
 among-watched rows name = among_sorted (names_needed rows) name ∙ by rows

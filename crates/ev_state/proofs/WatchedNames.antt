@@ -1,5 +1,6 @@
 -- The names that are watched, as a sorted list and by a test.
 use Rattle.std.proofs.Common.{◌≡◌, ℕ, Bool, true, false, not, ◌||◌, ◌&&◌, cond, List, [], ◌∷◌, filter, Option, Some, None, refl, sym, ap, ◌∙◌}
+use Rattle.std.proofs.Math.Bool.{or-false}
 use Rattle.std.specs.List.{list_any, flat_map, dedup, dedup_from}
 use Rattle.std.specs.Str.{bytes_eq}
 use Rattle.std.proofs.lemmas.Bool.{cond_both}
@@ -52,12 +53,8 @@ awaited_is : (kind : Kind) (name : List ℕ) (dependency : Option Dependency) �
 awaited_is kind name None = refl
 awaited_is kind name (Some dependency) = by (kind_same dependency.kind kind)
   where
-    or_false : (b : Bool) → (b || false) ≡ b
-    or_false true = refl
-    or_false false = refl
-
     by : (b : Bool) → is_among name (cond b (dependency.name ∷ []) []) ≡ (b && bytes_eq dependency.name name)
-    by true = or_false (bytes_eq dependency.name name)
+    by true = or-false (bytes_eq dependency.name name)
     by false = refl
 
 any_awaited : (kind : Kind) (name : List ℕ) (lives : List Live)

@@ -1,20 +1,14 @@
--- The events that change what the managers, the subscription and the targets know: those of the stream and the health checker, fetch
--- timeouts, and ends of times to live.
-use Rattle.std.specs.Prelude.{Bool, true, false}
+-- The events that change what the managers, the subscription or the targets know.
 use Rattle.ev_types.specs.declared.events.Event.{Event}
-use Rattle.ev_types.specs.declared.events.Event.TheVariants.{Connect, Disconnect, Response, Health, FetchTimeout, DrainTimeout, TtlExpired, Publish, Reap, Accept, Close, Settle}
+use Rattle.ev_types.specs.declared.events.Event.TheVariants.{Connect, Disconnect, Response, Health, FetchTimeout, TtlExpired}
+use Rattle.ev_state.specs.declared.managed.Managed.{Managed}
+use Rattle.ev_state.specs.declared.managed.Managed.TheVariants.{Connect as connects, Disconnect as disconnects, Response as responds, Health as results, FetchTimeout as times_out, TtlExpired as expires}
 
--- the event is one of them
-abbrev pub is_managed : Event → Bool
-is_managed Connect = true
-is_managed Disconnect = true
-is_managed (Response response) = true
-is_managed (Health cluster host healthy) = true
-is_managed (FetchTimeout timeout) = true
-is_managed (DrainTimeout listener) = false
-is_managed (TtlExpired kind name) = true
-is_managed Publish = false
-is_managed Reap = false
-is_managed (Accept ask) = false
-is_managed (Close connection) = false
-is_managed Settle = false
+-- such an event, among all events
+abbrev pub event_of : Managed → Event
+event_of connects = Connect
+event_of disconnects = Disconnect
+event_of (responds response) = Response response.now
+event_of (results cluster host healthy) = Health cluster.now host.now healthy
+event_of (times_out timeout) = FetchTimeout timeout.now
+event_of (expires kind name) = TtlExpired kind name.now

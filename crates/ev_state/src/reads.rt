@@ -19,6 +19,13 @@ impl State {
         self.managers.clusters.made()
     }
 
+    /// How far the proxy has booted.
+    pub fn phase(&self) -> Phase
+        ensures { (world : World) → IsAt self.now world → result ≡ world.phase }
+    {
+        self.targets.phase()
+    }
+
     /// The generation of this number. It costs a look-up among clusters, and one among listeners where no cluster has the number.
     pub fn row(&self, number: Gen) -> Option<&GenRow>
         ensures { (world : World) → IsAt self.now world → option_copied result ≡ row_in number world.rows }

@@ -37,7 +37,7 @@ impl State {
     ) -> Result<Stepped, AllocError>
         ghost here: { World }
         requires at { IsAt self.old here }
-        requires room { here.made + length response.now.items < 2 ^ 32 }
+        requires room { 0 < length response.now.items → here.made + length response.now.items < 2 ^ 32 }
         ensures { IfOk result (λ stepped. AreSteps self.new stepped here (respond response.now here)) }
     {
         match response.kind {
@@ -57,7 +57,7 @@ impl State {
         ghost here: { World }
         requires at { IsAt self.old here }
         requires typed { response.now.kind ≡ Some kind }
-        requires room { here.made + length response.now.items < 2 ^ 32 }
+        requires room { 0 < length response.now.items → here.made + length response.now.items < 2 ^ 32 }
         ensures { IfOk result (λ stepped. AreSteps self.new stepped here (answered kind response.now (verdicts_of (lives_of here) here.versions response.now) here)) }
     {
         let mentions = Mentions::of(alloc, response)?;
@@ -92,7 +92,7 @@ impl State {
         ghost here: { World }
         requires at { IsAt self.old here }
         requires typed { mentions.now.kind ≡ Some kind }
-        requires room { here.made + length mentions.now.items < 2 ^ 32 }
+        requires room { 0 < length mentions.now.items → here.made + length mentions.now.items < 2 ^ 32 }
         requires one_each { length verdicts.now ≡ length mentions.now.items }
         requires judged { verdicts.now ≡ verdicts_of (lives_of here) here.versions mentions.now }
         ensures kept { OnOk result (AreKept self.new.managers) }

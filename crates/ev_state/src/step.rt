@@ -1,4 +1,4 @@
-ghost use Rattle.std.specs.Prelude.{◌≡◌, ◌+◌, ◌^◌, ◌<◌, IsTrue, IfOk, OnOk};
+ghost use Rattle.std.specs.Prelude.{◌≡◌, ◌+◌, ◌^◌, ◌<◌, IfOk, OnOk};
 ghost use Rattle.ev_types.specs.Scripts.{items_in};
 ghost use Rattle.ev_types.specs.declared.events.Actor.{Actor};
 ghost use Rattle.ev_types.specs.declared.journals.Format.{Format};
@@ -6,15 +6,16 @@ ghost use Rattle.ev_model.specs.World.{World};
 ghost use Rattle.ev_model.specs.Step.{step as machine_step};
 ghost use Rattle.ev_model.specs.Signals.{fetch_timeout};
 ghost use Rattle.ev_managers.specs.Managers.{AreForgotten, AreKept};
-ghost use Rattle.ev_state.specs.Managed.{is_managed};
+ghost use Rattle.ev_state.specs.Managed.{event_of};
 ghost use Rattle.ev_state.specs.Changed.{HaveChanged};
 ghost use Rattle.ev_state.specs.Retirements.{HaveCeased};
 ghost use Rattle.ev_state.specs.States.{Follows, IsAt, Steps as AreSteps};
 
+use crate::managed::Managed;
 use crate::state::State;
 use crate::stepped::Stepped;
 use ev_generations::Steps;
-use ev_types::{Event, FetchTimeout, Kind};
+use ev_types::{FetchTimeout, Kind};
 use std::alloc::{AllocError, Global};
 use std::marker::Brand;
 use std::sync::ledger::{Blank, Ledger};
@@ -23,15 +24,14 @@ impl State {
     /// What an event does, its answer, which generations it retired, and of which a picture may show something else: one step of the
     /// machine. Who brings the event makes no difference, nor do the rules of the format. After want of memory nothing is promised of
     /// the state.
-    pub fn step(&mut self, alloc: Global, event: &Event) -> Result<Stepped, AllocError>
+    pub fn step(&mut self, alloc: Global, event: Managed<'_>) -> Result<Stepped, AllocError>
         ghost here: { World }
         requires at { IsAt self.old here }
-        requires managed { IsTrue (is_managed event.now) }
-        requires room { here.made + items_in event.now < 2 ^ 32 }
-        ensures at { OnOk result ((format : Format) (actor : Actor) → IsAt self.new (machine_step format here actor event.now).0) }
-        ensures answer { IfOk result (λ stepped. (format : Format) (actor : Actor) → stepped.answer ≡ (machine_step format here actor event.now).1) }
-        ensures ceased { IfOk result (λ stepped. (format : Format) (actor : Actor) → HaveCeased stepped.retired here (machine_step format here actor event.now).0) }
-        ensures changed { IfOk result (λ stepped. (format : Format) (actor : Actor) → HaveChanged stepped.changed here (machine_step format here actor event.now).0) }
+        requires room { 0 < items_in (event_of event) → here.made + items_in (event_of event) < 2 ^ 32 }
+        ensures at { OnOk result ((format : Format) (actor : Actor) → IsAt self.new (machine_step format here actor (event_of event.entry)).0) }
+        ensures answer { IfOk result (λ stepped. (format : Format) (actor : Actor) → stepped.answer ≡ (machine_step format here actor (event_of event.entry)).1) }
+        ensures ceased { IfOk result (λ stepped. (format : Format) (actor : Actor) → HaveCeased stepped.retired here (machine_step format here actor (event_of event.entry)).0) }
+        ensures changed { IfOk result (λ stepped. (format : Format) (actor : Actor) → HaveChanged stepped.changed here (machine_step format here actor (event_of event.entry)).0) }
     {
         let stepped = self.counted::<Brand>(Blank::new(1), alloc, event)?;
         Ok(stepped)
@@ -42,30 +42,28 @@ impl State {
         &mut self,
         blank: Blank,
         alloc: Global,
-        event: &Event,
+        event: Managed<'_>,
     ) -> Result<Stepped, AllocError>
         ghost here: { World }
         requires name { blank.name ≡ L.name }
         requires parts { blank.parts ≡ L.parts }
         requires one { L.parts ≡ 1 }
         requires at { IsAt self.old here }
-        requires managed { IsTrue (is_managed event.now) }
-        requires room { here.made + items_in event.now < 2 ^ 32 }
-        ensures { (format : Format) (actor : Actor) → IfOk result (λ stepped. AreSteps self.new stepped here (machine_step format here actor event.now)) }
+        requires room { 0 < items_in (event_of event) → here.made + items_in (event_of event) < 2 ^ 32 }
+        ensures { (format : Format) (actor : Actor) → IfOk result (λ stepped. AreSteps self.new stepped here (machine_step format here actor (event_of event.entry))) }
     {
         let mut steps = Steps::<L>::new(blank);
         match event {
-            Event::Connect => self.connect(alloc, &mut steps),
-            Event::Disconnect => self.disconnect(alloc, &mut steps),
-            Event::Response(response) => self.respond(alloc, response, &mut steps),
-            Event::Health {
+            Managed::Connect => self.connect(alloc, &mut steps),
+            Managed::Disconnect => self.disconnect(alloc, &mut steps),
+            Managed::Response(response) => self.respond(alloc, response, &mut steps),
+            Managed::Health {
                 cluster,
                 host,
                 healthy,
-            } => self.health(alloc, cluster, host, *healthy, &mut steps),
-            Event::FetchTimeout(timeout) => self.fetch_timeout(alloc, timeout, &mut steps),
-            Event::TtlExpired { kind, name } => self.ttl_expired(alloc, *kind, name, &mut steps),
-            _ => unreachable!(),
+            } => self.health(alloc, cluster, host, healthy, &mut steps),
+            Managed::FetchTimeout(timeout) => self.fetch_timeout(alloc, timeout, &mut steps),
+            Managed::TtlExpired { kind, name } => self.ttl_expired(alloc, kind, name, &mut steps),
         }
     }
 

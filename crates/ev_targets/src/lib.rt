@@ -1,5 +1,12 @@
 //! How far the proxy has booted: which names the first response of clusters, and of listeners, made generations for, whether either
 //! is late, and the phase. No event looks at all first names: a name that was seen waiting is asked first.
+//!
+//! # Choices
+//!
+//! - The first names are kept as the machine keeps them, in order; which of them wait isn't counted. A count would
+//!   have to be moved at every arrival, promotion and retirement of a first name, by three crates; the place of one
+//!   name that was seen waiting needs nothing of them.
+//! - `advance` takes both managers, and asks the listeners only where the first clusters have come.
 #![tactic(auto)]
 
 ghost use Rattle.std.specs.Prelude.{◌≡◌, ◌&&◌, ◌||◌, not, ℕ, List, true, length, is_some, if◌then◌else◌, OnOk};

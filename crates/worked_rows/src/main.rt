@@ -134,7 +134,11 @@ fn answers<R: Threads + Wait + Sync>(
 // script, its fault, and writes nothing.
 fn tells_failure<R: Threads + Wait + Sync>(
     rt: &R,
-    alloc: Global, row: &Row, input: &[u8], number: u64) -> io::Result<bool> {
+    alloc: Global,
+    row: &Row,
+    input: &[u8],
+    number: u64,
+) -> io::Result<bool> {
     let mut fails = Vec::new(alloc);
     fails.push(number)?;
     let mut source = MemSource::new(input.to_vec(alloc)?, 1, fails);
@@ -154,7 +158,11 @@ fn tells_failure<R: Threads + Wait + Sync>(
 // Whether the program, which reads one byte at once, ends a row as it has to where each read behind the end of the input fails.
 fn reads_no_further<R: Threads + Wait + Sync>(
     rt: &R,
-    alloc: Global, row: &Row, input: &[u8], wanted: &[u8]) -> io::Result<bool> {
+    alloc: Global,
+    row: &Row,
+    input: &[u8],
+    wanted: &[u8],
+) -> io::Result<bool> {
     let mut fails = Vec::new(alloc);
     fails.push((input.len() as u64).saturating_add(2))?;
     let mut source = MemSource::new(input.to_vec(alloc)?, 1, fails);
@@ -174,7 +182,11 @@ fn reads_no_further<R: Threads + Wait + Sync>(
 // Whether the program tells of each write of a row's output that it fails, with what was written before it in the sink.
 fn tells_lost_writes<R: Threads + Wait + Sync>(
     rt: &R,
-    alloc: Global, row: &Row, input: &[u8], wanted: &[u8]) -> io::Result<bool> {
+    alloc: Global,
+    row: &Row,
+    input: &[u8],
+    wanted: &[u8],
+) -> io::Result<bool> {
     for (place, _) in wanted.chunks(WRITTEN).enumerate() {
         let written = place.saturating_mul(WRITTEN).min(wanted.len());
         let number = (place as u64).saturating_add(1);

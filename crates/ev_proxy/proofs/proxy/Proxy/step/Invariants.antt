@@ -11,3 +11,12 @@ ghost-publish g a = g.here
 
 abbrev pub ghost-reap : goal.ghost-reap
 ghost-reap g a = g.here
+
+abbrev pub ghost-accept : goal.ghost-accept
+ghost-accept g a = g.here
+
+abbrev pub ghost-close : goal.ghost-close
+ghost-close g a = g.here
+
+abbrev pub ghost-settle_by : goal.ghost-settle_by
+ghost-settle_by g a = g.here

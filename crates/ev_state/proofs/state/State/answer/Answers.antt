@@ -30,7 +30,7 @@ take-requires g c κs within =
         (
           typed,
           (
-            subst (λ (r : ResponseParts). g.here.made + length r.items < 4294967296) (sym c.in_ok-mentions.ensures) c.requires.1.1.1,
+            subst (λ (r : ResponseParts). 0 < length r.items → g.here.made + length r.items < 4294967296) (sym c.in_ok-mentions.ensures) c.requires.1.1.1,
             (
               ap length c.as_slice.ensures.elements ∙ c.in_ok-verdicts.ensures.one_each,
               c.as_slice.ensures.elements ∙ c.in_ok-verdicts.ensures.judged c.args.kind g.here at typed,

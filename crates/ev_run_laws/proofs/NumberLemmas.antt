@@ -1,5 +1,6 @@
 -- At most one number is drawn for each resource.
 use Rattle.std.proofs.Common.{◌≡◌, ℕ, ◌+◌, ◌≤◌, Bool, true, false, cond, List, [], ◌∷◌, ◌++◌, length, refl, sym, subst, arith}
+use Rattle.std.proofs.lemmas.List.Sums.{sum_by-cons}
 use Rattle.ev_types.specs.Items.{ItemParts, ResponseParts}
 use Rattle.ev_types.specs.Scripts.{items_in}
 use Rattle.ev_types.specs.declared.contents.Kind.{Kind}
@@ -13,7 +14,7 @@ use Rattle.ev_types.specs.declared.events.Event.{Event}
 use Rattle.ev_types.specs.declared.events.Verdict.{Verdict}
 use Rattle.ev_types.specs.declared.events.Verdict.TheVariants.{New, Same, Kept, Unasked, Renewed, Refused}
 use Rattle.ev_types.specs.declared.journals.Format.{Format}
-use Rattle.ev_model.specs.World.{World}
+use Rattle.ev_model.specs.World.{World, opening}
 use Rattle.ev_model.specs.Live.{lives_of}
 use Rattle.ev_model.specs.Verdicts.{verdicts_for}
 use Rattle.ev_model.specs.Watching.{is_watched}
@@ -23,6 +24,8 @@ use Rattle.ev_model.specs.Runs.{world_after}
 use Rattle.ev_model.specs.Step.{step}
 use Rattle.ev_model.proofs.RunLemmas.{world_after-more}
 use Rattle.ev_model_laws.proofs.EventLemmas.{step-leads}
+use Rattle.ev_model_laws.proofs.NumberLemmas.{draws_in_order}
+use Rattle.ev_run_laws.specs.Drawing.{items_entered}
 
 content_made : (change : Content → World → World) (body : Body) (world : World)
     → ((content : Content) → (change content world).made ≤ world.made + 1)
@@ -109,6 +112,30 @@ step_made format world actor event =
       settled = λ worker is by. few world.made (items_in event);
     })
 
+-- so one without resources draws none
+pub rest_made : (format : Format) (world : World) (actor : Actor) (event : Event) → items_in event ≡ 0 → (step format world actor event).0.made ≡ world.made
+rest_made format world actor event none =
+    let most : (step format world actor event).0.made ≤ world.made + items_in event = step_made format world actor event in
+    let least : world.made ≤ (step format world actor event).0.made = draws_in_order.counts format world actor event in
+    omega arith
+
+-- entries draw at most one number for each of theirs
+pub after_made : (format : Format) (world : World) (entries : List Entry) → (world_after format world entries).made ≤ world.made + items_entered entries
+after_made format world [] = few world.made 0
+after_made format world (entry ∷ entries) =
+    let next : World = (step format world entry.actor entry.event).0 in
+    let one : next.made ≤ world.made + items_in entry.event = step_made format world entry.actor entry.event in
+    let more : (world_after format next entries).made ≤ next.made + items_entered entries = after_made format next entries in
+    let all : items_entered (entry ∷ entries) ≡ items_in entry.event + items_entered entries = sum_by-cons (λ (e : Entry). items_in e.event) entry entries in
+    omega arith
+
+-- so in a journal at most as many were drawn as its events have resources
+pub journal_made : (format : Format) (workers : ℕ) (node : List ℕ) (entries : List Entry) → (world_after format (opening workers node) entries).made ≤ items_entered entries
+journal_made format workers node entries =
+    let most : (world_after format (opening workers node) entries).made ≤ 0 + items_entered entries = after_made format (opening workers node) entries in
+    omega arith
+
+-- one entry more
 pub entry_made : (format : Format) (world : World) (entries : List Entry) (entry : Entry)
     → (world_after format world (entries ++ entry ∷ [])).made ≤ (world_after format world entries).made + items_in entry.event
 entry_made format world entries entry =

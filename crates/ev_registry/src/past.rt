@@ -1,0 +1,10 @@
+use ev_types::{Entry, Format, Text};
+
+/// What led to what is known: entries, by the rules of a format, for so many workers.
+#[derive(Clone, Copy)]
+pub(crate) struct Past<'a> {
+    pub(crate) format: Format,
+    pub(crate) workers: u32,
+    pub(crate) node: &'a Text,
+    pub(crate) journal: &'a [Entry],
+}

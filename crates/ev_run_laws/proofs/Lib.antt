@@ -1,0 +1,4 @@
+pub mod NumberLemmas
+pub mod RowLemmas
+pub mod InUseLemmas
+pub mod OpenLemmas

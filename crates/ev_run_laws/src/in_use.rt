@@ -1,0 +1,13 @@
+ghost use Rattle.ev_run_laws.specs.InUse.{RunsOpenWhatIsOpen, RunsUseNothingGone};
+
+/// A law of every run, in both formats: no generation that a worker's picture or the last one shows, or that a connection is open
+/// on, was reaped before. It does nothing.
+pub fn use_nothing_that_was_reaped()
+    ensures { RunsUseNothingGone }
+{}
+
+/// A law of every run, in both formats: each open connection is that of an accept that opened it, and no entry since has closed it.
+/// It does nothing.
+pub fn open_connections_were_opened()
+    ensures { RunsOpenWhatIsOpen }
+{}
