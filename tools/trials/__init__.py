@@ -1,1 +1,53 @@
-"""Trials of single tools. Each module has `run(check)`; tools/check calls them all."""
+"""Trials of single tools. Each module has `run(check)`; tools/check calls them all. What they share stands here."""
+import contextlib
+import importlib.machinery
+import importlib.util
+import io
+import os
+import subprocess
+import traceback
+
+TOP = os.path.dirname(os.path.dirname(os.path.dirname(os.path.realpath(__file__))))
+
+
+def loaded(path):
+    """The module that a script without an ending is."""
+    name = 'loaded_' + os.path.basename(path)
+    loader = importlib.machinery.SourceFileLoader(name, f'{TOP}/{path}')
+    module = importlib.util.module_from_spec(importlib.util.spec_from_loader(name, loader))
+    loader.exec_module(module)
+    return module
+
+
+def called(main, *words):
+    """(status, standard output, standard error) of a tool's main, in this process. A traceback is status 'traceback'."""
+    out, errors = io.StringIO(), io.StringIO()
+    with contextlib.redirect_stdout(out), contextlib.redirect_stderr(errors):
+        try:
+            status = main([str(word) for word in words])
+        except SystemExit as ended:
+            status = ended.code
+        except Exception:
+            status = 'traceback'
+            traceback.print_exc()
+    return status, out.getvalue(), errors.getvalue()
+
+
+def ran(*words, data=b'', **how):
+    """(status, standard output, standard error) of a command, both as bytes."""
+    done = subprocess.run(words, input=data, capture_output=True, **how)
+    return done.returncode, done.stdout, done.stderr
+
+
+def content(path):
+    with open(path, 'rb') as file:
+        return file.read()
+
+
+def written(path, text, mode=0o644):
+    """A file with this text, and its path."""
+    os.makedirs(os.path.dirname(path), exist_ok=True)
+    with open(path, 'w') as file:
+        file.write(text)
+    os.chmod(path, mode)
+    return path

@@ -11,7 +11,8 @@ LINK = re.compile(r'\[[^\]\[]*\]\(([^)\s]+)\)')
 QUOTED = re.compile(r'`([^`\n]+)`')
 FENCE = re.compile(r'^ *(```|~~~)')
 PATH = re.compile(r'(?:\./)?[\w.*-]+(?:/[\w.*-]+)*/?')
-COMMAND = re.compile(r'(?<![\w/.-])(\./warmgate|(?:tools|bench)/\w+)(?= |$|\))')
+# A command of this repository, or of a package that is unpacked as warmgate/.
+COMMAND = re.compile(r'(?<![\w/.-])(?:warmgate/)?(\./warmgate|(?:tools|bench)/\w+)(?= |$|\))')
 TURNS = {'|', '||', '&&', ';', '&'}
 REDIRECTION = re.compile(r'\d*[<>]+&?\d*')
 PRINTS = re.compile(r'^\$ \./warmgate replay < examples/(\w+)\.jsonl \| tools/explain examples/\1\.jsonl$')
@@ -87,7 +88,7 @@ def paths_in(quoted, tops):
         word = word.rstrip('.,:;')
         if not PATH.fullmatch(word):
             continue
-        first = word[2:] if word.startswith('./') else word
+        first = word[2:] if word.startswith('./') else word.removeprefix('warmgate/')
         is_path = '/' in first and first.split('/')[0] in tops or word.startswith('./') or first in tops and '.' in first
         if is_path and not re.search(r'(?:^|/)[A-Z_]{2,}(?:/|\.|$)', re.sub(r'[A-Z]+\.md$', '', first)) and '/out/' not in first:
             yield first
@@ -179,7 +180,7 @@ def faults_of_printed(block):
 
 PLANTED = [
     ('[x](docs/NOPE.md)', 'link'), ('[x](docs/FORMATS.md#nope)', 'link'), ('see `tools/nope`', 'link'), ('see `crates/ev_nope/specs/`', 'link'),
-    ('    tools/nope x', 'command'), ('    tools/why --nope x', 'command'), ('    ./warmgate replay x', 'command'),
+    ('    parallel warmgate/tools/nope x', 'command'), ('    tools/nope x', 'command'), ('    tools/why --nope x', 'command'), ('    ./warmgate replay x', 'command'),
     ('    ./warmgate nope < x | tools/explain x', 'command'), ('    ./warmgate', 'command'), ('```\n./warmgate replay < x | tools/explain --nope x\n```', 'command'),
     ('    $ ./warmgate replay < examples/connect.jsonl | tools/explain examples/connect.jsonl\n    nope', 'printed'),
 ]

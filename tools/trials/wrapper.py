@@ -6,7 +6,7 @@ import signal
 import subprocess
 import tempfile
 
-TOP = os.path.dirname(os.path.dirname(os.path.dirname(os.path.realpath(__file__))))
+from trials import TOP, content, ran, written
 
 RT = r'''#!/bin/sh
 echo "$*" >> "$0.calls"
@@ -44,18 +44,6 @@ WORDS = [
 ]
 
 
-def content(path):
-    with open(path, 'rb') as file:
-        return file.read()
-
-
-def written(path, text, mode=0o644):
-    os.makedirs(os.path.dirname(path), exist_ok=True)
-    with open(path, 'w') as file:
-        file.write(text)
-    os.chmod(path, mode)
-
-
 class Trial:
     """A repository with the wrapper, and a folder with the stand-in for rt."""
 
@@ -73,8 +61,7 @@ class Trial:
         self.with_rt = {**self.bare, 'PATH': f'{folder}/bin:/usr/bin:/bin'}
 
     def start(self, *words, data=b'3\n', env=None, **more):
-        done = subprocess.run([self.link, *words], input=data, capture_output=True, env={**(env or self.bare), **more})
-        return done.returncode, done.stdout, done.stderr
+        return ran(self.link, *words, data=data, env={**(env or self.bare), **more})
 
     def calls(self):
         return content(f'{self.rt}.calls').decode().split('\n')[:-1] if os.path.exists(f'{self.rt}.calls') else []

@@ -1,0 +1,94 @@
+"""tools/tally: the line of a recording by a stand-in for the program, its statuses, the table, and a folder by GNU parallel."""
+import json
+import os
+import shutil
+import subprocess
+import tempfile
+
+from trials import TOP, called, content, loaded, written
+
+TALLY = f'{TOP}/tools/tally'
+WAITS = f'{TOP}/tools/trials/data/tally/waits'
+
+# Ends as the environment says, and else answers each script of the trial with its journal.
+PROGRAM = f'''#!/bin/sh
+[ "$1" = replay ] || exit 2
+case $ENDS in
+'') ;;
+killed) kill -KILL $$ ;;
+*) echo "line 4: fault 6" >&2; exit "$ENDS" ;;
+esac
+case $(cat) in
+*edge-7*) cat '{WAITS}.journal.jsonl' ;;
+*edge-1*) cat '{TOP}/examples/realistic.journal.jsonl' ;;
+*noJournal*) echo nothing ;;
+*) cat '{TOP}/examples/refused_here.journal.jsonl' ;;
+esac
+'''
+WAITING = {'lines': 4, 'recording': 'waits.jsonl', 'refused': {'Envoy too': 1, 'profile': 1}, 'rules': {'V11': 1, 'V7': 1}, 'status': 0,
+           'waits': ['cluster \'pay\' (generation 2) waits for endpoints \'pay-eu\''], 'warming': 1}
+NOTHING = {'refused': {}, 'rules': {}, 'waits': [], 'warming': 0}
+
+
+def run(check):
+    main = loaded('tools/tally').main
+    with tempfile.TemporaryDirectory() as folder:
+        program = written(f'{folder}/program', PROGRAM, 0o755)
+        lines(check, main, folder, program)
+        table(check, main, folder)
+        if shutil.which('parallel'):
+            folder_by_parallel(check, folder, program)
+        else:
+            print('docs/FLEET.md is not tried: GNU parallel is not installed')
+
+
+def lines(check, main, folder, program):
+    told = lambda path: called(main, path, '--program', program, '--journals', f'{folder}/journals')
+    status, out, errors = told(f'{WAITS}.jsonl')
+    check((status, json.loads(out), errors) == (0, WAITING, ''), f'tally of a recording that warms on: {status} {out} {errors}')
+    check(content(f'{WAITS}.journal.jsonl') == content(f'{folder}/journals/waits.journal.jsonl'), 'tally --journals keeps the journal')
+    check(os.listdir(f'{folder}/journals') == ['waits.journal.jsonl'], 'tally --journals keeps nothing else')
+    status, out, errors = told(f'{TOP}/examples/refused_here.jsonl')
+    check(json.loads(out)['refused'] == {'Envoy too': 1, 'not known': 1, 'profile': 4}, f'tally of examples/refused_here.jsonl: {out}')
+    for ends, wanted in (('3', 3), ('6', 6), ('126', 126), ('killed', 137)):
+        os.environ['ENDS'] = ends
+        status, out, errors = told(f'{WAITS}.jsonl')
+        del os.environ['ENDS']
+        line = json.loads(out)
+        fault = '' if ends == 'killed' else 'line 4: fault 6'
+        check(status == wanted and line == {**NOTHING, 'recording': 'waits.jsonl', 'lines': 4, 'status': wanted, 'fault': fault}, f'tally of a replay that ends with {ends}: {status} {out}')
+    status, out, errors = told(f'{folder}/none.jsonl')
+    check(status == 4 and json.loads(out)['status'] == 4, f'tally of a recording that isn\'t there: {status} {out} {errors}')
+    status, out, errors = told(written(f'{folder}/other.jsonl', '{"workers":1,"node":"noJournal"}\n'))
+    check(status == 1 and json.loads(out)['status'] == 1, f'tally of what is no journal: {status} {out} {errors}')
+    check(called(main)[0] == 2 and called(main, '--no-such')[0] == 2, 'tally with wrong arguments')
+    check(called(main, '--help')[0] == 0, 'tally --help')
+
+
+def table(check, main, folder):
+    line = {**NOTHING, 'recording': 'a', 'status': 0, 'lines': 2}
+    given = [{**line, 'status': 3, 'fault': 'line 1: fault 5'}, line, {**WAITING, 'recording': 'w'}, {**line, 'recording': 'z', 'status': 6, 'fault': 'out of memory'},
+             {**line, 'recording': 'q', 'refused': {'profile': 12}, 'rules': {'V7': 12}}]
+    data = ''.join(json.dumps(line) + '\n' for line in given)
+    told = lambda text, *words: called(main, '--table', written(f'{folder}/lines', text), *words)
+    status, out, errors = told(data)
+    check(status == 0 and out.startswith('recordings   4\nstatus 0     3\nstatus 6     1\nrefused      profile 13, Envoy too 1\nby rule      V7 13, V11 1\n'
+                                         'warm on      1 generations in 1 recordings\n'), f'the head of a table: {out}')
+    names = [row.split()[5].rstrip(':') for row in out.split('recording\n')[-1].splitlines()]
+    check(names == ['z', 'w', 'q'], f'the rows of a table, the worst first: {names}')
+    check('and 2 recordings more\n' in told(data, '--most', '1')[1], 'a table of many')
+    status, out, errors = told(data + '{"recording":"x"}\nnothing\n')
+    check(status == 1 and out.startswith('recordings   4\n') and 'line 6 is none' in errors and 'line 7 is none' in errors, f'a table of what is no line: {errors}')
+    check(told('')[:2] == (0, 'recordings   0\nrefused      none\nby rule      none\nwarm on      0 generations in 0 recordings\n'), 'a table of nothing')
+
+
+def folder_by_parallel(check, folder, program):
+    """The lines of docs/FLEET.md over three recordings, with a restart between them."""
+    os.makedirs(f'{folder}/recordings')
+    for path in (f'{WAITS}.jsonl', f'{TOP}/examples/realistic.jsonl', f'{TOP}/examples/refused_here.jsonl'):
+        shutil.copy(path, f'{folder}/recordings')
+    tell = f'parallel --will-cite --joblog runs.tsv --resume --arg-file list.txt {TALLY} {{}} --program {program} >> lines.jsonl'
+    line = f'ls recordings/*.jsonl | head -n 1 > list.txt; {tell}; ls recordings/*.jsonl > list.txt; {tell}; {tell}; {TALLY} --table lines.jsonl; wc -l < lines.jsonl'
+    done = subprocess.run(line, shell=True, cwd=folder, capture_output=True, text=True, timeout=60, env={**os.environ, 'HOME': folder})
+    out = done.stdout
+    check(out.startswith('recordings   3\nstatus 0     3\nrefused      profile 5, Envoy too 2, not known 1\n') and out.endswith('\n3\n'), f'a folder by GNU parallel: {done}')
