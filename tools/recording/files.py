@@ -130,17 +130,22 @@ class Recording:
     def scripts(self):
         return [file for file in (self.script, self.whole) if file]
 
+    def begin(self, node=None):
+        """Writes the header, once, with the node's id where it can stand there."""
+        if self.begun:
+            return
+        header = {'workers': 1, **({'node': node} if node else {})}
+        if script.read_script(text_of(header)).faults:
+            self.notes.add(f'the node\'s id has {len(node.encode())} bytes: it is left out of the header')
+            header = {'workers': 1}
+        self.begun, self.node = True, header.get('node')
+        for file in self.scripts():
+            file.write(text_of(header))
+
     def connect(self, node=None):
-        """A stream opens. The first one writes the header, with the node's id where it can stand there."""
+        """A stream opens."""
         with self.lock:
-            if not self.begun:
-                header = {'workers': 1, **({'node': node} if node else {})}
-                if script.read_script(text_of(header)).faults:
-                    self.notes.add(f'the node\'s id has {len(node.encode())} bytes: it is left out of the header')
-                    header = {'workers': 1}
-                self.begun, self.node = True, header.get('node')
-                for file in self.scripts():
-                    file.write(text_of(header))
+            self.begin(node)
             for file in self.scripts():
                 file.write(CONNECT)
             self.requests.write(text_of({'op': 'connect', 'protocol': self.protocol}))
@@ -212,8 +217,7 @@ class Recording:
             if self.closed:
                 return
             self.closed = True
-            if not self.begun:
-                self.connect()
+            self.begin()
             self.disconnect()
             for words, times in self.printer.unknown.items():
                 self.notes.add(f'not known here, and printed all the same: {words}', times)

@@ -1,0 +1,119 @@
+"""The client: it sends what the program says of the script so far, and records what comes."""
+import queue
+import threading
+import time
+
+import grpc
+
+from .decoding import encoded
+from .files import Recording
+from .program import rows_of
+from .protocols import DELTA, METHODS, REQUESTS
+from .wires import channel_to
+
+METHOD = next(method for method, protocol in METHODS.items() if protocol == DELTA)
+POLL, AGAIN = 0.2, 0.5
+
+
+class Client:
+    """One client, stream after stream, until the time is over, nothing comes any more, or `stop` is set. Times are seconds."""
+
+    def __init__(self, address, tls, program, folder, node, seconds, quiet, stop):
+        self.address, self.program, self.node, self.quiet, self.stop = address, program, node, quiet, stop
+        self.channel = channel_to(address, tls)
+        self.recording = Recording(folder, 'client', DELTA)
+        self.until = None if seconds is None else time.monotonic() + seconds
+        self.heard, self.told, self.streams = time.monotonic(), 1, 0
+
+    def over(self):
+        now = time.monotonic()
+        return (self.stop.is_set() or self.recording.script.file is None or (self.until is not None and now >= self.until)
+                or (self.quiet is not None and now >= self.heard + self.quiet))
+
+    def run(self):
+        """The number of streams that were opened."""
+        try:
+            while not self.over():
+                if self.ready():
+                    self.stream()
+                self.stop.wait(AGAIN)
+        finally:
+            self.recording.close()
+            self.channel.close()
+        return self.streams
+
+    def ready(self):
+        """Whether the control plane can be reached, before the time is over."""
+        future = grpc.channel_ready_future(self.channel)
+        while not self.over():
+            try:
+                future.result(POLL)
+                return True
+            except grpc.FutureTimeoutError:
+                continue
+        future.cancel()
+        if not self.streams:
+            self.recording.notes.add(f'{self.address} can\'t be reached')
+        return False
+
+    def stream(self):
+        outgoing, incoming = queue.SimpleQueue(), queue.SimpleQueue()
+        call = self.channel.stream_stream(METHOD)(iter(outgoing.get, None))
+        threading.Thread(target=received, args=(call, incoming), daemon=True).start()
+        self.recording.connect(self.node)
+        self.streams, self.heard = self.streams + 1, time.monotonic()
+        try:
+            self.send(outgoing, 1)
+            while not self.over():
+                try:
+                    data = incoming.get(timeout=POLL)
+                except queue.Empty:
+                    continue
+                if data is None:
+                    self.recording.notes.add(f'the control plane ended a stream: {call.code().name} {call.details() or ""}'.rstrip())
+                    return
+                self.heard = time.monotonic()
+                self.send(outgoing, len(self.recording.response(data)))
+        finally:
+            outgoing.put(None)
+            call.cancel()
+            self.recording.disconnect()
+            self.told += 1
+
+    def send(self, outgoing, lines):
+        """Sends the requests of the last lines of the script, which are one event."""
+        for tree in self.requests(lines):
+            data = encoded(REQUESTS[DELTA], tree).SerializeToString()
+            self.recording.request(data)
+            outgoing.put(data)
+
+    def requests(self, lines):
+        if not lines:
+            return []
+        with open(self.recording.script.path, 'rb') as file:
+            rows = rows_of(self.program, file.read())
+        first, self.told = self.told + 1, self.told + lines
+        answers = [row.answer for row in rows if first <= row.at <= self.told and row.op in ('connect', 'response')]
+        return one_reply([request for answer in answers if answer != 'ignored' for request in answer['requests']], lines)
+
+
+def one_reply(requests, parts):
+    """The replies to the parts of a split response (nonces N-0, N-1 and so on) as one, to N; the other requests as they are."""
+    if parts < 2:
+        return requests
+    replies = [request for request in requests if 'responseNonce' in request]
+    merged = {**replies[0], 'responseNonce': replies[0]['responseNonce'].rpartition('-')[0]}
+    errors = [reply['errorDetail'] for reply in replies if 'errorDetail' in reply]
+    if errors:
+        merged['errorDetail'] = {**errors[0], 'message': '; '.join(error['message'] for error in errors)}
+    return [merged, *(request for request in requests if 'responseNonce' not in request)]
+
+
+def received(call, incoming):
+    """Puts each response into the queue, and None where the stream ends."""
+    try:
+        for data in call:
+            incoming.put(data)
+    except grpc.RpcError:
+        pass
+    incoming.put(None)

@@ -1,0 +1,81 @@
+"""Processes of the trials, each ended by its own id, and what they write."""
+import contextlib
+import json
+import os
+import signal
+import socket
+import subprocess
+import sys
+import time
+
+TOOLS = os.path.dirname(os.path.dirname(os.path.dirname(os.path.realpath(__file__))))
+MOST = 30
+
+
+def until(good, seconds=MOST):
+    """Waits for something to become so. Whether it did."""
+    end = time.monotonic() + seconds
+    while time.monotonic() < end:
+        if good():
+            return True
+        time.sleep(0.05)
+    return False
+
+
+def free_port():
+    with socket.socket() as found:
+        found.bind(('127.0.0.1', 0))
+        return found.getsockname()[1]
+
+
+def ran(*words, **how):
+    """(status, standard output, standard error) of a tool."""
+    done = subprocess.run([sys.executable, '-B', f'{TOOLS}/{words[0]}', *words[1:]], capture_output=True, text=True, timeout=MOST, **how)
+    return done.returncode, done.stdout, done.stderr
+
+
+@contextlib.contextmanager
+def started(words, errors, **how):
+    """A process, ended by Ctrl-C and waited for."""
+    with open(errors, 'w') as file:
+        process = subprocess.Popen([sys.executable, '-B', *words], stderr=file, **how)
+    try:
+        yield process
+    finally:
+        process.send_signal(signal.SIGINT)
+        try:
+            process.wait(10)
+        except subprocess.TimeoutExpired:
+            process.kill()
+            process.wait()
+
+
+def lines_of(path):
+    with open(path, encoding='utf-8') as file:
+        return [json.loads(line) for line in file]
+
+
+@contextlib.contextmanager
+def relay_started(folder, upstream, *words, **how):
+    """A relay on a free port, which it gives: its files are in folder/out, and what it says in folder/relay.err."""
+    port, errors = free_port(), f'{folder}/relay.err'
+    command = [f'{TOOLS}/record', '--listen', f'127.0.0.1:{port}', '--upstream', f'127.0.0.1:{upstream}', '--out', f'{folder}/out']
+    with started([*command, '--seconds', str(4 * MOST), *words], errors, **how):
+        until(lambda: 'listening' in text_of(errors))
+        yield port
+
+
+def text_of(path):
+    with open(path, encoding='utf-8') as file:
+        return file.read()
+
+
+def joined(folder, name, *streams):
+    """The scripts and the requests of several streams as one script and its requests: (script, requests)."""
+    script, requests = f'{folder}/{name}.jsonl', f'{folder}/{name}.requests.jsonl'
+    with open(script, 'w') as file:
+        for place, stream in enumerate(streams):
+            file.writelines(text_of(f'{stream}.jsonl').splitlines(True)[place > 0:])
+    with open(requests, 'w') as file:
+        file.writelines(text_of(f'{stream}.requests.jsonl') for stream in streams)
+    return script, requests

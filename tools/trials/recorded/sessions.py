@@ -1,0 +1,223 @@
+"""What is tried of tools/record: whole sessions on loopback, and what goes wrong."""
+import os
+import resource
+import shutil
+import signal
+import subprocess
+import tempfile
+import threading
+
+import grpc
+from recording.messages import CLASSES
+from recording.protocols import DELTA, DISCOVERY, METHODS
+from recording.wires import OPTIONS
+from shared.resources import URLS
+
+from . import bodies, units
+from .grpc_session import GrpcSession
+from .planes import RawPlane, Server, StepsPlane
+from .processes import MOST, TOOLS, free_port, joined, lines_of, ran, relay_started, text_of, until
+
+DELTA_METHOD = next(method for method, protocol in METHODS.items() if protocol == DELTA)
+
+
+def run(check, program):
+    units.run(check)
+    trials = [client_through_relay, raw_through_relay, relay_without_upstream, relay_on_full_disk, relay_with_tls, wrong_arguments]
+    if program:
+        trials += [grpc_through_relay, client_with_steps]
+    for trial in trials:
+        with tempfile.TemporaryDirectory() as folder:
+            trial(check, program, folder)
+
+
+def is_script(check, *paths):
+    for path in paths:
+        status, out, errors = ran('why', path)
+        check(status == 0, f'{path} is no script: {out}{errors}')
+
+
+# gRPC's client
+
+def grpc_through_relay(check, program, folder):
+    missed = (session := GrpcSession(folder)).run()
+    check(not missed, f'gRPC\'s client through the relay: {missed}; it said {session.heard()[-3:]}')
+    out = f'{folder}/out'
+    names = sorted(os.listdir(out))
+    wanted = [f'stream-{number}.{ending}' for number in (1, 2) for ending in ('jsonl', 'requests.jsonl', 'sotw.jsonl')]
+    check(names == wanted, f'the relay\'s files are {names}')
+    is_script(check, *(f'{out}/{name}' for name in wanted if 'requests' not in name))
+    script, requests = joined(folder, 'client', f'{out}/stream-1', f'{out}/stream-2')
+    is_script(check, script)
+    status, out, errors = ran('record', '--compare', script, requests, '--answers', '--program', program)
+    check(status == 0 and ' alike' in out, f'gRPC\'s acknowledgements over a lost stream: {status} {out}{errors}')
+    status, out, errors = ran('record', '--compare', script, requests, '--program', program)
+    check(status == 1 and 'answer' not in out.splitlines()[-1] and 'names' in out.splitlines()[-1],
+          f'gRPC\'s names and versions: {status} {out}{errors}')
+    refused = [line['message'] for line in lines_of(requests) if 'errorDetail' in line.get('message', {})]
+    check([(message['errorDetail']['code'], message['versionInfo']) for message in refused] == [(3, '1')], f'gRPC refused {refused}')
+
+
+# The client
+
+def steps():
+    """A control plane's session: a first start, a refusal, a stream that ends, and removals behind it."""
+    return [
+        response('cds', {'c': bodies.cluster('c', 's'), 'd': bodies.static_cluster('d', 81)}, 'v1'),
+        response('eds', {'s': bodies.assignment('s', 80)}, 'e1'),
+        response('lds', {'in': bodies.listener('in', 'r', 8080)}, 'l1'),
+        response('rds', {'r': bodies.routes('r', 'c')}, 'r1'),
+        response('cds', {'c': bodies.cluster_without_source('c'), 'e': bodies.static_cluster('e', 82)}, 'v2'),
+        None,
+        response('cds', {'c': bodies.cluster('c', 't')}, 'v3', ['d']),
+        response('eds', {'t': bodies.assignment('t', 83)}, 'e2'),
+    ]
+
+
+def response(kind, resources, version, removed=()):
+    made = [{'name': name, 'version': version, 'resource': bodies.any_of(*body)} for name, body in resources.items()]
+    return CLASSES[DISCOVERY + 'DeltaDiscoveryResponse'](type_url=URLS[kind], resources=made, removed_resources=removed)
+
+
+def client_with_steps(check, program, folder):
+    """The client through the relay: both record the same, and what the client sent is what the program says."""
+    plane = StepsPlane(steps())
+    server = Server(plane)
+    try:
+        with relay_started(folder, server.port) as port:
+            status, _, errors = ran('record', '--connect', f'127.0.0.1:{port}', '--node', 'edge-1', '--until-quiet', '1.5', '--seconds',
+                                    str(MOST - 5), '--out', f'{folder}/client', '--program', program)
+    finally:
+        server.stop()
+    check(status == 0 and '2 streams, 7 responses' in errors, f'the client with steps: {status} {errors}')
+    check(plane.next == len(plane.steps) and len(plane.requests) == 2, f'the control plane sent {plane.next} steps')
+    refused = [request for seen in plane.requests for request in seen if request.error_detail.code]
+    check([(r.response_nonce, r.error_detail.code, r.error_detail.message) for r in refused] == [('n5', 13, 'c: V8')], f'{refused}')
+    held = {(entry.key, entry.value) for request in plane.requests[-1][:4] for entry in request.initial_resource_versions}
+    check(held == {('c', 'v1'), ('d', 'v1'), ('e', 'v2'), ('s', 'e1'), ('in', 'l1'), ('r', 'r1')}, f'the second stream began with {held}')
+    own = f'{folder}/client/client.jsonl'
+    script, requests = joined(folder, 'relayed', f'{folder}/out/stream-1', f'{folder}/out/stream-2')
+    is_script(check, own)
+    check(text_of(script) == text_of(own), 'the relay and the client recorded other scripts')
+    for pair in ((own, f'{folder}/client/client.requests.jsonl'), (script, requests)):
+        status, out, errors = ran('record', '--compare', *pair, '--program', program)
+        check(status == 0 and out.splitlines()[-1].endswith('alike'), f'the client beside the program: {status} {out}{errors}')
+
+
+def client_through_relay(check, program, folder):
+    """What the client says where nothing is there."""
+    status, _, errors = ran('record', '--connect', f'127.0.0.1:{free_port()}', '--seconds', '1', '--out', f'{folder}/out',
+                            '--program', program or '/bin/true')
+    check(status == 1 and 'can\'t be reached' in errors, f'the client without a control plane: {status} {errors}')
+    is_script(check, f'{folder}/out/client.jsonl')
+    status, _, errors = ran('record', '--connect', '127.0.0.1:1', '--seconds', '1', '--out', f'{folder}/out', '--program', '/bin/true')
+    check(status == 2 and 'has a recording already' in errors, f'the client with a folder that is taken: {status} {errors}')
+
+
+# The relay
+
+def call_of(port, *requests, metadata=()):
+    """An incremental stream as bytes, which sends these and stays open: (channel, call, an event that ends it)."""
+    channel, held = grpc.insecure_channel(f'127.0.0.1:{port}', OPTIONS), threading.Event()
+
+    def sent():
+        yield from requests
+        held.wait(MOST)
+
+    call = channel.stream_stream(DELTA_METHOD)(sent(), metadata=metadata, timeout=MOST)
+    return channel, call, held
+
+
+def first_request():
+    return CLASSES[DISCOVERY + 'DeltaDiscoveryRequest'](node={'id': 'raw-1'}, type_url=URLS['cds']).SerializeToString()
+
+
+def raw_through_relay(check, program, folder):
+    """Bytes, metadata and an undecodable message pass; Ctrl-C ends the file while the stream is open."""
+    good = response('cds', {'a': bodies.static_cluster('a', 80)}, 'v1')
+    good.nonce = 'n1'
+    answers = [good.SerializeToString() + b'\xa2\x06\x01x', b'\xff\xff', good.SerializeToString()]
+    plane = RawPlane(*answers)
+    server = Server(plane)
+    try:
+        with relay_started(folder, server.port) as port:
+            channel, call, held = call_of(port, first_request(), metadata=[('authorization', 'Bearer x')])
+            came = [next(call) for _ in answers]
+        held.set()
+        channel.close()
+    finally:
+        server.stop()
+    check(came == answers and plane.came == [first_request()], 'the relay changed bytes')
+    check(plane.metadata[0].get('authorization') == 'Bearer x', f'the relay passed on {plane.metadata}')
+    script = f'{folder}/out/stream-1.jsonl'
+    is_script(check, script)
+    lines = lines_of(script)
+    check([line.get('op') for line in lines] == [None, 'connect', 'response', 'response', 'disconnect'], f'the script is {lines}')
+    check(lines[0]['node'] == 'raw-1' and lines[2]['message']['unknownField100'] == 'eA==', f'the script is {lines}')
+    notes = text_of(f'{folder}/out/stream-1.notes.txt')
+    check('a response isn\'t written: 2 bytes are no' in notes and 'DeltaDiscoveryResponse has unknownField100' in notes, f'notes: {notes}')
+
+
+def relay_without_upstream(check, program, folder):
+    with relay_started(folder, free_port()) as port:
+        channel, call, held = call_of(port, first_request())
+        try:
+            next(call)
+        except grpc.RpcError as error:
+            check(error.code() is grpc.StatusCode.UNAVAILABLE, f'without upstream the relay says {error.code()}')
+        held.set()
+        channel.close()
+        until(lambda: os.path.exists(f'{folder}/out/stream-1.notes.txt'), 5)
+    check('didn\'t answer' in text_of(f'{folder}/relay.err'), f'the relay says {text_of(f"{folder}/relay.err")}')
+    is_script(check, f'{folder}/out/stream-1.jsonl')
+
+
+def limit_files():
+    signal.signal(signal.SIGXFSZ, signal.SIG_IGN)
+    resource.setrlimit(resource.RLIMIT_FSIZE, (900, 900))
+
+
+def relay_on_full_disk(check, program, folder):
+    """Files end at 900 bytes: the stream goes on, and what is there is a script."""
+    good = response('cds', {'a': bodies.static_cluster('a', 80)}, 'v1')
+    good.nonce = 'n1'
+    answers = [good.SerializeToString()] * 5
+    server = Server(RawPlane(*answers))
+    try:
+        with relay_started(folder, server.port, preexec_fn=limit_files) as port:
+            channel, call, held = call_of(port, first_request())
+            came = [next(call) for _ in answers]
+            held.set()
+            channel.close()
+    finally:
+        server.stop()
+    check(came == answers, 'with a full disk the stream didn\'t go on')
+    is_script(check, f'{folder}/out/stream-1.jsonl')
+    check(1 < len(lines_of(f'{folder}/out/stream-1.jsonl')) < 7, 'the script ends where the disk was full')
+    check('can\'t be written' in text_of(f'{folder}/relay.err'), f'the relay says {text_of(f"{folder}/relay.err")}')
+
+
+def relay_with_tls(check, program, folder):
+    """TLS on both sides, where openssl is there to make a certificate."""
+    if not shutil.which('openssl') or not program:
+        return
+    certificate, key = f'{folder}/certificate.pem', f'{folder}/key.pem'
+    subprocess.run(['openssl', 'req', '-x509', '-newkey', 'rsa:2048', '-nodes', '-days', '2', '-subj', '/CN=localhost', '-addext',
+                    'subjectAltName=DNS:localhost,IP:127.0.0.1', '-keyout', key, '-out', certificate], check=True, capture_output=True)
+    server = Server(StepsPlane(steps()[:2]), (key, certificate))
+    try:
+        with relay_started(folder, server.port, '--upstream-ca', certificate, '--listen-cert', certificate, '--listen-key', key) as port:
+            status, _, errors = ran('record', '--connect', f'127.0.0.1:{port}', '--until-quiet', '1', '--seconds', '15', '--out',
+                                    f'{folder}/client', '--upstream-ca', certificate, '--program', program)
+    finally:
+        server.stop()
+    check(status == 0 and '2 responses' in errors, f'with TLS on both sides: {status} {errors}')
+
+
+def wrong_arguments(check, program, folder):
+    for words in ([], ['--listen', '127.0.0.1:0'], ['--connect', 'x:1'], ['--connect', 'x:1', '--listen', 'y:1', '--upstream', 'z:1'],
+                  ['--connect', 'x:1', '--out', folder, '--seconds', '-1'], ['--connect', 'x:1', '--out', folder, '--program', '/no/such'],
+                  ['--compare', 'examples/connect.jsonl', 'x', '--program', '/no/such'],
+                  ['--connect', 'x:1', '--out', folder, '--program', '/bin/true', '--node', 'n' * 513]):
+        status, _, errors = ran('record', *words, cwd=os.path.dirname(TOOLS))
+        check(status == 2 and 'Traceback' not in errors, f'record {" ".join(words)}: {status} {errors}')
