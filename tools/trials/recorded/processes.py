@@ -9,10 +9,11 @@ import signal
 import socket
 import subprocess
 import sys
+import threading
 import time
 
 TOOLS = os.path.dirname(os.path.dirname(os.path.dirname(os.path.realpath(__file__))))
-MOST = 30
+MOST = 60
 
 
 def until(good, seconds=MOST):
@@ -42,10 +43,14 @@ RECORD = importlib.util.module_from_spec(importlib.util.spec_from_loader(LOADER.
 LOADER.exec_module(RECORD)
 
 
+# Trials run side by side, and what one of them catches of standard output is that of the whole process.
+OUTPUT = threading.Lock()
+
+
 def called(*words):
     """The same in this process."""
     out, errors = io.StringIO(), io.StringIO()
-    with contextlib.redirect_stdout(out), contextlib.redirect_stderr(errors):
+    with OUTPUT, contextlib.redirect_stdout(out), contextlib.redirect_stderr(errors):
         try:
             status = RECORD.main(list(words))
         except SystemExit as ended:

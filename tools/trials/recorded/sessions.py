@@ -1,4 +1,5 @@
 """What is tried of tools/record: whole sessions on loopback, and what goes wrong."""
+import contextlib
 import os
 import re
 import shutil
@@ -18,24 +19,28 @@ from shared.shown import read_file
 from . import bodies, units
 from .grpc_session import GrpcSession, OtherwiseSession
 from .planes import RawPlane, Server, StepsPlane
-from .processes import MOST, TOOLS, called, free_port, joined, lines_of, recorded, relay_started, text_of, until
+from .processes import MOST, OUTPUT, TOOLS, called, free_port, joined, lines_of, recorded, relay_started, text_of, until
 
 DELTA_METHOD = next(method for method, protocol in METHODS.items() if protocol == DELTA)
 
 
 def run(check, program):
-    """The sessions of gRPC's client go on while the others are tried."""
+    """The trials, side by side."""
+    def told(good, words):
+        with OUTPUT:
+            check(good, words)
+
     units.run(check)
-    trials = [client_alone, raw_through_relay, relay_without_upstream, relay_on_full_disk, wrong_arguments]
+    trials = [grpc_through_relay, grpc_otherwise, client_alone, raw_through_relay, relay_without_upstream, relay_on_full_disk, wrong_arguments]
     trials += [client_with_steps, relay_with_tls] if program else []
-    with tempfile.TemporaryDirectory() as first, tempfile.TemporaryDirectory() as second, futures.ThreadPoolExecutor(2) as pool:
-        session, otherwise = GrpcSession(first), OtherwiseSession(second)
-        going = [pool.submit(session.run), pool.submit(otherwise.run)]
-        for trial in trials:
-            with tempfile.TemporaryDirectory() as folder:
-                trial(check, program, folder)
-        grpc_through_relay(check, program, session, going[0].result())
-        grpc_otherwise(check, program, otherwise, going[1].result())
+    with futures.ThreadPoolExecutor(len(trials)) as pool:
+        for going in [pool.submit(in_folder, trial, told, program) for trial in trials]:
+            going.result()
+
+
+def in_folder(trial, check, program):
+    with tempfile.TemporaryDirectory() as folder:
+        trial(check, program, folder)
 
 
 def is_script(check, *paths):
@@ -46,7 +51,9 @@ def is_script(check, *paths):
 
 # gRPC's client
 
-def grpc_through_relay(check, program, session, missed):
+def grpc_through_relay(check, program, folder):
+    session = GrpcSession(folder)
+    missed = session.run()
     check(not missed, f'gRPC\'s client through the relay: {missed}; it said {session.heard()[-3:]}')
     out = f'{session.folder}/out'
     names = sorted(os.listdir(out))
@@ -81,7 +88,9 @@ OTHERWISE = {
 }
 
 
-def grpc_otherwise(check, program, session, missed):
+def grpc_otherwise(check, program, folder):
+    session = OtherwiseSession(folder)
+    missed = session.run()
     check(not missed, f'gRPC\'s client otherwise: {missed}; it said {session.heard()[-3:]}')
     own, requests = f'{session.folder}/out/stream-1.jsonl', f'{session.folder}/out/stream-1.requests.jsonl'
     is_script(check, own)
@@ -118,7 +127,7 @@ def client_with_steps(check, program, folder):
     server = Server(plane)
     try:
         with relay_started(folder, server.port) as port:
-            status, _, errors = recorded('--connect', f'127.0.0.1:{port}', '--node', 'edge-1', '--until-quiet', '1.5', '--seconds',
+            status, _, errors = recorded('--connect', f'127.0.0.1:{port}', '--node', 'edge-1', '--until-quiet', '3', '--seconds',
                                     str(MOST - 5), '--out', f'{folder}/client', '--program', program)
     finally:
         server.stop()
@@ -176,6 +185,10 @@ def raw_through_relay(check, program, folder):
         with relay_started(folder, server.port) as port:
             channel, call, held = call_of(port, first_request(), metadata=[('authorization', 'Bearer x')])
             came = [next(call) for _ in answers]
+            other = channel.unary_unary('/other/Method')
+            with contextlib.suppress(grpc.RpcError):
+                other(b'', timeout=MOST)
+                check(False, 'a method that the control plane hasn\'t is answered')
         held.set()
         channel.close()
     finally:
@@ -235,7 +248,7 @@ def relay_with_tls(check, program, folder):
     server = Server(StepsPlane(steps()[:2]), (key, certificate))
     try:
         with relay_started(folder, server.port, '--upstream-ca', certificate, '--listen-cert', certificate, '--listen-key', key) as port:
-            status, _, errors = recorded('--connect', f'127.0.0.1:{port}', '--until-quiet', '1', '--seconds', '15', '--out',
+            status, _, errors = recorded('--connect', f'127.0.0.1:{port}', '--until-quiet', '3', '--seconds', '25', '--out',
                                     f'{folder}/client', '--upstream-ca', certificate, '--program', program)
     finally:
         server.stop()
