@@ -50,7 +50,7 @@ class Relay(grpc.GenericRpcHandler):
             return None
         with self.lock:
             self.count += 1
-            recording = Recording(self.folder, f'stream-{self.count}', METHODS[method])
+            recording = Recording(self.folder, f'stream-{self.count:03}', METHODS[method])
             self.recordings.append(recording)
             return recording
 

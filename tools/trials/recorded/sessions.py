@@ -57,10 +57,10 @@ def grpc_through_relay(check, program, folder):
     check(not missed, f'gRPC\'s client through the relay: {missed}; it said {session.heard()[-3:]}')
     out = f'{session.folder}/out'
     names = sorted(os.listdir(out))
-    wanted = [f'stream-{number}.{ending}' for number in (1, 2) for ending in ('jsonl', 'requests.jsonl', 'sotw.jsonl')]
+    wanted = [f'stream-{number:03}.{ending}' for number in (1, 2) for ending in ('jsonl', 'requests.jsonl', 'sotw.jsonl')]
     check(names == wanted, f'the relay\'s files are {names}')
     is_script(check, *(f'{out}/{name}' for name in wanted if 'requests' not in name))
-    own, requests = joined(session.folder, 'client', f'{out}/stream-1', f'{out}/stream-2')
+    own, requests = joined(session.folder, 'client', f'{out}/stream-001', f'{out}/stream-002')
     is_script(check, own)
     refused = [line['message'] for line in lines_of(requests) if 'errorDetail' in line.get('message', {})]
     check([(message['errorDetail']['code'], message['versionInfo']) for message in refused] == [(3, '1')], f'gRPC refused {refused}')
@@ -92,7 +92,7 @@ def grpc_otherwise(check, program, folder):
     session = OtherwiseSession(folder)
     missed = session.run()
     check(not missed, f'gRPC\'s client otherwise: {missed}; it said {session.heard()[-3:]}')
-    own, requests = f'{session.folder}/out/stream-1.jsonl', f'{session.folder}/out/stream-1.requests.jsonl'
+    own, requests = f'{session.folder}/out/stream-001.jsonl', f'{session.folder}/out/stream-001.requests.jsonl'
     is_script(check, own)
     if program:
         status, out, errors = called('--compare', own, requests, '--program', program)
@@ -138,7 +138,7 @@ def client_with_steps(check, program, folder):
     held = {(entry.key, entry.value) for request in plane.requests[-1][:4] for entry in request.initial_resource_versions}
     check(held == {('c', 'v1'), ('d', 'v1'), ('e', 'v2'), ('s', 'e1'), ('in', 'l1'), ('r', 'r1')}, f'the second stream began with {held}')
     own = f'{folder}/client/client.jsonl'
-    script, requests = joined(folder, 'relayed', f'{folder}/out/stream-1', f'{folder}/out/stream-2')
+    script, requests = joined(folder, 'relayed', f'{folder}/out/stream-001', f'{folder}/out/stream-002')
     is_script(check, own)
     check(text_of(script) == text_of(own), 'the relay and the client recorded other scripts')
     for pair in ((own, f'{folder}/client/client.requests.jsonl'), (script, requests)):
@@ -195,12 +195,12 @@ def raw_through_relay(check, program, folder):
         server.stop()
     check(came == answers and plane.came == [first_request()], 'the relay changed bytes')
     check(plane.metadata[0].get('authorization') == 'Bearer x', f'the relay passed on {plane.metadata}')
-    script = f'{folder}/out/stream-1.jsonl'
+    script = f'{folder}/out/stream-001.jsonl'
     is_script(check, script)
     lines = lines_of(script)
     check([line.get('op') for line in lines] == [None, 'connect', 'response', 'response', 'disconnect'], f'the script is {lines}')
     check(lines[0]['node'] == 'raw-1' and lines[2]['message']['unknownField100'] == 'eA==', f'the script is {lines}')
-    notes = text_of(f'{folder}/out/stream-1.notes.txt')
+    notes = text_of(f'{folder}/out/stream-001.notes.txt')
     check('a response isn\'t written: 2 bytes are no' in notes and 'DeltaDiscoveryResponse has unknownField100' in notes, f'notes: {notes}')
 
 
@@ -213,9 +213,9 @@ def relay_without_upstream(check, program, folder):
             check(error.code() is grpc.StatusCode.UNAVAILABLE, f'without upstream the relay says {error.code()}')
         held.set()
         channel.close()
-        until(lambda: os.path.exists(f'{folder}/out/stream-1.notes.txt'), 5)
+        until(lambda: os.path.exists(f'{folder}/out/stream-001.notes.txt'), 5)
     check('didn\'t answer' in text_of(f'{folder}/relay.err'), f'the relay says {text_of(f"{folder}/relay.err")}')
-    is_script(check, f'{folder}/out/stream-1.jsonl')
+    is_script(check, f'{folder}/out/stream-001.jsonl')
 
 
 def relay_on_full_disk(check, program, folder):
@@ -233,8 +233,8 @@ def relay_on_full_disk(check, program, folder):
     finally:
         server.stop()
     check(came == answers, 'with a full disk the stream didn\'t go on')
-    is_script(check, f'{folder}/out/stream-1.jsonl')
-    check(1 < len(lines_of(f'{folder}/out/stream-1.jsonl')) < 7, 'the script ends where the disk was full')
+    is_script(check, f'{folder}/out/stream-001.jsonl')
+    check(1 < len(lines_of(f'{folder}/out/stream-001.jsonl')) < 7, 'the script ends where the disk was full')
     check('can\'t be written' in text_of(f'{folder}/relay.err'), f'the relay says {text_of(f"{folder}/relay.err")}')
 
 
