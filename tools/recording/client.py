@@ -61,9 +61,10 @@ class Client:
         call = self.channel.stream_stream(METHOD)(iter(outgoing.get, None))
         threading.Thread(target=received, args=(call, incoming), daemon=True).start()
         self.recording.connect(self.node)
-        self.streams, self.heard = self.streams + 1, time.monotonic()
+        self.streams += 1
         try:
             self.send(outgoing, 1)
+            self.heard = time.monotonic()
             while not self.over():
                 try:
                     data = incoming.get(timeout=POLL)
@@ -72,8 +73,8 @@ class Client:
                 if data is None:
                     self.recording.notes.add(f'the control plane ended a stream: {call.code().name} {call.details() or ""}'.rstrip())
                     return
-                self.heard = time.monotonic()
                 self.send(outgoing, len(self.recording.response(data)))
+                self.heard = time.monotonic()
         finally:
             outgoing.put(None)
             call.cancel()

@@ -40,23 +40,17 @@ class Relay(grpc.GenericRpcHandler):
             pass
         finally:
             call.cancel()
-            self.end(recording)
-        self.pass_ending_on(call, context, recording)
-
-    def pass_ending_on(self, call, context, recording):
-        if call.code() is not grpc.StatusCode.OK:
             if recording and call.code() is grpc.StatusCode.UNAVAILABLE and not recording.seen['responses']:
                 recording.notes.add(f'{self.upstream} didn\'t answer: {call.details()}')
-            context.set_code(call.code())
-            context.set_details(call.details() or '')
-        context.set_trailing_metadata(passed_on(call.trailing_metadata()))
+            self.end(recording)
+        pass_ending_on(call, context)
 
     def recording_of(self, method):
         if method not in METHODS:
             return None
         with self.lock:
             self.count += 1
-            recording = Recording(self.folder, f'stream-{self.count}', METHODS[method])
+            recording = Recording(self.folder, f'stream-{self.count:03}', METHODS[method])
             self.recordings.append(recording)
             return recording
 
@@ -80,6 +74,13 @@ class Relay(grpc.GenericRpcHandler):
         for recording in list(self.recordings):
             self.end(recording)
         self.channel.close()
+
+
+def pass_ending_on(call, context):
+    if call.code() is not grpc.StatusCode.OK:
+        context.set_code(call.code())
+        context.set_details(call.details() or '')
+    context.set_trailing_metadata(passed_on(call.trailing_metadata()))
 
 
 def noted(requests, recording):

@@ -8,7 +8,7 @@ LISTENER = 'envoy.config.listener.v3.Listener'
 ROUTES = 'envoy.config.route.v3.RouteConfiguration'
 MANAGER = 'envoy.extensions.filters.network.http_connection_manager.v3.HttpConnectionManager'
 ROUTER = 'envoy.extensions.filters.http.router.v3.Router'
-STATIC, EDS = 0, 3
+STATIC, LOGICAL_DNS, EDS = 0, 2, 3
 
 
 def made(full, members):
@@ -50,8 +50,29 @@ def static_cluster(name, *ports):
     return made(CLUSTER, {'name': name, 'type': STATIC, 'load_assignment': assignment(name, *ports)[1]})
 
 
+def assignment_without_weight(name, port):
+    full, message = assignment(name, port)
+    message.endpoints[0].ClearField('load_balancing_weight')
+    return full, message
+
+
+def logical_dns_cluster(name, port):
+    host = {'endpoint': {'address': {'socket_address': {'address': 'localhost', 'port_value': port}}}}
+    hosts = {'cluster_name': name, 'endpoints': [{'lb_endpoints': [host]}]}
+    return made(CLUSTER, {'name': name, 'type': LOGICAL_DNS, 'load_assignment': hosts})
+
+
 def routes(name, target):
-    route = {'match': {'prefix': ''}, 'route': {'cluster': target}}
+    return routes_to(name, {'cluster': target})
+
+
+def weighted_routes(name, **weights):
+    clusters = [{'name': target, 'weight': {'value': weight}} for target, weight in weights.items()]
+    return routes_to(name, {'weighted_clusters': {'clusters': clusters}})
+
+
+def routes_to(name, action):
+    route = {'match': {'prefix': ''}, 'route': action}
     return made(ROUTES, {'name': name, 'virtual_hosts': [{'name': 'all', 'domains': ['*'], 'routes': [route]}]})
 
 
@@ -68,3 +89,8 @@ def listener(name, route_name, port):
     chain = {'filters': [{'name': 'http', 'typed_config': manager(route_name)}]}
     return made(LISTENER, {'name': name, 'address': socket(port), 'filter_chains': [chain],
                            'api_listener': {'api_listener': manager(route_name)}})
+
+
+def api_listener(name, route_name):
+    """A listener for gRPC's client alone: it has no address."""
+    return made(LISTENER, {'name': name, 'api_listener': {'api_listener': manager(route_name)}})

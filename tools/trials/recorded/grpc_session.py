@@ -92,3 +92,59 @@ class GrpcSession:
         return came and self.next_call('hello')
 
     steps = [first_start, update, refusal, removal, return_of_it, lost_stream]
+
+
+class OtherwiseSession(GrpcSession):
+    """What gRPC's client does otherwise than the program says: each row of docs/ENVOY.md's table."""
+
+    def two_clusters(self, port, other):
+        self.plane.put('cds', a=bodies.cluster('a'), b=bodies.cluster('b'))
+        self.plane.put('eds', a=bodies.assignment('a', port), b=bodies.assignment('b', other))
+        came = self.push('rds', routes=bodies.weighted_routes('routes', a=50, b=50))
+        return came and until(lambda: any('b' in request.resource_names for request in self.requests('eds')))
+
+    def requests(self, kind):
+        return [request for request in self.plane.requests if request.type_url == URLS[kind]]
+
+    def refusal_beside_a_good_one(self, port, other):
+        time.sleep(QUIET)
+        return self.push('cds', refused=True, a=bodies.cluster('a'), b=bodies.cluster_without_source('b'))
+
+    def good_again(self, port, other):
+        return self.push('cds', a=bodies.cluster('a'), b=bodies.cluster('b'))
+
+    def burst(self, port, other):
+        for number in range(60):
+            ports = [other, port] if number % 2 else [other]
+            self.plane.put('eds', a=bodies.assignment('a', port), b=bodies.assignment('b', *ports))
+            time.sleep(0.001)
+        return until(lambda: self.requests('eds')[-1].version_info == str(self.plane.cache[URLS['eds']][0]))
+
+    def host_twice(self, port, other):
+        return self.push('eds', refused=True, a=bodies.assignment('a', port, port), b=bodies.assignment('b', other))
+
+    def host_once(self, port, other):
+        return self.push('eds', a=bodies.assignment('a', port), b=bodies.assignment('b', other), t=bodies.assignment('t', other))
+
+    def other_service(self, port, other):
+        came = self.push('cds', a=bodies.cluster('a'), b=bodies.cluster('b', 't'))
+        return came and until(lambda: list(self.requests('eds')[-1].resource_names) == ['a', 't'])
+
+    def weights_of_60(self, port, other):
+        return self.push('rds', refused=True, routes=bodies.weighted_routes('routes', a=30, b=30))
+
+    def listener_without_address(self, port, other):
+        return self.push('lds', svc=bodies.api_listener('svc', 'routes'))
+
+    def static(self, port, other):
+        return self.push('cds', refused=True, a=bodies.cluster('a'), b=bodies.static_cluster('b', other))
+
+    def logical_dns(self, port, other):
+        return self.push('cds', a=bodies.cluster('a'), b=bodies.logical_dns_cluster('b', other))
+
+    def group_without_weight(self, port, other):
+        self.push('rds', routes=bodies.routes('routes', 'a'))
+        return self.push('eds', a=bodies.assignment_without_weight('a', port)) and self.next_call('UNAVAILABLE')
+
+    steps = [GrpcSession.first_start, two_clusters, refusal_beside_a_good_one, good_again, burst, host_twice, host_once, other_service,
+             weights_of_60, listener_without_address, static, logical_dns, group_without_weight]

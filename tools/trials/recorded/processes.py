@@ -1,15 +1,19 @@
 """Processes of the trials, each ended by its own id, and what they write."""
 import contextlib
+import importlib.machinery
+import importlib.util
+import io
 import json
 import os
 import signal
 import socket
 import subprocess
 import sys
+import threading
 import time
 
 TOOLS = os.path.dirname(os.path.dirname(os.path.dirname(os.path.realpath(__file__))))
-MOST = 30
+MOST = 60
 
 
 def until(good, seconds=MOST):
@@ -28,17 +32,37 @@ def free_port():
         return found.getsockname()[1]
 
 
-def ran(*words, **how):
-    """(status, standard output, standard error) of a tool."""
-    done = subprocess.run([sys.executable, '-B', f'{TOOLS}/{words[0]}', *words[1:]], capture_output=True, text=True, timeout=MOST, **how)
+def recorded(*words):
+    """(status, standard output, standard error) of tools/record as a process of its own, which it needs for its signals."""
+    done = subprocess.run([sys.executable, '-B', f'{TOOLS}/record', *words], capture_output=True, text=True, timeout=2 * MOST)
     return done.returncode, done.stdout, done.stderr
 
 
+LOADER = importlib.machinery.SourceFileLoader('loaded_record', f'{TOOLS}/record')
+RECORD = importlib.util.module_from_spec(importlib.util.spec_from_loader(LOADER.name, LOADER))
+LOADER.exec_module(RECORD)
+
+
+# Trials run side by side, and what one of them catches of standard output is that of the whole process.
+OUTPUT = threading.Lock()
+
+
+def called(*words):
+    """The same in this process."""
+    out, errors = io.StringIO(), io.StringIO()
+    with OUTPUT, contextlib.redirect_stdout(out), contextlib.redirect_stderr(errors):
+        try:
+            status = RECORD.main(list(words))
+        except SystemExit as ended:
+            status = ended.code
+    return status, out.getvalue(), errors.getvalue()
+
+
 @contextlib.contextmanager
-def started(words, errors, **how):
-    """A process, ended by Ctrl-C and waited for."""
+def started(words, errors, front=(), **how):
+    """A process, ended by Ctrl-C and waited for. `front` is a command that starts it."""
     with open(errors, 'w') as file:
-        process = subprocess.Popen([sys.executable, '-B', *words], stderr=file, **how)
+        process = subprocess.Popen([*front, sys.executable, '-B', *words], stderr=file, **how)
     try:
         yield process
     finally:
@@ -56,11 +80,11 @@ def lines_of(path):
 
 
 @contextlib.contextmanager
-def relay_started(folder, upstream, *words, **how):
+def relay_started(folder, upstream, *words, front=()):
     """A relay on a free port, which it gives: its files are in folder/out, and what it says in folder/relay.err."""
     port, errors = free_port(), f'{folder}/relay.err'
     command = [f'{TOOLS}/record', '--listen', f'127.0.0.1:{port}', '--upstream', f'127.0.0.1:{upstream}', '--out', f'{folder}/out']
-    with started([*command, '--seconds', str(4 * MOST), *words], errors, **how):
+    with started([*command, '--seconds', str(4 * MOST), *words], errors, front):
         until(lambda: 'listening' in text_of(errors))
         yield port
 

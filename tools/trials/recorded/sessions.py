@@ -1,61 +1,103 @@
 """What is tried of tools/record: whole sessions on loopback, and what goes wrong."""
+import contextlib
 import os
-import resource
+import re
 import shutil
-import signal
 import subprocess
 import tempfile
 import threading
+from concurrent import futures
 
 import grpc
 from recording.messages import CLASSES
 from recording.protocols import DELTA, DISCOVERY, METHODS
 from recording.wires import OPTIONS
+from shared import script
 from shared.resources import URLS
+from shared.shown import read_file
 
 from . import bodies, units
-from .grpc_session import GrpcSession
+from .grpc_session import GrpcSession, OtherwiseSession
 from .planes import RawPlane, Server, StepsPlane
-from .processes import MOST, TOOLS, free_port, joined, lines_of, ran, relay_started, text_of, until
+from .processes import MOST, OUTPUT, TOOLS, called, free_port, joined, lines_of, recorded, relay_started, text_of, until
 
 DELTA_METHOD = next(method for method, protocol in METHODS.items() if protocol == DELTA)
 
 
 def run(check, program):
+    """The trials, side by side."""
+    def told(good, words):
+        with OUTPUT:
+            check(good, words)
+
     units.run(check)
-    trials = [client_through_relay, raw_through_relay, relay_without_upstream, relay_on_full_disk, relay_with_tls, wrong_arguments]
-    if program:
-        trials += [grpc_through_relay, client_with_steps]
-    for trial in trials:
-        with tempfile.TemporaryDirectory() as folder:
-            trial(check, program, folder)
+    trials = [grpc_through_relay, grpc_otherwise, client_alone, raw_through_relay, relay_without_upstream, relay_on_full_disk, wrong_arguments]
+    trials += [client_with_steps, relay_with_tls] if program else []
+    with futures.ThreadPoolExecutor(len(trials)) as pool:
+        for going in [pool.submit(in_folder, trial, told, program) for trial in trials]:
+            going.result()
+
+
+def in_folder(trial, check, program):
+    with tempfile.TemporaryDirectory() as folder:
+        trial(check, program, folder)
 
 
 def is_script(check, *paths):
     for path in paths:
-        status, out, errors = ran('why', path)
-        check(status == 0, f'{path} is no script: {out}{errors}')
+        faults = script.read_script(read_file(path)).faults
+        check(not faults, f'{path} is no script: {[(fault.line, fault.kind, fault.complaints) for fault in faults]}')
 
 
 # gRPC's client
 
 def grpc_through_relay(check, program, folder):
-    missed = (session := GrpcSession(folder)).run()
+    session = GrpcSession(folder)
+    missed = session.run()
     check(not missed, f'gRPC\'s client through the relay: {missed}; it said {session.heard()[-3:]}')
-    out = f'{folder}/out'
+    out = f'{session.folder}/out'
     names = sorted(os.listdir(out))
-    wanted = [f'stream-{number}.{ending}' for number in (1, 2) for ending in ('jsonl', 'requests.jsonl', 'sotw.jsonl')]
+    wanted = [f'stream-{number:03}.{ending}' for number in (1, 2) for ending in ('jsonl', 'requests.jsonl', 'sotw.jsonl')]
     check(names == wanted, f'the relay\'s files are {names}')
     is_script(check, *(f'{out}/{name}' for name in wanted if 'requests' not in name))
-    script, requests = joined(folder, 'client', f'{out}/stream-1', f'{out}/stream-2')
-    is_script(check, script)
-    status, out, errors = ran('record', '--compare', script, requests, '--answers', '--program', program)
-    check(status == 0 and ' alike' in out, f'gRPC\'s acknowledgements over a lost stream: {status} {out}{errors}')
-    status, out, errors = ran('record', '--compare', script, requests, '--program', program)
-    check(status == 1 and 'answer' not in out.splitlines()[-1] and 'names' in out.splitlines()[-1],
-          f'gRPC\'s names and versions: {status} {out}{errors}')
+    own, requests = joined(session.folder, 'client', f'{out}/stream-001', f'{out}/stream-002')
+    is_script(check, own)
     refused = [line['message'] for line in lines_of(requests) if 'errorDetail' in line.get('message', {})]
     check([(message['errorDetail']['code'], message['versionInfo']) for message in refused] == [(3, '1')], f'gRPC refused {refused}')
+    if not program:
+        return
+    status, out, errors = called('--compare', own, requests, '--answers', '--program', program)
+    check(status == 0 and ' alike' in out, f'gRPC\'s acknowledgements over a lost stream: {status} {out}{errors}')
+    status, out, errors = called('--compare', own, requests, '--program', program)
+    check(status == 1 and 'answer' not in out.splitlines()[-1] and 'names' in out.splitlines()[-1],
+          f'gRPC\'s names and versions: {status} {out}{errors}')
+
+
+# Rows of docs/ENVOY.md's table: what the comparison of that session says, as patterns.
+OTHERWISE = {
+    'it asks by name': r'the client, in names: clusters: asks, names a\n',
+    'the order of asking': r"differ +listeners, nonce 'n1': asks.*\n +the client, in nonce and names and version: listeners: asks, names svc\n",
+    'a refusal beside a good one': r"clusters, nonce '(n\d+)': refused, version '2'\n +the client, in names and version: clusters, nonce '\1': refused, version '3'",
+    'a burst': r"(program alone +endpoints, nonce 'n\d+': acknowledged.*\n *){5}",
+    'a host twice': r"endpoints, nonce '(n\d+)': acknowledged.*\n +the client, in answer.*: endpoints, nonce '\1': refused",
+    'names from before': r"endpoints, nonce '(n\d+)': acknowledged, version '(\d+)', names a, t\n +the client, in names: endpoints, nonce '\1': .* names a, b, t\n",
+    'weights of 60': r"routes, nonce '(n\d+)': acknowledged.*\n +the client, in answer and version: routes, nonce '\1': refused",
+    'no address': r"listeners, nonce '(n\d+)': refused.*\n +the client, in answer.*: listeners, nonce '\1': acknowledged",
+    'STATIC': r"clusters, nonce '(n\d+)': acknowledged.*\n +the client, in answer.*: clusters, nonce '\1': refused",
+    'LOGICAL_DNS': r"clusters, nonce '(n\d+)': refused.*\n +the client, in answer.*: clusters, nonce '\1': acknowledged",
+}
+
+
+def grpc_otherwise(check, program, folder):
+    session = OtherwiseSession(folder)
+    missed = session.run()
+    check(not missed, f'gRPC\'s client otherwise: {missed}; it said {session.heard()[-3:]}')
+    own, requests = f'{session.folder}/out/stream-001.jsonl', f'{session.folder}/out/stream-001.requests.jsonl'
+    is_script(check, own)
+    if program:
+        status, out, errors = called('--compare', own, requests, '--program', program)
+        for row, pattern in OTHERWISE.items():
+            check(re.search(pattern, out), f'gRPC\'s client, {row}: {status} {out}{errors}')
 
 
 # The client
@@ -85,7 +127,7 @@ def client_with_steps(check, program, folder):
     server = Server(plane)
     try:
         with relay_started(folder, server.port) as port:
-            status, _, errors = ran('record', '--connect', f'127.0.0.1:{port}', '--node', 'edge-1', '--until-quiet', '1.5', '--seconds',
+            status, _, errors = recorded('--connect', f'127.0.0.1:{port}', '--node', 'edge-1', '--until-quiet', '3', '--seconds',
                                     str(MOST - 5), '--out', f'{folder}/client', '--program', program)
     finally:
         server.stop()
@@ -96,21 +138,21 @@ def client_with_steps(check, program, folder):
     held = {(entry.key, entry.value) for request in plane.requests[-1][:4] for entry in request.initial_resource_versions}
     check(held == {('c', 'v1'), ('d', 'v1'), ('e', 'v2'), ('s', 'e1'), ('in', 'l1'), ('r', 'r1')}, f'the second stream began with {held}')
     own = f'{folder}/client/client.jsonl'
-    script, requests = joined(folder, 'relayed', f'{folder}/out/stream-1', f'{folder}/out/stream-2')
+    script, requests = joined(folder, 'relayed', f'{folder}/out/stream-001', f'{folder}/out/stream-002')
     is_script(check, own)
     check(text_of(script) == text_of(own), 'the relay and the client recorded other scripts')
     for pair in ((own, f'{folder}/client/client.requests.jsonl'), (script, requests)):
-        status, out, errors = ran('record', '--compare', *pair, '--program', program)
+        status, out, errors = called('--compare', *pair, '--program', program)
         check(status == 0 and out.splitlines()[-1].endswith('alike'), f'the client beside the program: {status} {out}{errors}')
 
 
-def client_through_relay(check, program, folder):
+def client_alone(check, program, folder):
     """What the client says where nothing is there."""
-    status, _, errors = ran('record', '--connect', f'127.0.0.1:{free_port()}', '--seconds', '1', '--out', f'{folder}/out',
+    status, _, errors = recorded('--connect', f'127.0.0.1:{free_port()}', '--seconds', '1', '--out', f'{folder}/out',
                             '--program', program or '/bin/true')
     check(status == 1 and 'can\'t be reached' in errors, f'the client without a control plane: {status} {errors}')
     is_script(check, f'{folder}/out/client.jsonl')
-    status, _, errors = ran('record', '--connect', '127.0.0.1:1', '--seconds', '1', '--out', f'{folder}/out', '--program', '/bin/true')
+    status, _, errors = recorded('--connect', '127.0.0.1:1', '--seconds', '1', '--out', f'{folder}/out', '--program', '/bin/true')
     check(status == 2 and 'has a recording already' in errors, f'the client with a folder that is taken: {status} {errors}')
 
 
@@ -143,18 +185,22 @@ def raw_through_relay(check, program, folder):
         with relay_started(folder, server.port) as port:
             channel, call, held = call_of(port, first_request(), metadata=[('authorization', 'Bearer x')])
             came = [next(call) for _ in answers]
+            other = channel.unary_unary('/other/Method')
+            with contextlib.suppress(grpc.RpcError):
+                other(b'', timeout=MOST)
+                check(False, 'a method that the control plane hasn\'t is answered')
         held.set()
         channel.close()
     finally:
         server.stop()
     check(came == answers and plane.came == [first_request()], 'the relay changed bytes')
     check(plane.metadata[0].get('authorization') == 'Bearer x', f'the relay passed on {plane.metadata}')
-    script = f'{folder}/out/stream-1.jsonl'
+    script = f'{folder}/out/stream-001.jsonl'
     is_script(check, script)
     lines = lines_of(script)
     check([line.get('op') for line in lines] == [None, 'connect', 'response', 'response', 'disconnect'], f'the script is {lines}')
     check(lines[0]['node'] == 'raw-1' and lines[2]['message']['unknownField100'] == 'eA==', f'the script is {lines}')
-    notes = text_of(f'{folder}/out/stream-1.notes.txt')
+    notes = text_of(f'{folder}/out/stream-001.notes.txt')
     check('a response isn\'t written: 2 bytes are no' in notes and 'DeltaDiscoveryResponse has unknownField100' in notes, f'notes: {notes}')
 
 
@@ -167,14 +213,9 @@ def relay_without_upstream(check, program, folder):
             check(error.code() is grpc.StatusCode.UNAVAILABLE, f'without upstream the relay says {error.code()}')
         held.set()
         channel.close()
-        until(lambda: os.path.exists(f'{folder}/out/stream-1.notes.txt'), 5)
+        until(lambda: os.path.exists(f'{folder}/out/stream-001.notes.txt'), 5)
     check('didn\'t answer' in text_of(f'{folder}/relay.err'), f'the relay says {text_of(f"{folder}/relay.err")}')
-    is_script(check, f'{folder}/out/stream-1.jsonl')
-
-
-def limit_files():
-    signal.signal(signal.SIGXFSZ, signal.SIG_IGN)
-    resource.setrlimit(resource.RLIMIT_FSIZE, (900, 900))
+    is_script(check, f'{folder}/out/stream-001.jsonl')
 
 
 def relay_on_full_disk(check, program, folder):
@@ -184,7 +225,7 @@ def relay_on_full_disk(check, program, folder):
     answers = [good.SerializeToString()] * 5
     server = Server(RawPlane(*answers))
     try:
-        with relay_started(folder, server.port, preexec_fn=limit_files) as port:
+        with relay_started(folder, server.port, front=('prlimit', '--fsize=900')) as port:
             channel, call, held = call_of(port, first_request())
             came = [next(call) for _ in answers]
             held.set()
@@ -192,8 +233,8 @@ def relay_on_full_disk(check, program, folder):
     finally:
         server.stop()
     check(came == answers, 'with a full disk the stream didn\'t go on')
-    is_script(check, f'{folder}/out/stream-1.jsonl')
-    check(1 < len(lines_of(f'{folder}/out/stream-1.jsonl')) < 7, 'the script ends where the disk was full')
+    is_script(check, f'{folder}/out/stream-001.jsonl')
+    check(1 < len(lines_of(f'{folder}/out/stream-001.jsonl')) < 7, 'the script ends where the disk was full')
     check('can\'t be written' in text_of(f'{folder}/relay.err'), f'the relay says {text_of(f"{folder}/relay.err")}')
 
 
@@ -207,7 +248,7 @@ def relay_with_tls(check, program, folder):
     server = Server(StepsPlane(steps()[:2]), (key, certificate))
     try:
         with relay_started(folder, server.port, '--upstream-ca', certificate, '--listen-cert', certificate, '--listen-key', key) as port:
-            status, _, errors = ran('record', '--connect', f'127.0.0.1:{port}', '--until-quiet', '1', '--seconds', '15', '--out',
+            status, _, errors = recorded('--connect', f'127.0.0.1:{port}', '--until-quiet', '3', '--seconds', '25', '--out',
                                     f'{folder}/client', '--upstream-ca', certificate, '--program', program)
     finally:
         server.stop()
@@ -217,7 +258,7 @@ def relay_with_tls(check, program, folder):
 def wrong_arguments(check, program, folder):
     for words in ([], ['--listen', '127.0.0.1:0'], ['--connect', 'x:1'], ['--connect', 'x:1', '--listen', 'y:1', '--upstream', 'z:1'],
                   ['--connect', 'x:1', '--out', folder, '--seconds', '-1'], ['--connect', 'x:1', '--out', folder, '--program', '/no/such'],
-                  ['--compare', 'examples/connect.jsonl', 'x', '--program', '/no/such'],
+                  ['--compare', f'{TOOLS}/../examples/connect.jsonl', 'x', '--program', '/no/such'],
                   ['--connect', 'x:1', '--out', folder, '--program', '/bin/true', '--node', 'n' * 513]):
-        status, _, errors = ran('record', *words, cwd=os.path.dirname(TOOLS))
+        status, _, errors = called(*words)
         check(status == 2 and 'Traceback' not in errors, f'record {" ".join(words)}: {status} {errors}')
