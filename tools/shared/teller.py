@@ -152,7 +152,7 @@ class Teller:
         removed = [name for name in response.removed if name not in names]
         for name in removed[:MOST_RESOURCES]:
             self.page.line(f'{shown(name, 40):<{width}}  {self.removal(response.kind, name, live, watched)}')
-        self.more(len(removed) - MOST_RESOURCES, 'removals')
+        self.more(len(removed) - MOST_RESOURCES, 'removals more')
         refused = left = 0
         for index, (item, verdict) in enumerate(zip(response.items, verdicts)):
             text = f'{shown(item.name, 40):<{width}}  version {quoted(item.version, 40)}  '
@@ -164,12 +164,12 @@ class Teller:
             else:
                 left += 1
             number += verdict == 'new'
-        self.more(left, 'that were taken')
-        self.more(refused - MOST_RESOURCES, 'that were refused', news=True)
+        self.more(left, 'resources more')
+        self.more(refused - MOST_RESOURCES, 'resources more that were refused', news=True)
 
     def more(self, count, words, color=None, news=False):
         if count > 0:
-            self.page.line(f'and {count} more {words}', color, news)
+            self.page.line(f'and {count} {words}', color, news)
 
     def taken(self, kind, item, verdict, number, live):
         if verdict == 'new':
@@ -192,7 +192,7 @@ class Teller:
         self.page.line(f'{text}refused by {verdict} ({tag}): {rules.WORDS.get(rule, "a rule this tool does not know")}', 'bad', news=True)
         for path, words in complaints[:MOST_NAMES]:
             self.page.line(f'    {shown(path, 120)} {shown(words, 200)}', news=True)
-        self.more(len(complaints) - MOST_NAMES, 'members that break it')
+        self.more(len(complaints) - MOST_NAMES, 'members more')
         if rule in rules.ADVICE:
             self.page.line(f'    {rules.ADVICE[rule]}')
 
@@ -229,12 +229,12 @@ class Teller:
         dead, held = before
         for number in reaped[:MOST_CHANGES]:
             self.page.line(f'destroyed: {held[number].words() if held.get(number) else f"generation {number}"}')
-        self.more(len(reaped) - MOST_CHANGES, 'that are destroyed')
+        self.more(len(reaped) - MOST_CHANGES, 'more')
         ended = self.machine.ended
         for number in ended[:MOST_NAMES]:
             for words in self.machine.keeps(self.machine.rows[number]):
                 self.page.line(f'not yet: {self.machine.rows[number].words()}: {words}', 'wait')
-        self.more(len(ended) - MOST_NAMES, 'generations that are not yet destroyed', 'wait')
+        self.more(len(ended) - MOST_NAMES, 'generations more that are not yet destroyed', 'wait')
         if sorted(reaped) != dead:
             self.doubt(f'generations {dead} to be destroyed')
 
@@ -244,7 +244,7 @@ class Teller:
             row = self.machine.rows[number]
             hosts = f' with {row.eligible or "no"} host{"s" * (row.eligible != 1)}' if row.kind == 'cds' else ''
             self.page.line(f'shows {row.words()}{hosts}')
-        self.more(count - MOST_NAMES, 'generations')
+        self.more(count - MOST_NAMES, 'generations more')
 
     def changes(self):
         told = {'active': 'serves', 'draining': 'drains', 'dropped': 'is dropped before it served'}
@@ -258,7 +258,7 @@ class Teller:
                 self.page.line(f'{row.words()} {words}', 'bad' if lacks else 'good', news=True)
             else:
                 self.page.line(f'{row.words()} {words}', news=True)
-        self.more(len(rows) - MOST_CHANGES, 'generations that serve, drain or are dropped', news=True)
+        self.more(len(rows) - MOST_CHANGES, 'generations more that serve, drain or are dropped', news=True)
 
     def waiting(self):
         told = 0
@@ -273,7 +273,7 @@ class Teller:
                 if told <= MOST_CHANGES:
                     self.page.line(f'{row.words()} warms: it waits for {", ".join(found)}', 'wait')
             self.said_waits[number] = found
-        self.more(told - MOST_CHANGES, 'generations that warm', 'wait')
+        self.more(told - MOST_CHANGES, 'generations more that warm', 'wait')
 
     def doubts(self, row):
         """Where the journal's requests and this tool's reckoning differ."""
@@ -301,7 +301,7 @@ class Teller:
                 self.page.line(f'still warming: {row.words()} waits for {", ".join(self.machine.waits(row))}', 'wait', news=True)
             else:
                 self.page.line(f'not destroyed: {row.words()}, {row.status}', news=True)
-        self.more(len(rows) - MOST_CHANGES, 'generations that warm or are not destroyed', news=True)
+        self.more(len(rows) - MOST_CHANGES, 'generations more that warm or are not destroyed', news=True)
         for kind, phase in (('cds', 'clusters'), ('lds', 'listeners')):
             if self.machine.phase == phase:
                 waits = self.machine.phase_waits(kind)

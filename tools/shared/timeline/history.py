@@ -120,6 +120,7 @@ class History:
                 life.spans[-1][2] = self.end
         for span in self.streams:
             span[1] = span[1] or self.end
+        self.versions = {worker: [version for _, version in settles] for worker, settles in self.settles.items()}
         return self
 
     def band(self, kind, name):
@@ -293,7 +294,7 @@ class History:
     def holders(self, row):
         """(worker, until) of each worker that held a picture that shows it."""
         for worker, settles in self.settles.items():
-            versions = [version for _, version in settles]
+            versions = self.versions[worker]
             last = self.machine.last if row.last_shown is None else row.last_shown
             place = bisect.bisect_right(versions, last)
             if place and row.in_picture(versions[place - 1], self.machine.last):
