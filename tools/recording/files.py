@@ -22,7 +22,7 @@ class LineFile:
 
     def __init__(self, path, notes):
         self.path, self.notes, self.size, self.lines = path, notes, 0, 0
-        self.file = os.open(path, os.O_WRONLY | os.O_CREAT | os.O_EXCL, 0o644)
+        self.file = os.open(path, os.O_WRONLY | os.O_CREAT | os.O_EXCL, 0o600)
 
     def write(self, data):
         """Writes whole lines. The last line of a script, a disconnect, always has room."""
