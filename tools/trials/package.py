@@ -1,9 +1,11 @@
-"""tools/package: what it refuses, and that it makes the same bytes twice. package_long tries a package."""
+"""tools/package: what it refuses, that it makes the same bytes twice, and that in the unpacked package the commands of the README and of
+examples/README.md end as written. package_long tries a package in an empty root."""
 import os
 import subprocess
 import tempfile
 
-from trials import TOP, called, loaded, written
+from trials import TOP, called, content, loaded, ran, written
+from trials.links import blocks
 
 # Answers the scripts of the examples with their journals, and says of all others that they are none.
 PROGRAM = r'''#!/usr/bin/env python3
@@ -18,21 +20,24 @@ sys.exit(print('line 1: fault 6', file=sys.stderr) or 3)
 
 def run(check):
     module = loaded('tools/package')
+    checkout = module.Checkout()
+    module.Checkout = lambda: checkout
     with tempfile.TemporaryDirectory() as folder:
         program = written(f'{folder}/program', PROGRAM, 0o755)
         refusals(check, module, folder, program)
         libraries(check, module)
-        made(check, module, folder, program)
+        commands_of_pages(check, folder, made(check, module, folder, program))
 
 
 def refusals(check, module, folder, program):
     old = written(f'{folder}/old', PROGRAM, 0o755)
     os.utime(old, (0, 0))
-    logs = {'good': '3 passed, 1 failed\nrt: ok\n12 passed, 0 failed\n', 'failed': '12 passed, 1 failed\n', 'cut': 'ev_io proved\n', 'empty': ''}
+    logs = {'good': '3 passed, 1 failed\nrt: ok\n12 passed, 0 failed\n', 'failed': '12 passed, 1 failed\n', 'cut': 'ev_io proved\n', 'empty': '',
+            'part': '12 passed, 0 failed (ev_io and the crates below alone: not the gate)\n'}
     for name, text in logs.items():
         logs[name] = written(f'{folder}/{name}.log', text)
     cases = [(old, 'good', 1, 'is newer than the program'), (program, None, 1, 'isn\'t told that the gate has passed'),
-             (program, 'failed', 1, '1 failed'), (program, 'cut', 1, 'ev_io proved'), (program, 'empty', 1, 'isn\'t told'),
+             (program, 'failed', 1, '1 failed'), (program, 'cut', 1, 'ev_io proved'), (program, 'empty', 1, 'isn\'t told'), (program, 'part', 1, 'not the gate'),
              (f'{folder}/none', 'good', 1, 'is missing')]
     for given, log, status, words in cases:
         found = called(module.main, '--program', given, '--out', folder, *(['--gate', logs[log]] if log else []))
@@ -64,3 +69,18 @@ def made(check, module, folder, program):
     for name in ('tools/check', 'tools/trials', '/crates', '/.git'):
         check(name not in names, f'the package has {name}')
     return path
+
+
+def commands_of_pages(check, folder, package):
+    """Each command line of the pages that begins with one of the package's own commands, in the folder where it is unpacked."""
+    subprocess.run(['tar', 'xzf', package, '-C', folder], check=True)
+    top = next(f'{folder}/{name}' for name in os.listdir(folder) if name.startswith('warmgate-') and not name.endswith('.gz'))
+    tried = 0
+    for page in ('README.md', 'examples/README.md'):
+        for line in [line for block in blocks(content(f'{top}/{page}').decode()) for line in block]:
+            command = line.removeprefix('$ ').removeprefix('WARMGATE_UNPROVED=1 ').replace('NAME', 'connect').replace('recorded.jsonl', 'examples/connect.jsonl')
+            if command.startswith(('./warmgate', 'tools/')):
+                status, out, errors = ran('sh', '-c', command, cwd=top)
+                check(status == 0 and not errors, f'{page}: {command}: {status} {errors}')
+                tried += 1
+    check(tried >= 6, f'only {tried} commands of the pages were tried')
