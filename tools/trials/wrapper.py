@@ -116,6 +116,12 @@ def statuses(check, trial):
         check((HINT in errors) == (wanted == 3) and bool(errors) == (wanted == 3), f'warmgate of a status {wanted} says {errors}')
 
 
+def hear_signals():
+    """A shell can't trap what was ignored when it began, as SIGINT is in the background of another."""
+    for number in (signal.SIGTERM, signal.SIGINT, signal.SIGHUP):
+        signal.signal(number, signal.SIG_DFL)
+
+
 def streams(check, trial):
     closed = subprocess.run(f'{trial.link} replay <&-', shell=True, capture_output=True, env=trial.bare)
     check(closed.returncode == 4, f'warmgate with standard input closed: {closed}')
@@ -123,17 +129,17 @@ def streams(check, trial):
     with open('/dev/null', 'wb') as nothing:
         typed = subprocess.Popen([trial.link, 'replay'], stdin=second, stdout=nothing, stderr=subprocess.PIPE, env=trial.bare)
     os.write(first, b'0\n')
-    errors = typed.communicate(timeout=20)[1]
+    errors = typed.communicate(timeout=120)[1]
     check(typed.returncode == 0 and b'read from this terminal' in errors, f'warmgate at a terminal: {typed.returncode} {errors}')
     os.close(first)
     os.close(second)
     for number in (signal.SIGTERM, signal.SIGINT, signal.SIGHUP):
-        told = subprocess.Popen([trial.link, 'replay'], stdin=subprocess.PIPE, stdout=subprocess.PIPE, env=trial.bare)
+        told = subprocess.Popen([trial.link, 'replay'], stdin=subprocess.PIPE, stdout=subprocess.PIPE, env=trial.bare, preexec_fn=hear_signals)
         told.stdin.write(b'wait\n')
         told.stdin.flush()
         begun = told.stdout.readline() + told.stdout.readline()
         told.send_signal(number)
-        out = told.communicate(timeout=20)[0]
+        out = told.communicate(timeout=120)[0]
         check((begun, out, told.returncode) == (b'program replay\nwaits\n', b'told\n', 9), f'warmgate at signal {number}: {begun} {out} {told.returncode}')
 
 
