@@ -116,7 +116,10 @@ class History:
             teller.entry(entry)
             self.look(entry)
         for life in self.lives.values():
-            if life.spans and life.spans[-1][2] is None:
+            if not life.spans:
+                # A journal whose answers aren't the machine's: the generation came and went, and nothing was told of it between.
+                life.spans.append(['warms', life.born, life.stop, ''])
+            if life.spans[-1][2] is None:
                 life.spans[-1][2] = self.end
         for span in self.streams:
             span[1] = span[1] or self.end
