@@ -1,5 +1,5 @@
 -- What the ledger's two maps hold.
-use Rattle.std.specs.Prelude.{◌≡◌, ◌≢◌, ℕ, Bool, ◌||◌, ◌==◌, false, if◌then◌else◌, List, map, Option, None, Some}
+use Rattle.std.specs.Prelude.{◌≡◌, ◌≢◌, ℕ, Bool, ◌||◌, ◌==◌, false, cond, if◌then◌else◌, List, map, Option, None, Some}
 use Rattle.std.specs.BTreeMap.{is_at}
 use Rattle.std.specs.BTreeSet.{BTreeSet, contains}
 use Rattle.std.specs.Option.{unwrap_or}
@@ -35,6 +35,20 @@ counted counts number = unwrap_or (get nat_eq counts number) 0
 -- keys of the index compare by listener, and those of one listener by worker and number
 abbrev pub place_on_order : ℕ × (ℕ × ℕ) → ℕ × (ℕ × ℕ) → Ordering
 place_on_order one other = ordering_then (nat_cmp one.0 other.0) (key_order one.1 other.1)
+
+-- the second entries have this at a place, or nothing, and at each other place what the first have
+abbrev pub SetsAt : ℕ × ℕ → Option (ℕ × Option ℕ) → List ((ℕ × ℕ) × (ℕ × Option ℕ)) → List ((ℕ × ℕ) × (ℕ × Option ℕ)) → Type 0
+SetsAt place on before after =
+    (other : ℕ × ℕ) → lookup (is_at (key_order other)) after ≡ cond (is_at (key_order place) other) on (lookup (is_at (key_order other)) before)
+
+-- the second index has this key, or has it no more, and of all others those that the first has
+abbrev pub SetsKey : ℕ × (ℕ × ℕ) → Bool → BTreeSet (ℕ × (ℕ × ℕ)) → BTreeSet (ℕ × (ℕ × ℕ)) → Type 0
+SetsKey key has before after =
+    (other : ℕ × (ℕ × ℕ)) → contains place_on_order after other ≡ cond (is_at (place_on_order key) other) has (contains place_on_order before other)
+
+-- both indexes have the same keys
+abbrev pub SameKeys : BTreeSet (ℕ × (ℕ × ℕ)) → BTreeSet (ℕ × (ℕ × ℕ)) → Type 0
+SameKeys before after = (key : ℕ × (ℕ × ℕ)) → contains place_on_order after key ≡ contains place_on_order before key
 
 -- the key is of this listener
 abbrev pub stands_on : ℕ → ℕ × (ℕ × ℕ) → Bool

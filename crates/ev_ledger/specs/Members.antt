@@ -1,12 +1,12 @@
 -- The open connections as the ledger has them: in one order, by worker and number, so that those of a worker stand together.
-use Rattle.std.specs.Prelude.{◌≡◌, ℕ, Bool, false, ⊤, ◌&&◌, ◌==◌, List, [], ◌∷◌, length, filter, find, map, Option}
+use Rattle.std.specs.Prelude.{◌≡◌, ℕ, Bool, false, ⊤, ◌&&◌, ◌==◌, List, [], ◌∷◌, ◌++◌, length, filter, find, map, Option}
 use Rattle.std.specs.List.{list_any}
 use Rattle.std.specs.List.Sorted.{IsStrictlySortedBy}
 use Rattle.std.specs.Option.{option_map}
 use Rattle.std.specs.Ordering.{ordering_then, nat_cmp, is_le}
 use Rattle.std.specs.declared.cmp.Ordering.{Ordering}
 use Rattle.ev_model.specs.World.{OpenMember}
-use Rattle.ev_model.specs.Sorted.{sorted_by}
+use Rattle.ev_model.specs.Sorted.{put_by, sorted_by}
 use Rattle.ev_model.specs.Dead.{is_open_on}
 use Rattle.ev_model.specs.Connections.{is_member, is_open}
 
@@ -26,6 +26,22 @@ in_order opened = sorted_by comes_before opened
 abbrev pub StandsFor : List OpenMember → List OpenMember → Type 0
 StandsFor ledger opened = ledger ≡ in_order opened
 
+-- whatever open connections the first ledger has, the second has what this change makes of them
+abbrev pub StandsAfter : (List OpenMember → List OpenMember) → List OpenMember → List OpenMember → Type 0
+StandsAfter change before after = (opened : List OpenMember) → StandsFor before opened → StandsFor after (change opened)
+
+-- whatever open connections a ledger has, this is the answer of the question about them
+abbrev pub IsAnswerOf : {A : Type 0} → (List OpenMember → A) → List OpenMember → A → Type 0
+IsAnswerOf question ledger answer = (opened : List OpenMember) → StandsFor ledger opened → answer ≡ question opened
+
+-- whatever open connections the first ledger has, the second has one more behind them
+abbrev pub Opens : OpenMember → List OpenMember → List OpenMember → Type 0
+Opens member before after = StandsAfter (λ opened. opened ++ member ∷ []) before after
+
+-- the connections with one more, in their order
+abbrev pub with_member : OpenMember → List OpenMember → List OpenMember
+with_member member members = put_by comes_before member members
+
 -- how many of these connections are open on the generation of this number, as its listener or its cluster
 abbrev pub count_of : ℕ → List OpenMember → ℕ
 count_of number opened = length (filter (is_open_on number) opened)
@@ -43,6 +59,11 @@ is_open_at listener worker connection members =
 -- one of these places is of this worker and number
 abbrev pub has_place : ℕ → ℕ → List (ℕ × ℕ) → Bool
 has_place worker connection places = list_any (λ (p : ℕ × ℕ). (p.0 == worker) && (p.1 == connection)) places
+
+-- these places are those of the connections on a listener
+abbrev pub ArePlacesOn : ℕ → List OpenMember → List (ℕ × ℕ) → Type 0
+ArePlacesOn listener members places =
+    (worker connection : ℕ) → has_place worker connection places ≡ is_open_at listener worker connection members
 
 -- the connections stand in the order of their workers and numbers, and no two have one
 abbrev pub AreInOrder : List OpenMember → Type 0
@@ -64,3 +85,7 @@ connection_of member = (member.connection, member.listener)
 -- the worker's connections of an ordered list, each with its listener
 abbrev pub held_of : ℕ → List OpenMember → List (ℕ × ℕ)
 held_of worker members = map connection_of (filter (is_of_worker worker) members)
+
+-- the same of a list in any order
+abbrev pub held_in : ℕ → List OpenMember → List (ℕ × ℕ)
+held_in worker opened = held_of worker (in_order opened)

@@ -1,9 +1,7 @@
-ghost use Rattle.std.specs.Prelude.{◌≡◌, ℕ, false, List, [], ◌∷◌, ◌++◌, OnOk, OnErr, IfOk};
-ghost use Rattle.ev_model.specs.World.{OpenMember};
-ghost use Rattle.ev_model.specs.Sorted.{put_by};
+ghost use Rattle.std.specs.Prelude.{◌≡◌, false, [], OnOk, OnErr, IfOk};
 ghost use Rattle.ev_model.specs.Connections.{is_open, member_on, closed};
 ghost use Rattle.std.specs.List.{list_any};
-ghost use Rattle.ev_ledger.specs.Members.{comes_before, in_order, has_place, is_of_worker, is_open_at, AreApart, AreInOrder, StandsFor, count_of, held_of, on_in};
+ghost use Rattle.ev_ledger.specs.Members.{is_of_worker, with_member, AreApart, AreInOrder, ArePlacesOn, IsAnswerOf, Opens, StandsAfter, StandsFor, count_of, held_in, held_of, on_in};
 
 use crate::counts::{copy_counts, count_in, lower_on, raise_on};
 use crate::members::{Members, copy_members, found, has_any, held, is_there, put, take};
@@ -51,7 +49,7 @@ impl Ledger {
     /// How many connections are open on a generation, as their listener or their cluster. It looks at no connection.
     pub fn count(&self, number: Gen) -> u64
         ensures count { result ≡ count_of number self.now }
-        ensures world { (opened : List OpenMember) → StandsFor self.now opened → result ≡ count_of number opened }
+        ensures world { IsAnswerOf (count_of number) self.now result }
     {
         count_in(&self.counts, number.number())
     }
@@ -66,8 +64,8 @@ impl Ledger {
         cluster: Option<Gen>,
     ) -> Result<(), AllocError>
         requires apart { is_open self.old worker conn ≡ false }
-        ensures opened { OnOk result (self.new ≡ put_by comes_before (member_on worker conn listener cluster) self.old) }
-        ensures world { OnOk result ((opened : List OpenMember) → StandsFor self.old opened → StandsFor self.new (opened ++ member_on worker conn listener cluster ∷ [])) }
+        ensures opened { OnOk result (self.new ≡ with_member (member_on worker conn listener cluster) self.old) }
+        ensures world { OnOk result (Opens (member_on worker conn listener cluster) self.old self.new) }
         ensures err { OnErr result (self.new ≡ self.old) }
     {
         let Ok(_) = self.counts.reserve(2) else {
@@ -92,8 +90,8 @@ impl Ledger {
         ensures answer { result ≡ is_open self.old worker conn }
         ensures closed { self.new ≡ (closed conn worker self.old).opened }
         ensures gone { is_open self.new worker conn ≡ false }
-        ensures answer_by_world { (opened : List OpenMember) → StandsFor self.old opened → result ≡ is_open opened worker conn }
-        ensures world { (opened : List OpenMember) → StandsFor self.old opened → StandsFor self.new (closed conn worker opened).opened }
+        ensures answer_by_world { IsAnswerOf (λ opened. is_open opened worker conn) self.old result }
+        ensures world { StandsAfter (λ opened. (closed conn worker opened).opened) self.old self.new }
     {
         let place = (worker as u64, conn);
         let Some(on) = take(&mut self.members, place) else {
@@ -107,7 +105,7 @@ impl Ledger {
     /// Whether a worker has a connection of this number open. It looks at no other.
     pub fn is_open(&self, worker: u32, conn: u64) -> bool
         ensures answer { result ≡ is_open self.now worker conn }
-        ensures world { (opened : List OpenMember) → StandsFor self.now opened → result ≡ is_open opened worker conn }
+        ensures world { IsAnswerOf (λ opened. is_open opened worker conn) self.now result }
     {
         is_there(&self.members, (worker as u64, conn))
     }
@@ -124,7 +122,7 @@ impl Ledger {
 
     /// The worker and the number of each connection on a listener. It looks at no other.
     pub fn places_on(&self, alloc: Global, number: Gen) -> Result<Vec<(u64, u64)>, AllocError>
-        ensures places { IfOk result (λ places. (worker connection : ℕ) → has_place worker connection places.items ≡ is_open_at number worker connection self.now) }
+        ensures places { IfOk result (λ places. ArePlacesOn number self.now places.items) }
     {
         // No two are of one worker and number.
         let _ = self.members.len();
@@ -134,7 +132,7 @@ impl Ledger {
     /// Whether a worker has a connection open. It is a look-up.
     pub fn has_any(&self, worker: u32) -> bool
         ensures any { result ≡ list_any (is_of_worker worker) self.now }
-        ensures world { (opened : List OpenMember) → StandsFor self.now opened → result ≡ list_any (is_of_worker worker) opened }
+        ensures world { IsAnswerOf (list_any (is_of_worker worker)) self.now result }
     {
         has_any(&self.members, worker as u64)
     }
@@ -143,7 +141,7 @@ impl Ledger {
     pub fn held_by(&self, alloc: Global, worker: u32) -> Result<Vec<(u64, Gen)>, AllocError>
         ensures apart { AreApart self.now }
         ensures held { IfOk result (λ held. held.items ≡ held_of worker self.now) }
-        ensures world { IfOk result (λ held. (opened : List OpenMember) → StandsFor self.now opened → held.items ≡ held_of worker (in_order opened)) }
+        ensures world { IfOk result (λ held. IsAnswerOf (held_in worker) self.now held.items) }
     {
         held(alloc, &self.members, worker as u64)
     }

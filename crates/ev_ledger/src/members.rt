@@ -1,8 +1,8 @@
-ghost use Rattle.std.specs.Prelude.{◌≡◌, ℕ, ◌<◌, ◌^◌, ◌+◌, ◌==◌, cond, None, Some, length, map, filter, is_some, IfOk, OnOk, OnErr};
+ghost use Rattle.std.specs.Prelude.{◌≡◌, ◌<◌, ◌^◌, ◌+◌, None, Some, length, map, filter, is_some, IfOk, OnOk, OnErr};
 ghost use Rattle.std.specs.List.{list_any};
 ghost use Rattle.std.specs.Map.{lookup, remove_entry};
 ghost use Rattle.std.specs.BTreeMap.{insert_entry, is_at, IsOrdered};
-ghost use Rattle.ev_ledger.specs.Entries.{key_order, held_at, is_at_worker};
+ghost use Rattle.ev_ledger.specs.Entries.{key_order, held_at, is_at_worker, SetsAt};
 
 use ev_types::Gen;
 use std::alloc::{AllocError, Global};
@@ -19,7 +19,7 @@ pub(crate) fn put(
     on: (Gen, Option<Gen>),
 ) -> Result<(), AllocError>
     ensures entries { OnOk result (members.new.entries ≡ insert_entry key_order members.old.entries place on) }
-    ensures found { OnOk result ((q : ℕ × ℕ) → lookup (is_at (key_order q)) members.new.entries ≡ cond (is_at (key_order place) q) (Some on) (lookup (is_at (key_order q)) members.old.entries)) }
+    ensures found { OnOk result (SetsAt place (Some on) members.old.entries members.new.entries) }
     ensures err { OnErr result (members.new.entries ≡ members.old.entries) }
     ensures few { length members.old.entries < 2 ^ 63 }
     ensures ordered { IsOrdered key_order members.old }
@@ -36,7 +36,7 @@ pub(crate) fn put(
 pub(crate) fn take(members: &mut Members, place: (u64, u64)) -> Option<(Gen, Option<Gen>)>
     ensures found { result ≡ lookup (is_at (key_order place)) members.old.entries }
     ensures entries { members.new.entries ≡ remove_entry (is_at (key_order place)) members.old.entries }
-    ensures left { (q : ℕ × ℕ) → lookup (is_at (key_order q)) members.new.entries ≡ cond (is_at (key_order place) q) None (lookup (is_at (key_order q)) members.old.entries) }
+    ensures left { SetsAt place None members.old.entries members.new.entries }
     ensures ordered { IsOrdered key_order members.old }
 {
     // They stand in the order of their places.

@@ -1,7 +1,5 @@
-ghost use Rattle.std.specs.Prelude.{◌≡◌, ℕ, ◌<◌, ◌^◌, ◌+◌, ◌==◌, true, false, cond, map, filter, IfOk, OnOk, OnErr};
-ghost use Rattle.std.specs.BTreeSet.{contains};
-ghost use Rattle.std.specs.BTreeMap.{is_at};
-ghost use Rattle.ev_ledger.specs.Entries.{place_of, place_on_order, stands_on};
+ghost use Rattle.std.specs.Prelude.{◌≡◌, ◌<◌, ◌^◌, ◌+◌, true, false, map, filter, IfOk, OnOk, OnErr};
+ghost use Rattle.ev_ledger.specs.Entries.{place_of, stands_on, SameKeys, SetsKey};
 
 use std::alloc::{AllocError, Global};
 use std::collections::BTreeSet;
@@ -12,8 +10,8 @@ pub(crate) type Places = BTreeSet<(u64, (u64, u64))>;
 
 /// Puts a connection among those of its listener. Out of memory, they stay as they were.
 pub(crate) fn enter(places: &mut Places, key: (u64, (u64, u64))) -> Result<(), AllocError>
-    ensures entered { OnOk result ((q : ℕ × (ℕ × ℕ)) → contains place_on_order places.new q ≡ cond (is_at (place_on_order key) q) true (contains place_on_order places.old q)) }
-    ensures err { OnErr result ((q : ℕ × (ℕ × ℕ)) → contains place_on_order places.new q ≡ contains place_on_order places.old q) }
+    ensures entered { OnOk result (SetsKey key true places.old places.new) }
+    ensures err { OnErr result (SameKeys places.old places.new) }
 {
     let Ok(_) = places.insert(key) else {
         return Err(AllocError);
@@ -23,7 +21,7 @@ pub(crate) fn enter(places: &mut Places, key: (u64, (u64, u64))) -> Result<(), A
 
 /// Takes a connection out of those of its listener. It takes no memory.
 pub(crate) fn leave(places: &mut Places, key: (u64, (u64, u64)))
-    ensures { (q : ℕ × (ℕ × ℕ)) → contains place_on_order places.new q ≡ cond (is_at (place_on_order key) q) false (contains place_on_order places.old q) }
+    ensures { SetsKey key false places.old places.new }
 {
     places.remove(&key);
 }
