@@ -9,11 +9,15 @@ use Rattle.ev_types.specs.Same.{bytes_decide}
 use Rattle.std.proofs.lemmas.Bool.{true≢false, false≢true}
 use Rattle.std.proofs.lemmas.Bool.Decides.{nat_tests}
 use Rattle.std.proofs.lemmas.List.Folds.{list_any-append}
+use Rattle.ev_types.specs.Kinds.{kind_same}
+use Rattle.ev_types.specs.declared.contents.Kind.{Kind}
+use Rattle.ev_types.specs.declared.contents.Kind.TheVariants.{Lds}
 use Rattle.ev_model.specs.Picture.{has_number}
+use Rattle.ev_model.specs.Signals.{is_draining}
 use Rattle.ev_model.specs.Sorted.{put_by}
 use Rattle.ev_ledger.proofs.OrderLemmas.{any_put}
 use Rattle.ev_drain.specs.declared.notes.Note.{Note}
-use Rattle.ev_drain.specs.Retired.{Retired, comes_before, is_numbered, is_draining_listener, is_waiting, numbers_waiting, marked}
+use Rattle.ev_drain.specs.Retired.{Retired, comes_before, is_numbered, is_draining_listener, is_waiting, newly_retired, numbers_waiting, marked, retired_status}
 use Rattle.ev_drain.specs.Waiters.{WaitersKept, numbers_under, without_number, HaveWaiters}
 use Rattle.ev_drain.specs.Notes.{row_of, rows_of, is_waiting_note, marked_note, is_waiting_among, marked_among}
 use Rattle.ev_drain.proofs.WorldLemmas.{any_mapped, number_left, number_own}
@@ -67,6 +71,16 @@ any_waiter name k (r ∷ rs) = by (is_waiting name r) (any_waiter name k rs)
 -- the index with the number of one more row, where that waits
 abbrev pub Entered : WaitersKept → WaitersKept → Retired → Type 0
 Entered old new one = (n : List ℕ) → numbers_under new n ≡ numbers_under old n ++ cond (is_waiting n one) (one.number ∷ []) []
+
+-- a draining listener that is retired now waits under its own name
+pub waits_now : (kind : Kind) (number : ℕ) (name n : List ℕ) (dropped : Bool) → dropped ≡ false → kind_same kind Lds ≡ true
+    → bytes_eq name n ≡ is_waiting n (newly_retired kind number name dropped)
+waits_now kind number name n dropped drains listens =
+    sym (always (bytes_eq name n)) ∙ (λ i. ((sym listens i && bytes_eq name n) && is_draining (retired_status (sym drains i))) && not false)
+  where
+    always : (b : Bool) → ((b && true) && true) ≡ b
+    always true = refl
+    always false = refl
 
 had_before : (k : ℕ) (ns ms : List ℕ) → has_number k ns ≡ true → has_number k (ns ++ ms) ≡ true
 had_before k ns ms h = list_any-append (λ n. n == k) ns ms ∙ ap (λ b. b || has_number k ms) h

@@ -1,3 +1,4 @@
 pub mod Retired
 pub mod Waiters
 pub mod Notes
+pub mod Worlds

@@ -1,5 +1,5 @@
 -- What the drain's map holds: what is noted of a row, by its number.
-use Rattle.std.specs.Prelude.{ℕ, Bool, not, ◌==◌, ◌&&◌, ◌||◌, if◌then◌else◌, List, map}
+use Rattle.std.specs.Prelude.{ℕ, Bool, not, ◌==◌, ◌&&◌, ◌||◌, if◌then◌else◌, List, filter, map}
 use Rattle.ev_types.specs.declared.journals.Format.{Format}
 use Rattle.ev_model.specs.World.{OpenMember}
 use Rattle.ev_model.specs.Dead.{is_dead_at, waits_for_timer}
@@ -43,8 +43,16 @@ is_waiting_among name numbers entry = has_number entry.0 numbers && is_waiting_n
 abbrev pub marked_among : List ℕ → List ℕ → ℕ × Note → ℕ × Note
 marked_among name numbers entry = (entry.0, if has_number entry.0 numbers then marked_note name entry.1 else entry.1)
 
--- nothing holds the generation of an entry any more, by a test of what is shown and the open connections' counts
+-- a picture or a connection holds the generation of an entry, by a test of what is shown and the open connections' counts, or its
+-- drain timeout is awaited
+abbrev pub is_held_note : Format → (ℕ → Bool) → List OpenMember → ℕ × Note → Bool
+is_held_note format shown opened entry =
+    (shown entry.0 || not (count_of entry.0 opened == 0)) || (waits_for_timer format entry.1.kind && not entry.1.expired)
+
+-- nothing holds the generation of an entry any more, by the same
 abbrev pub is_dead_note : Format → (ℕ → Bool) → List OpenMember → ℕ × Note → Bool
-is_dead_note format shown opened entry =
-    is_dead_at entry.1.status
-    ((shown entry.0 || not (count_of entry.0 opened == 0)) || (waits_for_timer format entry.1.kind && not entry.1.expired))
+is_dead_note format shown opened entry = is_dead_at entry.1.status (is_held_note format shown opened entry)
+
+-- the numbers of those
+abbrev pub dead_notes : Format → (ℕ → Bool) → List OpenMember → List (ℕ × Note) → List ℕ
+dead_notes format shown opened entries = map (λ (entry : ℕ × Note). entry.0) (filter (is_dead_note format shown opened) entries)

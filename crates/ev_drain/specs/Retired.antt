@@ -13,7 +13,7 @@ use Rattle.ev_types.specs.declared.rows.RowStatus.{RowStatus}
 use Rattle.ev_types.specs.declared.rows.RowStatus.TheVariants.{Draining, Dropped}
 use Rattle.ev_types.specs.declared.rows.GenRow.{GenRow}
 use Rattle.ev_model.specs.World.{OpenMember}
-use Rattle.ev_model.specs.Sorted.{sorted_by}
+use Rattle.ev_model.specs.Sorted.{put_by, sorted_by}
 use Rattle.ev_model.specs.Picture.{has_number}
 use Rattle.ev_model.specs.Signals.{is_draining}
 use Rattle.ev_model.specs.Dead.{is_dead_at, is_open_on, waits_for_timer}
@@ -38,6 +38,10 @@ newly_retired kind number name dropped =
 -- the first is not above the second by number
 abbrev pub comes_before : Retired → Retired → Bool
 comes_before one other = is_le (nat_cmp one.number other.number)
+
+-- the rows with one more, in the order of their numbers
+abbrev pub with_row : Retired → List Retired → List Retired
+with_row row rows = put_by comes_before row rows
 
 -- the row has this number
 abbrev pub is_numbered : ℕ → Retired → Bool

@@ -1,7 +1,6 @@
-ghost use Rattle.std.specs.Prelude.{◌≡◌, ℕ, ◌||◌, ◌&&◌, ◌==◌, not, List, filter, map, IfOk};
-ghost use Rattle.ev_model.specs.Dead.{is_dead_at, waits_for_timer};
-ghost use Rattle.ev_ledger.specs.Members.{count_of};
-ghost use Rattle.ev_drain.specs.Notes.{is_dead_note};
+ghost use Rattle.std.specs.Prelude.{◌≡◌, IfOk};
+ghost use Rattle.ev_model.specs.Dead.{waits_for_timer};
+ghost use Rattle.ev_drain.specs.Notes.{dead_notes, is_dead_note, is_held_note};
 
 use crate::notes::{Note, Notes};
 use crate::shown::Shows;
@@ -17,7 +16,7 @@ pub(crate) fn dead_notes<S: Shows>(
     ledger: &Ledger,
     shown: &S,
 ) -> Result<Vec<Gen>, AllocError>
-    ensures { IfOk result (λ dead. dead.items ≡ map (λ entry. entry.0) (filter (is_dead_note format (S.has shown.now) ledger.now) notes.now.entries)) }
+    ensures { IfOk result (λ dead. dead.items ≡ dead_notes format (S.has shown.now) ledger.now notes.now.entries) }
 {
     notes
         .iter()
@@ -46,7 +45,7 @@ pub(crate) fn nothing_holds<S: Shows>(
 
 // Whether a picture in use or a connection holds a draining generation, or its drain timeout is awaited.
 fn is_held<S: Shows>(format: Format, ledger: &Ledger, shown: &S, number: Gen, note: &Note) -> bool
-    ensures { result ≡ ((S.has shown.now number || not (count_of number ledger.now == 0)) || (waits_for_timer format note.now.kind && not note.now.expired)) }
+    ensures { result ≡ is_held_note format (S.has shown.now) ledger.now (number, note.now) }
 {
     shown.shows(number)
         || ledger.count(number) != 0

@@ -1,16 +1,9 @@
-ghost use Rattle.std.specs.Prelude.{◌≡◌, ◌==◌, ℕ, true, false, not, List, [], ◌∷◌, ◌++◌, filter, map, OnOk, OnErr, IfOk};
+ghost use Rattle.std.specs.Prelude.{◌≡◌, ℕ, false, not, [], filter, map, OnOk, OnErr, IfOk};
 ghost use Rattle.std.specs.List.{list_any};
-ghost use Rattle.ev_model.specs.Sorted.{put_by};
 ghost use Rattle.ev_drain.specs.Notes.{row_of};
-ghost use Rattle.ev_model.specs.World.{World};
-ghost use Rattle.ev_model.specs.Signals.{is_unexpired, unexpired};
-ghost use Rattle.ev_types.specs.Statuses.{is_live};
-ghost use Rattle.ev_types.specs.declared.rows.GenRow.{GenRow};
-ghost use Rattle.ev_model.specs.Picture.{has_number};
-ghost use Rattle.ev_model.specs.Dead.{numbers_in_use};
-ghost use Rattle.ev_model.specs.Publishing.{dead_numbers};
-ghost use Rattle.ev_ledger.specs.Members.{StandsFor as HasOpened};
-ghost use Rattle.ev_drain.specs.Retired.{Retired, newly_retired, comes_before, is_numbered, has_row, kind_of_row, is_expired, is_waiting, numbers_waiting, marked, dead_of, is_dead_in, retired_status, StandsFor};
+ghost use Rattle.ev_drain.specs.Retired.{newly_retired, is_numbered, has_row, kind_of_row, is_expired, is_waiting, numbers_waiting, marked, dead_of, is_dead_in, retired_status, with_row, StandsFor};
+ghost use Rattle.ev_drain.specs.Waiters.{AreAmong};
+ghost use Rattle.ev_drain.specs.Worlds.{AreDeadNumbers, Expires, IsAnswerOf, Removes, Retires, has_unexpired};
 
 use crate::dead::{dead_notes, nothing_holds};
 use crate::notes::{Note, Notes, is_waiting, kind_of, mark, put};
@@ -67,8 +60,8 @@ impl Drain {
         dropped: bool,
     ) -> Result<(), AllocError>
         requires absent { has_row self.old number ≡ false }
-        ensures retired { OnOk result (self.new ≡ put_by comes_before (newly_retired kind number name.now dropped) self.old) }
-        ensures world { OnOk result ((row : GenRow) (before : List GenRow) (after : List GenRow) (expired : List ℕ) → StandsFor self.old (before ++ row ∷ after) expired → is_live row.status ≡ true → row.kind ≡ kind → row.number ≡ number → row.name ≡ name.now → has_number number expired ≡ false → StandsFor self.new (before ++ record row { status = retired_status dropped } ∷ after) expired) }
+        ensures retired { OnOk result (self.new ≡ with_row (newly_retired kind number name.now dropped) self.old) }
+        ensures world { OnOk result (Retires kind number name.now dropped self.old self.new) }
         ensures err { OnErr result (self.new ≡ self.old) }
     {
         let Ok(note) = new_note(alloc, kind, name, dropped) else {
@@ -112,8 +105,8 @@ impl Drain {
     pub fn expire(&mut self, name: &Name) -> bool
         ensures answer { result ≡ list_any (is_waiting name.now) self.old }
         ensures marked { self.new ≡ map (marked name.now) self.old }
-        ensures answer_by_world { (rows : List GenRow) (expired : List ℕ) → StandsFor self.old rows expired → result ≡ list_any (is_unexpired expired name.now) rows }
-        ensures world { (rows : List GenRow) (expired : List ℕ) → StandsFor self.old rows expired → StandsFor self.new rows (expired ++ unexpired expired name.now rows) }
+        ensures answer_by_world { IsAnswerOf (has_unexpired name.now) self.old result }
+        ensures world { Expires name.now self.old self.new }
     {
         // They stand in the order of their numbers.
         let _ = self.notes.len();
@@ -126,7 +119,7 @@ impl Drain {
     /// Numbers of generations among which are all draining listeners of this name whose drain timeout hasn't come. They are lent:
     /// it takes no memory, and walks nothing.
     pub fn waiting(&self, name: &Name) -> &[Gen]
-        ensures waiting { (number : ℕ) → has_number number (numbers_waiting name.now self.now) ≡ true → has_number number result.now ≡ true }
+        ensures waiting { AreAmong (numbers_waiting name.now self.now) result.now }
     {
         self.waiters.under(name)
     }
@@ -141,7 +134,7 @@ impl Drain {
         shown: &S,
     ) -> Result<Vec<Gen>, AllocError>
         ensures dead { IfOk result (λ dead. dead.items ≡ dead_of format (S.has shown.now) ledger.now self.now) }
-        ensures world { IfOk result (λ dead. (world : World) → StandsFor self.now world.rows world.expired → HasOpened ledger.now world.opened → ((n : ℕ) → S.has shown.now n ≡ has_number n (numbers_in_use world)) → dead.items ≡ dead_numbers format world) }
+        ensures world { IfOk result (λ dead. AreDeadNumbers format (S.has shown.now) ledger.now self.now dead.items) }
     {
         dead_notes(alloc, &self.notes, format, ledger, shown)
     }
@@ -163,7 +156,7 @@ impl Drain {
     /// over the numbers of those that wait under its name, to take its own out.
     pub fn remove(&mut self, number: Gen)
         ensures removed { self.new ≡ filter (λ row. not (is_numbered number row)) self.old }
-        ensures world { (rows : List GenRow) (expired : List ℕ) → StandsFor self.old rows expired → StandsFor self.new (filter (λ row. not (row.number == number)) rows) (filter (λ n. not (n == number)) expired) }
+        ensures world { Removes number self.old self.new }
     {
         // They stand in the order of their numbers.
         let _ = self.notes.len();

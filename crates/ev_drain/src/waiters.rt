@@ -2,8 +2,8 @@ ghost use Rattle.std.specs.Prelude.{◌≡◌, ℕ, List, [], ◌∷◌, ◌++�
 ghost use Rattle.std.specs.Option.{unwrap_or};
 ghost use Rattle.std.specs.Str.{bytes_eq};
 ghost use Rattle.indexmap.specs.IndexMap.{get};
-ghost use Rattle.ev_drain.specs.Retired.{is_waiting, newly_retired};
-ghost use Rattle.ev_drain.specs.Waiters.{numbers_under, without_number};
+ghost use Rattle.ev_drain.specs.Retired.{newly_retired};
+ghost use Rattle.ev_drain.specs.Waiters.{ChangesUnder, Enters, EntersWaiter, HasNoEmpty, HasNoOtherEmpty, SameUnder, numbers_under, without_number};
 
 use ev_types::{Gen, Kind, Name, Seq, TryCopy};
 use indexmap::IndexMap;
@@ -19,11 +19,13 @@ pub(crate) struct Waiters {
 }
 
 impl Model for Waiters {
-    ghost use Rattle.ev_drain.specs.Waiters.{WaitersKept};
+    ghost use Rattle.ev_drain.specs.Waiters.{HasNoEmpty, WaitersKept};
 
     ghost Value = { WaitersKept };
 
     ghost view = { λ w. w.numbers.entries };
+
+    ghost invariant = { λ w. HasNoEmpty w.numbers.entries };
 }
 
 impl Waiters {
@@ -56,8 +58,8 @@ impl Waiters {
         name: &Name,
         dropped: bool,
     ) -> Result<(), AllocError>
-        ensures entered { OnOk result ((n : List ℕ) → numbers_under self.new n ≡ numbers_under self.old n ++ (if is_waiting n (newly_retired kind number name.now dropped) then number ∷ [] else [])) }
-        ensures err { OnErr result ((n : List ℕ) → numbers_under self.new n ≡ numbers_under self.old n) }
+        ensures entered { OnOk result (EntersWaiter (newly_retired kind number name.now dropped) self.old self.new) }
+        ensures err { OnErr result (SameUnder self.old self.new) }
     {
         if dropped || !kind.is(Kind::Lds) {
             return Ok(());
@@ -67,8 +69,8 @@ impl Waiters {
 
     // Puts a number behind those of a name. Out of memory, the numbers stay as they were.
     fn enter(&mut self, alloc: Global, name: &Name, number: Gen) -> Result<(), AllocError>
-        ensures entered { OnOk result ((n : List ℕ) → numbers_under self.new n ≡ numbers_under self.old n ++ (if bytes_eq name.now n then number ∷ [] else [])) }
-        ensures err { OnErr result ((n : List ℕ) → numbers_under self.new n ≡ numbers_under self.old n) }
+        ensures entered { OnOk result (Enters (bytes_eq name.now) number self.old self.new) }
+        ensures err { OnErr result (SameUnder self.old self.new) }
     {
         if let Some(numbers) = self.numbers.get_mut(name) {
             return numbers.push(number);
@@ -83,32 +85,33 @@ impl Waiters {
 
     /// A generation no longer waits under the name. It takes no memory, and looks at the numbers of this name alone.
     pub(crate) fn leave(&mut self, name: &Name, number: Gen)
-        ensures { (n : List ℕ) → numbers_under self.new n ≡ (if bytes_eq name.now n then without_number number (numbers_under self.old n) else numbers_under self.old n) }
+        ensures { ChangesUnder name.now (without_number number) self.old self.new }
     {
         if let Some(numbers) = self.numbers.get_mut(name) {
             leave_out(numbers, number);
         }
-        self.trim(name);
+        trim(&mut self.numbers, name);
     }
 
     /// Takes the numbers under a name out, where there are some. It takes no memory.
     pub(crate) fn take(&mut self, name: &Name) -> Option<Seq<Gen>>
         ensures taken { unwrap_or result [] ≡ numbers_under self.old name.now }
-        ensures left { (n : List ℕ) → numbers_under self.new n ≡ (if bytes_eq name.now n then [] else numbers_under self.old n) }
+        ensures left { ChangesUnder name.now (λ numbers. []) self.old self.new }
     {
         self.numbers.swap_remove(name)
     }
+}
 
-    // Takes out the entry of a name without any.
-    fn trim(&mut self, name: &Name)
-        ensures { (n : List ℕ) → numbers_under self.new n ≡ numbers_under self.old n }
-    {
-        let Some(numbers) = self.numbers.get(name) else {
-            return;
-        };
-        if numbers.is_empty() {
-            take_out(&mut self.numbers, name);
-        }
+// Takes out the entry of a name without any, where no other name is without any.
+fn trim(map: &mut Numbers, name: &Name)
+    ensures same { SameUnder map.old.entries map.new.entries }
+    ensures none_empty { HasNoOtherEmpty name.now map.old.entries → HasNoEmpty map.new.entries }
+{
+    let Some(numbers) = map.get(name) else {
+        return;
+    };
+    if numbers.is_empty() {
+        take_out(map, name);
     }
 }
 
