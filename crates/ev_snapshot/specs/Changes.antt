@@ -1,7 +1,10 @@
 -- What a publication changes. It names the generations of which a picture shows something else than the last one; of all others
 -- it shows the same. So a publication costs what it changes, and not what it shows.
 use Rattle.std.specs.Prelude.{ℕ, ◌≡◌, ◌+◌, ◌==◌, ◌||◌, Bool, true, not, ⊤, if◌then◌else◌, List, [], ◌∷◌, filter, map, Option, Some, None}
+use Rattle.std.specs.Arc.{arc_value}
+use Rattle.std.specs.declared.sync.Arc.{Arc}
 use Rattle.std.specs.List.{AllByRecursion}
+use Rattle.std.specs.Option.{option_map}
 use Rattle.std.specs.Str.{bytes_eq}
 use Rattle.ev_model.specs.Picture.{has_number, shown_same}
 use Rattle.ev_model.specs.Sorted.{put_by}
@@ -45,15 +48,23 @@ abbrev pub put_listeners : List ListenerChange → List ServedListener → List 
 put_listeners [] listeners = listeners
 put_listeners (change ∷ changes) listeners = put_listeners changes (put_listener change.served listeners)
 
+-- the clusters without those of the numbers that changed
+abbrev pub clusters_without : List ClusterChange → List ServedCluster → List ServedCluster
+clusters_without changes clusters =
+    without (λ (c : ServedCluster). c.number) (map (λ (change : ClusterChange). change.number) changes) clusters
+
+-- the listeners without those of the numbers that changed
+abbrev pub listeners_without : List ListenerChange → List ServedListener → List ServedListener
+listeners_without changes listeners =
+    without (λ (l : ServedListener). l.number) (map (λ (change : ListenerChange). change.number) changes) listeners
+
 -- the clusters after these changes: first the numbers that changed go, then those that serve now are put in
 abbrev pub clusters_with : List ClusterChange → List ServedCluster → List ServedCluster
-clusters_with changes clusters =
-    put_clusters changes (without (λ (c : ServedCluster). c.number) (map (λ (change : ClusterChange). change.number) changes) clusters)
+clusters_with changes clusters = put_clusters changes (clusters_without changes clusters)
 
 -- the listeners after these changes: first the numbers that changed go, then those that serve now are put in
 abbrev pub listeners_with : List ListenerChange → List ServedListener → List ServedListener
-listeners_with changes listeners =
-    put_listeners changes (without (λ (l : ServedListener). l.number) (map (λ (change : ListenerChange). change.number) changes) listeners)
+listeners_with changes listeners = put_listeners changes (listeners_without changes listeners)
 
 -- what is shown after these changes
 abbrev pub shown_with : Changes → Shown → Shown
@@ -74,6 +85,10 @@ next_picture changes picture = record { version = picture.version + 1; shown = s
 abbrev pub picture_after : Changes → Picture → Option Picture
 picture_after changes picture =
     if shown_same (shown_with changes picture.shown) picture.shown then None else Some (next_picture changes picture)
+
+-- these changes of the picture make this next one of it, which is shared, or none
+abbrev pub IsNext : {Z : Type 0} → Changes → Picture → Option (Arc Picture Z) → Type 0
+IsNext changes picture next = option_map arc_value next ≡ picture_after changes picture
 
 -- the test is true of each element and each one behind it
 abbrev pub IsPairwise : {X : Type 0} → (X → X → Bool) → List X → Type 0

@@ -1,13 +1,30 @@
 -- The listeners at an address. Pictures with several at one are allowed: the first in the order of names takes the connections.
-use Rattle.std.specs.Prelude.{◌≡◌, List, [], filter, Option, Some, None}
+use Rattle.std.specs.Prelude.{◌≡◌, ℕ, cond, List, [], filter, Option, Some, None}
 use Rattle.ev_types.specs.SameHosts.{host_same}
 use Rattle.ev_types.specs.declared.hosts.Host.{Host}
 use Rattle.ev_model.specs.declared.pictures.ServedListener.{ServedListener}
+use Rattle.ev_snapshot.specs.Layers.{found}
+use Rattle.ev_snapshot.specs.Rows.{put_before, without_number}
+use Rattle.ev_snapshot.specs.declared.table.Table.{Table}
 
 -- the group that a table has, or else no listener
 abbrev pub group_of : Option (List ServedListener) → List ServedListener
 group_of None = []
 group_of (Some group) = group
+
+-- a group without the listener of this number
+abbrev pub without_listener : ℕ → List ServedListener → List ServedListener
+without_listener number group = without_number (λ (l : ServedListener). l.number) number group
+
+-- a group with one more listener, in the order of names
+abbrev pub with_listener : ServedListener → List ServedListener → List ServedListener
+with_listener listener group = put_before (λ (l : ServedListener). l.name) listener group
+
+-- the second table has at this listener's address what the change makes of the first one's group, and at each other address the same group
+abbrev pub ChangesGroup : ServedListener → (List ServedListener → List ServedListener) → Table Host (List ServedListener) → Table Host (List ServedListener) → Type 0
+ChangesGroup listener change before after =
+    (address : Host) → group_of (found host_same after address)
+    ≡ cond (host_same listener.address address) (change (group_of (found host_same before address))) (group_of (found host_same before address))
 
 -- the listeners at this address
 abbrev pub those_at : Host → List ServedListener → List ServedListener

@@ -1,9 +1,9 @@
-ghost use Rattle.std.specs.Prelude.{◌≡◌, [], ◌∷◌, ◌++◌, IfOk, List, ℕ, filter, find};
-ghost use Rattle.std.specs.Option.{option_copied, option_or};
+ghost use Rattle.std.specs.Prelude.{◌≡◌, [], ◌∷◌, ◌++◌, IfOk, OnOk, filter};
+ghost use Rattle.std.specs.Option.{option_copied};
 ghost use Rattle.std.specs.Str.{bytes_eq, str_to_ascii_lowercase};
 ghost use Rattle.indexmap.specs.IndexMap.{get};
-ghost use Rattle.ev_model.specs.Choice.{domain_for, is_domain};
-ghost use Rattle.ev_snapshot.specs.Domains.{is_pattern};
+ghost use Rattle.ev_model.specs.Choice.{domain_for};
+ghost use Rattle.ev_snapshot.specs.Domains.{GainsText, is_pattern};
 
 use crate::domains::{Domain, is_pattern, pattern_for};
 use crate::host_texts::{DomainText, HostText};
@@ -51,8 +51,10 @@ impl Domains {
         ensures { IfOk result (λ domains. domains ≡ self ++ domain ∷ []) }
     {
         let mut list = self.list;
-        let patterns = with_pattern(self.patterns, &domain)?;
-        let by_text = with_text(self.by_text, &domain)?;
+        let mut patterns = self.patterns;
+        let mut by_text = self.by_text;
+        enter_pattern(&mut patterns, &domain)?;
+        enter_text(&mut by_text, &domain)?;
         list.push(domain)?;
         Ok(Domains {
             list,
@@ -74,31 +76,26 @@ impl Domains {
     }
 }
 
-// The patterns with one more domain, where it is one.
-fn with_pattern(patterns: Seq<Domain>, domain: &Domain) -> Result<Seq<Domain>, AllocError>
-    ensures { IfOk result (λ new. new ≡ patterns ++ filter is_pattern (domain.now ∷ [])) }
+// Puts a domain behind the patterns, where it is one.
+fn enter_pattern(patterns: &mut Seq<Domain>, domain: &Domain) -> Result<(), AllocError>
+    ensures { OnOk result (patterns.new ≡ patterns.old ++ filter is_pattern (domain.now ∷ [])) }
 {
-    let mut patterns = patterns;
     if is_pattern(domain) {
         patterns.push(domain.share()?)?;
     }
-    Ok(patterns)
+    Ok(())
 }
 
-// The table by text with one more domain, which is kept where it is the first of its text.
-fn with_text(
-    table: IndexMap<DomainText, Domain>,
-    domain: &Domain,
-) -> Result<IndexMap<DomainText, Domain>, AllocError>
-    ensures { IfOk result (λ new. (text : List ℕ) → get bytes_eq new text ≡ option_or (get bytes_eq table text) (find (is_domain text) (domain.now ∷ []))) }
+// Enters a domain into the table by text, where it is the first of its text.
+fn enter_text(table: &mut IndexMap<DomainText, Domain>, domain: &Domain) -> Result<(), AllocError>
+    ensures { OnOk result (GainsText domain.now (get bytes_eq table.old) (get bytes_eq table.new)) }
 {
-    let mut table = table;
     let text = domain.key()?;
     if table.contains_key(&text) {
-        return Ok(table);
+        return Ok(());
     }
     let Ok(_) = table.insert(text, domain.share()?) else {
         return Err(AllocError);
     };
-    Ok(table)
+    Ok(())
 }

@@ -1,8 +1,8 @@
-ghost use Rattle.std.specs.Prelude.{◌≡◌, ◌<◌, find, length, IfOk, if◌then◌else◌};
+ghost use Rattle.std.specs.Prelude.{◌≡◌, ◌<◌, find, length, IfOk};
 ghost use Rattle.std.specs.Option.{option_copied};
 ghost use Rattle.std.specs.Str.{str_to_ascii_lowercase};
-ghost use Rattle.ev_model.specs.Choice.{HostDomain, by_prefix, by_suffix, has_prefix, has_suffix, is_any, is_prefix_form, is_suffix_form, longer_of};
-ghost use Rattle.ev_snapshot.specs.Domains.{host_at, is_pattern, pattern_for};
+ghost use Rattle.ev_model.specs.Choice.{HostDomain, by_prefix, by_suffix, has_prefix, has_suffix, is_any, is_prefix_form, is_suffix_form};
+ghost use Rattle.ev_snapshot.specs.Domains.{host_at, is_pattern, longer_where, pattern_for};
 
 use crate::host_texts::DomainText;
 use crate::texts::{begins_lower, begins_with, ends_lower, ends_with};
@@ -168,7 +168,7 @@ fn longest_prefix<'a>(domains: &'a [Domain], host: &[u8]) -> Option<&'a Domain>
 
 // The longer of a domain that fits and another, the first where they are as long; the other where it doesn't fit.
 fn if_longer<'a>(fits: bool, domain: &'a Domain, other: Option<&'a Domain>) -> Option<&'a Domain>
-    ensures { option_copied result ≡ (if fits then longer_of domain.now (option_copied other.entry) else option_copied other.entry) }
+    ensures { option_copied result ≡ longer_where fits domain.now (option_copied other.entry) }
 {
     if !fits {
         return other;

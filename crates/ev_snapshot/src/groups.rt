@@ -1,12 +1,8 @@
-ghost use Rattle.std.specs.Prelude.{◌≡◌, ◌==◌, cond, not, position, IfOk};
+ghost use Rattle.std.specs.Prelude.{◌≡◌, ◌==◌, not, position, IfOk, OnOk};
 ghost use Rattle.std.specs.Option.{option_copied};
-ghost use Rattle.ev_types.specs.SameHosts.{host_same};
-ghost use Rattle.ev_types.specs.declared.hosts.Host.{Host};
 ghost use Rattle.ev_model.specs.Versions.{is_before};
 ghost use Rattle.ev_model.specs.declared.pictures.ServedListener.{ServedListener};
-ghost use Rattle.ev_snapshot.specs.Groups.{group_of};
-ghost use Rattle.ev_snapshot.specs.Layers.{found};
-ghost use Rattle.ev_snapshot.specs.Rows.{put_before, without_number};
+ghost use Rattle.ev_snapshot.specs.Groups.{ChangesGroup, group_of, with_listener, without_listener};
 
 use crate::addresses::ListenerAddress;
 use crate::names::Row;
@@ -21,58 +17,63 @@ type Group = Shared<Seq<Shared<RoutedListener>>>;
 /// The groups by address.
 pub(crate) type Groups = Table<ListenerAddress, Group>;
 
-/// The groups without this listener, which goes by its number.
-pub(crate) fn without_listener(
+/// Takes a listener, which goes by its number, out of the group at its address.
+pub(crate) fn leave_group(
     alloc: Global,
-    groups: Groups,
+    groups: &mut Groups,
     listener: &Shared<RoutedListener>,
-) -> Result<Groups, AllocError>
-    ensures { IfOk result (λ new. (address : Host) → group_of (found host_same new address) ≡ cond (host_same listener.now.address address) (without_number (λ (l : ServedListener). l.number) listener.now.number (group_of (found host_same groups address))) (group_of (found host_same groups address))) }
+) -> Result<(), AllocError>
+    ensures { OnOk result (ChangesGroup listener.now (without_listener listener.now.number) groups.old groups.new) }
 {
     let group = group_without(
         alloc,
         groups.get(&listener.get().served().address),
         listener.get().number(),
     )?;
-    let new = set_group(alloc, groups, listener, group)?;
-    Ok(new)
+    set_group(alloc, groups, listener, group)?;
+    Ok(())
 }
 
-/// The groups with one more listener.
-pub(crate) fn with_listener(
+/// Puts a listener into the group at its address.
+pub(crate) fn enter_group(
     alloc: Global,
-    groups: Groups,
+    groups: &mut Groups,
     listener: &Shared<RoutedListener>,
-) -> Result<Groups, AllocError>
-    ensures { IfOk result (λ new. (address : Host) → group_of (found host_same new address) ≡ cond (host_same listener.now.address address) (put_before (λ (l : ServedListener). l.name) listener.now (group_of (found host_same groups address))) (group_of (found host_same groups address))) }
+) -> Result<(), AllocError>
+    ensures { OnOk result (ChangesGroup listener.now (with_listener listener.now) groups.old groups.new) }
 {
     let group = group_with(
         alloc,
         groups.get(&listener.get().served().address),
         listener,
     )?;
-    let new = set_group(alloc, groups, listener, group)?;
-    Ok(new)
+    set_group(alloc, groups, listener, group)?;
+    Ok(())
 }
 
-// The groups with this one at a listener's address.
+// Sets the group at a listener's address.
 fn set_group(
     alloc: Global,
-    groups: Groups,
+    groups: &mut Groups,
     listener: &Shared<RoutedListener>,
     group: Seq<Shared<RoutedListener>>,
-) -> Result<Groups, AllocError>
-    ensures { IfOk result (λ new. (address : Host) → group_of (found host_same new address) ≡ cond (host_same listener.now.address address) group (group_of (found host_same groups address))) }
+) -> Result<(), AllocError>
+    ensures { OnOk result (ChangesGroup listener.now (λ before. group) groups.old groups.new) }
 {
-    let mut groups = groups;
+    let group = entry_of(alloc, group)?;
     let address = ListenerAddress::new(listener.share()?);
-    let group = if group.len() == 0 {
-        None
-    } else {
-        Some(Shared::new(alloc, group)?)
-    };
     groups.set(address, group)?;
-    Ok(groups)
+    Ok(())
+}
+
+// A group as the table has it: none where it is empty.
+fn entry_of(alloc: Global, group: Seq<Shared<RoutedListener>>) -> Result<Option<Group>, AllocError>
+    ensures { IfOk result (λ entry. group_of entry ≡ group) }
+{
+    if group.len() == 0 {
+        return Ok(None);
+    }
+    Ok(Some(Shared::new(alloc, group)?))
 }
 
 // A group without the listener of this number.
@@ -81,7 +82,7 @@ fn group_without(
     group: Option<&Group>,
     number: Gen,
 ) -> Result<Seq<Shared<RoutedListener>>, AllocError>
-    ensures { IfOk result (λ new. new ≡ without_number (λ (l : ServedListener). l.number) number (group_of (option_copied group.entry))) }
+    ensures { IfOk result (λ new. new ≡ without_listener number (group_of (option_copied group.entry))) }
 {
     let mut group = copy_of(alloc, group)?;
     group.retain(|listener| is_other(listener, number));
@@ -101,7 +102,7 @@ fn group_with(
     group: Option<&Group>,
     listener: &Shared<RoutedListener>,
 ) -> Result<Seq<Shared<RoutedListener>>, AllocError>
-    ensures { IfOk result (λ new. new ≡ put_before (λ (l : ServedListener). l.name) listener.now (group_of (option_copied group.entry))) }
+    ensures { IfOk result (λ new. new ≡ with_listener listener.now (group_of (option_copied group.entry))) }
 {
     let mut group = copy_of(alloc, group)?;
     let Some(place) = place_in(group.as_slice(), listener.get()) else {

@@ -28,8 +28,10 @@
 //! - Listeners at one address stand in a group, in the order of names, so that pictures with several at one address
 //!   have a meaning, and the first takes the connections. The rules of listeners are made so that no two that serve
 //!   have one address, and then a group has one; that isn't proved, and nothing rests on it but the time.
-//! - Tables and rows change by value (`without(self, ..)`, `put(self, ..)`): without memory nothing is left of them,
-//!   and no half-changed table can be seen.
+//! - Rows and listeners change by value (`without(self, ..)`, `put(self, ..)`): without memory nothing is left of
+//!   them, and no half-changed one can be seen. They lend their tables to the functions that change these, so that
+//!   who owns the tables lets them go in one place: a proof takes the longer, the more values a function owns and the
+//!   more ways out it has.
 //! - A host text is looked up without a copy in lower case: its key is hashed byte by byte with ASCII letters as
 //!   lower case, and seen by contracts as the text in lower case.
 //! - Beside the table of equal domains a listener keeps the list of its patterns, the domains with a star; a search

@@ -1,13 +1,13 @@
-ghost use Rattle.std.specs.Prelude.{◌≡◌, [], None, IfOk, map, slice_get};
+ghost use Rattle.std.specs.Prelude.{◌≡◌, [], None, Some, IfOk, map, slice_get};
 ghost use Rattle.std.specs.Option.{option_copied};
 ghost use Rattle.ev_model.specs.Choice.{listener_at};
-ghost use Rattle.ev_model.specs.Picture.{has_number, served_listener_same};
+ghost use Rattle.ev_model.specs.Picture.{has_number};
 ghost use Rattle.ev_model.specs.declared.pictures.ServedListener.{ServedListener};
-ghost use Rattle.ev_snapshot.specs.Changes.{IsInOrder, put_in};
-ghost use Rattle.ev_snapshot.specs.Kept.{keeps_name, keeps_number};
+ghost use Rattle.ev_snapshot.specs.Changes.{IsInOrder, put_listener};
+ghost use Rattle.ev_snapshot.specs.Kept.{listener_name_keeps, listener_number_keeps};
 ghost use Rattle.ev_snapshot.specs.Rows.{named, numbered, put_before, without_name, without_number};
 
-use crate::groups::{Groups, with_listener, without_listener};
+use crate::groups::{Groups, enter_group, leave_group};
 use crate::names::Row;
 use crate::routed::RoutedListener;
 use crate::rows::Rows;
@@ -84,14 +84,14 @@ impl Listeners {
 
     /// Whether the listener of this name is the same here as in listeners after them, if there is one.
     pub(crate) fn keeps_name(&self, after: &Listeners, name: &str) -> bool
-        ensures { result ≡ keeps_name (λ (l : ServedListener). l.name) served_listener_same self.now after.now name.now }
+        ensures { result ≡ listener_name_keeps self.now after.now name.now }
     {
         self.rows.keeps_name(&after.rows, name)
     }
 
     /// Whether the name that this number has here has the same listener in listeners after them.
     pub(crate) fn keeps_number(&self, after: &Listeners, number: Gen) -> bool
-        ensures { result ≡ keeps_number (λ (l : ServedListener). l.number) (λ (l : ServedListener). l.name) served_listener_same self.now after.now number }
+        ensures { result ≡ listener_number_keeps self.now after.now number }
     {
         self.rows.keeps_number(&after.rows, number)
     }
@@ -104,7 +104,8 @@ impl Listeners {
             return Ok(self);
         };
         let listener = listener.share()?;
-        let groups = without_listener(alloc, self.groups, &listener)?;
+        let mut groups = self.groups;
+        leave_group(alloc, &mut groups, &listener)?;
         let rows = self.rows.without(number)?;
         Ok(Listeners { rows, groups })
     }
@@ -126,7 +127,8 @@ impl Listeners {
         requires number { numbered (λ (l : ServedListener). l.number) self listener.number ≡ None }
         ensures { IfOk result (λ listeners. listeners ≡ put_before (λ (l : ServedListener). l.name) listener self) }
     {
-        let groups = with_listener(alloc, self.groups, &listener)?;
+        let mut groups = self.groups;
+        enter_group(alloc, &mut groups, &listener)?;
         let rows = self.rows.with(listener)?;
         Ok(Listeners { rows, groups })
     }
@@ -137,7 +139,7 @@ impl Listeners {
         alloc: Global,
         listener: Shared<RoutedListener>,
     ) -> Result<Listeners, AllocError>
-        ensures { IfOk result (λ listeners. listeners ≡ put_in (λ (l : ServedListener). l.number) (λ (l : ServedListener). l.name) listener self) }
+        ensures { IfOk result (λ listeners. listeners ≡ put_listener (Some listener) self) }
     {
         let listeners = self.without(alloc, listener.get().number())?;
         let listeners = listeners.without_name(alloc, listener.get().name())?;

@@ -1,12 +1,7 @@
-ghost use Rattle.std.specs.Prelude.{◌≡◌, ◌&&◌, IfOk, map};
+ghost use Rattle.std.specs.Prelude.{◌≡◌, IfOk};
 ghost use Rattle.std.specs.List.{list_all};
-ghost use Rattle.ev_model.specs.Picture.{served_cluster_same, served_listener_same};
-ghost use Rattle.ev_model.specs.declared.pictures.ServedCluster.{ServedCluster};
-ghost use Rattle.ev_model.specs.declared.pictures.ServedListener.{ServedListener};
-ghost use Rattle.ev_snapshot.specs.Changes.{clusters_with, listeners_with, put_cluster, put_clusters, put_listener, put_listeners, without};
-ghost use Rattle.ev_snapshot.specs.Kept.{clusters_keep, keeps_served, listeners_keep};
-ghost use Rattle.ev_snapshot.specs.declared.changes.ClusterChange.{ClusterChange};
-ghost use Rattle.ev_snapshot.specs.declared.changes.ListenerChange.{ListenerChange};
+ghost use Rattle.ev_snapshot.specs.Changes.{clusters_with, clusters_without, listeners_with, listeners_without, put_cluster, put_clusters, put_listener, put_listeners};
+ghost use Rattle.ev_snapshot.specs.Kept.{all_keep, clusters_keep, listeners_keep, served_cluster_keeps, served_listener_keeps};
 
 use crate::changes::{Changes, ClusterChange, ListenerChange};
 use crate::listeners::Listeners;
@@ -17,8 +12,48 @@ use ev_model::{ServedCluster, ServedListener};
 use ev_types::Shared;
 use std::alloc::{AllocError, Global};
 
-/// The clusters after these changes. Each that is as before is shared with those before.
-pub(crate) fn clusters_with(
+/// The clusters and the listeners of a picture to be.
+#[derive(Drop)]
+pub(crate) struct Parts {
+    pub(crate) clusters: Rows<WeighedCluster>,
+    pub(crate) listeners: Listeners,
+}
+
+impl Parts {
+    /// The same, in tables of which none has too much over its base.
+    pub(crate) fn settled(self, alloc: Global) -> Result<Parts, AllocError>
+        ensures clusters { IfOk result (λ parts. parts.clusters ≡ self.clusters) }
+        ensures listeners { IfOk result (λ parts. parts.listeners ≡ self.listeners) }
+    {
+        let clusters = self.clusters.settled(alloc)?;
+        let listeners = self.listeners.settled(alloc)?;
+        Ok(Parts {
+            clusters,
+            listeners,
+        })
+    }
+}
+
+/// The clusters and the listeners after these changes. Each that is as before is shared with those before.
+pub(crate) fn parts_with(
+    alloc: Global,
+    clusters: &Rows<WeighedCluster>,
+    listeners: &Listeners,
+    changes: &Changes,
+) -> Result<Parts, AllocError>
+    ensures clusters { IfOk result (λ parts. parts.clusters ≡ clusters_with changes.now.clusters clusters.now) }
+    ensures listeners { IfOk result (λ parts. parts.listeners ≡ listeners_with changes.now.listeners listeners.now) }
+{
+    let clusters = clusters_with(alloc, clusters, changes.clusters.as_slice())?;
+    let listeners = listeners_with(alloc, listeners, changes.listeners.as_slice())?;
+    Ok(Parts {
+        clusters,
+        listeners,
+    })
+}
+
+// The clusters after these changes.
+fn clusters_with(
     alloc: Global,
     before: &Rows<WeighedCluster>,
     changes: &[ClusterChange],
@@ -34,7 +69,7 @@ fn without_clusters(
     clusters: Rows<WeighedCluster>,
     changes: &[ClusterChange],
 ) -> Result<Rows<WeighedCluster>, AllocError>
-    ensures { IfOk result (λ new. new ≡ without (λ (c : ServedCluster). c.number) (map (λ (change : ClusterChange). change.number) changes.now) clusters) }
+    ensures { IfOk result (λ new. new ≡ clusters_without changes.now clusters) }
 {
     let mut left = clusters;
     for change in changes {
@@ -120,7 +155,7 @@ fn keeps_served_cluster(
     after: &Rows<WeighedCluster>,
     change: &ClusterChange,
 ) -> bool
-    ensures { result ≡ keeps_served (λ (c : ServedCluster). c.number) (λ (c : ServedCluster). c.name) served_cluster_same before.now after.now change.now.served }
+    ensures { result ≡ served_cluster_keeps before.now after.now change.now.served }
 {
     match &change.served {
         Some(cluster) => {
@@ -131,8 +166,8 @@ fn keeps_served_cluster(
     }
 }
 
-/// The listeners after these changes. Each that is as before is shared with those before.
-pub(crate) fn listeners_with(
+// The listeners after these changes.
+fn listeners_with(
     alloc: Global,
     before: &Listeners,
     changes: &[ListenerChange],
@@ -149,7 +184,7 @@ fn without_listeners(
     listeners: Listeners,
     changes: &[ListenerChange],
 ) -> Result<Listeners, AllocError>
-    ensures { IfOk result (λ new. new ≡ without (λ (l : ServedListener). l.number) (map (λ (change : ListenerChange). change.number) changes.now) listeners) }
+    ensures { IfOk result (λ new. new ≡ listeners_without changes.now listeners) }
 {
     let mut left = listeners;
     for change in changes {
@@ -223,7 +258,7 @@ fn keeps_listener(before: &Listeners, after: &Listeners, change: &ListenerChange
 
 // Whether the listener of a change leaves the listeners under each name that it touches.
 fn keeps_served_listener(before: &Listeners, after: &Listeners, change: &ListenerChange) -> bool
-    ensures { result ≡ keeps_served (λ (l : ServedListener). l.number) (λ (l : ServedListener). l.name) served_listener_same before.now after.now change.now.served }
+    ensures { result ≡ served_listener_keeps before.now after.now change.now.served }
 {
     match &change.served {
         Some(listener) => {
@@ -237,13 +272,12 @@ fn keeps_served_listener(before: &Listeners, after: &Listeners, change: &Listene
 /// Whether changes leave the clusters and the listeners under each name that they touch.
 pub(crate) fn keep_all(
     clusters: &Rows<WeighedCluster>,
-    clusters_after: &Rows<WeighedCluster>,
     listeners: &Listeners,
-    listeners_after: &Listeners,
+    after: &Parts,
     changes: &Changes,
 ) -> bool
-    ensures { result ≡ (list_all (clusters_keep clusters.now clusters_after.now) changes.now.clusters && list_all (listeners_keep listeners.now listeners_after.now) changes.now.listeners) }
+    ensures { result ≡ all_keep clusters.now listeners.now after.now.clusters after.now.listeners changes.now }
 {
-    keep_clusters(clusters, clusters_after, changes.clusters.as_slice())
-        && keep_listeners(listeners, listeners_after, changes.listeners.as_slice())
+    keep_clusters(clusters, &after.clusters, changes.clusters.as_slice())
+        && keep_listeners(listeners, &after.listeners, changes.listeners.as_slice())
 }

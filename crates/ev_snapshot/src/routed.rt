@@ -1,8 +1,8 @@
-ghost use Rattle.std.specs.Prelude.{◌≡◌, ◌<◌, [], ◌∷◌, ◌++◌, IfOk, length, option_map};
+ghost use Rattle.std.specs.Prelude.{◌≡◌, ◌<◌, [], ◌∷◌, ◌++◌, IfOk, length};
 ghost use Rattle.std.specs.Option.{option_copied};
 ghost use Rattle.std.specs.Str.{str_to_ascii_lowercase};
-ghost use Rattle.ev_model.specs.Choice.{HostDomain, domain_for, domains_of};
-ghost use Rattle.ev_snapshot.specs.Domains.{domains_in, host_at};
+ghost use Rattle.ev_model.specs.Choice.{domains_of};
+ghost use Rattle.ev_snapshot.specs.Domains.{domains_in, host_at, host_for, lower_domain};
 
 use crate::domain_table::Domains;
 use crate::domains::Domain;
@@ -53,7 +53,7 @@ impl RoutedListener {
 
     /// The virtual host that a host text goes to.
     pub(crate) fn virtual_host(&self, host: &str) -> Option<&VirtualHost>
-        ensures { option_copied result ≡ option_map (λ (d : HostDomain). d.host) (domain_for (domains_in self.now.routing) (str_to_ascii_lowercase host.now)) }
+        ensures { option_copied result ≡ host_for self.now.routing host.now }
     {
         match self.domains.find(host.as_bytes()) {
             Some(domain) => Some(domain.host()),
@@ -117,7 +117,7 @@ fn lower_domain(
     place: usize,
 ) -> Result<Domain, AllocError>
     requires { place < length table.now.hosts }
-    ensures { IfOk result (λ made. made ≡ record { domain = str_to_ascii_lowercase domain.now; host = host_at table.now.hosts place }) }
+    ensures { IfOk result (λ made. made ≡ lower_domain domain.now (host_at table.now.hosts place)) }
 {
     let text = Shared::new(alloc, lower_case(alloc, domain)?)?;
     Ok(Domain::new(text, table.share()?, place))

@@ -1,8 +1,10 @@
-ghost use Rattle.std.specs.Prelude.{◌≡◌, [], None, IfOk, map};
+ghost use Rattle.std.specs.Prelude.{◌≡◌, [], None, Some, IfOk, OnOk, map, nat_eq};
 ghost use Rattle.std.specs.Option.{option_copied};
+ghost use Rattle.std.specs.Str.{bytes_eq};
 ghost use Rattle.ev_model.specs.Picture.{has_number};
 ghost use Rattle.ev_snapshot.specs.Changes.{IsInOrder, put_in};
 ghost use Rattle.ev_snapshot.specs.Kept.{keeps_name, keeps_number};
+ghost use Rattle.ev_snapshot.specs.Layers.{SetsEntry};
 ghost use Rattle.ev_snapshot.specs.Rows.{named, numbered, put_before, without_name, without_number};
 
 use crate::names::{NameOf, Row};
@@ -103,8 +105,7 @@ impl<T: Row> Rows<T> {
         let name = NameOf::new(row.share()?);
         let mut by_name = self.by_name;
         let mut by_number = self.by_number;
-        by_name.set(name, None)?;
-        by_number.set(number, None)?;
+        leave(&mut by_name, &mut by_number, name, number)?;
         Ok(Rows { by_name, by_number })
     }
 
@@ -126,12 +127,9 @@ impl<T: Row> Rows<T> {
         ensures rows { IfOk result (λ rows. rows ≡ put_before T.name_of row self) }
         ensures order { IsInOrder T.number_of T.name_of self }
     {
-        let name = NameOf::new(row.share()?);
-        let number = row.get().number();
         let mut by_name = self.by_name;
         let mut by_number = self.by_number;
-        by_name.set(name, Some(row.share()?))?;
-        by_number.set(number, Some(row))?;
+        enter(&mut by_name, &mut by_number, row)?;
         Ok(Rows { by_name, by_number })
     }
 
@@ -162,4 +160,35 @@ impl<T: Row> Rows<T> {
         let by_number = self.by_number.settled(alloc)?;
         Ok(Rows { by_name, by_number })
     }
+}
+
+// Enters a row under its name and its number.
+fn enter<T: Row>(
+    by_name: &mut Table<NameOf<T>, Shared<T>>,
+    by_number: &mut Table<Gen, Shared<T>>,
+    row: Shared<T>,
+) -> Result<(), AllocError>
+    ensures name { OnOk result (SetsEntry bytes_eq (T.name_of row) (Some row) by_name.old by_name.new) }
+    ensures number { OnOk result (SetsEntry nat_eq (T.number_of row) (Some row) by_number.old by_number.new) }
+{
+    let name = NameOf::new(row.share()?);
+    let number = row.get().number();
+    by_name.set(name, Some(row.share()?))?;
+    by_number.set(number, Some(row))?;
+    Ok(())
+}
+
+// Leaves nothing under a name and a number.
+fn leave<T: Row>(
+    by_name: &mut Table<NameOf<T>, Shared<T>>,
+    by_number: &mut Table<Gen, Shared<T>>,
+    name: NameOf<T>,
+    number: Gen,
+) -> Result<(), AllocError>
+    ensures name { OnOk result (SetsEntry bytes_eq name None by_name.old by_name.new) }
+    ensures number { OnOk result (SetsEntry nat_eq number None by_number.old by_number.new) }
+{
+    by_name.set(name, None)?;
+    by_number.set(number, None)?;
+    Ok(())
 }

@@ -1,17 +1,17 @@
 ghost use Rattle.std.specs.Prelude.{◌≡◌, ◌+◌, true, IfOk};
 ghost use Rattle.std.specs.Arc.{arc_value};
-ghost use Rattle.std.specs.Option.{option_copied, option_map};
+ghost use Rattle.std.specs.Option.{option_copied};
 ghost use Rattle.ev_model.specs.Choice.{by_host, by_route, by_routing, choice_in, choice_of, forwarded};
 ghost use Rattle.ev_model.specs.declared.pictures.ServedCluster.{ServedCluster};
 ghost use Rattle.ev_model.specs.declared.pictures.ServedListener.{ServedListener};
 ghost use Rattle.ev_model.specs.Picture.{is_shown, shown_of};
 ghost use Rattle.ev_model.specs.World.{World};
-ghost use Rattle.ev_snapshot.specs.Changes.{IsOrdered, empty_picture, picture_after};
+ghost use Rattle.ev_snapshot.specs.Changes.{IsNext, IsOrdered, empty_picture, picture_after};
 ghost use Rattle.ev_snapshot.specs.Chosen.{TakesEligible, TakesLowest, host_of, names_shown};
 
 use crate::changes::Changes;
 use crate::listeners::Listeners;
-use crate::parts::{clusters_with, keep_all, listeners_with};
+use crate::parts::{keep_all, parts_with};
 use crate::routed::RoutedListener;
 use crate::routes::route_for;
 use crate::rows::Rows;
@@ -63,7 +63,7 @@ impl Snapshot {
         before: &Arc<Snapshot>,
         changes: &Changes,
     ) -> Result<Option<Arc<Snapshot>>, AllocError>
-        ensures picture { IfOk result (λ next. option_map arc_value next ≡ picture_after changes.now (arc_value before.now)) }
+        ensures picture { IfOk result (IsNext changes.now (arc_value before.now)) }
         ensures ordered { IsOrdered (arc_value before.now).shown }
     {
         let before: &Snapshot = &**before;
@@ -78,24 +78,16 @@ impl Snapshot {
         ensures picture { IfOk result (λ next. next ≡ picture_after changes.now self.now) }
         ensures ordered { IsOrdered self.now.shown }
     {
-        let clusters = clusters_with(alloc, &self.clusters, changes.clusters.as_slice())?;
-        let listeners = listeners_with(alloc, &self.listeners, changes.listeners.as_slice())?;
-        if keep_all(
-            &self.clusters,
-            &clusters,
-            &self.listeners,
-            &listeners,
-            changes,
-        ) {
+        let parts = parts_with(alloc, &self.clusters, &self.listeners, changes)?;
+        if keep_all(&self.clusters, &self.listeners, &parts, changes) {
             return Ok(None);
         }
         let version = version_after(self.version)?;
-        let clusters = clusters.settled(alloc)?;
-        let listeners = listeners.settled(alloc)?;
+        let parts = parts.settled(alloc)?;
         Ok(Some(Snapshot {
             version,
-            clusters,
-            listeners,
+            clusters: parts.clusters,
+            listeners: parts.listeners,
         }))
     }
 

@@ -1,7 +1,7 @@
-ghost use Rattle.std.specs.Prelude.{◌≡◌, None, Some, cond, IfOk, OnOk};
+ghost use Rattle.std.specs.Prelude.{◌≡◌, None, Some, IfOk, OnOk};
 ghost use Rattle.std.specs.Option.{option_copied};
 ghost use Rattle.indexmap.specs.IndexMap.{get};
-ghost use Rattle.ev_snapshot.specs.Layers.{found, found_by, is_long, over_base};
+ghost use Rattle.ev_snapshot.specs.Layers.{LooksOver, SetsAt, SetsEntry, found, found_by, is_long};
 
 use ev_types::TryCopy;
 use indexmap::{Equivalent, IndexMap};
@@ -42,7 +42,7 @@ impl<K: Eq + Hash + TryCopy + Drop, V: TryCopy + Drop> Table<K, V> {
 
     /// Has this under a key from now on, or nothing.
     pub(crate) fn set(&mut self, key: K, value: Option<V>) -> Result<(), AllocError>
-        ensures { OnOk result ((other : K) → found K.eq self.new other ≡ cond (K.eq key other) value (found K.eq self.old other)) }
+        ensures { OnOk result (SetsEntry K.eq key value self.old self.new) }
     {
         put(&mut self.over, key, value)
     }
@@ -64,7 +64,15 @@ impl<K: Eq + Hash + TryCopy + Drop, V: TryCopy + Drop> Table<K, V> {
         if !is_long(self.over.len(), self.base.len()) {
             return Ok(self);
         }
-        let base = with_over(alloc, copy_of(alloc, &*self.base)?, &self.over)?;
+        self.rebased(alloc)
+    }
+
+    // The same table, with a base of its own and nothing over it.
+    fn rebased(&self, alloc: Global) -> Result<Table<K, V>, AllocError>
+        ensures { IfOk result (λ table. (key : K) → found K.eq table key ≡ found K.eq self.now key) }
+    {
+        let mut base = copy_of(alloc, &*self.base)?;
+        put_over(alloc, &mut base, &self.over)?;
         Ok(Table {
             base: Arc::new(alloc, base)?,
             over: IndexMap::new(alloc),
@@ -86,7 +94,7 @@ fn put<K: Eq + Hash + Drop, V: Drop>(
     key: K,
     value: V,
 ) -> Result<(), AllocError>
-    ensures { OnOk result ((other : K) → get K.eq map.new other ≡ cond (K.eq key other) (Some value) (get K.eq map.old other)) }
+    ensures { OnOk result (SetsAt K.eq key (Some value) (get K.eq map.old) (get K.eq map.new)) }
 {
     let Ok(_) = map.insert(key, value) else {
         return Err(AllocError);
@@ -100,7 +108,7 @@ fn put_or_remove<K: Eq + Hash + Drop, V: Drop>(
     key: K,
     value: Option<V>,
 ) -> Result<(), AllocError>
-    ensures { OnOk result ((other : K) → get K.eq map.new other ≡ cond (K.eq key other) value (get K.eq map.old other)) }
+    ensures { OnOk result (SetsAt K.eq key value (get K.eq map.old) (get K.eq map.new)) }
 {
     match value {
         Some(value) => put(map, key, value),
@@ -120,22 +128,47 @@ fn copy_of<K: Eq + Hash + TryCopy + Drop, V: TryCopy + Drop>(
 {
     let mut copied = IndexMap::new(alloc);
     for (key, value) in map {
-        put(&mut copied, key.copy(alloc)?, value.copy(alloc)?)?;
+        put_copy(alloc, &mut copied, key, value)?;
     }
     Ok(copied)
 }
 
-// A base with what stands over it.
-fn with_over<K: Eq + Hash + TryCopy + Drop, V: TryCopy + Drop>(
+// Puts a copy of a value in the place of that of its key.
+fn put_copy<K: Eq + Hash + TryCopy + Drop, V: TryCopy + Drop>(
     alloc: Global,
-    base: IndexMap<K, V>,
-    over: &IndexMap<K, Option<V>>,
-) -> Result<IndexMap<K, V>, AllocError>
-    ensures { IfOk result (λ new. (key : K) → get K.eq new key ≡ over_base (get K.eq over.now key) (get K.eq base key)) }
+    map: &mut IndexMap<K, V>,
+    key: &K,
+    value: &V,
+) -> Result<(), AllocError>
+    ensures { OnOk result (SetsAt K.eq key.now (Some value.now) (get K.eq map.old) (get K.eq map.new)) }
 {
-    let mut new = base;
+    put(map, key.copy(alloc)?, value.copy(alloc)?)?;
+    Ok(())
+}
+
+// Puts what stands over a base into it.
+fn put_over<K: Eq + Hash + TryCopy + Drop, V: TryCopy + Drop>(
+    alloc: Global,
+    base: &mut IndexMap<K, V>,
+    over: &IndexMap<K, Option<V>>,
+) -> Result<(), AllocError>
+    ensures { OnOk result (LooksOver (get K.eq over.now) (get K.eq base.old) (get K.eq base.new)) }
+{
     for (key, value) in over {
-        put_or_remove(&mut new, key.copy(alloc)?, value.copy(alloc)?)?;
+        put_copy_or_remove(alloc, base, key, value)?;
     }
-    Ok(new)
+    Ok(())
+}
+
+// Puts a copy of a value in the place of that of its key, or removes the key.
+fn put_copy_or_remove<K: Eq + Hash + TryCopy + Drop, V: TryCopy + Drop>(
+    alloc: Global,
+    map: &mut IndexMap<K, V>,
+    key: &K,
+    value: &Option<V>,
+) -> Result<(), AllocError>
+    ensures { OnOk result (SetsAt K.eq key.now value.now (get K.eq map.old) (get K.eq map.new)) }
+{
+    put_or_remove(map, key.copy(alloc)?, value.copy(alloc)?)?;
+    Ok(())
 }

@@ -1,4 +1,4 @@
-use Rattle.std.proofs.Common.{◌≡◌, ◌∙◌, ◌++◌, ◌∷◌, [], Some, cond, sym, subst}
+use Rattle.std.proofs.Common.{◌≡◌, ◌∙◌, ◌++◌, ◌∷◌, [], Some, cond, sym, ap, subst}
 use Rattle.std.specs.List.{IsDistinct}
 use Rattle.std.specs.Map.{keys_of}
 use Rattle.ev_snapshot.proofs.Maps.{lookup_more, push_front}
@@ -15,7 +15,7 @@ loop-key-preserved g c =
     let apart = subst (λ es. IsDistinct eq (keys_of es)) full c.into_iter-key-iterator.ensures.into_iter_gives.4 in (
       done ++ (key, value) ∷ [],
       push_front done (key, value) rest ∙ sym full,
-      λ q. c.in_ok-put.ensures q
-          ∙ (λ i. cond (eq (c.in_ok-copy.ensures.equal i) q) (Some (c.in_ok-copy-2.ensures.equal i)) (c.loop-key.invariant.2 q i))
+      λ q. c.in_ok-put_copy.ensures q
+          ∙ ap (cond (eq key q) (Some value)) (c.loop-key.invariant.2 q)
           ∙ sym (lookup_more eq g.met.K.Eq.laws done key value rest apart q),
     )

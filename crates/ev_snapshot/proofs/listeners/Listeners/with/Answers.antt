@@ -14,7 +14,7 @@ with-requires-clause-number c = ap (λ ls. numbered (λ (l : ServedListener). l.
 
 pub invariant_of-result : goal.invariant_of-result
 invariant_of-result c address =
-    c.in_ok-groups.ensures address
+    c.in_ok-enter_group.ensures address
     ∙ (λ i. cond (host_same c.args.listener.address address) (put_before (λ (l : ServedListener). l.name) c.args.listener (c.self.invariant address i)) (c.self.invariant address i))
     ∙ group_put address c.args.listener c.self.inside.rows c.with.ensures.order
     ∙ ap (those_at address) (sym c.in_ok-rows.ensures.rows)

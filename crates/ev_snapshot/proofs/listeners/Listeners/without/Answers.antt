@@ -16,7 +16,7 @@ returns-in_default c =
 pub invariant_of-result : goal.invariant_of-result
 invariant_of-result c address =
     let less : ServedListener → _ = λ l. cond (host_same l.address address) (without_number (λ (l : ServedListener). l.number) l.number (group_of (found host_same c.self.inside.groups address))) (group_of (found host_same c.self.inside.groups address)) in
-    c.in_ok-groups.ensures address
+    c.in_ok-leave_group.ensures address
     ∙ ap less c.in_ok-listener.ensures.value
     ∙ (λ i. cond (host_same c.in-Some.listener.now.address address) (without_number (λ (l : ServedListener). l.number) c.in-Some.listener.now.number (c.self.invariant address i)) (c.self.invariant address i))
     ∙ group_less address c.args.number c.in-Some.listener.now c.self.inside.rows c.in-Some.ensures.order (sym c.in-Some.ensures.row)

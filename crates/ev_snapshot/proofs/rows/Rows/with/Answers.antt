@@ -1,4 +1,4 @@
-use Rattle.std.proofs.Common.{◌∙◌, ap, cond, nat_eq, subst, Some}
+use Rattle.std.proofs.Common.{◌∙◌, ap, nat_eq, subst}
 use Rattle.std.specs.Str.{bytes_eq}
 use Rattle.ev_snapshot.specs.Changes.{IsInOrder}
 use Rattle.ev_snapshot.specs.Layers.{found, keys_in}
@@ -10,28 +10,22 @@ use Rattle.ev_snapshot.proofs.rows.Rows.with.Goals as goal
 pub invariant_of-result : goal.invariant_of-result
 invariant_of-result g c =
     (row_in g.T.Row.number_of g.T.Row.name_of
-    (found bytes_eq c.self.inside.by_name) (found bytes_eq c.set.new.self) (found nat_eq c.self.inside.by_number) (found nat_eq c.set-2.new.self)
-    (keys_in c.set.new.self) (listing g.T.Row.name_of (found bytes_eq c.self.inside.by_name) (keys_in c.self.inside.by_name)) c.args.row c.self.invariant
+    (found bytes_eq c.self.inside.by_name) (found bytes_eq c.enter.new.by_name) (found nat_eq c.self.inside.by_number) (found nat_eq c.enter.new.by_number)
+    (keys_in c.enter.new.by_name) (listing g.T.Row.name_of (found bytes_eq c.self.inside.by_name) (keys_in c.self.inside.by_name)) c.args.row c.self.invariant
     (ap (λ xs. named g.T.Row.name_of xs (g.T.Row.name_of c.args.row)) c.self.view_is ∙ c.requires.name)
     (ap (λ xs. numbered g.T.Row.number_of xs (g.T.Row.number_of c.args.row)) c.self.view_is ∙ c.requires.number)
-    (λ m. c.in_ok-set.ensures m
-    ∙ (λ i. cond (bytes_eq ((c.new-name.ensures ∙ ap g.T.Row.name_of c.in_ok-share.ensures.value) i) m) (Some (c.in_ok-share-2.ensures.value i)) (found bytes_eq c.self.inside.by_name m)))
-    (λ m. c.in_ok-set-2.ensures m
-    ∙ (λ i. cond (nat_eq ((c.number-number.ensures ∙ ap g.T.Row.number_of c.get.ensures.value) i) m) (Some c.args.row) (found nat_eq c.self.inside.by_number m)))
-    (λ m. table_covers (bytes_eq m) c.set.new.self)).1
+    c.in_ok-enter.ensures.name c.in_ok-enter.ensures.number
+    (λ m. table_covers (bytes_eq m) c.enter.new.by_name)).1
 
 pub returns-clause-rows : goal.returns-clause-rows
 returns-clause-rows g c =
     (row_in g.T.Row.number_of g.T.Row.name_of
-    (found bytes_eq c.self.inside.by_name) (found bytes_eq c.set.new.self) (found nat_eq c.self.inside.by_number) (found nat_eq c.set-2.new.self)
-    (keys_in c.set.new.self) (listing g.T.Row.name_of (found bytes_eq c.self.inside.by_name) (keys_in c.self.inside.by_name)) c.args.row c.self.invariant
+    (found bytes_eq c.self.inside.by_name) (found bytes_eq c.enter.new.by_name) (found nat_eq c.self.inside.by_number) (found nat_eq c.enter.new.by_number)
+    (keys_in c.enter.new.by_name) (listing g.T.Row.name_of (found bytes_eq c.self.inside.by_name) (keys_in c.self.inside.by_name)) c.args.row c.self.invariant
     (ap (λ xs. named g.T.Row.name_of xs (g.T.Row.name_of c.args.row)) c.self.view_is ∙ c.requires.name)
     (ap (λ xs. numbered g.T.Row.number_of xs (g.T.Row.number_of c.args.row)) c.self.view_is ∙ c.requires.number)
-    (λ m. c.in_ok-set.ensures m
-    ∙ (λ i. cond (bytes_eq ((c.new-name.ensures ∙ ap g.T.Row.name_of c.in_ok-share.ensures.value) i) m) (Some (c.in_ok-share-2.ensures.value i)) (found bytes_eq c.self.inside.by_name m)))
-    (λ m. c.in_ok-set-2.ensures m
-    ∙ (λ i. cond (nat_eq ((c.number-number.ensures ∙ ap g.T.Row.number_of c.get.ensures.value) i) m) (Some c.args.row) (found nat_eq c.self.inside.by_number m)))
-    (λ m. table_covers (bytes_eq m) c.set.new.self)).0
+    c.in_ok-enter.ensures.name c.in_ok-enter.ensures.number
+    (λ m. table_covers (bytes_eq m) c.enter.new.by_name)).0
     ∙ ap (put_before g.T.Row.name_of c.args.row) c.self.view_is
 
 pub returns-clause-order : goal.returns-clause-order

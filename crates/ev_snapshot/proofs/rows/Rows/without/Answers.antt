@@ -12,22 +12,22 @@ returns-in_default g c = number_absent g.T.Row.number_of g.T.Row.name_of c.args.
 pub invariant_of-result : goal.invariant_of-result
 invariant_of-result g c =
     (row_out g.T.Row.number_of g.T.Row.name_of
-    (found bytes_eq c.self.inside.by_name) (found bytes_eq c.set.new.self) (found nat_eq c.self.inside.by_number) (found nat_eq c.set-2.new.self)
-    (keys_in c.set.new.self) (listing g.T.Row.name_of (found bytes_eq c.self.inside.by_name) (keys_in c.self.inside.by_name)) c.args.number c.in-Some.row.now c.self.invariant
+    (found bytes_eq c.self.inside.by_name) (found bytes_eq c.leave.new.by_name) (found nat_eq c.self.inside.by_number) (found nat_eq c.leave.new.by_number)
+    (keys_in c.leave.new.by_name) (listing g.T.Row.name_of (found bytes_eq c.self.inside.by_name) (keys_in c.self.inside.by_name)) c.args.number c.in-Some.row.now c.self.invariant
     (c.self.invariant.at_number c.args.number ∙ ap (λ xs. numbered g.T.Row.number_of xs c.args.number) c.self.view_is ∙ sym c.in-Some.ensures.row)
-    (λ m. c.in_ok-set.ensures m
+    (λ m. c.in_ok-leave.ensures.name m
     ∙ (λ i. cond (bytes_eq ((c.new-name.ensures ∙ ap g.T.Row.name_of c.in_ok-share.ensures.value) i) m) None (found bytes_eq c.self.inside.by_name m)))
-    c.in_ok-set-2.ensures
-    (λ m. table_covers (bytes_eq m) c.set.new.self)).1
+    c.in_ok-leave.ensures.number
+    (λ m. table_covers (bytes_eq m) c.leave.new.by_name)).1
 
 pub returns : goal.returns
 returns g c =
     (row_out g.T.Row.number_of g.T.Row.name_of
-    (found bytes_eq c.self.inside.by_name) (found bytes_eq c.set.new.self) (found nat_eq c.self.inside.by_number) (found nat_eq c.set-2.new.self)
-    (keys_in c.set.new.self) (listing g.T.Row.name_of (found bytes_eq c.self.inside.by_name) (keys_in c.self.inside.by_name)) c.args.number c.in-Some.row.now c.self.invariant
+    (found bytes_eq c.self.inside.by_name) (found bytes_eq c.leave.new.by_name) (found nat_eq c.self.inside.by_number) (found nat_eq c.leave.new.by_number)
+    (keys_in c.leave.new.by_name) (listing g.T.Row.name_of (found bytes_eq c.self.inside.by_name) (keys_in c.self.inside.by_name)) c.args.number c.in-Some.row.now c.self.invariant
     (c.self.invariant.at_number c.args.number ∙ ap (λ xs. numbered g.T.Row.number_of xs c.args.number) c.self.view_is ∙ sym c.in-Some.ensures.row)
-    (λ m. c.in_ok-set.ensures m
+    (λ m. c.in_ok-leave.ensures.name m
     ∙ (λ i. cond (bytes_eq ((c.new-name.ensures ∙ ap g.T.Row.name_of c.in_ok-share.ensures.value) i) m) None (found bytes_eq c.self.inside.by_name m)))
-    c.in_ok-set-2.ensures
-    (λ m. table_covers (bytes_eq m) c.set.new.self)).0
+    c.in_ok-leave.ensures.number
+    (λ m. table_covers (bytes_eq m) c.leave.new.by_name)).0
     ∙ ap (without_number g.T.Row.number_of c.args.number) c.self.view_is

@@ -1,9 +1,9 @@
-use Rattle.std.proofs.Common.{◌≡◌, ◌∙◌, ◌++◌, ◌∷◌, [], cond, sym, subst}
+use Rattle.std.proofs.Common.{◌≡◌, ◌∙◌, ◌++◌, ◌∷◌, [], cond, sym, ap, subst}
 use Rattle.std.specs.List.{IsDistinct}
 use Rattle.std.specs.Map.{keys_of}
 use Rattle.indexmap.specs.IndexMap.{get}
 use Rattle.ev_snapshot.proofs.Maps.{over_more, push_front}
-use Rattle.ev_snapshot.proofs.table.with_over.Goals as goal
+use Rattle.ev_snapshot.proofs.table.put_over.Goals as goal
 
 pub loop-key-preserved : goal.loop-key-preserved
 loop-key-preserved g c =
@@ -16,7 +16,7 @@ loop-key-preserved g c =
     let apart = subst (λ es. IsDistinct eq (keys_of es)) full c.into_iter-key-iterator.ensures.into_iter_gives.4 in (
       done ++ (key, value) ∷ [],
       push_front done (key, value) rest ∙ sym full,
-      λ q. c.in_ok-put_or_remove.ensures q
-          ∙ (λ i. cond (eq (c.in_ok-copy.ensures.equal i) q) (c.in_ok-copy-2.ensures.equal i) (c.loop-key.invariant.2 q i))
-          ∙ sym (over_more eq g.met.K.Eq.laws done key value rest (get eq c.args.base q) apart q),
+      λ q. c.in_ok-put_copy_or_remove.ensures q
+          ∙ ap (cond (eq key q) value) (c.loop-key.invariant.2 q)
+          ∙ sym (over_more eq g.met.K.Eq.laws done key value rest (get eq c.args.base.now q) apart q),
     )

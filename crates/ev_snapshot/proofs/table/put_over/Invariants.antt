@@ -2,9 +2,9 @@ use Rattle.std.proofs.Common.{◌≡◌, ◌++◌, List, Option}
 use Rattle.std.specs.Map.{lookup}
 use Rattle.indexmap.specs.IndexMap.{get}
 use Rattle.ev_snapshot.specs.Layers.{over_base}
-use Rattle.ev_snapshot.proofs.table.with_over.Given as goal
+use Rattle.ev_snapshot.proofs.table.put_over.Given as goal
 
 abbrev pub invariant-loop-key : goal.invariant-loop-key
 invariant-loop-key g l =
     (done : List (g.row.K.Denot × Option g.row.V.Denot)) × (done ++ l.key-iterator ≡ l.over.entries)
-    × ((key : g.row.K.Denot) → get g.K.PartialEq.eq l.new key ≡ over_base (lookup (g.K.PartialEq.eq key) done) (get g.K.PartialEq.eq l.fn.base key))
+    × ((key : g.row.K.Denot) → get g.K.PartialEq.eq l.base key ≡ over_base (lookup (g.K.PartialEq.eq key) done) (get g.K.PartialEq.eq l.fn.base key))
