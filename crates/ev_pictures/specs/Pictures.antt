@@ -1,5 +1,5 @@
 -- What contracts see of the pictures, and what a world has of them.
-use Rattle.std.specs.Prelude.{◌≡◌, ◌<◌, ◌≤◌, ◌+◌, ◌||◌, ℕ, Bool, if◌then◌else◌, List, [], ◌∷◌, ◌++◌, map, find, length, slice_set, Option, Some, None}
+use Rattle.std.specs.Prelude.{◌≡◌, ◌<◌, ◌≤◌, ◌+◌, ◌||◌, ℕ, Bool, if◌then◌else◌, List, [], ◌∷◌, ◌++◌, map, find, length, replicate, slice_get, slice_set, Option, Some, None}
 use Rattle.std.specs.List.{list_any, AllByRecursion}
 use Rattle.std.specs.Option.{option_map}
 use Rattle.ev_types.specs.declared.events.Answer.{Answer}
@@ -7,15 +7,20 @@ use Rattle.ev_types.specs.declared.events.Answer.TheVariants.{Version, Unchanged
 use Rattle.ev_model.specs.declared.pictures.Picture.{Picture}
 use Rattle.ev_model.specs.declared.pictures.Shown.{Shown}
 use Rattle.ev_model.specs.World.{World, last_version}
-use Rattle.ev_model.specs.Picture.{is_shown, shown_same}
+use Rattle.ev_model.specs.Picture.{is_shown, shown_of, shown_same}
 use Rattle.ev_model.specs.Dead.{last_picture, picture_at}
+use Rattle.ev_model.specs.Publishing.{publish}
 use Rattle.ev_snapshot.specs.declared.changes.Changes.{Changes}
-use Rattle.ev_snapshot.specs.Changes.{shown_with}
+use Rattle.ev_snapshot.specs.Changes.{empty_picture, shown_with}
 
 -- the picture that was published last, and the one that each worker holds
 pub record PicturesParts : Type 0 where
   pub last : Picture
   pub held : List Picture
+
+-- nothing was published, and each of so many workers holds the empty picture
+abbrev pub opening_pictures : ℕ → PicturesParts
+opening_pictures workers = record { last = empty_picture; held = replicate workers empty_picture }
 
 -- the pictures in use: the one that each worker holds, and the last
 abbrev pub in_use : PicturesParts → List Picture
@@ -38,6 +43,10 @@ shown_after changes pictures = shown_with changes pictures.last.shown
 abbrev pub next_version : Shown → Picture → Option ℕ
 next_version shown last = if shown_same shown last.shown then None else Some (last.version + 1)
 
+-- the version of a publication of these changes
+abbrev pub version_after : Changes → PicturesParts → Option ℕ
+version_after changes pictures = next_version (shown_after changes pictures) pictures.last
+
 -- the pictures after a publication
 abbrev pub with_shown : Shown → PicturesParts → PicturesParts
 with_shown shown pictures =
@@ -58,9 +67,17 @@ with_settled worker pictures = record pictures { held = slice_set pictures.held 
 abbrev pub settled_on : ℕ → World → World
 settled_on worker world = record world { held = slice_set world.held worker (last_version world) }
 
+-- the version of the picture that a worker holds
+abbrev pub version_held : ℕ → PicturesParts → Option ℕ
+version_held worker pictures = option_map (λ (p : Picture). p.version) (slice_get pictures.held worker)
+
 -- the picture shows the generation of this number
 abbrev pub is_shown_in : ℕ → Picture → Bool
 is_shown_in number picture = is_shown number picture.shown
+
+-- the version of the picture, where it shows the generation of this number
+abbrev pub version_where : ℕ → Picture → Option ℕ
+version_where number picture = if is_shown_in number picture then Some picture.version else None
 
 -- a picture that a worker holds, or the last, shows the generation of this number
 abbrev pub is_shown_by : ℕ → PicturesParts → Bool
@@ -77,3 +94,22 @@ pub record StandsFor (pictures : PicturesParts) (world : World) : Type 0 where
   pub last : pictures.last ≡ last_picture world
   pub held : pictures.held ≡ map (picture_at world) world.held
   pub known : AllByRecursion (λ version. version < length world.pictures) world.held
+
+-- whatever world the pictures stand for, this is the answer of the question about it
+abbrev pub IsAnswerOf : {A : Type 0} → (World → A) → PicturesParts → A → Type 0
+IsAnswerOf question pictures answer = (world : World) → StandsFor pictures world → answer ≡ question world
+
+-- whatever world the first pictures stand for, the second stand for what the change makes of it
+abbrev pub StandsAfter : (World → World) → PicturesParts → PicturesParts → Type 0
+StandsAfter change before after = (world : World) → StandsFor before world → StandsFor after (change world)
+
+-- at whatever world the pictures stand for, where these changes lead to what workers may serve, the machine answers a publication
+-- with this version
+abbrev pub AnswersPublication : Changes → PicturesParts → Option ℕ → Type 0
+AnswersPublication changes pictures version =
+    (world : World) → StandsFor pictures world → shown_after changes pictures ≡ shown_of world → (publish world).1 ≡ published_answer version
+
+-- likewise the second pictures stand for the world that a publication leaves
+abbrev pub Publishes : Changes → PicturesParts → PicturesParts → Type 0
+Publishes changes before after =
+    (world : World) → StandsFor before world → shown_after changes before ≡ shown_of world → StandsFor after (publish world).0

@@ -1,13 +1,12 @@
-ghost use Rattle.std.specs.Prelude.{◌≡◌, ◌<◌, ◌+◌, ℕ, None, Some, if◌then◌else◌, List, find, length, map, replicate, slice_get, IfOk, OnOk, OnErr, IfSome, IfNone};
+ghost use Rattle.std.specs.Prelude.{◌≡◌, ◌<◌, ℕ, None, Some, List, find, length, map, replicate, slice_get, IfOk, OnOk, OnErr, IfSome, IfNone};
 ghost use Rattle.std.specs.Arc.{arc_value};
 ghost use Rattle.std.specs.List.{list_any};
-ghost use Rattle.std.specs.Option.{option_copied, option_map};
-ghost use Rattle.ev_model.specs.World.{World, opening};
-ghost use Rattle.ev_model.specs.Picture.{has_number, shown_of};
+ghost use Rattle.std.specs.Option.{option_copied};
+ghost use Rattle.ev_model.specs.World.{opening};
+ghost use Rattle.ev_model.specs.Picture.{has_number};
 ghost use Rattle.ev_model.specs.Dead.{numbers_in_use, picture_held};
-ghost use Rattle.ev_model.specs.Publishing.{publish};
-ghost use Rattle.ev_snapshot.specs.Changes.{IsOrdered, empty_picture};
-ghost use Rattle.ev_pictures.specs.Pictures.{StandsFor, is_shown_by, is_shown_in, next_version, published_answer, settled_on, shown_after, version_showing, with_shown, with_settled};
+ghost use Rattle.ev_snapshot.specs.Changes.{IsOrdered};
+ghost use Rattle.ev_pictures.specs.Pictures.{AnswersPublication, IsAnswerOf, Publishes, StandsAfter, StandsFor, is_shown_by, is_shown_in, opening_pictures, settled_on, shown_after, version_after, version_held, version_showing, version_where, with_shown, with_settled};
 
 use ev_snapshot::{Changes, Snapshot};
 use ev_types::Gen;
@@ -37,7 +36,7 @@ impl Model for Pictures {
 impl Pictures {
     /// Nothing was published, and each of so many workers holds the empty picture.
     pub fn new(alloc: Global, workers: u32) -> Result<Pictures, AllocError>
-        ensures empty { IfOk result (λ pictures. pictures ≡ record { last = empty_picture; held = replicate workers empty_picture }) }
+        ensures empty { IfOk result (λ pictures. pictures ≡ opening_pictures workers) }
         ensures world { IfOk result (λ pictures. (node : List ℕ) → StandsFor pictures (opening workers node)) }
     {
         let last = Snapshot::empty(alloc)?;
@@ -50,10 +49,10 @@ impl Pictures {
     /// picture. Out of memory, all stays as it was; so where versions are used up.
     pub fn publish(&mut self, alloc: Global, changes: &Changes) -> Result<Option<u64>, AllocError>
         ensures ordered { IsOrdered self.old.last.shown }
-        ensures version { IfOk result (λ version. version ≡ next_version (shown_after changes.now self.old) self.old.last) }
+        ensures version { IfOk result (λ version. version ≡ version_after changes.now self.old) }
         ensures published { OnOk result (self.new ≡ with_shown (shown_after changes.now self.old) self.old) }
-        ensures answer { IfOk result (λ version. (world : World) → StandsFor self.old world → shown_after changes.now self.old ≡ shown_of world → (publish world).1 ≡ published_answer version) }
-        ensures world { OnOk result ((world : World) → StandsFor self.old world → shown_after changes.now self.old ≡ shown_of world → StandsFor self.new (publish world).0) }
+        ensures answer { IfOk result (AnswersPublication changes.now self.old) }
+        ensures world { OnOk result (Publishes changes.now self.old self.new) }
         ensures err { OnErr result (self.new ≡ self.old) }
     {
         let Ok(next) = Snapshot::next(alloc, &self.last, changes) else {
@@ -73,7 +72,7 @@ impl Pictures {
         requires known { worker < length self.old.held }
         ensures snapshot { IfOk result (λ snapshot. arc_value snapshot ≡ self.old.last) }
         ensures settled { OnOk result (self.new ≡ with_settled worker self.old) }
-        ensures world { OnOk result ((world : World) → StandsFor self.old world → StandsFor self.new (settled_on worker world)) }
+        ensures world { OnOk result (StandsAfter (settled_on worker) self.old self.new) }
         ensures err { OnErr result (self.new ≡ self.old) }
     {
         let Ok(kept) = self.snapshot() else {
@@ -91,7 +90,7 @@ impl Pictures {
     pub fn held(&self, worker: u32) -> &Snapshot
         requires known { worker < length self.now.held }
         ensures held { slice_get self.now.held worker ≡ Some result.now }
-        ensures world { (world : World) → StandsFor self.now world → result.now ≡ picture_held world worker }
+        ensures world { IsAnswerOf (λ world. picture_held world worker) self.now result.now }
     {
         &*self.held[worker as usize]
     }
@@ -100,7 +99,7 @@ impl Pictures {
     /// up in each, and goes through no picture.
     pub fn shows(&self, number: Gen) -> bool
         ensures shown { result ≡ is_shown_by number self.now }
-        ensures world { (world : World) → StandsFor self.now world → result ≡ has_number number (numbers_in_use world) }
+        ensures world { IsAnswerOf (λ world. has_number number (numbers_in_use world)) self.now result }
     {
         self.is_shown(number)
     }
@@ -128,8 +127,8 @@ impl Pictures {
     pub fn leaving(&self, worker: u32) -> Option<u64>
         requires known { worker < length self.now.held }
         ensures none { IfNone result (slice_get self.now.held worker ≡ Some self.now.last) }
-        ensures last { option_map (λ p. p.version) (slice_get self.now.held worker) ≡ Some self.now.last.version → result ≡ None }
-        ensures version { IfSome result (λ version. option_map (λ p. p.version) (slice_get self.now.held worker) ≡ Some version) }
+        ensures last { version_held worker self.now ≡ Some self.now.last.version → result ≡ None }
+        ensures version { IfSome result (λ version. version_held worker self.now ≡ Some version) }
     {
         let version = self.held[worker as usize].version();
         if version == self.last.version() {
@@ -192,7 +191,7 @@ fn first_showing(held: &[Arc<Snapshot>], number: Gen) -> Option<&Arc<Snapshot>>
 
 // The version of a snapshot, where it shows the generation of this number.
 fn version_where(snapshot: &Arc<Snapshot>, number: Gen) -> Option<u64>
-    ensures { result ≡ (if is_shown_in number (arc_value snapshot.now) then Some (arc_value snapshot.now).version else None) }
+    ensures { result ≡ version_where number (arc_value snapshot.now) }
 {
     if shows(snapshot, number) {
         return Some(snapshot.version());

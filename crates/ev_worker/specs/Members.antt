@@ -1,5 +1,5 @@
 -- The worker's map of its open connections, as connections.
-use Rattle.std.specs.Prelude.{◌≤◌, ◌+◌, ℕ, nat_eq, List, map, length, Option, Some, None}
+use Rattle.std.specs.Prelude.{◌≡◌, ◌≤◌, ◌+◌, ℕ, Bool, if◌then◌else◌, nat_eq, List, map, length, Option, Some, None}
 use Rattle.std.specs.List.{IsDistinct}
 use Rattle.ev_model.specs.World.{OpenMember}
 use Rattle.ev_model.specs.Connections.{member_on}
@@ -32,6 +32,10 @@ chosen_on (Served listener cluster place) = Some (listener, Some cluster)
 abbrev pub on_of : Accepted → Option (ℕ × Option ℕ)
 on_of InUse = None
 on_of (Chosen choice) = chosen_on choice
+
+-- the second look-up finds nothing where the test passes, and elsewhere what the first finds
+abbrev pub LosesWhere : {A : Type 0} → (ℕ → Bool) → (ℕ → Option A) → (ℕ → Option A) → Type 0
+LosesWhere test before after = (n : ℕ) → after n ≡ (if test n then None else before n)
 
 -- what every worker keeps: room for the connections that the rest of its batch may open, and no number twice
 pub record IsStored (spare : ℕ) (lines : List BatchLine) (numbers : List ℕ) : Type 0 where

@@ -1,12 +1,13 @@
 -- What contracts see of a worker, and what a world has of it.
-use Rattle.std.specs.Prelude.{◌≡◌, ◌<◌, ℕ, not, ⊤, List, [], ◌∷◌, filter}
+use Rattle.std.specs.Prelude.{◌≡◌, ◌<◌, ℕ, not, ⊤, List, [], ◌∷◌, filter, length}
 use Rattle.ev_types.specs.declared.events.Actor.TheVariants.{Worker as by_worker}
 use Rattle.ev_types.specs.declared.events.Event.{Event}
 use Rattle.ev_types.specs.declared.events.Event.TheVariants.{Accept, Close}
+use Rattle.ev_types.specs.declared.events.Ask.{Ask}
 use Rattle.ev_types.specs.declared.journals.Format.{Format}
 use Rattle.ev_model.specs.World.{World, OpenMember}
 use Rattle.ev_model.specs.Dead.{last_picture, picture_held}
-use Rattle.ev_model.specs.Connections.{closed_by, is_member, is_open}
+use Rattle.ev_model.specs.Connections.{Worked, accepted as accepted_on, closed_by, is_member, is_open, settle}
 use Rattle.ev_model.specs.Picture.{has_number}
 use Rattle.ev_model.specs.Step.{step}
 use Rattle.ev_model.specs.Runs.{RunsFrom, world_after}
@@ -73,3 +74,14 @@ without_numbers numbers opened = filter (λ (m : OpenMember). not (has_number m.
 pub record IsToldBy (number : ℕ) (closed : List ℕ) (picture : Picture) (world : World) : Type 0 where
   pub closes : closed ≡ closed_by world.expired number world.opened
   pub shows : picture ≡ last_picture world
+
+-- what an accept comes to in the machine: the answer, and the connections that are open then
+abbrev pub acceptance : Ask → WorkerParts → Worked
+acceptance ask worker = accepted_on worker.picture ask worker.number worker.opened
+
+-- Whatever world the first worker stands for, where these are the numbers of the connections that its settle closes there and this
+-- is the world's last picture, the second stands for the world that its settle leaves.
+abbrev pub SettlesBy : List ℕ → Picture → WorkerParts → WorkerParts → Type 0
+SettlesBy numbers picture before after =
+    (world : World) → StandsFor before world → before.number < length world.held → IsToldBy before.number numbers picture world
+    → StandsFor after (settle before.number world).0

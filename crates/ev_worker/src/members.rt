@@ -1,7 +1,7 @@
-ghost use Rattle.std.specs.Prelude.{◌≡◌, ◌≤◌, ◌<◌, ◌+◌, ℕ, ◌++◌, None, if◌then◌else◌, IsSome, is_some, map, nat_eq, option_to_list};
+ghost use Rattle.std.specs.Prelude.{◌≡◌, ◌≤◌, ◌<◌, ◌+◌, ◌++◌, None, IsSome, is_some, map, nat_eq, option_to_list};
 ghost use Rattle.indexmap.specs.IndexMap.{IsUnique, get, spare};
 ghost use Rattle.ev_model.specs.Picture.{has_number};
-ghost use Rattle.ev_worker.specs.Members.{chosen_on, on_of};
+ghost use Rattle.ev_worker.specs.Members.{LosesWhere, chosen_on, on_of};
 
 use crate::lines::Accepted;
 use ev_model::Choice;
@@ -62,7 +62,7 @@ fn chosen_on(choice: &Choice) -> Option<(Gen, Option<Gen>)>
 /// Closes a connection and answers whether it was open. It takes no memory.
 pub(crate) fn close(members: &mut Members, conn: u64) -> bool
     ensures answer { result ≡ is_some (get nat_eq members.old conn) }
-    ensures left { (n : ℕ) → get nat_eq members.new n ≡ (if nat_eq conn n then None else get nat_eq members.old n) }
+    ensures left { LosesWhere (nat_eq conn) (get nat_eq members.old) (get nat_eq members.new) }
     ensures room { spare members.old ≤ spare members.new }
     ensures apart { IsUnique nat_eq members.new }
 {
@@ -71,7 +71,7 @@ pub(crate) fn close(members: &mut Members, conn: u64) -> bool
 
 /// Closes the connections of these numbers, where they are open. It takes no memory.
 pub(crate) fn close_all(members: &mut Members, numbers: &[u64])
-    ensures left { (n : ℕ) → get nat_eq members.new n ≡ (if has_number n numbers.now then None else get nat_eq members.old n) }
+    ensures left { LosesWhere (λ n. has_number n numbers.now) (get nat_eq members.old) (get nat_eq members.new) }
     ensures room { spare members.old ≤ spare members.new }
     ensures apart { IsUnique nat_eq members.new }
 {

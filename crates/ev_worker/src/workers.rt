@@ -1,11 +1,11 @@
 ghost use Rattle.std.specs.Prelude.{◌≡◌, ◌≤◌, ◌<◌, ◌+◌, ◌↔◌, ℕ, List, [], ◌∷◌, ◌++◌, length, IsTrue, IfOk, OnOk};
 ghost use Rattle.std.specs.Arc.{arc_value};
 ghost use Rattle.ev_types.specs.declared.events.Event.TheVariants.{Accept, Close};
-ghost use Rattle.ev_model.specs.World.{OpenMember, World};
-ghost use Rattle.ev_model.specs.Connections.{accepted, closed, is_open, settle};
+ghost use Rattle.ev_model.specs.World.{OpenMember};
+ghost use Rattle.ev_model.specs.Connections.{closed, is_open};
 ghost use Rattle.ev_model.specs.Operations.{batch_limit};
 ghost use Rattle.ev_worker.specs.Batches.{accepted_as, accepted_answer, accept_line, close_line, closed_as, closed_answer};
-ghost use Rattle.ev_worker.specs.Workers.{IsMadeFrom, IsToldBy, SameOpen, StandsFor, without_numbers};
+ghost use Rattle.ev_worker.specs.Workers.{IsMadeFrom, SameOpen, SettlesBy, acceptance, without_numbers};
 
 use crate::batches::{BATCH_LIMIT, Batch};
 use crate::lines::{Accepted, BatchLine, Closed, Outcome, Settled};
@@ -99,8 +99,8 @@ impl Worker {
     pub fn accept(&mut self, at: u32, ask: Ask) -> Accepted
         requires room { length self.old.lines < batch_limit }
         ensures answer { result ≡ accepted_as self.old.picture ask (is_open self.old.opened self.old.number ask.conn) }
-        ensures machine { accepted_answer self.old.picture result ≡ (accepted self.old.picture ask self.old.number self.old.opened).answer }
-        ensures opened { self.new.opened ≡ (accepted self.old.picture ask self.old.number self.old.opened).opened }
+        ensures machine { accepted_answer self.old.picture result ≡ (acceptance ask self.old).answer }
+        ensures opened { self.new.opened ≡ (acceptance ask self.old).opened }
         ensures line { self.new.lines ≡ self.old.lines ++ accept_line at ask result ∷ [] }
         ensures number { self.new.number ≡ self.old.number }
         ensures picture { self.new.picture ≡ self.old.picture }
@@ -165,7 +165,7 @@ impl Worker {
         ensures lines { self.new.lines ≡ [] }
         ensures opened { SameOpen self.old.number self.new.opened (without_numbers settled.closed self.old.opened) }
         ensures begins { IsMadeFrom self.new.opened self.new }
-        ensures world { (world : World) → StandsFor self.old world → self.old.number < length world.held → IsToldBy self.old.number settled.closed (arc_value settled.snapshot) world → StandsFor self.new (settle self.old.number world).0 }
+        ensures world { SettlesBy settled.closed (arc_value settled.snapshot) self.old self.new }
     {
         close_all(&mut self.members, settled.closed.as_slice());
         self.batch.clear();
