@@ -8,9 +8,10 @@ use Rattle.indexmap.specs.IndexMap.{get}
 use Rattle.ev_types.specs.declared.journals.Format.TheVariants.{Two}
 use Rattle.ev_model.specs.declared.pictures.Picture.{Picture}
 use Rattle.ev_model.specs.World.{OpenMember}
-use Rattle.ev_model.specs.Dead.{is_open_on}
+use Rattle.ev_model.specs.Picture.{has_number}
+use Rattle.ev_model.specs.Dead.{is_forwarded_to, is_open_on}
 use Rattle.ev_pictures.specs.Pictures.{PicturesParts, in_use, is_shown_by, is_shown_in}
-use Rattle.ev_drain.specs.Retired.{Retired, has_row, is_dead_in, is_dead_row}
+use Rattle.ev_drain.specs.Retired.{Retired, dead_of, has_row, is_dead_in, is_dead_row}
 use Rattle.ev_retirement.specs.declared.asking.Asking.{Asking}
 use Rattle.ev_retirement.specs.Holders.{HoldersParts}
 use Rattle.ev_retirement.specs.Retiring.{AreInOrder}
@@ -18,6 +19,14 @@ use Rattle.ev_retirement.specs.Retiring.{AreInOrder}
 -- the generation of this number is to be asked about
 abbrev pub is_asked : Asking → ℕ → Bool
 is_asked asking number = contains nat_cmp asking.asked number
+
+-- each of these generations is to be asked about
+abbrev pub AreAllAsked : Asking → List ℕ → Type 0
+AreAllAsked asking numbers = (number : ℕ) → has_number number numbers ≡ true → is_asked asking number ≡ true
+
+-- the second test is true wherever the first is
+abbrev pub HoldsMore : {A : Type 0} → (A → Bool) → (A → Bool) → Type 0
+HoldsMore {A} before after = (x : A) → before x ≡ true → after x ≡ true
 
 -- it is one of these
 abbrev pub is_in : Option (BTreeSet ℕ) → ℕ → Bool
@@ -56,6 +65,16 @@ pub record Forgets (number : ℕ) (before after : Asking) : Type 0 where
   pub asked : (other : ℕ) → is_asked after other ≡ (not (other == number) && is_asked before other)
   pub aside : (version other : ℕ) → is_aside after version other ≡ is_aside before version other
 
+-- where no connection is open on the generation, and a picture in use shows it, it is set aside under one of those
+abbrev pub IsKeptAside : ℕ → Asking → PicturesParts → List OpenMember → Type 0
+IsKeptAside number asking pictures opened =
+    list_any (is_open_on number) opened ≡ false → is_shown_by number pictures ≡ true → is_set_aside asking pictures number ≡ true
+
+-- a listener and a cluster that were retired are to be asked about
+abbrev pub AreBothAsked : Asking → List Retired → ℕ × Option ℕ → Type 0
+AreBothAsked asking drain on =
+    (number : ℕ) → ((on.0 == number) || is_forwarded_to number on.1) ≡ true → has_row drain number ≡ true → is_asked asking number ≡ true
+
 -- the retired generations that a connection is open on are to be asked about
 abbrev pub IsAskedOn : Asking → List Retired → OpenMember → Type 0
 IsAskedOn asking drain member = (number : ℕ) → is_open_on number member ≡ true → has_row drain number ≡ true → is_asked asking number ≡ true
@@ -78,3 +97,7 @@ MayLeave worker asking pictures = (picture : Picture) (number : ℕ) → slice_g
 -- the generation of this number is retired, and nothing holds it
 abbrev pub is_dead_now : HoldersParts → ℕ → Bool
 is_dead_now holders number = is_dead_in Two (λ n. is_shown_by n holders.pictures) holders.ledger number holders.drain
+
+-- the numbers of those
+abbrev pub numbers_dead : HoldersParts → List ℕ
+numbers_dead holders = dead_of Two (λ n. is_shown_by n holders.pictures) holders.ledger holders.drain

@@ -5,7 +5,7 @@ use Rattle.std.specs.BTreeSet.{contains}
 use Rattle.ev_model.specs.World.{OpenMember}
 use Rattle.ev_model.specs.Picture.{has_number}
 use Rattle.ev_ledger.specs.Entries.{key_order}
-use Rattle.ev_ledger.specs.Members.{on_in}
+use Rattle.ev_ledger.specs.Members.{has_place, is_open_at, on_in}
 use Rattle.ev_drain.specs.Retired.{Retired, is_expired}
 use Rattle.ev_retirement.specs.declared.closing.Closing.{Closing}
 use Rattle.ev_retirement.specs.declared.asking.Asking.{Asking}
@@ -48,13 +48,36 @@ is_place_of worker place = place.0 == worker
 abbrev pub number_of : ℕ × ℕ → ℕ
 number_of place = place.1
 
+-- the numbers of the worker's connections at these places
+abbrev pub numbers_at : ℕ → List (ℕ × ℕ) → List ℕ
+numbers_at worker places = map number_of (filter (is_place_of worker) places)
+
 -- the numbers that the worker's next settle looks at
 abbrev pub numbers_found : ℕ → Closing → List ℕ
-numbers_found worker closing = map number_of (filter (is_place_of worker) closing.places.keys)
+numbers_found worker closing = numbers_at worker closing.places.keys
+
+-- the connections at these places are looked at
+abbrev pub ArePlacesFound : Closing → List (ℕ × ℕ) → Type 0
+ArePlacesFound closing places =
+    (worker connection : ℕ) → has_place worker connection places ≡ true → is_found closing worker connection ≡ true
+
+-- those on this listener are
+abbrev pub AreFoundOn : Closing → List OpenMember → ℕ → Type 0
+AreFoundOn closing opened listener =
+    (worker connection : ℕ) → is_open_at listener worker connection opened ≡ true → is_found closing worker connection ≡ true
+
+-- those on each of these listeners are
+abbrev pub AreFoundOnEach : Closing → List OpenMember → List ℕ → Type 0
+AreFoundOnEach closing opened listeners = (number : ℕ) → has_number number listeners ≡ true → AreFoundOn closing opened number
 
 -- what was looked at still is
 pub record FindsMore (before after : Closing) : Type 0 where
   pub stays : (worker connection : ℕ) → is_found before worker connection ≡ true → is_found after worker connection ≡ true
+
+-- the worker's connection of this number is no longer looked at
+abbrev pub LeavesOne : ℕ → ℕ → Closing → Closing → Type 0
+LeavesOne worker number before after =
+    (w connection : ℕ) → is_found after w connection ≡ (not ((w == worker) && (connection == number)) && is_found before w connection)
 
 -- the worker's connections of these numbers are no longer looked at
 abbrev pub Leaves : ℕ → List ℕ → Closing → Closing → Type 0

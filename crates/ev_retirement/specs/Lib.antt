@@ -3,3 +3,4 @@ pub mod Closing
 pub mod Holders
 pub mod Lines
 pub mod Retiring
+pub mod Worlds

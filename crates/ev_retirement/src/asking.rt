@@ -1,8 +1,7 @@
-ghost use Rattle.std.specs.Prelude.{◌≡◌, ◌&&◌, ◌||◌, ◌==◌, ℕ, false, true, IfOk, OnOk};
+ghost use Rattle.std.specs.Prelude.{◌≡◌, ℕ, false, true, IfOk, OnOk};
 ghost use Rattle.std.specs.Ordering.{nat_cmp};
 ghost use Rattle.std.specs.BTreeSet.{contains, IsOrdered};
-ghost use Rattle.ev_model.specs.Picture.{has_number};
-ghost use Rattle.ev_retirement.specs.Asking.{AsksMore, Forgets, is_asked, is_aside};
+ghost use Rattle.ev_retirement.specs.Asking.{AreAllAsked, AsksMore, Forgets, HoldsMore, is_asked, is_aside};
 
 use ev_types::Gen;
 use indexmap::IndexMap;
@@ -39,7 +38,7 @@ impl Asking {
 
     /// Each of these generations is to be asked about. Out of memory, some of the first are.
     pub(crate) fn ask_each(&mut self, numbers: &[Gen]) -> Result<(), AllocError>
-        ensures asked { OnOk result ((number : ℕ) → has_number number numbers.now ≡ true → is_asked self.new number ≡ true) }
+        ensures asked { OnOk result (AreAllAsked self.new numbers.now) }
         ensures more { AsksMore self.old self.new }
     {
         for number in numbers {
@@ -104,7 +103,7 @@ impl Asking {
 // Puts a number among the others. Out of memory, they stay as they were.
 fn put(numbers: &mut BTreeSet<Gen>, number: Gen) -> Result<(), AllocError>
     ensures put { OnOk result (contains nat_cmp numbers.new number ≡ true) }
-    ensures kept { (other : ℕ) → contains nat_cmp numbers.old other ≡ true → contains nat_cmp numbers.new other ≡ true }
+    ensures kept { HoldsMore (contains nat_cmp numbers.old) (contains nat_cmp numbers.new) }
 {
     let Ok(_) = numbers.insert(number) else {
         return Err(AllocError);

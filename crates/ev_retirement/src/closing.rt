@@ -1,10 +1,10 @@
-ghost use Rattle.std.specs.Prelude.{◌≡◌, ◌<◌, ◌^◌, ◌+◌, ◌==◌, ◌&&◌, ℕ, not, true, false, filter, map, IfOk, OnOk};
+ghost use Rattle.std.specs.Prelude.{◌≡◌, ◌<◌, ◌^◌, ◌+◌, true, filter, IfOk, OnOk};
 ghost use Rattle.std.specs.BTreeSet.{contains, IsOrdered};
-ghost use Rattle.ev_model.specs.Picture.{has_number};
 ghost use Rattle.ev_ledger.specs.Entries.{key_order};
-ghost use Rattle.ev_ledger.specs.Members.{AreApart, has_place, held_of, is_open_at};
+ghost use Rattle.ev_ledger.specs.Members.{AreApart, held_of};
 ghost use Rattle.ev_drain.specs.Retired.{is_expired};
-ghost use Rattle.ev_retirement.specs.Closing.{AreFound, FindsMore, Leaves, closed_all, closes_at, is_found, is_place_of, number_of, numbers_closing, numbers_found};
+ghost use Rattle.ev_retirement.specs.Asking.{HoldsMore};
+ghost use Rattle.ev_retirement.specs.Closing.{AreFound, AreFoundOn, AreFoundOnEach, ArePlacesFound, FindsMore, Leaves, LeavesOne, closed_all, closes_at, is_found, numbers_at, numbers_closing, numbers_found};
 
 use ev_drain::Drain;
 use ev_ledger::Ledger;
@@ -37,7 +37,7 @@ impl Closing {
 
     /// Each of these connections is looked at. Out of memory, some of the first are.
     pub(crate) fn enter_each(&mut self, places: &[(u64, u64)]) -> Result<(), AllocError>
-        ensures entered { OnOk result ((worker connection : ℕ) → has_place worker connection places.now ≡ true → is_found self.new worker connection ≡ true) }
+        ensures entered { OnOk result (ArePlacesFound self.new places.now) }
         ensures more { FindsMore self.old self.new }
     {
         for place in places {
@@ -48,7 +48,7 @@ impl Closing {
 
     /// A worker's connection is no longer looked at. It takes no memory.
     pub(crate) fn leave(&mut self, worker: u32, conn: u64)
-        ensures { (w connection : ℕ) → is_found self.new w connection ≡ (not ((w == worker) && (connection == conn)) && is_found self.old w connection) }
+        ensures { LeavesOne worker conn self.old self.new }
     {
         self.places.remove(&(worker as u64, conn));
     }
@@ -74,7 +74,7 @@ impl Closing {
 // Puts a place among the others. Out of memory, they stay as they were.
 fn put(places: &mut BTreeSet<(u64, u64)>, place: (u64, u64)) -> Result<(), AllocError>
     ensures put { OnOk result (contains key_order places.new place ≡ true) }
-    ensures kept { (other : ℕ × ℕ) → contains key_order places.old other ≡ true → contains key_order places.new other ≡ true }
+    ensures kept { HoldsMore (contains key_order places.old) (contains key_order places.new) }
 {
     let Ok(_) = places.insert(place) else {
         return Err(AllocError);
@@ -89,7 +89,7 @@ fn numbers_in(
     worker: u64,
 ) -> Result<Vec<u64>, AllocError>
     requires { worker + 1 < 2 ^ 64 }
-    ensures numbers { IfOk result (λ numbers. numbers.items ≡ map number_of (filter (is_place_of worker) places.now.keys)) }
+    ensures numbers { IfOk result (λ numbers. numbers.items ≡ numbers_at worker places.now.keys) }
     ensures ordered { IsOrdered key_order places.now }
 {
     // They stand in order.
@@ -107,7 +107,7 @@ pub(crate) fn enter_on_each(
     ledger: &Ledger,
     listeners: &[Gen],
 ) -> Result<(), AllocError>
-    ensures entered { OnOk result ((number : ℕ) → has_number number listeners.now ≡ true → (worker connection : ℕ) → is_open_at number worker connection ledger.now ≡ true → is_found closing.new worker connection ≡ true) }
+    ensures entered { OnOk result (AreFoundOnEach closing.new ledger.now listeners.now) }
     ensures more { FindsMore closing.old closing.new }
 {
     for listener in listeners {
@@ -123,7 +123,7 @@ fn enter_on(
     ledger: &Ledger,
     listener: Gen,
 ) -> Result<(), AllocError>
-    ensures entered { OnOk result ((worker connection : ℕ) → is_open_at listener worker connection ledger.now ≡ true → is_found closing.new worker connection ≡ true) }
+    ensures entered { OnOk result (AreFoundOn closing.new ledger.now listener) }
     ensures more { FindsMore closing.old closing.new }
 {
     let Ok(places) = ledger.places_on(alloc, listener) else {

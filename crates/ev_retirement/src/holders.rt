@@ -1,20 +1,16 @@
-ghost use Rattle.std.specs.Prelude.{◌≡◌, ◌<◌, ◌++◌, ◌∷◌, ℕ, List, true, false, length, IfOk, OnOk, OnErr};
+ghost use Rattle.std.specs.Prelude.{◌≡◌, ℕ, List, false, length, IfOk, OnOk, OnErr};
 ghost use Rattle.std.specs.Arc.{arc_value};
 ghost use Rattle.std.specs.List.{list_any};
 ghost use Rattle.ev_types.specs.Statuses.{is_live};
-ghost use Rattle.ev_types.specs.declared.rows.GenRow.{GenRow};
-ghost use Rattle.ev_model.specs.World.{World, opening};
+ghost use Rattle.ev_model.specs.World.{opening};
 ghost use Rattle.ev_model.specs.Dead.{last_picture};
-ghost use Rattle.ev_model.specs.Picture.{shown_of};
-ghost use Rattle.ev_model.specs.Publishing.{publish, dead_numbers, without_dead};
-ghost use Rattle.ev_model.specs.Signals.{drain_timeout};
+ghost use Rattle.ev_model.specs.Publishing.{dead_numbers};
 ghost use Rattle.ev_snapshot.specs.Changes.{IsOrdered};
 ghost use Rattle.ev_ledger.specs.Members.{count_of, is_of_worker};
-ghost use Rattle.ev_pictures.specs.Pictures.{published_answer, shown_after};
 ghost use Rattle.ev_drain.specs.Retired.{has_row};
-ghost use Rattle.ev_types.specs.declared.journals.Format.{Format};
 ghost use Rattle.ev_retirement.specs.Retiring.{noted};
-ghost use Rattle.ev_retirement.specs.Holders.{AreNumbered, StandsFor, timed_out, timeout_answer, with_expired, with_retired, without_generation, without_generations};
+ghost use Rattle.ev_retirement.specs.Holders.{StandsFor, with_expired, without_generation, without_generations};
+ghost use Rattle.ev_retirement.specs.Worlds.{AnswersPublication, AnswersTimeout, IsAnswerOf, LeavesTimeout, Publishes, Reaps, Retires, StandsAfter};
 
 use crate::asking::Asking;
 use crate::closing::{Closing, enter_on_each};
@@ -72,8 +68,8 @@ impl Holders {
     /// was; so where versions are used up.
     pub fn publish(&mut self, alloc: Global, changes: &Changes) -> Result<Option<u64>, AllocError>
         ensures ordered { OnOk result (IsOrdered self.old.pictures.last.shown) }
-        ensures answer { IfOk result (λ version. (world : World) → StandsFor self.old world → shown_after changes.now self.old.pictures ≡ shown_of world → (publish world).1 ≡ published_answer version) }
-        ensures world { OnOk result ((world : World) → StandsFor self.old world → shown_after changes.now self.old.pictures ≡ shown_of world → StandsFor self.new (publish world).0) }
+        ensures answer { IfOk result (AnswersPublication changes.now self.old) }
+        ensures world { OnOk result (Publishes changes.now self.old self.new) }
         ensures err { OnErr result (self.new ≡ self.old) }
     {
         // Where nothing is published, the last picture shows only what still serves, and none is set aside under it.
@@ -87,9 +83,9 @@ impl Holders {
     /// was one for which it hadn't come; where there was none, the machine ignores it, and else the world is to be tidied. Out
     /// of memory, all stays as it was.
     pub fn drain_timeout(&mut self, alloc: Global, name: &Name) -> Result<bool, AllocError>
-        ensures answer { IfOk result (λ meant. (world : World) → StandsFor self.old world → (drain_timeout name.now world).1 ≡ timeout_answer meant) }
-        ensures machine { IfOk result (λ meant. (world : World) → StandsFor self.old world → (drain_timeout name.now world).0 ≡ timed_out meant name.now world) }
-        ensures world { OnOk result ((world : World) → StandsFor self.old world → StandsFor self.new (with_expired name.now world)) }
+        ensures answer { IfOk result (AnswersTimeout name.now self.old) }
+        ensures machine { IfOk result (LeavesTimeout name.now self.old) }
+        ensures world { OnOk result (StandsAfter (with_expired name.now) self.old self.new) }
         ensures err { OnErr result (self.new ≡ self.old) }
     {
         let waiting = self.drain.waiting(name);
@@ -113,7 +109,7 @@ impl Holders {
         dropped: bool,
     ) -> Result<(), AllocError>
         requires absent { has_row self.old.drain number ≡ false }
-        ensures world { OnOk result ((world : World) (before after : List GenRow) (row : GenRow) → StandsFor self.old world → world.rows ≡ before ++ row ∷ after → is_live row.status ≡ true → row.kind ≡ kind → row.number ≡ number → row.name ≡ name.now → StandsFor self.new (with_retired dropped before row after world)) }
+        ensures world { OnOk result (Retires kind number name.now dropped self.old self.new) }
         ensures err { OnErr result (self.new ≡ self.old) }
     {
         let Ok(_) = self.asking.ask(number) else {
@@ -144,7 +140,7 @@ impl Holders {
     /// asks only about those that were retired since the last time, or of whose holders one let go since then; by those of format 1
     /// it asks about all that drain. It goes through no picture and no connection.
     pub fn dead(&mut self, alloc: Global, format: Format) -> Result<Vec<Gen>, AllocError>
-        ensures world { IfOk result (λ dead. (world : World) → StandsFor self.old world → dead.items ≡ dead_numbers format world) }
+        ensures world { IfOk result (λ dead. IsAnswerOf (dead_numbers format) self.old dead.items) }
         ensures same { self.new ≡ self.old }
     {
         match format {
@@ -155,7 +151,7 @@ impl Holders {
 
     /// A dead generation goes, and its mark with it. It takes no memory.
     pub fn remove(&mut self, number: Gen)
-        ensures world { (world : World) → StandsFor self.old world → StandsFor self.new (without_generation number world) }
+        ensures world { StandsAfter (without_generation number) self.old self.new }
     {
         self.asking.forget(number);
         self.drain.remove(number);
@@ -163,15 +159,15 @@ impl Holders {
 
     /// These dead generations go, one after another, and their marks with them. It takes no memory.
     pub fn remove_all(&mut self, dead: &[Gen])
-        ensures world { (world : World) → StandsFor self.old world → StandsFor self.new (without_generations dead.now world) }
-        ensures reaped { (format : Format) (world : World) → StandsFor self.old world → AreNumbered world.rows → dead.now ≡ dead_numbers format world → StandsFor self.new (without_dead format world) }
+        ensures world { StandsAfter (without_generations dead.now) self.old self.new }
+        ensures reaped { Reaps dead.now self.old self.new }
     {
         self.take_out(dead);
     }
 
     // The same, for any numbers.
     fn take_out(&mut self, numbers: &[Gen])
-        ensures { (world : World) → StandsFor self.old world → StandsFor self.new (without_generations numbers.now world) }
+        ensures { StandsAfter (without_generations numbers.now) self.old self.new }
     {
         for number in numbers {
             self.remove(*number);
@@ -189,7 +185,7 @@ impl Holders {
     /// Whether a worker has a connection open. It is a look-up.
     pub fn has_open(&self, worker: u32) -> bool
         ensures parts { result ≡ list_any (is_of_worker worker) self.now.ledger }
-        ensures world { (world : World) → StandsFor self.now world → result ≡ list_any (is_of_worker worker) world.opened }
+        ensures world { IsAnswerOf (λ world. list_any (is_of_worker worker) world.opened) self.now result }
     {
         self.ledger.has_any(worker)
     }
@@ -197,7 +193,7 @@ impl Holders {
     /// How many connections are open on a generation, as their listener or their cluster. It is a look-up.
     pub fn count(&self, number: Gen) -> u64
         ensures parts { result ≡ count_of number self.now.ledger }
-        ensures world { (world : World) → StandsFor self.now world → result ≡ count_of number world.opened }
+        ensures world { IsAnswerOf (λ world. count_of number world.opened) self.now result }
     {
         self.ledger.count(number)
     }
@@ -205,7 +201,7 @@ impl Holders {
     /// The version of the last picture.
     pub fn version(&self) -> u64
         ensures parts { result ≡ self.now.pictures.last.version }
-        ensures world { (world : World) → StandsFor self.now world → result ≡ (last_picture world).version }
+        ensures world { IsAnswerOf (λ world. (last_picture world).version) self.now result }
     {
         self.pictures.version()
     }

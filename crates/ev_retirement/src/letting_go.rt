@@ -1,10 +1,8 @@
-ghost use Rattle.std.specs.Prelude.{◌≡◌, ◌<◌, ◌||◌, ◌==◌, ℕ, true, false, List, length, IfOk, OnOk, OnErr};
-ghost use Rattle.ev_model.specs.World.{OpenMember};
+ghost use Rattle.std.specs.Prelude.{◌≡◌, ◌<◌, true, length, IfOk, OnOk, OnErr};
 ghost use Rattle.ev_model.specs.Connections.{closed, is_member, is_open};
-ghost use Rattle.ev_model.specs.Dead.{is_forwarded_to};
-ghost use Rattle.ev_ledger.specs.Members.{StandsFor as HasOpened};
+ghost use Rattle.ev_ledger.specs.Members.{IsAnswerOf, StandsAfter as HasOpenedAfter};
 ghost use Rattle.ev_drain.specs.Retired.{has_row};
-ghost use Rattle.ev_retirement.specs.Asking.{AreAskedOn, AsksMore, LetsGo, MayLeave, is_asked};
+ghost use Rattle.ev_retirement.specs.Asking.{AreAskedOn, AreBothAsked, AsksMore, LetsGo, MayLeave, is_asked};
 ghost use Rattle.ev_retirement.specs.Closing.{AreFound, is_among};
 
 use crate::asking::Asking;
@@ -25,8 +23,8 @@ pub(crate) fn close_one(
     worker: u32,
     conn: u64,
 ) -> Result<bool, AllocError>
-    ensures answer { IfOk result (λ answer. (opened : List OpenMember) → HasOpened ledger.old opened → answer ≡ is_open opened worker conn) }
-    ensures world { OnOk result ((opened : List OpenMember) → HasOpened ledger.old opened → HasOpened ledger.new (closed conn worker opened).opened) }
+    ensures answer { IfOk result (IsAnswerOf (λ opened. is_open opened worker conn) ledger.old) }
+    ensures world { OnOk result (HasOpenedAfter (λ opened. (closed conn worker opened).opened) ledger.old ledger.new) }
     ensures goes { LetsGo drain.now asking.old asking.new ledger.old ledger.new }
     ensures found { AreFound closing.old drain.now ledger.old → AreFound closing.new drain.now ledger.new }
     ensures err { OnErr result (ledger.new ≡ ledger.old) }
@@ -74,7 +72,7 @@ fn ask_on(
 
 // A listener and, where there is one, a cluster are to be asked about, where they were retired.
 fn ask_both(asking: &mut Asking, drain: &Drain, on: (Gen, Option<Gen>)) -> Result<(), AllocError>
-    ensures asked { OnOk result ((number : ℕ) → ((on.0 == number) || is_forwarded_to number on.1) ≡ true → has_row drain.now number ≡ true → is_asked asking.new number ≡ true) }
+    ensures asked { OnOk result (AreBothAsked asking.new drain.now on) }
     ensures more { AsksMore asking.old asking.new }
 {
     ask_retired(asking, drain, on.0)?;

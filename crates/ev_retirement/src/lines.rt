@@ -1,16 +1,11 @@
-ghost use Rattle.std.specs.Prelude.{◌≡◌, ◌<◌, ℕ, true, length, List, IfOk, OnOk, OnErr};
-ghost use Rattle.std.specs.List.{list_any};
-ghost use Rattle.ev_model.specs.World.{OpenMember, World};
-ghost use Rattle.ev_model.specs.Connections.{answer_of, closed, is_open, served_by};
-ghost use Rattle.ev_model.specs.Dead.{is_open_on, picture_held};
-ghost use Rattle.ev_pictures.specs.Pictures.{StandsFor as HasPictures};
+ghost use Rattle.std.specs.Prelude.{◌≡◌, ◌<◌, length, IfOk, OnOk, OnErr};
+ghost use Rattle.ev_model.specs.Connections.{answer_of, closed, served_by};
 ghost use Rattle.ev_snapshot.specs.Chosen.{host_of};
-ghost use Rattle.ev_ledger.specs.Members.{StandsFor as HasOpened};
-ghost use Rattle.ev_worker.specs.Batches.{outcome_answer, accepted_answer, accepted_as, closed_answer, closed_as};
-ghost use Rattle.ev_worker.specs.declared.lines.Outcome.TheVariants.{Accepted as by_accept};
+ghost use Rattle.ev_ledger.specs.Members.{StandsAfter as HasOpenedAfter};
+ghost use Rattle.ev_worker.specs.Batches.{outcome_answer, accepted_answer, closed_answer, closed_as};
 ghost use Rattle.ev_retirement.specs.Asking.{LetsGo};
 ghost use Rattle.ev_retirement.specs.Closing.{AreFound};
-ghost use Rattle.ev_retirement.specs.Lines.{accept_leaves, event_leaves, lines_leave, opened_on};
+ghost use Rattle.ev_retirement.specs.Lines.{IsAccepted, KeepsOpen, accept_leaves, line_leaves, lines_leave, opened_on};
 
 use crate::asking::Asking;
 use crate::closing::{Closing, enter_where_expired};
@@ -34,7 +29,7 @@ pub(crate) fn take_lines(
     worker: u32,
     lines: &[BatchLine],
 ) -> Result<(), AllocError>
-    ensures opened { OnOk result ((opened : List OpenMember) → HasOpened ledger.old opened → HasOpened ledger.new (lines_leave worker lines.now opened)) }
+    ensures opened { OnOk result (HasOpenedAfter (lines_leave worker lines.now) ledger.old ledger.new) }
     ensures goes { LetsGo drain.now asking.old asking.new ledger.old ledger.new }
     ensures found { AreFound closing.old drain.now ledger.old → AreFound closing.new drain.now ledger.new }
 {
@@ -53,7 +48,7 @@ fn take_line(
     worker: u32,
     line: &BatchLine,
 ) -> Result<(), AllocError>
-    ensures opened { OnOk result ((opened : List OpenMember) → HasOpened ledger.old opened → HasOpened ledger.new (event_leaves worker line.now.event line.now.outcome opened)) }
+    ensures opened { OnOk result (HasOpenedAfter (line_leaves worker line.now) ledger.old ledger.new) }
     ensures goes { LetsGo drain.now asking.old asking.new ledger.old ledger.new }
     ensures found { AreFound closing.old drain.now ledger.old → AreFound closing.new drain.now ledger.new }
 {
@@ -73,7 +68,7 @@ fn take_close(
     worker: u32,
     conn: u64,
 ) -> Result<(), AllocError>
-    ensures opened { OnOk result ((opened : List OpenMember) → HasOpened ledger.old opened → HasOpened ledger.new (closed conn worker opened).opened) }
+    ensures opened { OnOk result (HasOpenedAfter (λ opened. (closed conn worker opened).opened) ledger.old ledger.new) }
     ensures goes { LetsGo drain.now asking.old asking.new ledger.old ledger.new }
     ensures found { AreFound closing.old drain.now ledger.old → AreFound closing.new drain.now ledger.new }
 {
@@ -84,7 +79,7 @@ fn take_close(
 /// How the machine answers a worker's accept, by the snapshot that the worker holds and by its connections that are open.
 pub(crate) fn answer_accept(pictures: &Pictures, ledger: &Ledger, worker: u32, ask: &Ask) -> Outcome
     requires known { worker < length pictures.now.held }
-    ensures { (world : World) → HasPictures pictures.now world → HasOpened ledger.now world.opened → result ≡ by_accept (accepted_as (picture_held world worker) ask.now (is_open world.opened worker ask.now.conn)) }
+    ensures { IsAccepted pictures.now ledger.now worker ask.now result }
 {
     if ledger.is_open(worker, ask.conn) {
         return Outcome::Accepted(Accepted::InUse);
@@ -101,8 +96,8 @@ pub(crate) fn take_accept(
     conn: u64,
     outcome: &Outcome,
 ) -> Result<(), AllocError>
-    ensures opened { OnOk result ((opened : List OpenMember) → HasOpened ledger.old opened → HasOpened ledger.new (accept_leaves worker conn outcome.now opened)) }
-    ensures kept { (number : ℕ) → list_any (is_open_on number) ledger.old ≡ true → list_any (is_open_on number) ledger.new ≡ true }
+    ensures opened { OnOk result (HasOpenedAfter (accept_leaves worker conn outcome.now) ledger.old ledger.new) }
+    ensures kept { KeepsOpen ledger.old ledger.new }
     ensures found { AreFound closing.old drain.now ledger.old → AreFound closing.new drain.now ledger.new }
     ensures err { OnErr result (ledger.new ≡ ledger.old) }
 {
@@ -123,8 +118,8 @@ fn open_on(
     conn: u64,
     on: Option<(Gen, Option<Gen>)>,
 ) -> Result<(), AllocError>
-    ensures opened { OnOk result ((opened : List OpenMember) → HasOpened ledger.old opened → HasOpened ledger.new (opened_on worker conn on opened)) }
-    ensures kept { (number : ℕ) → list_any (is_open_on number) ledger.old ≡ true → list_any (is_open_on number) ledger.new ≡ true }
+    ensures opened { OnOk result (HasOpenedAfter (opened_on worker conn on) ledger.old ledger.new) }
+    ensures kept { KeepsOpen ledger.old ledger.new }
     ensures found { AreFound closing.old drain.now ledger.old → AreFound closing.new drain.now ledger.new }
     ensures err { OnErr result (ledger.new ≡ ledger.old) }
 {

@@ -1,13 +1,8 @@
-ghost use Rattle.std.specs.Prelude.{◌≡◌, ◌++◌, [], ◌∷◌, true, false, IfOk, OnOk, if◌then◌else◌};
-ghost use Rattle.std.specs.List.{list_any};
-ghost use Rattle.ev_types.specs.declared.journals.Format.TheVariants.{One, Two};
-ghost use Rattle.ev_model.specs.World.{World};
-ghost use Rattle.ev_model.specs.Dead.{is_open_on};
+ghost use Rattle.std.specs.Prelude.{◌≡◌, ◌++◌, [], ◌∷◌, IfOk, OnOk, if◌then◌else◌};
+ghost use Rattle.ev_types.specs.declared.journals.Format.TheVariants.{One};
 ghost use Rattle.ev_model.specs.Publishing.{dead_numbers};
-ghost use Rattle.ev_pictures.specs.Pictures.{is_shown_by};
-ghost use Rattle.ev_drain.specs.Retired.{dead_of};
-ghost use Rattle.ev_retirement.specs.Asking.{AsksMore, is_dead_now, is_set_aside};
-ghost use Rattle.ev_retirement.specs.Holders.{StandsFor};
+ghost use Rattle.ev_retirement.specs.Asking.{AsksMore, IsKeptAside, is_dead_now, numbers_dead};
+ghost use Rattle.ev_retirement.specs.Worlds.{IsAnswerOf};
 
 use crate::Holders;
 use crate::asking::Asking;
@@ -21,7 +16,7 @@ impl Holders {
     /// The numbers of the generations that nothing holds any more, from the least, by the rules of format 1. It asks about all that
     /// drain.
     pub(crate) fn dead_of_all(&self, alloc: Global) -> Result<Vec<Gen>, AllocError>
-        ensures world { IfOk result (λ dead. (world : World) → StandsFor self.now world → dead.items ≡ dead_numbers One world) }
+        ensures world { IfOk result (λ dead. IsAnswerOf (dead_numbers One) self.now dead.items) }
     {
         let shown = InUse {
             pictures: &self.pictures,
@@ -32,7 +27,7 @@ impl Holders {
     /// The numbers of the generations that nothing holds any more, from the least, by the rules of format 2. It asks only about those
     /// that are to be asked about; each other one of them is set aside under what holds it.
     pub(crate) fn dead_asked(&mut self, alloc: Global) -> Result<Vec<Gen>, AllocError>
-        ensures dead { IfOk result (λ dead. dead.items ≡ dead_of Two (λ n. is_shown_by n self.old.pictures) self.old.ledger self.old.drain) }
+        ensures dead { IfOk result (λ dead. dead.items ≡ numbers_dead self.old) }
         ensures same { self.new ≡ self.old }
     {
         let numbers = self.asking.numbers(alloc)?;
@@ -80,7 +75,7 @@ fn set_aside(
     ledger: &Ledger,
     number: Gen,
 ) -> Result<(), AllocError>
-    ensures aside { OnOk result (list_any (is_open_on number) ledger.now ≡ false → is_shown_by number pictures.now ≡ true → is_set_aside asking.new pictures.now number ≡ true) }
+    ensures aside { OnOk result (IsKeptAside number asking.new pictures.now ledger.now) }
     ensures more { AsksMore asking.old asking.new }
 {
     if ledger.count(number) != 0 {

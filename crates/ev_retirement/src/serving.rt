@@ -1,14 +1,7 @@
 ghost use Rattle.std.specs.Prelude.{◌≡◌, ◌<◌, length, IfOk, OnOk, OnErr};
 ghost use Rattle.std.specs.Arc.{arc_value};
-ghost use Rattle.ev_types.specs.declared.events.Answer.TheVariants.{Settled as settled_answer};
-ghost use Rattle.ev_types.specs.declared.journals.Format.{Format};
-ghost use Rattle.ev_model.specs.World.{World};
 ghost use Rattle.ev_model.specs.Connections.{accept, close, settle};
-ghost use Rattle.ev_model.specs.Runs.{world_after};
-ghost use Rattle.ev_model.specs.declared.pictures.Picture.{Picture};
-ghost use Rattle.ev_worker.specs.Batches.{entries_of};
-ghost use Rattle.ev_worker.specs.Workers.{AreAnswered, IsToldBy};
-ghost use Rattle.ev_retirement.specs.Holders.{StandsFor};
+ghost use Rattle.ev_retirement.specs.Worlds.{AnswersSettle, IsAnswerOf, StandsAfter, TakesOver, IsTold};
 
 use crate::Holders;
 use crate::closing::{close_all, numbers_closing};
@@ -23,9 +16,9 @@ impl Holders {
     /// Out of memory, all stays as it was.
     pub fn settle(&mut self, alloc: Global, worker: u32) -> Result<Settled, AllocError>
         requires known { worker < length self.old.pictures.held }
-        ensures answer { IfOk result (λ settled. (world : World) → StandsFor self.old world → (settle worker world).1 ≡ settled_answer settled.closed settled.version) }
-        ensures told { IfOk result (λ settled. (world : World) → StandsFor self.old world → IsToldBy worker settled.closed (arc_value settled.snapshot) world) }
-        ensures world { OnOk result ((world : World) → StandsFor self.old world → StandsFor self.new (settle worker world).0) }
+        ensures answer { IfOk result (λ settled. AnswersSettle worker settled.closed settled.version self.old) }
+        ensures told { IfOk result (λ settled. IsTold worker settled.closed (arc_value settled.snapshot) self.old) }
+        ensures world { OnOk result (StandsAfter (λ world. (settle worker world).0) self.old self.new) }
         ensures err { OnErr result (self.new ≡ self.old) }
     {
         let Ok(closed) = numbers_closing(alloc, &self.closing, &self.ledger, &self.drain, worker)
@@ -54,7 +47,7 @@ impl Holders {
     /// Takes over what a worker did since it settled: its lines open and close connections, one after another, and the world is
     /// then the one after these entries. Out of memory, some of the first lines are taken: whoever holds this makes it anew.
     pub fn take_batch(&mut self, batch: &Batch) -> Result<(), AllocError>
-        ensures world { OnOk result ((format : Format) (world : World) (picture : Picture) → StandsFor self.old world → AreAnswered format batch.now.worker world batch.now.lines → StandsFor self.new (world_after format world (entries_of batch.now.worker picture batch.now.lines))) }
+        ensures world { OnOk result (TakesOver batch.now.worker batch.now.lines self.old self.new) }
     {
         take_lines(
             &mut self.asking,
@@ -71,8 +64,8 @@ impl Holders {
     /// stays as it was.
     pub fn accept(&mut self, alloc: Global, worker: u32, ask: &Ask) -> Result<Answer, AllocError>
         requires known { worker < length self.old.pictures.held }
-        ensures answer { IfOk result (λ answer. (world : World) → StandsFor self.old world → answer ≡ (accept ask.now worker world).1) }
-        ensures world { OnOk result ((world : World) → StandsFor self.old world → StandsFor self.new (accept ask.now worker world).0) }
+        ensures answer { IfOk result (IsAnswerOf (λ world. (accept ask.now worker world).1) self.old) }
+        ensures world { OnOk result (StandsAfter (λ world. (accept ask.now worker world).0) self.old self.new) }
         ensures err { OnErr result (self.new ≡ self.old) }
     {
         let outcome = answer_accept(&self.pictures, &self.ledger, worker, ask);
@@ -95,8 +88,8 @@ impl Holders {
     /// A worker closes a connection: for an event that is made once more out of a journal. It is answered as the machine answers it;
     /// where the connection isn't open there, nothing is done. Out of memory, all stays as it was.
     pub fn close(&mut self, worker: u32, conn: u64) -> Result<Answer, AllocError>
-        ensures answer { IfOk result (λ answer. (world : World) → StandsFor self.old world → answer ≡ (close conn worker world).1) }
-        ensures world { OnOk result ((world : World) → StandsFor self.old world → StandsFor self.new (close conn worker world).0) }
+        ensures answer { IfOk result (IsAnswerOf (λ world. (close conn worker world).1) self.old) }
+        ensures world { OnOk result (StandsAfter (λ world. (close conn worker world).0) self.old self.new) }
         ensures err { OnErr result (self.new ≡ self.old) }
     {
         let Ok(was_open) = close_one(
