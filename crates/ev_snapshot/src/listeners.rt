@@ -156,13 +156,13 @@ impl Listeners {
         })
     }
 
-    /// The same listeners, in tables of which none has too much over its base.
-    pub(crate) fn settled(self, alloc: Global) -> Result<Listeners, AllocError>
-        ensures { IfOk result (λ listeners. listeners ≡ self) }
+    /// Makes bases of its own for its tables, where too much stands over those that they have. The listeners stay, also out of
+    /// memory.
+    pub(crate) fn settle(&mut self, alloc: Global) -> Result<(), AllocError>
+        ensures { self.new ≡ self.old }
     {
-        let rows = self.rows.settled(alloc)?;
-        let groups = self.groups.settled(alloc)?;
-        Ok(Listeners { rows, groups })
+        self.rows.settle(alloc)?;
+        self.groups.settle(alloc)
     }
 }
 

@@ -1,4 +1,4 @@
-ghost use Rattle.std.specs.Prelude.{◌≡◌, IfOk};
+ghost use Rattle.std.specs.Prelude.{◌≡◌, [], IfOk};
 ghost use Rattle.std.specs.List.{list_all};
 ghost use Rattle.ev_snapshot.specs.Changes.{clusters_with, clusters_without, listeners_with, listeners_without, put_cluster, put_clusters, put_listener, put_listeners};
 ghost use Rattle.ev_snapshot.specs.Kept.{all_keep, clusters_keep, listeners_keep, served_cluster_keeps, served_listener_keeps};
@@ -12,7 +12,7 @@ use ev_model::{ServedCluster, ServedListener};
 use ev_types::Shared;
 use std::alloc::{AllocError, Global};
 
-/// The clusters and the listeners of a picture to be.
+/// The clusters and the listeners of a picture.
 #[derive(Drop)]
 pub(crate) struct Parts {
     pub(crate) clusters: Rows<WeighedCluster>,
@@ -20,17 +20,25 @@ pub(crate) struct Parts {
 }
 
 impl Parts {
-    /// The same, in tables of which none has too much over its base.
-    pub(crate) fn settled(self, alloc: Global) -> Result<Parts, AllocError>
-        ensures clusters { IfOk result (λ parts. parts.clusters ≡ self.clusters) }
-        ensures listeners { IfOk result (λ parts. parts.listeners ≡ self.listeners) }
+    /// No cluster and no listener.
+    pub(crate) fn new(alloc: Global) -> Result<Parts, AllocError>
+        ensures clusters { IfOk result (λ parts. parts.clusters ≡ []) }
+        ensures listeners { IfOk result (λ parts. parts.listeners ≡ []) }
     {
-        let clusters = self.clusters.settled(alloc)?;
-        let listeners = self.listeners.settled(alloc)?;
         Ok(Parts {
-            clusters,
-            listeners,
+            clusters: Rows::new(alloc)?,
+            listeners: Listeners::new(alloc)?,
         })
+    }
+
+    /// Makes bases of their own for the tables, where too much stands over those that they have. All is as before, also out of
+    /// memory.
+    pub(crate) fn settle(&mut self, alloc: Global) -> Result<(), AllocError>
+        ensures clusters { self.new.clusters ≡ self.old.clusters }
+        ensures listeners { self.new.listeners ≡ self.old.listeners }
+    {
+        self.clusters.settle(alloc)?;
+        self.listeners.settle(alloc)
     }
 }
 

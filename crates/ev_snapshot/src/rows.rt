@@ -152,13 +152,12 @@ impl<T: Row> Rows<T> {
         })
     }
 
-    /// The same rows, in tables of which neither has too much over its base.
-    pub(crate) fn settled(self, alloc: Global) -> Result<Rows<T>, AllocError>
-        ensures { IfOk result (λ rows. rows ≡ self) }
+    /// Makes bases of its own for its tables, where too much stands over those that they have. The rows stay, also out of memory.
+    pub(crate) fn settle(&mut self, alloc: Global) -> Result<(), AllocError>
+        ensures { self.new ≡ self.old }
     {
-        let by_name = self.by_name.settled(alloc)?;
-        let by_number = self.by_number.settled(alloc)?;
-        Ok(Rows { by_name, by_number })
+        self.by_name.settle(alloc)?;
+        self.by_number.settle(alloc)
     }
 }
 

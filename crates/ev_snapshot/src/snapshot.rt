@@ -10,11 +10,9 @@ ghost use Rattle.ev_snapshot.specs.Changes.{IsNext, IsOrdered, empty_picture, pi
 ghost use Rattle.ev_snapshot.specs.Chosen.{TakesEligible, TakesLowest, host_of, names_shown};
 
 use crate::changes::Changes;
-use crate::listeners::Listeners;
-use crate::parts::{keep_all, parts_with};
+use crate::parts::{Parts, keep_all, parts_with};
 use crate::routed::RoutedListener;
 use crate::routes::route_for;
-use crate::rows::Rows;
 use crate::targets::{target_name, target_weight};
 use crate::weighed::WeighedCluster;
 use ev_model::{Choice, Routing};
@@ -28,8 +26,7 @@ use std::sync::Arc;
 #[derive(Drop)]
 pub struct Snapshot {
     version: u64,
-    clusters: Rows<WeighedCluster>,
-    listeners: Listeners,
+    parts: Parts,
 }
 
 impl Model for Snapshot {
@@ -38,9 +35,9 @@ impl Model for Snapshot {
 
     ghost Value = { Picture };
 
-    ghost view = { λ s. record { version = s.version; shown = record { clusters = s.clusters; listeners = s.listeners } } };
+    ghost view = { λ s. record { version = s.version; shown = record { clusters = s.parts.clusters; listeners = s.parts.listeners } } };
 
-    ghost invariant = { λ s. IsOrdered (record { clusters = s.clusters; listeners = s.listeners }) };
+    ghost invariant = { λ s. IsOrdered (record { clusters = s.parts.clusters; listeners = s.parts.listeners }) };
 }
 
 impl Snapshot {
@@ -50,8 +47,7 @@ impl Snapshot {
     {
         let empty = Snapshot {
             version: 0,
-            clusters: Rows::new(alloc)?,
-            listeners: Listeners::new(alloc)?,
+            parts: Parts::new(alloc)?,
         };
         Ok(Arc::new(alloc, empty)?)
     }
@@ -78,17 +74,13 @@ impl Snapshot {
         ensures picture { IfOk result (λ next. next ≡ picture_after changes.now self.now) }
         ensures ordered { IsOrdered self.now.shown }
     {
-        let parts = parts_with(alloc, &self.clusters, &self.listeners, changes)?;
-        if keep_all(&self.clusters, &self.listeners, &parts, changes) {
+        let mut parts = parts_with(alloc, &self.parts.clusters, &self.parts.listeners, changes)?;
+        if keep_all(&self.parts.clusters, &self.parts.listeners, &parts, changes) {
             return Ok(None);
         }
         let version = version_after(self.version)?;
-        let parts = parts.settled(alloc)?;
-        Ok(Some(Snapshot {
-            version,
-            clusters: parts.clusters,
-            listeners: parts.listeners,
-        }))
+        parts.settle(alloc)?;
+        Ok(Some(Snapshot { version, parts }))
     }
 
     /// The version of the picture.
@@ -104,14 +96,14 @@ impl Snapshot {
     pub fn shows(&self, number: Gen) -> bool
         ensures { result ≡ is_shown number self.now.shown }
     {
-        self.clusters.has(number) || self.listeners.has(number)
+        self.parts.clusters.has(number) || self.parts.listeners.has(number)
     }
 
     /// The host at a place of the cluster of this number, as `choose` answers both.
     pub fn host(&self, cluster: Gen, place: u32) -> Option<&Host>
         ensures { option_copied result ≡ host_of self.now cluster place }
     {
-        let Some(served) = self.clusters.numbered(cluster) else {
+        let Some(served) = self.parts.clusters.numbered(cluster) else {
             return None;
         };
         match served.get().served().hosts.rows().get(place as usize) {
@@ -136,7 +128,7 @@ impl Snapshot {
     fn choose_by_address(&self, ask: &Ask) -> Choice
         ensures { result ≡ choice_of self.now ask.now }
     {
-        match self.listeners.at(&ask.address) {
+        match self.parts.listeners.at(&ask.address) {
             Some(listener) => self.choose_at(listener, ask),
             None => Choice::NoListener,
         }
@@ -190,7 +182,7 @@ impl Snapshot {
     fn forward(&self, listener: Gen, target: &Target, pick: u64) -> Choice
         ensures { result ≡ forwarded self.now pick listener target.now }
     {
-        let cluster = self.clusters.named(target_name(target, pick));
+        let cluster = self.parts.clusters.named(target_name(target, pick));
         choose_host(listener, cluster, pick / target_weight(target))
     }
 }

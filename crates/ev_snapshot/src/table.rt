@@ -57,14 +57,15 @@ impl<K: Eq + Hash + TryCopy + Drop, V: TryCopy + Drop> Table<K, V> {
         })
     }
 
-    /// The same table, with a base of its own where too much stands over the one that it has.
-    pub(crate) fn settled(self, alloc: Global) -> Result<Table<K, V>, AllocError>
-        ensures { IfOk result (λ table. (key : K) → found K.eq table key ≡ found K.eq self key) }
+    /// Makes a base of its own where too much stands over the one that it has. Under each key it has the same, also out of memory.
+    pub(crate) fn settle(&mut self, alloc: Global) -> Result<(), AllocError>
+        ensures { (key : K) → found K.eq self.new key ≡ found K.eq self.old key }
     {
         if !is_long(self.over.len(), self.base.len()) {
-            return Ok(self);
+            return Ok(());
         }
-        self.rebased(alloc)
+        *self = self.rebased(alloc)?;
+        Ok(())
     }
 
     // The same table, with a base of its own and nothing over it.

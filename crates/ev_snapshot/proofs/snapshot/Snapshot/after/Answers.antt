@@ -5,23 +5,23 @@ use Rattle.ev_snapshot.proofs.snapshot.Snapshot.after.Goals as goal
 
 pub returns-then-keep_all-clause-picture : goal.returns-then-keep_all-clause-picture
 returns-then-keep_all-clause-picture c =
-    next_none c.args.changes.now (record { version = c.self.inside.version; shown = record { clusters = c.self.inside.clusters; listeners = c.self.inside.listeners } })
+    next_none c.args.changes.now (record { version = c.self.inside.version; shown = record { clusters = c.self.inside.parts.clusters; listeners = c.self.inside.parts.listeners } })
     c.in_ok-parts.parts.clusters c.in_ok-parts.parts.listeners c.keep_all.result c.self.invariant
     c.in_ok-parts.ensures.clusters c.in_ok-parts.ensures.listeners c.keep_all.ensures c.if-keep_all.true
     ∙ ap (picture_after c.args.changes.now) c.self.view_is
 
 pub invariant_of-result : goal.invariant_of-result
 invariant_of-result c =
-    order_stays c.args.changes.now (record { clusters = c.self.inside.clusters; listeners = c.self.inside.listeners }) c.in_ok-parts-2.parts.clusters c.in_ok-parts-2.parts.listeners c.self.invariant
-    (c.in_ok-parts-2.ensures.clusters ∙ c.in_ok-parts.ensures.clusters)
-    (c.in_ok-parts-2.ensures.listeners ∙ c.in_ok-parts.ensures.listeners)
+    order_stays c.args.changes.now (record { clusters = c.self.inside.parts.clusters; listeners = c.self.inside.parts.listeners }) c.settle.new.self.clusters c.settle.new.self.listeners c.self.invariant
+    (c.settle.ensures.clusters ∙ c.in_ok-parts.ensures.clusters)
+    (c.settle.ensures.listeners ∙ c.in_ok-parts.ensures.listeners)
 
 pub returns-clause-picture : goal.returns-clause-picture
 returns-clause-picture c =
-    next_some c.args.changes.now (record { version = c.self.inside.version; shown = record { clusters = c.self.inside.clusters; listeners = c.self.inside.listeners } })
+    next_some c.args.changes.now (record { version = c.self.inside.version; shown = record { clusters = c.self.inside.parts.clusters; listeners = c.self.inside.parts.listeners } })
     c.in_ok-parts.parts.clusters c.in_ok-parts.parts.listeners c.keep_all.result
-    (record { version = c.in_ok-version.version; shown = record { clusters = c.in_ok-parts-2.parts.clusters; listeners = c.in_ok-parts-2.parts.listeners } })
+    (record { version = c.in_ok-version.version; shown = record { clusters = c.settle.new.self.clusters; listeners = c.settle.new.self.listeners } })
     c.self.invariant
     c.in_ok-parts.ensures.clusters c.in_ok-parts.ensures.listeners
-    c.keep_all.ensures c.if-keep_all.false c.in_ok-version.ensures c.in_ok-parts-2.ensures.clusters c.in_ok-parts-2.ensures.listeners
+    c.keep_all.ensures c.if-keep_all.false c.in_ok-version.ensures c.settle.ensures.clusters c.settle.ensures.listeners
     ∙ ap (picture_after c.args.changes.now) c.self.view_is
