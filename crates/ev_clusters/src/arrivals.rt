@@ -1,9 +1,7 @@
 ghost use Rattle.std.specs.Prelude.{◌≡◌, Some, length, OnOk};
 ghost use Rattle.ev_types.specs.declared.contents.Kind.TheVariants.{Eds};
-ghost use Rattle.ev_model.specs.World.{World};
-ghost use Rattle.ev_model.specs.Rows.{with_removals, add_items};
-ghost use Rattle.ev_indexes.specs.Worlds.{StandsFor};
 ghost use Rattle.ev_warming.specs.Arrivals.{AreOnValues};
+ghost use Rattle.ev_warming.specs.Worlds.{Follows, with_response};
 
 use crate::Clusters;
 use ev_generations::Steps;
@@ -30,7 +28,8 @@ impl Clusters {
         ensures kept { OnOk result (AreKept self.new) }
         ensures table { OnOk result (self.new.state.table ≡ self.old.state.table) }
         // Whatever world they stood for, they stand for that world once the response's removals and resources are in.
-        ensures stands { OnOk result ((world : World) → StandsFor self.old.state world → StandsFor self.new.state (add_items Eds verdicts.now response.now.items (with_removals Eds response.now world))) }
+        ensures stands { OnOk result (Follows self.old.state self.new.state
+            (with_response Eds verdicts.now response.now)) }
     {
         self.manager.arrive_all(alloc, response, verdicts, steps)
     }

@@ -1,9 +1,6 @@
 ghost use Rattle.std.specs.Prelude.{◌≡◌, ◌+◌, ◌≤◌, IfOk, OnOk};
-ghost use Rattle.std.specs.List.{list_any};
-ghost use Rattle.ev_model.specs.World.{World};
-ghost use Rattle.ev_model.specs.Signals.{is_meant, rows_meant, with_results};
-ghost use Rattle.ev_warming.specs.Health.{is_meant_in, numbers_meant, NotesEach};
-ghost use Rattle.ev_indexes.specs.Worlds.{StandsFor};
+ghost use Rattle.ev_warming.specs.Health.{NotesMeant, is_meant_by};
+ghost use Rattle.ev_warming.specs.Worlds.{AnswersFor, Follows, means_something, with_result};
 
 use crate::Clusters;
 use ev_generations::Steps;
@@ -29,12 +26,14 @@ impl Clusters {
         ensures kept { OnOk result (AreKept self.new) }
         ensures stale { OnOk result (self.new.stale ≡ self.old.stale) }
         ensures table { OnOk result (self.new.state.table ≡ self.old.state.table) }
-        ensures meant { IfOk result (λ meant. meant ≡ list_any (is_meant_in self.old.state.watches cluster.now host.now) self.old.state.table.rows) }
-        ensures results { OnOk result (NotesEach self.old.state.results self.new.state.results (numbers_meant self.old.state.watches cluster.now host.now self.old.state.table.rows) host.now healthy) }
+        ensures meant { IfOk result (λ meant. meant ≡ is_meant_by self.old.state cluster.now host.now) }
+        ensures results { OnOk result (NotesMeant self.old.state self.new.state cluster.now host.now healthy) }
         ensures bounded { OnOk result (steps.new ≤ steps.old + 4) }
         // Whatever world they stood for, they stand for that world with the result, which is ignored where the machine ignores it.
-        ensures stands { OnOk result ((world : World) → StandsFor self.old.state world → StandsFor self.new.state (with_results host.now healthy (rows_meant world.arrivals cluster.now host.now world.rows) world)) }
-        ensures ignored { IfOk result (λ meant. (world : World) → StandsFor self.old.state world → meant ≡ list_any (is_meant world.arrivals cluster.now host.now) world.rows) }
+        ensures stands { OnOk result (Follows self.old.state self.new.state
+            (with_result cluster.now host.now healthy)) }
+        ensures ignored { IfOk result (λ meant. AnswersFor self.old.state meant
+            (means_something cluster.now host.now)) }
     {
         self.manager.note(alloc, cluster, host, healthy, steps)
     }

@@ -2,20 +2,18 @@
 //! host, and which are due to serve. Whatever is asked for by a name or a number is found without a walk.
 #![tactic(auto)]
 
-ghost use Rattle.std.specs.Prelude.{◌≡◌, ◌+◌, ◌*◌, ◌^◌, ◌≤◌, ◌<◌, [], ◌∷◌, ◌++◌, ℕ, List, Some, true, EachIndex, slice_index, length, option_to_list, IfOk, OnOk};
+ghost use Rattle.std.specs.Prelude.{◌≡◌, ◌+◌, ◌*◌, ◌^◌, ◌≤◌, ◌<◌, [], ℕ, List, Some, true, length, IfOk, OnOk};
 ghost use Rattle.std.specs.List.{list_any};
 ghost use Rattle.ev_types.specs.declared.contents.Kind.TheVariants.{Cds, Eds};
-ghost use Rattle.ev_model.specs.World.{World, opening};
-ghost use Rattle.ev_model.specs.Rows.{arrived, with_removals, add_items};
+ghost use Rattle.ev_model.specs.World.{opening};
 ghost use Rattle.ev_model.specs.Signals.{rows_ended};
-ghost use Rattle.ev_model.specs.Tidy.{promoted, without_unwatched, without_old_results};
+ghost use Rattle.ev_model.specs.Tidy.{promoted};
 ghost use Rattle.ev_generations.specs.Tables.{row_in, without_row};
-ghost use Rattle.ev_indexes.specs.Due.{is_among};
-ghost use Rattle.ev_indexes.specs.Ready.{is_due_at};
-ghost use Rattle.ev_indexes.specs.Indexes.{depends_on, serves, warms, numbers_where};
-ghost use Rattle.ev_indexes.specs.Reads.{names_watched};
+ghost use Rattle.ev_indexes.specs.Indexes.{depends_on};
 ghost use Rattle.ev_indexes.specs.Worlds.{StandsFor};
-ghost use Rattle.ev_warming.specs.Changes.{began_to_serve, began_to_drain, has_retired, is_over};
+ghost use Rattle.ev_warming.specs.Changes.{is_over, AreDue, AreNext, BeganToDrain, CameToServe, DrawsAll, HaveRetired, ServesName, WarmsUnder, WatchesTheSame, dependents_in};
+ghost use Rattle.ev_warming.specs.Arrivals.{with_arrived};
+ghost use Rattle.ev_warming.specs.Worlds.{Follows, with_made, with_response, with_rows_ended, without_generation, without_unneeded};
 
 mod arrivals;
 mod health;
@@ -74,11 +72,12 @@ impl Clusters {
         requires one_each { length verdicts.now ≡ length response.now.items }
         requires room { self.old.state.table.made + length response.now.items < 2 ^ 32 }
         ensures kept { OnOk result (AreKept self.new) }
-        ensures made { IfOk result (λ applied. self.new.state.table.made ≡ self.old.state.table.made + length applied.made) }
-        ensures numbers { IfOk result (λ applied. EachIndex applied.made (λ k. slice_index applied.made k ≡ self.old.state.table.made + k + 1)) }
-        ensures retired { IfOk result (λ applied. (n : ℕ) → is_among applied.retired n ≡ has_retired n self.old.state.table.rows self.new.state.table.rows) }
+        ensures made { IfOk result (λ applied. DrawsAll self.old.state self.new.state applied.made) }
+        ensures numbers { IfOk result (λ applied. AreNext self.old.state applied.made) }
+        ensures retired { IfOk result (λ applied. HaveRetired applied.retired self.old.state self.new.state) }
         // Whatever world they stood for, they stand for that world once the response's removals and resources are in.
-        ensures stands { OnOk result ((world : World) → StandsFor self.old.state world → StandsFor self.new.state (add_items Cds verdicts.now response.now.items (with_removals Cds response.now world))) }
+        ensures stands { OnOk result (Follows self.old.state self.new.state
+            (with_response Cds verdicts.now response.now)) }
     {
         self.manager.apply(alloc, response, verdicts, steps)
     }
@@ -95,9 +94,9 @@ impl Clusters {
         requires watched { list_any (depends_on name.now) self.old.state.table.rows ≡ true }
         ensures kept { OnOk result (AreKept self.new) }
         ensures table { OnOk result (self.new.state.table ≡ self.old.state.table) }
-        ensures bounded { OnOk result (steps.new ≤ steps.old + length (numbers_where (depends_on name.now) self.old.state.table.rows) + 4) }
+        ensures bounded { OnOk result (steps.new ≤ steps.old + length (dependents_in self.old.state name.now) + 4) }
         // Whatever world they stood for, they stand for that world with the arrival.
-        ensures stands { OnOk result ((world : World) → StandsFor self.old.state world → StandsFor self.new.state (record world { arrivals = world.arrivals ++ arrived Eds arrival.now name.now ∷ [] })) }
+        ensures stands { OnOk result (Follows self.old.state self.new.state (with_arrived Eds arrival.now name.now)) }
     {
         self.manager.arrive(alloc, name, arrival, steps)
     }
@@ -110,14 +109,14 @@ impl Clusters {
     ) -> Result<Promoted, AllocError>
         requires kept { AreKept self.old }
         ensures kept { OnOk result (AreKept self.new) }
-        ensures served { IfOk result (λ promoted. (n : ℕ) → is_among promoted.served n ≡ is_due_at self.old.state.watches self.old.state.results n self.old.state.table.rows) }
-        ensures began { IfOk result (λ promoted. (n : ℕ) → is_among promoted.served n ≡ began_to_serve n self.old.state.table.rows self.new.state.table.rows) }
-        ensures drained { IfOk result (λ promoted. (n : ℕ) → is_among promoted.drained n ≡ began_to_drain n self.old.state.table.rows self.new.state.table.rows) }
+        ensures served { IfOk result (λ promoted. AreDue promoted.served self.old.state) }
+        ensures began { IfOk result (λ promoted. CameToServe promoted.served self.old.state self.new.state) }
+        ensures drained { IfOk result (λ promoted. BeganToDrain promoted.drained self.old.state self.new.state) }
         // Where none began to drain, the same names of endpoints are watched as before.
-        ensures watched { IfOk result (λ promoted. promoted.drained ≡ [] → names_watched self.new.state.table.rows ≡ names_watched self.old.state.table.rows) }
+        ensures watched { IfOk result (λ promoted. WatchesTheSame promoted.drained self.old.state self.new.state) }
         ensures bounded { IfOk result (λ promoted. steps.new ≤ steps.old + 4 * length promoted.served + 4) }
         // Whatever world they stood for, they stand for that world with all that are due promoted.
-        ensures stands { OnOk result ((world : World) → StandsFor self.old.state world → StandsFor self.new.state (promoted world)) }
+        ensures stands { OnOk result (Follows self.old.state self.new.state promoted) }
     {
         self.manager.promote(alloc, steps)
     }
@@ -134,7 +133,7 @@ impl Clusters {
         ensures done { OnOk result (self.new.stale ≡ []) }
         ensures table { OnOk result (self.new.state.table ≡ self.old.state.table) }
         // Whatever world they stood for, they stand for that world once the machine has forgotten.
-        ensures stands { OnOk result ((world : World) → StandsFor self.old.state world → StandsFor self.new.state (without_old_results (without_unwatched world))) }
+        ensures stands { OnOk result (Follows self.old.state self.new.state without_unneeded) }
     {
         self.manager.forget(alloc, steps)
     }
@@ -148,12 +147,12 @@ impl Clusters {
     ) -> Result<Standing, AllocError>
         requires kept { AreKept self.old }
         ensures kept { OnOk result (AreKept self.new) }
-        ensures drains { IfOk result (λ ended. option_to_list ended.active ≡ numbers_where (serves name.now) self.old.state.table.rows) }
-        ensures dropped { IfOk result (λ ended. option_to_list ended.warming ≡ numbers_where (warms name.now) self.old.state.table.rows) }
+        ensures drains { IfOk result (λ ended. ServesName ended.active name.now self.old.state) }
+        ensures dropped { IfOk result (λ ended. WarmsUnder ended.warming name.now self.old.state) }
         ensures rows { OnOk result (self.new.state.table.rows ≡ rows_ended Cds name.now self.old.state.table.rows) }
         ensures bounded { OnOk result (steps.new ≤ steps.old + 2) }
         // Whatever world they stood for, they stand for that world where the name has come to its end.
-        ensures stands { OnOk result ((world : World) → StandsFor self.old.state world → StandsFor self.new.state (record world { rows = rows_ended Cds name.now world.rows })) }
+        ensures stands { OnOk result (Follows self.old.state self.new.state (with_rows_ended Cds name.now)) }
     {
         self.manager.end(name, steps)
     }
@@ -168,7 +167,7 @@ impl Clusters {
         ensures row { row_in number self.old.state.table.rows ≡ Some result }
         ensures rows { self.new.state.table.rows ≡ without_row number self.old.state.table.rows }
         // Whatever world they stood for, they stand for that world without the generation.
-        ensures stands { (world : World) → StandsFor self.old.state world → StandsFor self.new.state (record world { rows = without_row number world.rows }) }
+        ensures stands { Follows self.old.state self.new.state (without_generation number) }
     {
         self.manager.remove(number)
     }
@@ -188,7 +187,7 @@ impl Clusters {
         ensures made { self.new.state.table.made ≡ made }
         ensures rows { self.new.state.table.rows ≡ self.old.state.table.rows }
         // Whatever world they stood for, they stand for that world with so many numbers drawn.
-        ensures stands { (world : World) → StandsFor self.old.state world → StandsFor self.new.state (record world { made = made }) }
+        ensures stands { Follows self.old.state self.new.state (with_made made) }
     {
         self.manager.advance(made);
     }

@@ -1,21 +1,19 @@
-ghost use Rattle.std.specs.Prelude.{◌≡◌, ◌||◌, not, map, filter, option_to_list, IfOk};
+ghost use Rattle.std.specs.Prelude.{◌≡◌, map, IfOk};
 ghost use Rattle.std.specs.List.{list_any};
 ghost use Rattle.std.specs.Option.{option_copied};
-ghost use Rattle.ev_types.specs.Kinds.{kind_same};
 ghost use Rattle.ev_types.specs.declared.contents.Kind.TheVariants.{Cds, Eds};
-ghost use Rattle.ev_types.specs.declared.rows.Live.{Live};
-ghost use Rattle.ev_model.specs.World.{World};
 ghost use Rattle.ev_model.specs.Live.{live_of, lives_of, newest_of};
 ghost use Rattle.ev_model.specs.Phase.{has_come};
 ghost use Rattle.ev_model.specs.Picture.{served_clusters};
 ghost use Rattle.ev_model.specs.Signals.{is_awaited};
 ghost use Rattle.ev_model.specs.Watching.{is_watched, watched_of};
 ghost use Rattle.ev_generations.specs.Tables.{row_in};
-ghost use Rattle.ev_indexes.specs.Indexes.{depends_on, serves, warms, numbers_where};
+ghost use Rattle.ev_indexes.specs.Indexes.{depends_on};
 ghost use Rattle.ev_indexes.specs.Newest.{newest_in};
-ghost use Rattle.ev_indexes.specs.Reads.{live_rows, names_watched, is_timeout_due, clusters_in};
-ghost use Rattle.ev_indexes.specs.Shown.{cluster_at, cluster_shown_in};
-ghost use Rattle.ev_indexes.specs.Worlds.{StandsFor};
+ghost use Rattle.ev_indexes.specs.Reads.{live_rows, names_watched, is_timeout_due};
+ghost use Rattle.ev_indexes.specs.Shown.{cluster_at};
+ghost use Rattle.ev_warming.specs.Changes.{ServesName, WarmsUnder, dependents_in, has_come_in};
+ghost use Rattle.ev_warming.specs.Worlds.{AnswersFor, lives_of_kind};
 
 use crate::Clusters;
 use ev_indexes::Standing;
@@ -25,7 +23,7 @@ use ev_types::{Gen, GenRow, Name, Seq, TryCopy};
 use std::alloc::{AllocError, Global};
 
 impl Clusters {
-    ghost use Rattle.ev_clusters.specs.Clusters.{AreKept};
+    ghost use Rattle.ev_clusters.specs.Clusters.{AreKept, cluster_of, clusters_of};
 
     /// The cluster of this number, live or not. It costs one look-up, which nothing counts.
     pub fn get(&self, number: Gen) -> Option<&GenRow>
@@ -37,8 +35,8 @@ impl Clusters {
     /// Which clusters of a name stand: one that serves it, and one that warms under it. It costs a look-up of the name.
     pub fn of_name(&self, name: &Name) -> Standing
         requires kept { AreKept self.now }
-        ensures active { option_to_list result.active ≡ numbers_where (serves name.now) self.now.state.table.rows }
-        ensures warming { option_to_list result.warming ≡ numbers_where (warms name.now) self.now.state.table.rows }
+        ensures active { ServesName result.active name.now self.now.state }
+        ensures warming { WarmsUnder result.warming name.now self.now.state }
     {
         self.manager.state.names.standing(name)
     }
@@ -47,7 +45,7 @@ impl Clusters {
     pub fn newest(&self, name: &str) -> Option<LiveRow<'_>>
         requires kept { AreKept self.now }
         ensures rows { result ≡ newest_in self.now.state.table.rows name.now }
-        ensures world { (world : World) → StandsFor self.now.state world → result ≡ newest_of (lives_of world) Cds name.now }
+        ensures world { AnswersFor self.now.state result (λ world. newest_of (lives_of world) Cds name.now) }
     {
         self.manager.state.newest(name)
     }
@@ -55,8 +53,8 @@ impl Clusters {
     /// Whether nothing is waited for under a name: a cluster serves it, or none of it is live. It costs a look-up of the name.
     pub fn has_come(&self, name: &str) -> bool
         requires kept { AreKept self.now }
-        ensures rows { result ≡ (list_any (serves name.now) self.now.state.table.rows || not (list_any (warms name.now) self.now.state.table.rows)) }
-        ensures world { (world : World) → StandsFor self.now.state world → result ≡ has_come world.rows Cds name.now }
+        ensures rows { result ≡ has_come_in self.now.state name.now }
+        ensures world { AnswersFor self.now.state result (λ world. has_come world.rows Cds name.now) }
     {
         self.manager.state.has_come(name)
     }
@@ -65,7 +63,7 @@ impl Clusters {
     pub fn is_watched(&self, name: &str) -> bool
         requires kept { AreKept self.now }
         ensures rows { result ≡ list_any (depends_on name.now) self.now.state.table.rows }
-        ensures world { (world : World) → StandsFor self.now.state world → result ≡ is_watched (lives_of world) Eds name.now }
+        ensures world { AnswersFor self.now.state result (λ world. is_watched (lives_of world) Eds name.now) }
     {
         self.manager.state.is_watched(name)
     }
@@ -73,7 +71,7 @@ impl Clusters {
     /// The numbers of the live clusters that depend on a name of endpoints, in order. It costs a look-up of the name.
     pub fn dependents(&self, name: &str) -> &[Gen]
         requires kept { AreKept self.now }
-        ensures { result.now ≡ numbers_where (depends_on name.now) self.now.state.table.rows }
+        ensures { result.now ≡ dependents_in self.now.state name.now }
     {
         self.manager.state.dependents(name)
     }
@@ -82,7 +80,7 @@ impl Clusters {
     pub fn watched(&self, alloc: Global) -> Result<Seq<Name>, AllocError>
         requires kept { AreKept self.now }
         ensures rows { IfOk result (λ names. names ≡ names_watched self.now.state.table.rows) }
-        ensures world { IfOk result (λ names. (world : World) → StandsFor self.now.state world → names ≡ watched_of world Eds) }
+        ensures world { IfOk result (λ names. AnswersFor self.now.state names (λ world. watched_of world Eds)) }
     {
         self.manager.state.watched(alloc)
     }
@@ -92,7 +90,7 @@ impl Clusters {
     pub fn timeout_due(&self, name: &Name) -> bool
         requires kept { AreKept self.now }
         ensures rows { result ≡ is_timeout_due self.now.state.watches self.now.state.table.rows name.now }
-        ensures world { (world : World) → StandsFor self.now.state world → result ≡ is_awaited world.arrivals world.rows Eds name.now }
+        ensures world { AnswersFor self.now.state result (λ world. is_awaited world.arrivals world.rows Eds name.now) }
     {
         self.manager.state.timeout_due(name)
     }
@@ -101,7 +99,7 @@ impl Clusters {
     pub fn live<'a>(&'a self, alloc: Global) -> Result<Vec<LiveRow<'a>>, AllocError>
         requires kept { AreKept self.now }
         ensures rows { IfOk result (λ lives. lives.items ≡ map live_of (live_rows self.now.state.table.rows)) }
-        ensures world { IfOk result (λ lives. (world : World) → StandsFor self.now.state world → lives.items ≡ filter (λ (live : Live). kind_same live.kind Cds) (lives_of world)) }
+        ensures world { IfOk result (λ lives. AnswersFor self.now.state lives.items (lives_of_kind Cds)) }
     {
         self.manager.state.live(alloc)
     }
@@ -110,8 +108,9 @@ impl Clusters {
     /// goes over all clusters.
     pub fn shown(&self, alloc: Global) -> Result<Seq<ServedCluster>, AllocError>
         requires kept { AreKept self.now }
-        ensures rows { IfOk result (λ served. served ≡ clusters_in self.now.state.watches self.now.state.results self.now.state.table.rows) }
-        ensures world { IfOk result (λ served. (world : World) → StandsFor self.now.state world → served ≡ served_clusters world.arrivals world.results world.rows) }
+        ensures rows { IfOk result (λ served. served ≡ clusters_of self.now.state) }
+        ensures world { IfOk result (λ served. AnswersFor self.now.state served
+            (λ world. served_clusters world.arrivals world.results world.rows)) }
     {
         self.manager.state.clusters(alloc)
     }
@@ -120,8 +119,8 @@ impl Clusters {
     /// look-up of the number and of the name that the cluster depends on, and one of each of its hosts.
     pub fn served(&self, alloc: Global, number: Gen) -> Result<Option<ServedCluster>, AllocError>
         requires kept { AreKept self.now }
-        ensures rows { IfOk result (λ served. served ≡ cluster_shown_in self.now.state.watches self.now.state.results (row_in number self.now.state.table.rows)) }
-        ensures world { IfOk result (λ served. (world : World) → StandsFor self.now.state world → served ≡ cluster_at world number) }
+        ensures rows { IfOk result (λ served. served ≡ cluster_of self.now.state number) }
+        ensures world { IfOk result (λ served. AnswersFor self.now.state served (λ world. cluster_at world number)) }
     {
         self.manager.state.cluster(alloc, number)
     }

@@ -11,7 +11,7 @@ use Rattle.ev_warming.specs.Changes.{has_retired, is_over}
 use Rattle.ev_indexes.specs.Indexes.{numbers_where}
 use Rattle.ev_listeners.specs.Addresses.{AddressesKept, numbers_at, listens_at, is_found_at, holds, AreByAddress, is_left_at}
 use Rattle.ev_listeners.proofs.FollowLemmas.{SameRow, Follow}
-use Rattle.ev_listeners.proofs.NumberLemmas.{own-rows}
+use Rattle.ev_indexes.proofs.WhereLemmas.{own-rows}
 
 -- what a retired number leaves, by whether its generation lives before and after and listens at the address
 stays_by : (before after at : Bool) → (before && at) ≡ true → not ((not after && not (not before)) && at) ≡ (after && at)

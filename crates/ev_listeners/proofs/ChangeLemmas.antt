@@ -3,7 +3,6 @@ use Rattle.std.proofs.Common.{◌≡◌, ◌∙◌, ℕ, Bool, true, false, cond
 use Rattle.std.specs.List.{flat_map, IsDistinct, AllByRecursion}
 use Rattle.std.specs.Str.{bytes_eq}
 use Rattle.std.proofs.lemmas.Bool.{eqb-true}
-use Rattle.std.proofs.lemmas.Map.Keys.{IsDistinct-head, IsDistinct-tail}
 use Rattle.ev_types.specs.Items.{content_kind}
 use Rattle.ev_types.specs.Kinds.{kind_same}
 use Rattle.ev_types.specs.Statuses.{is_live, is_active, is_warming}
@@ -28,18 +27,10 @@ use Rattle.ev_warming.specs.Changes.{has_retired, is_over, began_to_drain}
 use Rattle.ev_indexes.specs.Indexes.{numbers_where, status_in, serves, warms}
 use Rattle.ev_indexes.specs.Worlds.{rows_of_kind}
 use Rattle.ev_listeners.specs.Addresses.{listens_at, holds, lives_numbered}
-use Rattle.ev_listeners.proofs.NumberLemmas.{own-rows, row_in-statused}
-
--- other statuses, of one kind alone
-pub kind-statused : (kind : Kind) (f : GenRow → RowStatus) (rows : List GenRow) → rows_of_kind kind (with_statuses f rows) ≡ with_statuses f (rows_of_kind kind rows)
-kind-statused kind f [] = refl
-kind-statused kind f (row ∷ rows) = by (kind_same row.kind kind) (kind-statused kind f rows)
-  where
-    by : (b : Bool) → rows_of_kind kind (with_statuses f rows) ≡ with_statuses f (rows_of_kind kind rows)
-        → cond b ((record row { status = f row }) ∷ rows_of_kind kind (with_statuses f rows)) (rows_of_kind kind (with_statuses f rows))
-        ≡ with_statuses f (cond b (row ∷ rows_of_kind kind rows) (rows_of_kind kind rows))
-    by true more = ap (λ (rs : List GenRow). (record row { status = f row }) ∷ rs) more
-    by false more = more
+use Rattle.ev_generations.proofs.TableLemmas.{row_in-with_statuses}
+use Rattle.ev_indexes.proofs.WhereLemmas.{own-rows}
+use Rattle.ev_warming.specs.Health.{passes}
+use Rattle.ev_warming.proofs.HealthLemmas.{among-row}
 
 drained_by : (succeeded ready : Bool) (status : RowStatus)
     → (is_active status && is_draining (status_by succeeded ready status)) ≡ (not (is_live (status_by succeeded ready status)) && not (not (is_live status)))
@@ -63,38 +54,13 @@ drained-retired number succeeded ready before after is =
     new row = record row { status = status_by (succeeded row) (ready row) row.status }
 
     here : row_in number after ≡ option_map (λ (row : GenRow). record row { status = status_by (succeeded row) (ready row) row.status }) (row_in number before)
-    here = ap (row_in number) is ∙ row_in-statused number (λ (row : GenRow). status_by (succeeded row) (ready row) row.status) before
+    here = ap (row_in number) is ∙ row_in-with_statuses number (λ (row : GenRow). status_by (succeeded row) (ready row) row.status) before
 
     by : (o : Option GenRow)
         → (is_active (status_in o) && is_draining (status_in (option_map (λ (row : GenRow). record row { status = status_by (succeeded row) (ready row) row.status }) o)))
         ≡ (is_over (option_map (λ (row : GenRow). record row { status = status_by (succeeded row) (ready row) row.status }) o) && not (is_over o))
     by None = refl
     by (Some row) = drained_by (succeeded row) (ready row) row.status
-
--- a row that is found passes a test
-passes : (GenRow → Bool) → Option GenRow → Bool
-passes test None = false
-passes test (Some row) = test row
-
-row_in-far : (number other : ℕ) (rows : List GenRow) → nat_eq number other ≡ true → AllByRecursion (λ y. nat_eq other y ≡ false) (numbers_of rows) → row_in number rows ≡ None
-row_in-far number other [] same far = refl
-row_in-far number other (row ∷ rows) same far =
-    (λ i. cond ((ap (λ n. nat_eq n row.number) (eqb-true number other same) ∙ far.0) i) (Some row) (row_in number rows)) ∙ row_in-far number other rows same far.1
-
--- a number is among those that pass where its row passes
-among-found : (test : GenRow → Bool) (number : ℕ) (rows : List GenRow) → IsDistinct nat_eq (numbers_of rows) → is_among (numbers_where test rows) number ≡ passes test (row_in number rows)
-unfolding passes
-among-found test number [] apart = refl
-among-found test number (row ∷ rows) apart =
-    by (nat_eq number row.number) (test row) refl refl (among-found test number rows (IsDistinct-tail nat_eq row.number (numbers_of rows) apart))
-  where
-    by : (b t : Bool) → nat_eq number row.number ≡ b → test row ≡ t → is_among (numbers_where test rows) number ≡ passes test (row_in number rows)
-        → is_among (numbers_of (cond t (row ∷ filter test rows) (filter test rows))) number ≡ passes test (cond b (Some row) (row_in number rows))
-    by true true h k more = ap (λ b. b || is_among (numbers_where test rows) number) h ∙ sym k
-    by true false h k more =
-        more ∙ ap (passes test) (row_in-far number row.number rows h (IsDistinct-head nat_eq row.number (numbers_of rows) apart)) ∙ sym k
-    by false true h k more = ap (λ b. b || is_among (numbers_where test rows) number) h ∙ more
-    by false false h k more = more
 
 all-found : (P : GenRow → Type 0) (number : ℕ) (row : GenRow) (rows : List GenRow) → AllByRecursion P rows → row_in number rows ≡ Some row → P row
 all-found P number row [] all found = cc
@@ -130,16 +96,15 @@ pub ended-retired : (name : List ℕ) (number : ℕ) (before after : List GenRow
     → AllByRecursion (λ (row : GenRow). row.kind ≡ Lds) before → after ≡ rows_ended Lds name before
     → option_to_list warming ≡ numbers_where (warms name) before → option_to_list active ≡ numbers_where (serves name) before
     → is_among (option_to_list warming ++ option_to_list active) number ≡ has_retired number before after
-unfolding passes
 ended-retired name number before after warming active apart kinds is warm act =
     (λ i. is_among (warm i ++ act i) number)
     ∙ any-append number (numbers_where (warms name) before) (numbers_where (serves name) before)
-    ∙ (λ i. among-found (warms name) number before apart i || among-found (serves name) number before apart i)
+    ∙ (λ i. among-row (warms name) number before apart i || among-row (serves name) number before apart i)
     ∙ by (row_in number before) refl
     ∙ sym (λ i. is_over (here i) && not (is_over (row_in number before)))
   where
     here : row_in number after ≡ option_map (λ (row : GenRow). record row { status = ended_status Lds name row }) (row_in number before)
-    here = ap (row_in number) is ∙ row_in-statused number (ended_status Lds name) before
+    here = ap (row_in number) is ∙ row_in-with_statuses number (ended_status Lds name) before
 
     by : (o : Option GenRow) → row_in number before ≡ o
         → (passes (warms name) o || passes (serves name) o)

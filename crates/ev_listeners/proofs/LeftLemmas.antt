@@ -4,6 +4,7 @@ use Rattle.std.proofs.lemmas.Grind.{common_steps}
 use Rattle.std.proofs.lemmas.Bool.{eqb-true}
 use Rattle.std.specs.Map.{values_of}
 use Rattle.std.proofs.Math.Bool.{or-false}
+use Rattle.ev_indexes.proofs.WhereLemmas.{flipped}
 use Rattle.ev_types.specs.declared.hosts.Host.{Host}
 use Rattle.ev_types.specs.declared.rows.GenRow.{GenRow}
 use Rattle.ev_generations.specs.Tables.{by_number, numbers_of, row_in}
@@ -65,9 +66,6 @@ elsewhere_by true e f same = refl
 elsewhere_by false true f same = ap not (same refl)
 elsewhere_by false false f same = refl
 
-turned : (n m : ℕ) → nat_eq n m ≡ nat_eq m n
-turned n m = grind arith
-
 -- what is left at an address as one more number goes
 left_one : (address : Host) (numbers : List ℕ) (rows : List GenRow) (number : ℕ) (found : Bool) (ns : List ℕ) → is_found_at address (row_in number rows) ≡ found
     → filter (is_left_at address (numbers ++ number ∷ []) rows) ns
@@ -76,7 +74,7 @@ left_one address numbers rows number true ns found =
     filter_same (is_left_at address (numbers ++ number ∷ []) rows) (λ n. is_left_at address numbers rows n && not (nat_eq number n))
     (λ n. (λ i. not (among_more numbers number n i && is_found_at address (row_in n rows)))
     ∙ there_by (is_among numbers n) (nat_eq n number) (is_found_at address (row_in n rows)) (λ same. ap (λ m. is_found_at address (row_in m rows)) (eqb-true n number same) ∙ found)
-    ∙ ap (λ b. is_left_at address numbers rows n && not b) (turned n number)) ns
+    ∙ ap (λ b. is_left_at address numbers rows n && not b) (flipped n number)) ns
     ∙ sym (filter_filter (λ n. not (nat_eq number n)) (is_left_at address numbers rows) ns)
 left_one address numbers rows number false ns found =
     filter_same (is_left_at address (numbers ++ number ∷ []) rows) (is_left_at address numbers rows)

@@ -1,5 +1,4 @@
 pub mod FollowLemmas
-pub mod NumberLemmas
 pub mod AddressLemmas
 pub mod ChangeLemmas
 pub mod TableLemmas

@@ -25,7 +25,8 @@ use Rattle.ev_listeners.specs.Addresses.{numbers_at, holds, AreByAddress, is_lef
 use Rattle.ev_listeners.specs.Listeners.{ListenersKept, AreKept, StandsFor, holders_in}
 use Rattle.ev_listeners.proofs.FollowLemmas.{Follow, follow-response, follow-promoted, follow-ended, rows-after}
 use Rattle.ev_listeners.proofs.AddressLemmas.{index-follows}
-use Rattle.ev_listeners.proofs.ChangeLemmas.{kind-statused, drained-retired, ended-retired, held-without, held-world}
+use Rattle.ev_indexes.proofs.WorldLemmas.{rows_of_kind-with_statuses}
+use Rattle.ev_listeners.proofs.ChangeLemmas.{drained-retired, ended-retired, held-without, held-world}
 
 apart_of : (l : ListenersKept) → AreKept l → IsDistinct nat_eq (numbers_of l.state.table.rows)
 apart_of l kept = kept.kept.indexed.table.apart
@@ -91,7 +92,7 @@ promotion-stands l m drained world kept kept_after told now stands part = record
     is : m.state.table.rows ≡ with_statuses (promoted_status world.arrivals world.results world.rows) l.state.table.rows
     is =
         rows_are m (promoted world) kept_after part
-        ∙ kind-statused Lds (promoted_status world.arrivals world.results world.rows) world.rows
+        ∙ rows_of_kind-with_statuses Lds (promoted_status world.arrivals world.results world.rows) world.rows
         ∙ ap (with_statuses (promoted_status world.arrivals world.results world.rows)) (sym (rows_are l world kept stands.part))
 
 -- after a name has come to its end
@@ -109,7 +110,7 @@ end-stands l m name warming active world kept kept_after warm act now stands par
     is : m.state.table.rows ≡ with_statuses (ended_status Lds name) l.state.table.rows
     is =
         rows_are m (record world { rows = rows_ended Lds name world.rows }) kept_after part
-        ∙ kind-statused Lds (ended_status Lds name) world.rows
+        ∙ rows_of_kind-with_statuses Lds (ended_status Lds name) world.rows
         ∙ ap (with_statuses (ended_status Lds name)) (sym (rows_are l world kept stands.part))
 
     kinds : AllByRecursion (λ (row : GenRow). row.kind ≡ Lds) l.state.table.rows

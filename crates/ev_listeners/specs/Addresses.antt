@@ -1,6 +1,6 @@
 -- Which generations listen at an address. Source: listeners of Envoy's documentation: two listeners of different names may not have
 -- one address.
-use Rattle.std.specs.Prelude.{◌≡◌, ℕ, Bool, true, false, not, ◌&&◌, List, [], ◌∷◌, Option, None, Some, IsSome, unwrap_or, option_to_list, map}
+use Rattle.std.specs.Prelude.{◌≡◌, ℕ, Bool, true, false, not, ◌&&◌, if◌then◌else◌, List, [], ◌∷◌, ◌++◌, filter, Option, None, Some, IsSome, unwrap_or, option_to_list, map}
 use Rattle.std.specs.List.{flat_map}
 use Rattle.std.specs.Map.{lookup}
 use Rattle.ev_types.specs.SameHosts.{host_same}
@@ -10,9 +10,10 @@ use Rattle.ev_types.specs.declared.rows.GenRow.{GenRow}
 use Rattle.ev_types.specs.declared.rows.Live.{Live}
 use Rattle.ev_model.specs.Live.{live_of}
 use Rattle.ev_model.specs.Verdicts.{listening_address, shares_address}
-use Rattle.ev_generations.specs.Tables.{row_in}
+use Rattle.ev_generations.specs.Tables.{row_in, is_after}
 use Rattle.ev_indexes.specs.Due.{is_among, is_filled}
 use Rattle.ev_indexes.specs.Indexes.{numbers_where}
+use Rattle.ev_indexes.specs.Watched.{without_number}
 
 -- addresses, each with the numbers of the generations that listen there
 abbrev pub AddressesKept : Type 0
@@ -55,3 +56,39 @@ is_left_at address retired rows number = not (is_among retired number && is_foun
 -- what is seen of the generations of these numbers
 abbrev pub lives_numbered : List GenRow → List ℕ → List Live
 lives_numbered rows numbers = map live_of (flat_map (λ number. option_to_list (row_in number rows)) numbers)
+
+-- the same of those that listen at an address
+abbrev pub lives_listed : List GenRow → AddressesKept → Host → List Live
+lives_listed rows kept address = lives_numbered rows (numbers_at kept address)
+
+-- the same of the generation of one number, where it is found
+abbrev pub lives_found : ℕ → List GenRow → List Live
+lives_found number rows = map live_of (option_to_list (row_in number rows))
+
+-- the number stands behind those at the address, and at every other address those of before
+abbrev pub Enters : AddressesKept → AddressesKept → Host → ℕ → Type 0
+Enters old new address number =
+    (other : Host) → numbers_at new other ≡ numbers_at old other ++ (if host_same address other then number ∷ [] else [])
+
+-- the number is gone at the address, and at every other address those of before stand
+abbrev pub Leaves : AddressesKept → AddressesKept → Host → ℕ → Type 0
+Leaves old new address number = (other : Host) → numbers_at new other
+    ≡ (if host_same address other then without_number number (numbers_at old other) else numbers_at old other)
+
+-- the live ones of these rows stand behind those at their addresses
+abbrev pub EntersRows : AddressesKept → AddressesKept → List GenRow → Type 0
+EntersRows old new rows = (address : Host) → numbers_at new address ≡ numbers_at old address ++ numbers_where (holds address) rows
+
+-- the row of this number is gone at its address
+abbrev pub LeavesRow : AddressesKept → AddressesKept → ℕ → List GenRow → Type 0
+LeavesRow old new number rows = (address : Host) → numbers_at new address
+    ≡ (if is_found_at address (row_in number rows) then without_number number (numbers_at old address) else numbers_at old address)
+
+-- the rows of these numbers are gone at their addresses
+abbrev pub LeavesRows : AddressesKept → AddressesKept → List ℕ → List GenRow → Type 0
+LeavesRows old new numbers rows = (address : Host) → numbers_at new address ≡ filter (is_left_at address numbers rows) (numbers_at old address)
+
+-- the live ones of the rows after this number have come in at their addresses, and then those of these numbers have gone
+abbrev pub FollowsRows : AddressesKept → AddressesKept → ℕ → List ℕ → List GenRow → Type 0
+FollowsRows old new made retired rows = (address : Host) → numbers_at new address
+    ≡ filter (is_left_at address retired rows) (numbers_at old address ++ numbers_where (holds address) (filter (is_after made) rows))

@@ -1,14 +1,13 @@
-ghost use Rattle.std.specs.Prelude.{◌≡◌, ◌++◌, [], ◌∷◌, None, Some, filter, option_to_list, IfOk, OnOk, OnErr, if◌then◌else◌};
+ghost use Rattle.std.specs.Prelude.{◌≡◌, if◌then◌else◌, ◌++◌, [], ◌∷◌, None, Some, filter, option_to_list, IfOk, OnOk, OnErr};
 ghost use Rattle.std.specs.Map.{lookup};
 ghost use Rattle.std.specs.Option.{option_copied};
 ghost use Rattle.indexmap.specs.IndexMap.{get};
 ghost use Rattle.ev_types.specs.SameHosts.{host_same};
 ghost use Rattle.ev_types.specs.declared.hosts.Host as declared;
 ghost use Rattle.ev_model.specs.Verdicts.{listening_address};
-ghost use Rattle.ev_generations.specs.Tables.{is_after, row_in};
-ghost use Rattle.ev_indexes.specs.Indexes.{numbers_where};
+ghost use Rattle.ev_generations.specs.Tables.{is_after};
 ghost use Rattle.ev_indexes.specs.Watched.{without_number};
-ghost use Rattle.ev_listeners.specs.Addresses.{numbers_at, filled_or_none, holds, is_found_at, is_left_at};
+ghost use Rattle.ev_listeners.specs.Addresses.{numbers_at, filled_or_none, Enters, EntersRows, FollowsRows, Leaves, LeavesRow, LeavesRows};
 
 use ev_generations::Generations;
 use ev_types::{Content, Gen, GenRow, Host, Seq, TryCopy};
@@ -58,14 +57,14 @@ impl Addresses {
         address: &Host,
         number: Gen,
     ) -> Result<(), AllocError>
-        ensures { OnOk result ((a : declared.Host) → numbers_at self.new a ≡ numbers_at self.old a ++ (if host_same address.now a then number ∷ [] else [])) }
+        ensures { OnOk result (Enters self.old self.new address.now number) }
     {
         enter_number(&mut self.numbers, alloc, address, number)
     }
 
     /// A generation no longer listens at the address. It takes no memory.
     pub(crate) fn leave(&mut self, address: &Host, number: Gen)
-        ensures { (a : declared.Host) → numbers_at self.new a ≡ (if host_same address.now a then without_number number (numbers_at self.old a) else numbers_at self.old a) }
+        ensures { Leaves self.old self.new address.now number }
     {
         leave_numbers(&mut self.numbers, address, number);
     }
@@ -79,8 +78,7 @@ impl Addresses {
         made: u32,
         retired: &[Gen],
     ) -> Result<(), AllocError>
-        ensures { OnOk result ((a : declared.Host) → numbers_at self.new a
-            ≡ filter (is_left_at a retired.now table.now.rows) (numbers_at self.old a ++ numbers_where (holds a) (filter (is_after made) table.now.rows))) }
+        ensures { OnOk result (FollowsRows self.old self.new made retired.now table.now.rows) }
     {
         self.enter_rows(alloc, table, made)?;
         self.leave_rows(table, retired);
@@ -94,7 +92,7 @@ impl Addresses {
         table: &Generations,
         made: u32,
     ) -> Result<(), AllocError>
-        ensures { OnOk result ((a : declared.Host) → numbers_at self.new a ≡ numbers_at self.old a ++ numbers_where (holds a) (filter (is_after made) table.now.rows)) }
+        ensures { OnOk result (EntersRows self.old self.new (filter (is_after made) table.now.rows)) }
     {
         for (_, row) in table.rows_after(made) {
             self.enter_row(alloc, row)?;
@@ -104,7 +102,7 @@ impl Addresses {
 
     // A row comes in at its address, where it is live.
     fn enter_row(&mut self, alloc: Global, row: &GenRow) -> Result<(), AllocError>
-        ensures { OnOk result ((a : declared.Host) → numbers_at self.new a ≡ numbers_at self.old a ++ numbers_where (holds a) (row.now ∷ [])) }
+        ensures { OnOk result (EntersRows self.old self.new (row.now ∷ [])) }
     {
         if !row.status.is_live() {
             return Ok(());
@@ -117,7 +115,7 @@ impl Addresses {
 
     /// The generations of these numbers, which have retired, go out from their addresses. It takes no memory.
     pub(crate) fn leave_rows(&mut self, table: &Generations, numbers: &[Gen])
-        ensures { (a : declared.Host) → numbers_at self.new a ≡ filter (is_left_at a numbers.now table.now.rows) (numbers_at self.old a) }
+        ensures { LeavesRows self.old self.new numbers.now table.now.rows }
     {
         for number in numbers {
             self.leave_row(table, *number);
@@ -131,8 +129,7 @@ impl Addresses {
         warming: Option<Gen>,
         active: Option<Gen>,
     )
-        ensures { (a : declared.Host) → numbers_at self.new a
-            ≡ filter (is_left_at a (option_to_list warming ++ option_to_list active) table.now.rows) (numbers_at self.old a) }
+        ensures { LeavesRows self.old self.new (option_to_list warming ++ option_to_list active) table.now.rows }
     {
         match (warming, active) {
             (Some(warming), Some(active)) => self.leave_rows(table, &[warming, active]),
@@ -144,8 +141,7 @@ impl Addresses {
 
     // The row of this number goes out from its address.
     fn leave_row(&mut self, table: &Generations, number: Gen)
-        ensures { (a : declared.Host) → numbers_at self.new a
-            ≡ (if is_found_at a (row_in number table.now.rows) then without_number number (numbers_at self.old a) else numbers_at self.old a) }
+        ensures { LeavesRow self.old self.new number table.now.rows }
     {
         let Some(row) = table.get(number) else {
             return;
@@ -210,7 +206,8 @@ fn leave_out(numbers: &mut Seq<Gen>, number: Gen)
 
 // Takes out the entry of an address.
 fn take_out(map: &mut Numbers, address: &Host)
-    ensures { (a : declared.Host) → get host_same map.new a ≡ (if host_same address.now a then None else get host_same map.old a) }
+    ensures { (a : declared.Host) → get host_same map.new a
+        ≡ (if host_same address.now a then None else get host_same map.old a) }
 {
     map.swap_remove(address);
 }

@@ -1,8 +1,7 @@
 ghost use Rattle.std.specs.Prelude.{◌≡◌, Some, length, OnOk};
 ghost use Rattle.ev_types.specs.declared.contents.Kind.TheVariants.{Rds};
-ghost use Rattle.ev_model.specs.World.{World};
-ghost use Rattle.ev_model.specs.Rows.{with_removals, add_items};
 ghost use Rattle.ev_warming.specs.Arrivals.{AreOnValues};
+ghost use Rattle.ev_warming.specs.Worlds.{with_response};
 
 use crate::Listeners;
 use ev_generations::Steps;
@@ -11,7 +10,7 @@ use std::alloc::{AllocError, Global};
 use std::sync::ledger::Ledger;
 
 impl Listeners {
-    ghost use Rattle.ev_listeners.specs.Listeners.{AreKept, StandsFor};
+    ghost use Rattle.ev_listeners.specs.Listeners.{AreKept, Follows};
 
     /// A response of routes, with the verdicts on its resources: a watched name that is removed is told of as absent; then, in
     /// order, each resource that is kept arrives, and one that is refused is told of where its name is watched.
@@ -29,7 +28,7 @@ impl Listeners {
         ensures kept { OnOk result (AreKept self.new) }
         ensures table { OnOk result (self.new.state.table ≡ self.old.state.table) }
         // Whatever world they stood for, they stand for that world once the response's removals and resources are in.
-        ensures stands { OnOk result ((world : World) → StandsFor self.old world → StandsFor self.new (add_items Rds verdicts.now response.now.items (with_removals Rds response.now world))) }
+        ensures stands { OnOk result (Follows self.old self.new (with_response Rds verdicts.now response.now)) }
     {
         self.manager.arrive_all(alloc, response, verdicts, steps)
     }

@@ -1,9 +1,7 @@
-ghost use Rattle.std.specs.Prelude.{◌≡◌, ◌++◌, map, filter, option_to_list, IfOk, OnOk};
-ghost use Rattle.ev_model.specs.World.{World};
-ghost use Rattle.ev_model.specs.Live.{live_of, lives_of};
-ghost use Rattle.ev_generations.specs.Tables.{row_in};
+ghost use Rattle.std.specs.Prelude.{◌≡◌, ◌++◌, filter, IfOk, OnOk};
+ghost use Rattle.ev_model.specs.Live.{lives_of};
 ghost use Rattle.ev_mentions.specs.Lives.{is_at};
-ghost use Rattle.ev_listeners.specs.Addresses.{lives_numbered, numbers_at};
+ghost use Rattle.ev_listeners.specs.Addresses.{lives_numbered, lives_found, lives_listed};
 
 use crate::Listeners;
 use crate::addresses::Addresses;
@@ -13,14 +11,15 @@ use ev_types::{Gen, Host};
 use std::alloc::{AllocError, Global};
 
 impl Listeners {
-    ghost use Rattle.ev_listeners.specs.Listeners.{AreKept, StandsFor, holders_in};
+    ghost use Rattle.ev_listeners.specs.Listeners.{AreKept, holders_in, AnswersFor};
 
     /// The live listeners that listen at an address, in the order of their numbers. It costs a look-up of the address, and one of
     /// each of them. It is out of memory where the list has no room.
     pub fn holders(&self, alloc: Global, address: &Host) -> Result<Vec<LiveRow<'_>>, AllocError>
         requires kept { AreKept self.now }
         ensures index { IfOk result (λ rows. rows.items ≡ holders_in self.now address.now) }
-        ensures world { IfOk result (λ rows. (world : World) → StandsFor self.now world → rows.items ≡ filter (is_at address.now) (lives_of world)) }
+        ensures world { IfOk result (λ rows. AnswersFor self.now rows.items
+            (λ world. filter (is_at address.now) (lives_of world))) }
     {
         let lives = lives_at(alloc, &self.addresses, &self.manager.state.table, address)?;
         Ok(lives)
@@ -34,7 +33,7 @@ fn lives_at<'a>(
     table: &'a Generations,
     address: &Host,
 ) -> Result<Vec<LiveRow<'a>>, AllocError>
-    ensures { IfOk result (λ lives. lives.items ≡ lives_numbered table.now.rows (numbers_at addresses.now address.now)) }
+    ensures { IfOk result (λ lives. lives.items ≡ lives_listed table.now.rows addresses.now address.now) }
 {
     let mut lives = Vec::new(alloc);
     if let Some(numbers) = addresses.at(address) {
@@ -63,7 +62,7 @@ fn push_number<'a>(
     number: Gen,
     lives: &mut Vec<LiveRow<'a>>,
 ) -> Result<(), AllocError>
-    ensures { OnOk result (lives.new.items ≡ lives.old.items ++ map live_of (option_to_list (row_in number table.now.rows))) }
+    ensures { OnOk result (lives.new.items ≡ lives.old.items ++ lives_found number table.now.rows) }
 {
     if let Some(row) = table.get(number) {
         lives.push(LiveRow {

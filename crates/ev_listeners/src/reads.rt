@@ -1,20 +1,19 @@
-ghost use Rattle.std.specs.Prelude.{◌≡◌, ◌||◌, not, map, filter, IfOk};
+ghost use Rattle.std.specs.Prelude.{◌≡◌, map, IfOk};
 ghost use Rattle.std.specs.List.{list_any};
 ghost use Rattle.std.specs.Option.{option_copied};
-ghost use Rattle.ev_types.specs.Kinds.{kind_same};
 ghost use Rattle.ev_types.specs.declared.contents.Kind.TheVariants.{Lds, Rds};
-ghost use Rattle.ev_types.specs.declared.rows.Live.{Live};
-ghost use Rattle.ev_model.specs.World.{World};
 ghost use Rattle.ev_model.specs.Live.{live_of, lives_of, newest_of};
 ghost use Rattle.ev_model.specs.Phase.{has_come};
 ghost use Rattle.ev_model.specs.Picture.{served_listeners};
 ghost use Rattle.ev_model.specs.Signals.{is_awaited};
 ghost use Rattle.ev_model.specs.Watching.{is_watched, watched_of};
 ghost use Rattle.ev_generations.specs.Tables.{row_in, numbers_of};
-ghost use Rattle.ev_indexes.specs.Indexes.{depends_on, serves, warms, numbers_where};
+ghost use Rattle.ev_indexes.specs.Indexes.{depends_on};
 ghost use Rattle.ev_indexes.specs.Newest.{newest_in};
-ghost use Rattle.ev_indexes.specs.Reads.{live_rows, names_watched, is_timeout_due, listeners_in};
-ghost use Rattle.ev_indexes.specs.Shown.{listener_shown, listener_shown_in};
+ghost use Rattle.ev_indexes.specs.Reads.{live_rows, names_watched, is_timeout_due};
+ghost use Rattle.ev_indexes.specs.Shown.{listener_shown};
+ghost use Rattle.ev_warming.specs.Changes.{dependents_in, has_come_in};
+ghost use Rattle.ev_warming.specs.Worlds.{lives_of_kind};
 
 use crate::Listeners;
 use ev_mentions::LiveRow;
@@ -23,7 +22,7 @@ use ev_types::{Gen, GenRow, Name, Seq, TryCopy};
 use std::alloc::{AllocError, Global};
 
 impl Listeners {
-    ghost use Rattle.ev_listeners.specs.Listeners.{AreKept, StandsFor};
+    ghost use Rattle.ev_listeners.specs.Listeners.{AreKept, AnswersFor, listener_of, listeners_of};
 
     /// The listener of this number, live or not. It costs one look-up, which nothing counts.
     pub fn get(&self, number: Gen) -> Option<&GenRow>
@@ -36,7 +35,7 @@ impl Listeners {
     pub fn is_watched(&self, name: &str) -> bool
         requires kept { AreKept self.now }
         ensures rows { result ≡ list_any (depends_on name.now) self.now.state.table.rows }
-        ensures world { (world : World) → StandsFor self.now world → result ≡ is_watched (lives_of world) Rds name.now }
+        ensures world { AnswersFor self.now result (λ world. is_watched (lives_of world) Rds name.now) }
     {
         self.manager.state.is_watched(name)
     }
@@ -44,7 +43,7 @@ impl Listeners {
     /// The numbers of the live listeners that depend on a name of routes, in order. It costs a look-up of the name.
     pub fn dependents(&self, name: &str) -> &[Gen]
         requires kept { AreKept self.now }
-        ensures { result.now ≡ numbers_where (depends_on name.now) self.now.state.table.rows }
+        ensures { result.now ≡ dependents_in self.now.state name.now }
     {
         self.manager.state.dependents(name)
     }
@@ -53,7 +52,7 @@ impl Listeners {
     pub fn watched(&self, alloc: Global) -> Result<Seq<Name>, AllocError>
         requires kept { AreKept self.now }
         ensures rows { IfOk result (λ names. names ≡ names_watched self.now.state.table.rows) }
-        ensures world { IfOk result (λ names. (world : World) → StandsFor self.now world → names ≡ watched_of world Rds) }
+        ensures world { IfOk result (λ names. AnswersFor self.now names (λ world. watched_of world Rds)) }
     {
         self.manager.state.watched(alloc)
     }
@@ -63,7 +62,7 @@ impl Listeners {
     pub fn timeout_due(&self, name: &Name) -> bool
         requires kept { AreKept self.now }
         ensures rows { result ≡ is_timeout_due self.now.state.watches self.now.state.table.rows name.now }
-        ensures world { (world : World) → StandsFor self.now world → result ≡ is_awaited world.arrivals world.rows Rds name.now }
+        ensures world { AnswersFor self.now result (λ world. is_awaited world.arrivals world.rows Rds name.now) }
     {
         self.manager.state.timeout_due(name)
     }
@@ -72,7 +71,7 @@ impl Listeners {
     pub fn newest(&self, name: &str) -> Option<LiveRow<'_>>
         requires kept { AreKept self.now }
         ensures rows { result ≡ newest_in self.now.state.table.rows name.now }
-        ensures world { (world : World) → StandsFor self.now world → result ≡ newest_of (lives_of world) Lds name.now }
+        ensures world { AnswersFor self.now result (λ world. newest_of (lives_of world) Lds name.now) }
     {
         self.manager.state.newest(name)
     }
@@ -80,8 +79,8 @@ impl Listeners {
     /// Whether nothing is waited for under the name: it serves, or nothing of it is live. It costs a look-up of the name.
     pub fn has_come(&self, name: &str) -> bool
         requires kept { AreKept self.now }
-        ensures rows { result ≡ (list_any (serves name.now) self.now.state.table.rows || not (list_any (warms name.now) self.now.state.table.rows)) }
-        ensures world { (world : World) → StandsFor self.now world → result ≡ has_come world.rows Lds name.now }
+        ensures rows { result ≡ has_come_in self.now.state name.now }
+        ensures world { AnswersFor self.now result (λ world. has_come world.rows Lds name.now) }
     {
         self.manager.state.has_come(name)
     }
@@ -90,7 +89,7 @@ impl Listeners {
     pub fn live<'a>(&'a self, alloc: Global) -> Result<Vec<LiveRow<'a>>, AllocError>
         requires kept { AreKept self.now }
         ensures rows { IfOk result (λ lives. lives.items ≡ map live_of (live_rows self.now.state.table.rows)) }
-        ensures world { IfOk result (λ lives. (world : World) → StandsFor self.now world → lives.items ≡ filter (λ (live : Live). kind_same live.kind Lds) (lives_of world)) }
+        ensures world { IfOk result (λ lives. AnswersFor self.now lives.items (lives_of_kind Lds)) }
     {
         self.manager.state.live(alloc)
     }
@@ -106,8 +105,9 @@ impl Listeners {
     /// names; where no routes came there are none. It goes over all listeners.
     pub fn shown(&self, alloc: Global) -> Result<Seq<ServedListener>, AllocError>
         requires kept { AreKept self.now }
-        ensures rows { IfOk result (λ served. served ≡ listeners_in self.now.state.watches self.now.state.table.rows) }
-        ensures world { IfOk result (λ served. (world : World) → StandsFor self.now world → served ≡ served_listeners world.arrivals world.rows) }
+        ensures rows { IfOk result (λ served. served ≡ listeners_of self.now.state) }
+        ensures world { IfOk result (λ served. AnswersFor self.now served
+            (λ world. served_listeners world.arrivals world.rows)) }
     {
         self.manager.state.listeners(alloc)
     }
@@ -116,8 +116,9 @@ impl Listeners {
     /// costs a look-up of the number, and one of the name that the listener depends on.
     pub fn served(&self, alloc: Global, number: Gen) -> Result<Option<ServedListener>, AllocError>
         requires kept { AreKept self.now }
-        ensures rows { IfOk result (λ served. served ≡ listener_shown_in self.now.state.watches (row_in number self.now.state.table.rows)) }
-        ensures world { IfOk result (λ served. (world : World) → StandsFor self.now world → served ≡ listener_shown world.arrivals (row_in number world.rows)) }
+        ensures rows { IfOk result (λ served. served ≡ listener_of self.now.state number) }
+        ensures world { IfOk result (λ served. AnswersFor self.now served
+            (λ world. listener_shown world.arrivals (row_in number world.rows))) }
     {
         self.manager.state.listener(alloc, number)
     }

@@ -1,5 +1,6 @@
 -- Which generations of both managers retired, and which changed.
 use Rattle.std.proofs.Common.{◌≡◌, ◌∙◌, ℕ, Bool, true, false, not, ◌&&◌, ◌||◌, nat_eq, List, [], ◌++◌, Option, option_to_list, refl, sym, ap}
+use Rattle.std.proofs.Math.Bool.{or_assoc}
 use Rattle.std.proofs.lemmas.List.Folds.{list_any-append}
 use Rattle.ev_types.specs.declared.contents.Kind.{Kind}
 use Rattle.ev_types.specs.declared.rows.GenRow.{GenRow}
@@ -47,10 +48,6 @@ pub put-are : (before after : List GenRow) (numbers put drained : List ℕ) → 
 put-are before after numbers put drained are told number =
     ap (λ ns. is_among ns number) are ∙ list_any-append (nat_eq number) numbers drained ∙ (λ i. is_among numbers number || told number i)
 
-either_first : (a b c : Bool) → ((a || b) || c) ≡ (a || (b || c))
-either_first true b c = refl
-either_first false b c = refl
-
 -- numbers with those that came to serve and those that began to drain
 pub put-moved : (before after : List GenRow) (numbers put served drained : List ℕ) → put ≡ (numbers ++ served) ++ drained
     → ((number : ℕ) → is_among served number ≡ began_to_serve number before after)
@@ -61,7 +58,7 @@ put-moved before after numbers put served drained are serve drain number =
     ∙ list_any-append (nat_eq number) (numbers ++ served) drained
     ∙ (λ i. list_any-append (nat_eq number) numbers served i || drain number i)
     ∙ (λ i. (is_among numbers number || serve number i) || began_to_drain number before after)
-    ∙ either_first (is_among numbers number) (began_to_serve number before after) (began_to_drain number before after)
+    ∙ or_assoc (is_among numbers number) (began_to_serve number before after) (began_to_drain number before after)
 
 -- of one manager, then of the other
 pub put-both : (numbers first both : List ℕ) (one other : ℕ → Bool)
@@ -69,4 +66,4 @@ pub put-both : (numbers first both : List ℕ) (one other : ℕ → Bool)
     → ((number : ℕ) → is_among both number ≡ (is_among first number || other number))
     → (number : ℕ) → is_among both number ≡ (is_among numbers number || (one number || other number))
 put-both numbers first both one other here there number =
-    there number ∙ (λ i. here number i || other number) ∙ either_first (is_among numbers number) (one number) (other number)
+    there number ∙ (λ i. here number i || other number) ∙ or_assoc (is_among numbers number) (one number) (other number)

@@ -1,8 +1,9 @@
-ghost use Rattle.std.specs.Prelude.{true, Some, ◌≡◌, ℕ, List, IfOk, OnOk};
-ghost use Rattle.ev_model.specs.World.{World, opening};
-ghost use Rattle.ev_model.specs.Tidy.{promoted, without_unwatched, without_old_results};
-ghost use Rattle.ev_generations.specs.Tables.{row_in, without_row};
+ghost use Rattle.std.specs.Prelude.{true, Some, ◌≡◌, ℕ, List, OnOk};
+ghost use Rattle.ev_model.specs.World.{opening};
+ghost use Rattle.ev_model.specs.Tidy.{promoted};
+ghost use Rattle.ev_generations.specs.Tables.{row_in};
 ghost use Rattle.ev_warming.specs.Changes.{is_over};
+ghost use Rattle.ev_warming.specs.Worlds.{without_generation, without_unneeded};
 
 use crate::retired::{Retired, put_all, put_moved};
 use ev_clusters::Clusters;
@@ -21,7 +22,7 @@ pub struct Managers {
 }
 
 impl Managers {
-    ghost use Rattle.ev_managers.specs.Managers.{AreForgotten, AreKept, StandFor};
+    ghost use Rattle.ev_managers.specs.Managers.{AreForgotten, AreKept, StandFor, Follow};
     ghost use Rattle.ev_managers.specs.Retired.{AreDrained, AreChanged};
 
     /// No generation, and nothing known. It takes no memory.
@@ -49,7 +50,7 @@ impl Managers {
         ensures kept { OnOk result (AreKept self.new) }
         ensures drained { OnOk result (AreDrained retired.old retired.new self.old self.new) }
         ensures changed { OnOk result (AreChanged changed.old changed.new self.old self.new) }
-        ensures stands { OnOk result ((world : World) → StandFor self.old world → StandFor self.new (promoted world)) }
+        ensures stands { OnOk result (Follow self.old self.new promoted) }
     {
         let clusters = self.clusters.promote(alloc, steps)?;
         put_all(&mut retired.clusters, clusters.drained.as_slice())?;
@@ -69,7 +70,7 @@ impl Managers {
         requires kept { AreKept self.old }
         ensures kept { OnOk result (AreKept self.new) }
         ensures done { OnOk result (AreForgotten self.new) }
-        ensures stands { OnOk result ((world : World) → StandFor self.old world → StandFor self.new (without_old_results (without_unwatched world))) }
+        ensures stands { OnOk result (Follow self.old self.new without_unneeded) }
     {
         self.clusters.forget(alloc, steps)?;
         self.listeners.forget(alloc, steps)
@@ -83,7 +84,7 @@ impl Managers {
         ensures row { row_in number self.old.clusters.state.table.rows ≡ Some result }
         ensures kept { AreKept self.new }
         ensures forgotten { AreForgotten self.new }
-        ensures stands { (world : World) → StandFor self.old world → StandFor self.new (record world { rows = without_row number world.rows }) }
+        ensures stands { Follow self.old self.new (without_generation number) }
     {
         self.clusters.remove(number)
     }
@@ -96,7 +97,7 @@ impl Managers {
         ensures row { row_in number self.old.listeners.state.table.rows ≡ Some result }
         ensures kept { AreKept self.new }
         ensures forgotten { AreForgotten self.new }
-        ensures stands { (world : World) → StandFor self.old world → StandFor self.new (record world { rows = without_row number world.rows }) }
+        ensures stands { Follow self.old self.new (without_generation number) }
     {
         self.listeners.remove(number)
     }

@@ -1,8 +1,7 @@
 ghost use Rattle.std.specs.Prelude.{◌≡◌, ◌+◌, ◌^◌, ◌<◌, Some, length, IfOk, OnOk};
 ghost use Rattle.ev_types.specs.declared.contents.Kind.TheVariants.{Cds, Eds, Lds, Rds};
-ghost use Rattle.ev_model.specs.World.{World};
-ghost use Rattle.ev_model.specs.Rows.{with_removals, add_items};
 ghost use Rattle.ev_warming.specs.Arrivals.{AreOnValues};
+ghost use Rattle.ev_warming.specs.Worlds.{with_response};
 
 use crate::{Managers, Retired};
 use ev_generations::Steps;
@@ -11,7 +10,7 @@ use std::alloc::{AllocError, Global};
 use std::sync::ledger::Ledger;
 
 impl Managers {
-    ghost use Rattle.ev_managers.specs.Managers.{AreKept, MayBeGiven, StandFor};
+    ghost use Rattle.ev_managers.specs.Managers.{AreKept, MayBeGiven, Follow};
     ghost use Rattle.ev_managers.specs.Retired.{AreRetired};
 
     /// A response of this kind, with the verdicts on its resources: removals first, then its resources in order. Answers
@@ -33,7 +32,7 @@ impl Managers {
         ensures kept { OnOk result (AreKept self.new) }
         ensures retired { IfOk result (λ retired. AreRetired retired self.old self.new) }
         // Whatever world they stood for, they stand for that world once the response's removals and resources are in.
-        ensures stands { OnOk result ((world : World) → StandFor self.old world → StandFor self.new (add_items kind verdicts.now response.now.items (with_removals kind response.now world))) }
+        ensures stands { OnOk result (Follow self.old self.new (with_response kind verdicts.now response.now)) }
     {
         match kind {
             Kind::Cds => self.respond_clusters(alloc, response, verdicts, steps),
@@ -57,7 +56,7 @@ impl Managers {
         requires room { self.old.clusters.state.table.made + length response.now.items < 2 ^ 32 }
         ensures kept { OnOk result (AreKept self.new) }
         ensures retired { IfOk result (λ retired. AreRetired retired self.old self.new) }
-        ensures stands { OnOk result ((world : World) → StandFor self.old world → StandFor self.new (add_items Cds verdicts.now response.now.items (with_removals Cds response.now world))) }
+        ensures stands { OnOk result (Follow self.old self.new (with_response Cds verdicts.now response.now)) }
     {
         let applied = self.clusters.apply(alloc, response, verdicts, steps)?;
         let retired = Retired {
@@ -85,7 +84,7 @@ impl Managers {
         requires room { self.old.listeners.state.table.made + length response.now.items < 2 ^ 32 }
         ensures kept { OnOk result (AreKept self.new) }
         ensures retired { IfOk result (λ retired. AreRetired retired self.old self.new) }
-        ensures stands { OnOk result ((world : World) → StandFor self.old world → StandFor self.new (add_items Lds verdicts.now response.now.items (with_removals Lds response.now world))) }
+        ensures stands { OnOk result (Follow self.old self.new (with_response Lds verdicts.now response.now)) }
     {
         let applied = self.listeners.apply(alloc, response, verdicts, steps)?;
         let retired = Retired {
@@ -113,7 +112,7 @@ impl Managers {
         requires given { AreOnValues self.old.clusters.state.table.rows verdicts.now response.now.items }
         ensures kept { OnOk result (AreKept self.new) }
         ensures retired { IfOk result (λ retired. AreRetired retired self.old self.new) }
-        ensures stands { OnOk result ((world : World) → StandFor self.old world → StandFor self.new (add_items Eds verdicts.now response.now.items (with_removals Eds response.now world))) }
+        ensures stands { OnOk result (Follow self.old self.new (with_response Eds verdicts.now response.now)) }
     {
         self.clusters.arrivals(alloc, response, verdicts, steps)?;
         Ok(Retired::none(alloc))
@@ -133,7 +132,7 @@ impl Managers {
         requires given { AreOnValues self.old.listeners.state.table.rows verdicts.now response.now.items }
         ensures kept { OnOk result (AreKept self.new) }
         ensures retired { IfOk result (λ retired. AreRetired retired self.old self.new) }
-        ensures stands { OnOk result ((world : World) → StandFor self.old world → StandFor self.new (add_items Rds verdicts.now response.now.items (with_removals Rds response.now world))) }
+        ensures stands { OnOk result (Follow self.old self.new (with_response Rds verdicts.now response.now)) }
     {
         self.listeners.arrivals(alloc, response, verdicts, steps)?;
         Ok(Retired::none(alloc))

@@ -1,11 +1,10 @@
-ghost use Rattle.std.specs.Prelude.{◌≡◌, ◌++◌, [], ◌∷◌, true, IfOk, OnOk};
+ghost use Rattle.std.specs.Prelude.{◌≡◌, true, IfOk, OnOk};
 ghost use Rattle.std.specs.List.{list_any};
 ghost use Rattle.ev_types.specs.declared.contents.Kind.TheVariants.{Cds, Eds, Lds, Rds};
-ghost use Rattle.ev_model.specs.World.{World};
-ghost use Rattle.ev_model.specs.Rows.{arrived};
-ghost use Rattle.ev_model.specs.Signals.{is_meant, rows_ended, rows_meant, with_end, with_results};
-ghost use Rattle.ev_model.specs.Watching.{is_by_name};
+ghost use Rattle.ev_model.specs.Signals.{with_end};
 ghost use Rattle.ev_indexes.specs.Indexes.{depends_on};
+ghost use Rattle.ev_warming.specs.Arrivals.{with_arrived};
+ghost use Rattle.ev_warming.specs.Worlds.{means_something, with_result, with_rows_ended};
 
 use crate::retired::stood;
 use crate::{Managers, Retired};
@@ -15,7 +14,7 @@ use std::alloc::{AllocError, Global};
 use std::sync::ledger::Ledger;
 
 impl Managers {
-    ghost use Rattle.ev_managers.specs.Managers.{AreForgotten, AreKept, StandFor, is_watched_in};
+    ghost use Rattle.ev_managers.specs.Managers.{AreForgotten, AreKept, is_watched_in, AnswerFor, Follow, FollowEnd};
     ghost use Rattle.ev_managers.specs.Retired.{AreRetired};
 
     /// Whether a live generation depends on this name of endpoints or of routes.
@@ -43,7 +42,7 @@ impl Managers {
         ensures kept { OnOk result (AreKept self.new) }
         ensures clusters { OnOk result (self.new.clusters.state.table.rows ≡ self.old.clusters.state.table.rows) }
         ensures listeners { OnOk result (self.new.listeners.state.table.rows ≡ self.old.listeners.state.table.rows) }
-        ensures stands { OnOk result ((world : World) → StandFor self.old world → StandFor self.new (record world { arrivals = world.arrivals ++ arrived Eds arrival.now name.now ∷ [] })) }
+        ensures stands { OnOk result (Follow self.old self.new (with_arrived Eds arrival.now name.now)) }
     {
         self.clusters.arrival(alloc, name, arrival, steps)?;
         Ok(())
@@ -62,7 +61,7 @@ impl Managers {
         ensures kept { OnOk result (AreKept self.new) }
         ensures clusters { OnOk result (self.new.clusters.state.table.rows ≡ self.old.clusters.state.table.rows) }
         ensures listeners { OnOk result (self.new.listeners.state.table.rows ≡ self.old.listeners.state.table.rows) }
-        ensures stands { OnOk result ((world : World) → StandFor self.old world → StandFor self.new (record world { arrivals = world.arrivals ++ arrived Rds arrival.now name.now ∷ [] })) }
+        ensures stands { OnOk result (Follow self.old self.new (with_arrived Rds arrival.now name.now)) }
     {
         self.listeners.arrival(alloc, name, arrival, steps)?;
         Ok(())
@@ -78,7 +77,7 @@ impl Managers {
         requires kept { AreKept self.old }
         ensures kept { OnOk result (AreKept self.new) }
         ensures retired { IfOk result (λ retired. AreRetired retired self.old self.new) }
-        ensures stands { OnOk result ((world : World) → StandFor self.old world → StandFor self.new (record world { rows = rows_ended Cds name.now world.rows })) }
+        ensures stands { OnOk result (Follow self.old self.new (with_rows_ended Cds name.now)) }
     {
         let ended = self.clusters.expire(name, steps)?;
         let clusters = stood(alloc, ended)?;
@@ -98,7 +97,7 @@ impl Managers {
         requires kept { AreKept self.old }
         ensures kept { OnOk result (AreKept self.new) }
         ensures retired { IfOk result (λ retired. AreRetired retired self.old self.new) }
-        ensures stands { OnOk result ((world : World) → StandFor self.old world → StandFor self.new (record world { rows = rows_ended Lds name.now world.rows })) }
+        ensures stands { OnOk result (Follow self.old self.new (with_rows_ended Lds name.now)) }
     {
         let ended = self.listeners.expire(name, steps)?;
         let listeners = stood(alloc, ended)?;
@@ -120,7 +119,7 @@ impl Managers {
         ensures kept { OnOk result (AreKept self.new) }
         ensures clusters { OnOk result (self.new.clusters.state.table.rows ≡ self.old.clusters.state.table.rows) }
         ensures listeners { OnOk result (self.new.listeners.state.table.rows ≡ self.old.listeners.state.table.rows) }
-        ensures stands { OnOk result ((world : World) → StandFor self.old world → StandFor self.new (with_end Eds name.now world)) }
+        ensures stands { OnOk result (Follow self.old self.new (with_end Eds name.now)) }
     {
         let none = Assignment::new(Seq::new(alloc));
         let value = Arrival::Value(Content::Assignment(Shared::new(alloc, none)?));
@@ -140,7 +139,7 @@ impl Managers {
         ensures kept { OnOk result (AreKept self.new) }
         ensures clusters { OnOk result (self.new.clusters.state.table.rows ≡ self.old.clusters.state.table.rows) }
         ensures listeners { OnOk result (self.new.listeners.state.table.rows ≡ self.old.listeners.state.table.rows) }
-        ensures stands { OnOk result ((world : World) → StandFor self.old world → StandFor self.new (with_end Rds name.now world)) }
+        ensures stands { OnOk result (Follow self.old self.new (with_end Rds name.now)) }
     {
         let none = RouteTable {
             hosts: Seq::new(alloc),
@@ -164,7 +163,7 @@ impl Managers {
         ensures retired { IfOk result (λ retired. AreRetired retired self.old self.new) }
         // Whatever world they stood for, they stand for that world where the name has come to its end: one of endpoints or of routes
         // is to be watched.
-        ensures stands { OnOk result ((world : World) → StandFor self.old world → (is_by_name kind ≡ true → is_watched_in self.old kind name.now ≡ true) → StandFor self.new (with_end kind name.now world)) }
+        ensures stands { OnOk result (FollowEnd self.old self.new kind name.now) }
     {
         match kind {
             Kind::Cds => self.end_cluster(alloc, name, steps),
@@ -199,8 +198,8 @@ impl Managers {
         ensures kept { OnOk result (AreKept self.new) }
         // Nothing becomes such that nobody needs it.
         ensures forgotten { OnOk result (AreForgotten self.old → AreForgotten self.new) }
-        ensures stands { OnOk result ((world : World) → StandFor self.old world → StandFor self.new (with_results host.now healthy (rows_meant world.arrivals cluster.now host.now world.rows) world)) }
-        ensures ignored { IfOk result (λ meant. (world : World) → StandFor self.old world → meant ≡ list_any (is_meant world.arrivals cluster.now host.now) world.rows) }
+        ensures stands { OnOk result (Follow self.old self.new (with_result cluster.now host.now healthy)) }
+        ensures ignored { IfOk result (λ meant. AnswerFor self.old meant (means_something cluster.now host.now)) }
     {
         let meant = self.clusters.health(alloc, cluster, host, healthy, steps)?;
         Ok(meant)

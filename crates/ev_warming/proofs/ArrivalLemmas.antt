@@ -1,6 +1,6 @@
 -- A state that stands for a world stands for it once something came for a name, and once a name has come to its end.
 use Rattle.std.proofs.Common.{◌≡◌, ◌∙◌, ℕ, Bool, true, false, cond, ◌&&◌, ◌||◌, List, [], ◌∷◌, ◌++◌, Option, None, Some, IsSome, is_some, unwrap_or, map, filter, refl, sym, ap, subst, true≢false}
-use Rattle.std.proofs.Math.Bool.{or-false}
+use Rattle.std.proofs.Math.Bool.{or-false, or-true}
 use Rattle.std.specs.List.{list_any, filter_map, last_or, AllByRecursion}
 use Rattle.std.specs.Str.{bytes_eq}
 use Rattle.std.proofs.lemmas.List.Folds.{list_any-append}
@@ -57,21 +57,17 @@ pub last_or-append : {A : Type 0} (o : Option A) (xs ys : List A) → last_or o 
 last_or-append o [] ys = refl
 last_or-append o (x ∷ xs) ys = last_or-append (Some x) xs ys
 
-late : (b : Bool) → (b || true) ≡ true
-late true = refl
-late false = refl
-
 told-with_arrival : (arrival : Arrival) (watch : Watch) → (with_arrival arrival watch).told ≡ (watch.told || (is_word arrival || false))
-told-with_arrival (Value content) watch = sym (late watch.told)
-told-with_arrival Absent watch = sym (late watch.told)
-told-with_arrival Bad watch = sym (late watch.told)
+told-with_arrival (Value content) watch = sym (or-true watch.told)
+told-with_arrival Absent watch = sym (or-true watch.told)
+told-with_arrival Bad watch = sym (or-true watch.told)
 told-with_arrival TimedOut watch = sym (or-false watch.told)
 
 timed-with_arrival : (arrival : Arrival) (watch : Watch) → (with_arrival arrival watch).timed ≡ (watch.timed || (is_timeout arrival || false))
 timed-with_arrival (Value content) watch = sym (or-false watch.timed)
 timed-with_arrival Absent watch = sym (or-false watch.timed)
 timed-with_arrival Bad watch = sym (or-false watch.timed)
-timed-with_arrival TimedOut watch = sym (late watch.timed)
+timed-with_arrival TimedOut watch = sym (or-true watch.timed)
 
 value-with_arrival : (arrival : Arrival) (watch : Watch) → (with_arrival arrival watch).value ≡ last_or watch.value (filter_map content_in (arrival ∷ []))
 value-with_arrival (Value content) watch = refl

@@ -58,7 +58,7 @@ warm-is Active h = absurd (true≢false (sym h))
 warm-is Draining h = absurd (true≢false (sym h))
 warm-is Dropped h = absurd (true≢false (sym h))
 
-cold-active : (status : RowStatus) → is_active status ≡ true → is_warming status ≡ false
+pub cold-active : (status : RowStatus) → is_active status ≡ true → is_warming status ≡ false
 cold-active Active h = refl
 cold-active Warming h = absurd (true≢false (sym h))
 cold-active Draining h = absurd (true≢false (sym h))

@@ -1,7 +1,8 @@
 -- What forgetting does to a state: no live row looks at what goes, so the indexes stay searches of the rows.
-use Rattle.std.proofs.Common.{◌≡◌, ◌∙◌, ◌<◌, ℕ, Bool, true, false, cond, not, ◌&&◌, ◌||◌, nat_eq, List, [], ◌∷◌, Option, None, Some, is_some, filter, refl, sym, ap, subst, true≢false, ◌+◌, take, get_or, length, arith}
+use Rattle.std.proofs.Common.{◌≡◌, ◌∙◌, ◌<◌, ℕ, Bool, true, false, cond, not, ◌&&◌, ◌||◌, nat_eq, List, [], ◌∷◌, Option, None, Some, is_some, filter, refl, sym, ap, subst, true≢false, ◌+◌, take, get_or, length}
 use Rattle.std.specs.List.{list_any, AllByRecursion}
-use Rattle.std.proofs.lemmas.Bool.{eqb-true, ne_eqb}
+use Rattle.std.proofs.lemmas.Bool.{eqb-true, ne_eqb, not-true, or_right}
+use Rattle.std.proofs.lemmas.List.{nil_from_length}
 use Rattle.std.proofs.lemmas.List.Folds.{list_any_more}
 use Rattle.ev_types.specs.Hosts.{HostRowParts}
 use Rattle.ev_types.specs.Same.{bytes_decide}
@@ -44,14 +45,6 @@ any-less f g less (row ∷ rows) none = by (f row) refl none (g row) refl (any-l
     by false e h true d rest = absurd (true≢false (sym (less row d) ∙ e))
     by false e h false d rest = rest h
 
-pub not_true : (b : Bool) → not b ≡ true → b ≡ false
-not_true true h = absurd (true≢false (sym h))
-not_true false h = refl
-
-late : (a b : Bool) → b ≡ true → (a || b) ≡ true
-late true b h = refl
-late false b h = h
-
 early : (a b : Bool) → (a && b) ≡ true → a ≡ true
 early true b h = refl
 early false b h = absurd (true≢false (sym h))
@@ -67,7 +60,7 @@ hosts-own (h ∷ hosts) = (ap (λ b. b || has_host h.host hosts) ((host_decides 
   where
     more : (hs : List HostRowParts) → AllByRecursion (λ (x : HostRowParts). has_host x.host hosts ≡ true) hs → AllByRecursion (λ (x : HostRowParts). has_host x.host (h ∷ hosts) ≡ true) hs
     more [] all = tt
-    more (x ∷ hs) all = (late (host_same h.host x.host) (has_host x.host hosts) all.0, more hs all.1)
+    more (x ∷ hs) all = (or_right (host_same h.host x.host) (has_host x.host hosts) all.0, more hs all.1)
 
 results-same : (old new : ResultsKept) (n : ℕ) (hosts : List HostRowParts) → AllByRecursion (λ (h : HostRowParts). result_in new n h.host ≡ result_in old n h.host) hosts
     → are_results_in new n hosts ≡ are_results_in old n hosts
@@ -201,7 +194,7 @@ module _ (s : State) (stale : List ℕ) (tidy : IsTidyBut s stale) (watches : Wa
           let was : loses_result s.watches h (row_in n s.table.rows) ≡ true =
           sym (loses-same s.table.rows s.watches watches (is_need_of s.table.rows stale) forgot n h) ∙ (λ i. loses_result watches h (at i)) ∙ ap not lost in
           trimmed n h ∙ (λ i. cond (e i && was i) None (result_in s.results n h))
-          ∙ by b e (not_true (keeps_result s.watches h row) ((λ i. loses_result s.watches h (sym at i)) ∙ was))
+          ∙ by b e (not-true (keeps_result s.watches h row) ((λ i. loses_result s.watches h (sym at i)) ∙ was))
         where
           by : (b : Bool) → is_among stale n ≡ b → keeps_result s.watches h row ≡ false → cond (b && true) None (result_in s.results n h) ≡ None
           by true e lost = refl
@@ -241,15 +234,11 @@ result-more rows watches now old mid new stale i number within is forgot before 
         ∙ (λ j. is_among (take i stale) n || flipped n number j)
 
 -- a name is idle where no number is in its index
-length-none : (ns : List ℕ) → length ns ≡ 0 → ns ≡ []
-length-none [] e = refl
-length-none (n ∷ ns) e = absurd (omega arith)
-
 pub idle-index : (s : State) → IsIndexed s → (q : List ℕ) → nat_eq (length (watch_in s.watches q).rows) 0 ≡ is_idle s.table.rows q
 idle-index s x q = (λ i. nat_eq (length (x.watchers q i)) 0) ∙ by (list_any (depends_on q) s.table.rows) refl
   where
     by : (b : Bool) → list_any (depends_on q) s.table.rows ≡ b → nat_eq (length (numbers_where (depends_on q) s.table.rows)) 0 ≡ not b
-    by true e = ne_eqb (length (numbers_where (depends_on q) s.table.rows)) 0 (λ none. where-some (depends_on q) s.table.rows e (length-none (numbers_where (depends_on q) s.table.rows) none))
+    by true e = ne_eqb (length (numbers_where (depends_on q) s.table.rows)) 0 (λ none. where-some (depends_on q) s.table.rows e (nil_from_length (numbers_where (depends_on q) s.table.rows) none))
     by false e = λ i. nat_eq (length (where-none (depends_on q) s.table.rows e i)) 0
 
 -- the results that one row loses

@@ -3,6 +3,7 @@ use Rattle.std.proofs.Common.{◌≡◌, ◌∙◌, ◌<◌, ℕ, Bool, true, fa
 use Rattle.std.specs.Option.{option_and_then}
 use Rattle.std.specs.List.{list_any, last_or, IsDistinct}
 use Rattle.std.specs.Str.{bytes_eq}
+use Rattle.std.proofs.Math.Bool.{or-true}
 use Rattle.std.proofs.lemmas.Bool.{eqb-true, eq-eqb, and_parts}
 use Rattle.std.proofs.lemmas.List.{map-append}
 use Rattle.std.proofs.lemmas.List.Elements.{filter-append}
@@ -160,10 +161,6 @@ none-some : (ns : List ℕ) → ((n : ℕ) → is_among ns n ≡ false) → is_f
 none-some [] none = refl
 none-some (k ∷ ns) none = absurd (true≢false ((λ i. sym (eq-eqb k k refl) i || is_among ns k) ∙ none k))
 
-or_true : (b : Bool) → (b || true) ≡ true
-or_true true = refl
-or_true false = refl
-
 holder : (watches : WatchesKept) (host : Host) (rows : List GenRow) (o : Option ℕ) (m : Bool) → m ≡ takes_at watches host o rows → m ≡ true
     → (n : ℕ) × (is_among (cond m (option_to_list o) []) n ≡ true)
 holder watches host rows None m e h = absurd (true≢false (sym h ∙ e))
@@ -220,7 +217,7 @@ module _ (s : State) (x : IsIndexed s) (name : List ℕ) (host : Host) (served w
       (among-meant there.0 ∙ (λ i. there.1 i || is_among (cond warmed (option_to_list (standing_in s.names name).warming) []) there.0)))
       (λ h. let there = holder s.watches host s.table.rows (standing_in s.names name).warming warmed takes_warmed h in
       among-some (numbers_meant s.watches name host s.table.rows) there.0
-      (among-meant there.0 ∙ (λ i. is_among (cond served (option_to_list (standing_in s.names name).active) []) there.0 || there.1 i) ∙ or_true (is_among (cond served (option_to_list (standing_in s.names name).active) []) there.0)))
+      (among-meant there.0 ∙ (λ i. is_among (cond served (option_to_list (standing_in s.names name).active) []) there.0 || there.1 i) ∙ or-true (is_among (cond served (option_to_list (standing_in s.names name).active) []) there.0)))
       (λ h k. none-some (numbers_meant s.watches name host s.table.rows) (λ n. among-meant n
       ∙ (λ i. is_among (cond (h i) (option_to_list (standing_in s.names name).active) []) n || is_among (cond (k i) (option_to_list (standing_in s.names name).warming) []) n)))
     where
@@ -327,7 +324,7 @@ module _ (s : State) (world : World) (stands : StandsFor s world) (x : IsIndexed
           ∙ (λ i. (among-row (is_meant world.arrivals name host) n world.rows stands.sound.table.apart ∙ ap (passes (is_meant world.arrivals name host)) (stands.sound.table.drawn n above)) i && host_same host h)
 
       some_by : (n : ℕ) (h : Host) (b : Bool) → is_some (cond b (Some healthy) (result_in s.results n h)) ≡ (is_some (result_in s.results n h) || b)
-      some_by n h true = sym (or_true (is_some (result_in s.results n h)))
+      some_by n h true = sym (or-true (is_some (result_in s.results n h)))
       some_by n h false = or_none (is_some (result_in s.results n h))
         where
           or_none : (b : Bool) → b ≡ (b || false)

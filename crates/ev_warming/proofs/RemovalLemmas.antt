@@ -1,7 +1,7 @@
 -- A row that is over goes, and numbers go on: no index looks at either.
 use Rattle.std.proofs.Common.{◌≡◌, ◌∙◌, ◌<◌, ℕ, Bool, true, false, cond, not, ◌&&◌, ◌||◌, nat_eq, List, [], ◌∷◌, Option, None, Some, IsSome, filter, refl, sym, ap, subst, true≢false}
 use Rattle.std.specs.List.{list_any, AllByRecursion, IsDistinct}
-use Rattle.std.proofs.lemmas.Bool.{eqb-true, eq-eqb}
+use Rattle.std.proofs.lemmas.Bool.{eqb-true, eq-eqb, not-true}
 use Rattle.std.specs.Str.{bytes_eq}
 use Rattle.ev_types.specs.Items.{content_kind}
 use Rattle.ev_types.specs.Kinds.{kind_same}
@@ -22,7 +22,6 @@ use Rattle.ev_warming.specs.Changes.{is_over}
 use Rattle.ev_warming.specs.Forgetting.{is_need_of}
 use Rattle.ev_warming.specs.Managers.{IsKept}
 use Rattle.ev_indexes.proofs.WhereLemmas.{all-found}
-use Rattle.ev_warming.proofs.ForgettingLemmas.{not_true}
 use Rattle.ev_warming.proofs.ForgottenLemmas.{both-same}
 
 -- a filter keeps rows apart, and what holds of each
@@ -96,7 +95,7 @@ kinds-without kind number (row ∷ rows) = by (kind_same row.kind kind) refl (na
 
 over-is : (o : Option GenRow) → is_over o ≡ true → (row : GenRow) × (o ≡ Some row) × (is_live row.status ≡ false)
 over-is None h = absurd (true≢false (sym h))
-over-is (Some row) h = (row, refl, not_true (is_live row.status) h)
+over-is (Some row) h = (row, refl, not-true (is_live row.status) h)
 
 cold : (st : RowStatus) → is_live st ≡ false → (is_warming st ≡ false) × (is_active st ≡ false)
 cold Warming h = absurd (true≢false h)

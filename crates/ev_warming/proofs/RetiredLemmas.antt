@@ -3,7 +3,7 @@ use Rattle.std.proofs.Common.{◌≡◌, ◌∙◌, ◌+◌, length, arith, ⊎_
 use Rattle.std.specs.List.{AllByRecursion, IsDistinct}
 use Rattle.std.specs.Option.{option_or}
 use Rattle.std.specs.Str.{bytes_eq}
-use Rattle.std.proofs.lemmas.Bool.{cases_lt}
+use Rattle.std.proofs.lemmas.Bool.{cases_lt, not-true}
 use Rattle.std.proofs.lemmas.List.Folds.{list_any-append, find-append}
 use Rattle.ev_types.specs.Kinds.{kind_same, kind_decides}
 use Rattle.ev_types.specs.Statuses.{is_warming, is_active, is_live}
@@ -22,7 +22,6 @@ use Rattle.ev_warming.specs.Changes.{is_over, has_retired, Draws, Tells}
 use Rattle.ev_indexes.proofs.WhereLemmas.{among-where}
 use Rattle.ev_warming.proofs.DrainLemmas.{absent-where, fails-where}
 use Rattle.ev_indexes.proofs.RowLemmas.{all-at}
-use Rattle.ev_warming.proofs.ForgettingLemmas.{not_true}
 
 -- nothing changed, and nothing is told
 pub tells-none : (rows : List GenRow) (numbers : List ℕ) → Tells rows rows numbers numbers
@@ -81,7 +80,7 @@ tells-statused f before after numbers more rows some none ended = record {
 
     stays : (o : Option GenRow) → is_over o ≡ true → is_over (option_map (λ (r : GenRow). record r { status = f r }) o) ≡ true
     stays None h = h
-    stays (Some r) h = ap not (ended r (not_true (is_live r.status) h))
+    stays (Some r) h = ap not (ended r (not-true (is_live r.status) h))
 
 -- one row more, which warms
 pub tells-more : (before after : List GenRow) (new : GenRow) (numbers : List ℕ) → after ≡ before ++ new ∷ [] → is_live new.status ≡ true → Tells before after numbers numbers

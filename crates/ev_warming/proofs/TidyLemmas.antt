@@ -3,7 +3,8 @@ use Rattle.std.proofs.Common.{◌≡◌, ◌∙◌, ◌+◌, ℕ, Bool, true, fa
 use Rattle.std.specs.List.{list_any, AllByRecursion, IsDistinct}
 use Rattle.std.specs.Option.{option_or}
 use Rattle.std.specs.Str.{bytes_eq}
-use Rattle.std.proofs.lemmas.Bool.{eqb-true, and_parts, false_from_ne_true}
+use Rattle.std.proofs.Math.Bool.{or-true}
+use Rattle.std.proofs.lemmas.Bool.{eqb-true, and_parts, false_from_ne_true, or_right}
 use Rattle.std.proofs.lemmas.List.Folds.{list_any-append, find-append}
 use Rattle.ev_types.specs.Kinds.{kind_same}
 use Rattle.ev_types.specs.Same.{bytes_decide}
@@ -60,13 +61,9 @@ any-among : (p : ℕ → Bool) (numbers : List ℕ) (n : ℕ) → is_among numbe
 any-among p [] n here passes = absurd (true≢false (sym here))
 any-among p (m ∷ numbers) n here passes = by (nat_eq n m) refl here (λ h. any-among p numbers n h passes)
   where
-    late : (a b : Bool) → b ≡ true → (a || b) ≡ true
-    late true b h = refl
-    late false b h = h
-
     by : (b : Bool) → nat_eq n m ≡ b → (b || is_among numbers n) ≡ true → (is_among numbers n ≡ true → list_any p numbers ≡ true) → (p m || list_any p numbers) ≡ true
     by true e h rest = ap (λ b. b || list_any p numbers) (ap p (sym (eqb-true n m e)) ∙ passes)
-    by false e h rest = late (p m) (list_any p numbers) (rest h)
+    by false e h rest = or_right (p m) (list_any p numbers) (rest h)
 
 none-first : (a b : Bool) → (a || b) ≡ false → a ≡ false
 none-first true b h = absurd (true≢false h)
@@ -204,16 +201,12 @@ ended-told kind name rows standing active warming n row at live over =
     list_any-append (nat_eq n) (option_to_list standing.warming) (option_to_list standing.active)
     ∙ by row.status refl (kind_same row.kind kind) (bytes_eq row.name name) refl live over
   where
-    late : (b : Bool) → (b || true) ≡ true
-    late true = refl
-    late false = refl
-
     by : (st : RowStatus) → row.status ≡ st → (k b : Bool) → bytes_eq row.name name ≡ b → is_live st ≡ true → is_live (cond (k && b) (removed_status st) st) ≡ false
         → (is_among (option_to_list standing.warming) n || is_among (option_to_list standing.active) n) ≡ true
     by Warming e true true f l o = λ i. ((λ j. is_among (warming j) n) ∙ among-where (warms name) n row rows at (λ j. is_warming (e j) && f j)) i || is_among (option_to_list standing.active) n
     by Active e true true f l o =
         (λ i. is_among (option_to_list standing.warming) n || ((λ j. is_among (active j) n) ∙ among-where (serves name) n row rows at (λ j. is_active (e j) && f j)) i)
-        ∙ late (is_among (option_to_list standing.warming) n)
+        ∙ or-true (is_among (option_to_list standing.warming) n)
     by Warming e true false f l o = absurd (true≢false o)
     by Active e true false f l o = absurd (true≢false o)
     by Warming e false b f l o = absurd (true≢false o)

@@ -24,6 +24,7 @@ use Rattle.ev_warming.proofs.ReadyLemmas.{is_ready_in-agrees}
 use Rattle.ev_indexes.proofs.WhereLemmas.{own-rows, row_with, among-where, where-left, where-members, found-where, any-found, all-found, flipped, only, emptied, without-one}
 use Rattle.ev_indexes.proofs.RowLemmas.{all_then, both_all, statuses_agree}
 use Rattle.ev_warming.proofs.PromotionLemmas.{with_statuses-twice, statuses_same, status_once, rows_once, rows_promoted-once, rows_promoted-none}
+use Rattle.ev_warming.proofs.DrainLemmas.{cold-active}
 
 live-active : (status : RowStatus) → is_active status ≡ true → is_live status ≡ true
 live-active Active h = refl
@@ -36,12 +37,6 @@ removed-active Active h = refl
 removed-active Warming h = absurd (true≢false (sym h))
 removed-active Draining h = absurd (true≢false (sym h))
 removed-active Dropped h = absurd (true≢false (sym h))
-
-cold-active : (status : RowStatus) → is_active status ≡ true → is_warming status ≡ false
-cold-active Active h = refl
-cold-active Warming h = absurd (true≢false (sym h))
-cold-active Draining h = absurd (true≢false (sym h))
-cold-active Dropped h = absurd (true≢false (sym h))
 
 -- a row that is found and warms
 pub found_warm : (o : Option GenRow) → is_warming (status_in o) ≡ true → (row : GenRow) × (o ≡ Some row)

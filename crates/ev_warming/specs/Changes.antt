@@ -1,17 +1,25 @@
 -- How generations changed, by their rows before and after.
-use Rattle.std.specs.Prelude.{◌≡◌, ◌+◌, ◌<◌, ◌≤◌, slice_index, ℕ, Bool, true, false, not, ◌&&◌, ◌||◌, nat_le, if◌then◌else◌, List, length, Option, None, Some}
+use Rattle.std.specs.Prelude.{◌≡◌, ◌+◌, ◌<◌, ◌≤◌, slice_index, ℕ, Bool, true, false, not, ◌&&◌, ◌||◌, nat_le, if◌then◌else◌, List, [], ◌∷◌, ◌++◌, length, Option, None, Some, option_to_list, EachIndex}
+use Rattle.std.specs.List.{list_any}
 use Rattle.ev_types.specs.Items.{ResponseParts}
 use Rattle.ev_types.specs.Kinds.{kind_same}
 use Rattle.ev_types.specs.Statuses.{is_active, is_live}
+use Rattle.ev_types.specs.declared.contents.Content.{Content}
 use Rattle.ev_types.specs.declared.contents.Kind.{Kind}
 use Rattle.ev_types.specs.declared.rows.RowStatus.{RowStatus}
 use Rattle.ev_types.specs.declared.rows.GenRow.{GenRow}
-use Rattle.ev_model.specs.Rows.{removed_status}
-use Rattle.ev_model.specs.Signals.{is_draining}
+use Rattle.ev_model.specs.Rows.{removed_status, with_statuses, new_row, rows_with_new}
+use Rattle.ev_model.specs.Signals.{is_draining, rows_ended}
 use Rattle.ev_model.specs.Verdicts.{items_named, is_among}
-use Rattle.ev_generations.specs.Tables.{row_in}
+use Rattle.ev_generations.specs.Tables.{row_in, with_status}
+use Rattle.ev_indexes.specs.declared.state.State.{State}
 use Rattle.ev_indexes.specs.Due.{is_among as among}
-use Rattle.ev_indexes.specs.Indexes.{status_in}
+use Rattle.ev_indexes.specs.Indexes.{status_in, name_in, depends_on, serves, warms, numbers_where}
+use Rattle.ev_indexes.specs.Ready.{is_ready_in, is_due_at}
+use Rattle.ev_indexes.specs.Reads.{names_watched}
+use Rattle.ev_indexes.specs.Watched.{watch_in}
+use Rattle.ev_warming.specs.declared.response.Applied.{Applied}
+use Rattle.ev_warming.specs.Promotion.{rows_promoted, status_drained}
 
 -- the row of this number serves after, and it didn't serve before
 abbrev pub began_to_serve : ℕ → List GenRow → List GenRow → Bool
@@ -50,3 +58,99 @@ pub record Draws (made drawn : ℕ) (numbers more : List ℕ) : Type 0 where
 pub record Tells (before after : List GenRow) (numbers more : List ℕ) : Type 0 where
   pub told : (number : ℕ) → among more number ≡ (among numbers number || has_retired number before after)
   pub stays : (number : ℕ) → is_over (row_in number before) ≡ true → is_over (row_in number after) ≡ true
+
+-- the numbers that a response made grow by those that were drawn in between
+abbrev pub DrawsMade : State → State → Applied → Applied → Type 0
+DrawsMade old new applied more = Draws old.table.made new.table.made applied.made more.made
+
+-- what a response retired grows by what retired in between
+abbrev pub TellsRetired : State → State → Applied → Applied → Type 0
+TellsRetired old new applied more = Tells old.table.rows new.table.rows applied.retired more.retired
+
+-- as many numbers as stand here were drawn in between
+abbrev pub DrawsAll : State → State → List ℕ → Type 0
+DrawsAll old new numbers = new.table.made ≡ old.table.made + length numbers
+
+-- these are the next numbers, one after the other
+abbrev pub AreNext : State → List ℕ → Type 0
+AreNext s numbers = EachIndex numbers (λ k. slice_index numbers k ≡ s.table.made + k + 1)
+
+-- these are the numbers of the rows that retired in between
+abbrev pub HaveRetired : List ℕ → State → State → Type 0
+HaveRetired numbers old new = (number : ℕ) → among numbers number ≡ has_retired number old.table.rows new.table.rows
+
+-- these are the numbers of the rows that are due
+abbrev pub AreDue : List ℕ → State → Type 0
+AreDue numbers s = (number : ℕ) → among numbers number ≡ is_due_at s.watches s.results number s.table.rows
+
+-- these are the numbers of the rows that came to serve in between
+abbrev pub CameToServe : List ℕ → State → State → Type 0
+CameToServe numbers old new = (number : ℕ) → among numbers number ≡ began_to_serve number old.table.rows new.table.rows
+
+-- these are the numbers of the rows that began to drain in between
+abbrev pub BeganToDrain : List ℕ → State → State → Type 0
+BeganToDrain numbers old new = (number : ℕ) → among numbers number ≡ began_to_drain number old.table.rows new.table.rows
+
+-- where none of these drains, the same names are watched as before
+abbrev pub WatchesTheSame : List ℕ → State → State → Type 0
+WatchesTheSame drained old new = drained ≡ [] → names_watched new.table.rows ≡ names_watched old.table.rows
+
+-- the number is that of the row that serves the name, where one does
+abbrev pub ServesName : Option ℕ → List ℕ → State → Type 0
+ServesName number name s = option_to_list number ≡ numbers_where (serves name) s.table.rows
+
+-- the number is that of the row that warms under the name, where one does
+abbrev pub WarmsUnder : Option ℕ → List ℕ → State → Type 0
+WarmsUnder number name s = option_to_list number ≡ numbers_where (warms name) s.table.rows
+
+-- a row serves the name, or none warms under it
+abbrev pub has_come_in : State → List ℕ → Bool
+has_come_in s name = list_any (serves name) s.table.rows || not (list_any (warms name) s.table.rows)
+
+-- the numbers of the live rows that depend on the name
+abbrev pub dependents_in : State → List ℕ → List ℕ
+dependents_in s name = numbers_where (depends_on name) s.table.rows
+
+-- the numbers that are kept with the name: those of the generations that depend on it
+abbrev pub watchers_in : State → List ℕ → List ℕ
+watchers_in s name = (watch_in s.watches name).rows
+
+-- the rows once the name has come to its end
+abbrev pub EndsRows : State → State → List ℕ → Type 0
+EndsRows old new name = new.table.rows ≡ rows_ended old.kind name old.table.rows
+
+-- the rows with a new one, which takes the place of one that warms under its name
+abbrev pub AddsRow : State → State → List ℕ → Content → Type 0
+AddsRow old new name content = new.table.rows ≡ rows_with_new old.kind old.table.made name content old.table.rows
+
+-- the rows and a new one behind them
+abbrev pub AppendsRow : State → State → List ℕ → Content → Type 0
+AppendsRow old new name content = new.table.rows ≡ old.table.rows ++ new_row old.kind old.table.made name content ∷ []
+
+-- these rows once the one of this number drains, or is dropped where it warmed
+abbrev pub rows_retired : ℕ → List GenRow → List GenRow
+rows_retired number rows = with_status number (removed_status (status_in (row_in number rows))) rows
+
+-- these rows once the one drains that serves the name of the row of this number
+abbrev pub rows_giving_way : ℕ → List GenRow → List GenRow
+rows_giving_way number rows = with_statuses (status_drained (name_in (row_in number rows))) rows
+
+-- these rows once all serve that warm and are ready by what the state knows
+abbrev pub promoted_by : State → List GenRow → List GenRow
+promoted_by s rows = rows_promoted (is_ready_in s.watches s.results) rows
+
+-- the kind and the results stay
+abbrev pub KeepsResults : State → State → Type 0
+KeepsResults old new = new ≡ record old { table = new.table; names = new.names; watches = new.watches; due = new.due }
+
+-- the kind, what is known of names and the results stay
+abbrev pub KeepsKnown : State → State → Type 0
+KeepsKnown old new = new ≡ record old { table = new.table; names = new.names; due = new.due }
+
+-- the kind, the rows with their names, and which are due stay
+abbrev pub KeepsRows : State → State → Type 0
+KeepsRows old new = new ≡ record old { watches = new.watches; results = new.results }
+
+-- the kind and the results stay, and none is due any more
+abbrev pub LeavesNoneDue : State → State → Type 0
+LeavesNoneDue old new = new ≡ record old { table = new.table; names = new.names; watches = new.watches; due = [] }

@@ -1,17 +1,17 @@
 -- What nobody needs any more, and what is forgotten of it after each event. Source: cluster manager warming of Envoy's
 -- documentation: values and results belong to what is watched.
-use Rattle.std.specs.Prelude.{◌≡◌, ℕ, Bool, false, not, ◌&&◌, List, Option, Some, None}
+use Rattle.std.specs.Prelude.{◌≡◌, ℕ, Bool, false, not, ◌&&◌, nat_eq, if◌then◌else◌, List, length, Option, Some, None}
 use Rattle.std.specs.List.{list_any}
 use Rattle.ev_types.specs.SameHosts.{has_host}
 use Rattle.ev_types.specs.Statuses.{is_live}
 use Rattle.ev_types.specs.declared.hosts.Host.{Host}
 use Rattle.ev_types.specs.declared.rows.GenRow.{GenRow}
-use Rattle.ev_endpoints.specs.Results.{result_in}
+use Rattle.ev_endpoints.specs.Results.{ResultsKept, result_in}
 use Rattle.ev_generations.specs.Tables.{row_in}
 use Rattle.ev_indexes.specs.declared.watches.Watch.{Watch}
 use Rattle.ev_indexes.specs.declared.state.State.{State}
 use Rattle.ev_indexes.specs.Due.{is_among}
-use Rattle.ev_indexes.specs.Watched.{WatchesKept, watch_in}
+use Rattle.ev_indexes.specs.Watched.{WatchesKept, unwatched, watch_in}
 use Rattle.ev_indexes.specs.Ready.{name_needed, assignment_in}
 use Rattle.ev_indexes.specs.Indexes.{is_needed, depends_on}
 
@@ -48,3 +48,23 @@ pub record IsTidyBut (s : State) (stale : List ℕ) : Type 0 where
   pub marks : (name : List ℕ) → list_any (depends_on name) s.table.rows ≡ false → is_need_of s.table.rows stale name ≡ false → IsUnheard (watch_in s.watches name)
   pub results : (number : ℕ) (row : GenRow) (host : Host) → row_in number s.table.rows ≡ Some row → is_among stale number ≡ false → keeps_result s.watches host row ≡ false
       → result_in s.results number host ≡ None
+
+-- nothing is known any more of a name that was needed, where no generation depends on it, and of every other name what was known
+abbrev pub ForgetsNeed : WatchesKept → WatchesKept → Option (List ℕ) → Type 0
+ForgetsNeed old new need = (name : List ℕ) → watch_in new name
+    ≡ (if is_needed name need && nat_eq (length (watch_in old name).rows) 0 then unwatched else watch_in old name)
+
+-- the same of the name that the row of this number depends on, by a search of the rows
+abbrev pub ForgetsNeedOf : State → State → ℕ → Type 0
+ForgetsNeedOf old new number = (name : List ℕ) → watch_in new.watches name
+    ≡ (if is_needed name (need_in (row_in number old.table.rows)) && is_idle old.table.rows name then unwatched else watch_in old.watches name)
+
+-- the results that a row doesn't keep are gone, and every other result stays
+abbrev pub TrimsRow : WatchesKept → ResultsKept → ResultsKept → GenRow → Type 0
+TrimsRow watches old new row = (number : ℕ) (host : Host) → result_in new number host
+    ≡ (if nat_eq row.number number && not (keeps_result watches host row) then None else result_in old number host)
+
+-- the same of the row of this number, where it is found
+abbrev pub TrimsRowOf : State → State → ℕ → Type 0
+TrimsRowOf old new number = (n : ℕ) (host : Host) → result_in new.results n host
+    ≡ (if nat_eq number n && loses_result old.watches host (row_in n old.table.rows) then None else result_in old.results n host)

@@ -1,6 +1,7 @@
 -- Which generations a health result is for, and what it does to what is kept: the machine's words, where what came is looked up.
 -- Source: cluster manager warming of Envoy's documentation: a checked cluster waits for a first result of each host.
-use Rattle.std.specs.Prelude.{◌≡◌, ℕ, Bool, false, ◌&&◌, if◌then◌else◌, List, Option, None, Some, option_and_then}
+use Rattle.std.specs.Prelude.{◌≡◌, ℕ, Bool, false, ◌&&◌, if◌then◌else◌, List, [], Option, None, Some, option_and_then, option_to_list}
+use Rattle.std.specs.List.{list_any}
 use Rattle.std.specs.Str.{bytes_eq}
 use Rattle.ev_types.specs.SameHosts.{host_same}
 use Rattle.ev_types.specs.Statuses.{is_live}
@@ -8,6 +9,7 @@ use Rattle.ev_types.specs.declared.hosts.Host.{Host}
 use Rattle.ev_types.specs.declared.rows.GenRow.{GenRow}
 use Rattle.ev_endpoints.specs.Results.{ResultsKept, result_in}
 use Rattle.ev_generations.specs.Tables.{row_in}
+use Rattle.ev_indexes.specs.declared.state.State.{State}
 use Rattle.ev_indexes.specs.Due.{is_among}
 use Rattle.ev_indexes.specs.Watched.{WatchesKept}
 use Rattle.ev_indexes.specs.Ready.{takes_result}
@@ -35,3 +37,16 @@ numbers_meant watches name host rows = numbers_where (is_meant_in watches name h
 abbrev pub NotesEach : ResultsKept → ResultsKept → List ℕ → Host → Bool → Type 0
 NotesEach old new numbers host healthy =
     (n : ℕ) (h : Host) → result_in new n h ≡ (if is_among numbers n && host_same host h then Some healthy else result_in old n h)
+
+-- a result of the host is for a row of the state
+abbrev pub is_meant_by : State → List ℕ → Host → Bool
+is_meant_by s name host = list_any (is_meant_in s.watches name host) s.table.rows
+
+-- each row that a result of the host is for has it, and every other result stays
+abbrev pub NotesMeant : State → State → List ℕ → Host → Bool → Type 0
+NotesMeant old new name host healthy = NotesEach old.results new.results (numbers_meant old.watches name host old.table.rows) host healthy
+
+-- where it is meant, the generation of this number has this result of the host, and every other result stays
+abbrev pub NotesWhere : State → State → Bool → Option ℕ → Host → Bool → Type 0
+NotesWhere old new meant number host healthy =
+    NotesEach old.results new.results (if meant then option_to_list number else []) host healthy

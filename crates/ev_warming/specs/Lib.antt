@@ -4,3 +4,4 @@ pub mod Changes
 pub mod Managers
 pub mod Arrivals
 pub mod Health
+pub mod Worlds

@@ -1,16 +1,13 @@
-ghost use Rattle.std.specs.Prelude.{◌≡◌, ◌++◌, ◌&&◌, true, Some, map, length, OnOk};
+ghost use Rattle.std.specs.Prelude.{◌≡◌, true, Some, length, OnOk};
 ghost use Rattle.std.specs.List.{list_any};
-ghost use Rattle.ev_types.specs.declared.contents.Body.TheVariants.{Good};
 ghost use Rattle.ev_types.specs.declared.events.Verdict.TheVariants.{Kept};
-ghost use Rattle.ev_types.specs.declared.rows.Arrival.TheVariants.{Absent};
-ghost use Rattle.ev_model.specs.World.{World};
 ghost use Rattle.ev_model.specs.Verdicts.{is_among as is_listed};
-ghost use Rattle.ev_model.specs.Rows.{arrived, absent_names, with_removals, add_item, add_items};
+ghost use Rattle.ev_model.specs.Rows.{add_item, add_items};
 ghost use Rattle.ev_indexes.specs.Indexes.{depends_on};
-ghost use Rattle.ev_indexes.specs.Worlds.{StandsFor, needs_of};
-ghost use Rattle.ev_warming.specs.Changes.{is_unlisted};
+ghost use Rattle.ev_indexes.specs.Worlds.{needs_of};
 ghost use Rattle.ev_warming.specs.Managers.{IsKept};
-ghost use Rattle.ev_warming.specs.Arrivals.{IsOnValue, AreOnValues, told_where};
+ghost use Rattle.ev_warming.specs.Arrivals.{IsOnValue, AreOnValues};
+ghost use Rattle.ev_warming.specs.Worlds.{Follows, with_name_absent, with_names_absent, with_response, with_told};
 
 use crate::Manager;
 use ev_generations::Steps;
@@ -38,7 +35,8 @@ impl Manager {
         ensures kind { OnOk result (self.new.state.kind ≡ self.old.state.kind) }
         ensures table { OnOk result (self.new.state.table ≡ self.old.state.table) }
         // Whatever world the manager stood for, it stands for that world once the response's removals and resources are in.
-        ensures stands { OnOk result ((world : World) → StandsFor self.old.state world → StandsFor self.new.state (add_items (needs_of self.old.state.kind) verdicts.now response.now.items (with_removals (needs_of self.old.state.kind) response.now world))) }
+        ensures stands { OnOk result (Follows self.old.state self.new.state
+            (with_response (needs_of self.old.state.kind) verdicts.now response.now)) }
     {
         self.tell_absences(alloc, response, steps)?;
         self.take_values(alloc, response.items.as_slice(), verdicts, steps)?;
@@ -56,7 +54,8 @@ impl Manager {
         ensures kept { OnOk result (IsKept self.new) }
         ensures kind { OnOk result (self.new.state.kind ≡ self.old.state.kind) }
         ensures table { OnOk result (self.new.state.table ≡ self.old.state.table) }
-        ensures stands { OnOk result ((world : World) → StandsFor self.old.state world → StandsFor self.new.state (record world { arrivals = world.arrivals ++ map (arrived (needs_of self.old.state.kind) Absent) (absent_names (needs_of self.old.state.kind) response.now world) })) }
+        ensures stands { OnOk result (Follows self.old.state self.new.state
+            (with_names_absent (needs_of self.old.state.kind) response.now)) }
     {
         if response.removed.is_empty() {
             return Ok(());
@@ -81,7 +80,8 @@ impl Manager {
         ensures kept { OnOk result (IsKept self.new) }
         ensures kind { OnOk result (self.new.state.kind ≡ self.old.state.kind) }
         ensures table { OnOk result (self.new.state.table ≡ self.old.state.table) }
-        ensures stands { OnOk result ((world : World) → StandsFor self.old.state world → StandsFor self.new.state (told_where (is_unlisted mentions.now name.now && list_any (depends_on name.now) self.old.state.table.rows) (needs_of self.old.state.kind) Absent name.now world)) }
+        ensures stands { OnOk result (Follows self.old.state self.new.state
+            (with_name_absent self.old.state mentions.now name.now)) }
     {
         if !mentions.is_removed(name.as_str()) {
             return Ok(());
@@ -101,7 +101,8 @@ impl Manager {
         ensures kept { OnOk result (IsKept self.new) }
         ensures kind { OnOk result (self.new.state.kind ≡ self.old.state.kind) }
         ensures table { OnOk result (self.new.state.table ≡ self.old.state.table) }
-        ensures stands { OnOk result ((world : World) → StandsFor self.old.state world → StandsFor self.new.state (told_where (list_any (depends_on name.now) self.old.state.table.rows) (needs_of self.old.state.kind) arrival.now name.now world)) }
+        ensures stands { OnOk result (Follows self.old.state self.new.state
+            (with_told self.old.state arrival.now name.now)) }
     {
         match Name::new(alloc, name.as_str()) {
             Ok(name) => self.tell_name(alloc, &name, arrival, steps),
@@ -122,7 +123,8 @@ impl Manager {
         ensures kept { OnOk result (IsKept self.new) }
         ensures kind { OnOk result (self.new.state.kind ≡ self.old.state.kind) }
         ensures table { OnOk result (self.new.state.table ≡ self.old.state.table) }
-        ensures stands { OnOk result ((world : World) → StandsFor self.old.state world → StandsFor self.new.state (told_where (list_any (depends_on name.now) self.old.state.table.rows) (needs_of self.old.state.kind) arrival.now name.now world)) }
+        ensures stands { OnOk result (Follows self.old.state self.new.state
+            (with_told self.old.state arrival.now name.now)) }
     {
         if self.state.is_watched(name.as_str()) {
             return self.arrive(alloc, name, arrival, steps);
@@ -144,7 +146,8 @@ impl Manager {
         ensures kept { OnOk result (IsKept self.new) }
         ensures kind { OnOk result (self.new.state.kind ≡ self.old.state.kind) }
         ensures table { OnOk result (self.new.state.table ≡ self.old.state.table) }
-        ensures stands { OnOk result ((world : World) → StandsFor self.old.state world → StandsFor self.new.state (add_items (needs_of self.old.state.kind) verdicts.now items.now world)) }
+        ensures stands { OnOk result (Follows self.old.state self.new.state
+            (add_items (needs_of self.old.state.kind) verdicts.now items.now)) }
     {
         for (place, item) in items.iter().enumerate() {
             self.take_value(alloc, verdicts[place], item, steps)?;
@@ -165,7 +168,8 @@ impl Manager {
         ensures kept { OnOk result (IsKept self.new) }
         ensures kind { OnOk result (self.new.state.kind ≡ self.old.state.kind) }
         ensures table { OnOk result (self.new.state.table ≡ self.old.state.table) }
-        ensures stands { OnOk result ((world : World) → StandsFor self.old.state world → StandsFor self.new.state (add_item (needs_of self.old.state.kind) verdict item.now world)) }
+        ensures stands { OnOk result (Follows self.old.state self.new.state
+            (add_item (needs_of self.old.state.kind) verdict item.now)) }
     {
         match verdict {
             Verdict::Kept => self.keep_value(alloc, item, steps),
@@ -186,7 +190,8 @@ impl Manager {
         ensures kept { OnOk result (IsKept self.new) }
         ensures kind { OnOk result (self.new.state.kind ≡ self.old.state.kind) }
         ensures table { OnOk result (self.new.state.table ≡ self.old.state.table) }
-        ensures stands { OnOk result ((world : World) → StandsFor self.old.state world → StandsFor self.new.state (add_item (needs_of self.old.state.kind) Kept item.now world)) }
+        ensures stands { OnOk result (Follows self.old.state self.new.state
+            (add_item (needs_of self.old.state.kind) Kept item.now)) }
     {
         let Body::Good(content) = &item.body else {
             return Ok(());

@@ -1,23 +1,20 @@
-ghost use Rattle.std.specs.Prelude.{◌≡◌, ◌+◌, ◌*◌, ◌^◌, ◌≤◌, [], ◌∷◌, ◌++◌, IfOk, ◌<◌, ◌&&◌, not, nat_eq, ℕ, List, true, if◌then◌else◌, length, None, OnOk, option_to_list};
+ghost use Rattle.std.specs.Prelude.{◌≡◌, if◌then◌else◌, ℕ, ◌+◌, ◌*◌, ◌^◌, ◌≤◌, ◌++◌, IfOk, ◌<◌, ◌&&◌, not, nat_eq, true, length, None, OnOk, option_to_list};
 ghost use Rattle.std.specs.List.{list_any};
-ghost use Rattle.ev_model.specs.Rows.{arrived, removed_status, replaced_status, with_statuses, new_row, rows_with_new};
-ghost use Rattle.ev_model.specs.Watching.{is_limited};
+ghost use Rattle.ev_model.specs.Rows.{replaced_status, with_statuses};
 ghost use Rattle.ev_types.specs.declared.rows.RowStatus.TheVariants.{Active};
 ghost use Rattle.ev_types.specs.Items.{content_kind};
 ghost use Rattle.ev_types.specs.Statuses.{is_live, is_warming};
 ghost use Rattle.ev_generations.specs.Tables.{row_in, with_status};
-ghost use Rattle.ev_indexes.specs.Kept.{Sets};
-ghost use Rattle.ev_indexes.specs.Watched.{unwatched, watch_in, watched_less, watched_too, with_arrival};
 ghost use Rattle.ev_indexes.specs.Standings.{standing_in};
-ghost use Rattle.ev_indexes.specs.Ready.{name_needed, IsNeedName, is_ready_in, is_due_at};
+ghost use Rattle.ev_indexes.specs.Ready.{name_needed, IsNeedName};
 ghost use Rattle.ev_indexes.specs.Due.{is_among};
-ghost use Rattle.ev_model.specs.World.{World};
 ghost use Rattle.ev_model.specs.Tidy.{promoted};
-ghost use Rattle.ev_model.specs.Signals.{rows_ended};
-ghost use Rattle.ev_indexes.specs.Worlds.{StandsFor, needs_of};
-ghost use Rattle.ev_warming.specs.Promotion.{rows_promoted, status_drained};
-ghost use Rattle.ev_warming.specs.Changes.{began_to_serve, began_to_drain};
-ghost use Rattle.ev_indexes.specs.Indexes.{IsIndexed, SameMarks, depends_on, is_needed, numbers_where, status_in, name_in};
+ghost use Rattle.ev_indexes.specs.Worlds.{needs_of};
+ghost use Rattle.ev_warming.specs.Promotion.{status_drained};
+ghost use Rattle.ev_indexes.specs.Indexes.{IsIndexed, SameMarks, depends_on, status_in, name_in};
+ghost use Rattle.ev_warming.specs.Arrivals.{Hears, UnwatchesNeed, WatchesNeed, with_arrived};
+ghost use Rattle.ev_warming.specs.Changes.{AddsRow, AppendsRow, AreDue, BeganToDrain, CameToServe, EndsRows, KeepsKnown, KeepsResults, LeavesNoneDue, dependents_in, promoted_by, rows_giving_way, rows_retired};
+ghost use Rattle.ev_warming.specs.Worlds.{Follows, with_generation, with_rows_ended};
 
 use ev_generations::Steps;
 use ev_indexes::{Standing, State, Watches, limited, needed, refresh};
@@ -44,11 +41,12 @@ pub(crate) fn arrive<L: Ledger>(
     requires indexed { IsIndexed state.old }
     requires watched { list_any (depends_on name.now) state.old.table.rows ≡ true }
     ensures indexed { OnOk result (IsIndexed state.new) }
-    ensures told { OnOk result (Sets unwatched state.old.watches state.new.watches name.now (with_arrival arrival.now (watch_in state.old.watches name.now))) }
+    ensures told { OnOk result (Hears state.old.watches state.new.watches name.now arrival.now) }
     ensures others { OnOk result (state.new ≡ record state.old { watches = state.new.watches; due = state.new.due }) }
-    ensures steps { OnOk result (steps.new ≡ steps.old + length (numbers_where (depends_on name.now) state.old.table.rows)) }
+    ensures steps { OnOk result (steps.new ≡ steps.old + length (dependents_in state.old name.now)) }
     // Whatever world the state stood for, it stands for that world with the arrival.
-    ensures stands { OnOk result ((world : World) → StandsFor state.old world → StandsFor state.new (record world { arrivals = world.arrivals ++ arrived (needs_of state.old.kind) arrival.now name.now ∷ [] })) }
+    ensures stands { OnOk result (Follows state.old state.new
+        (with_arrived (needs_of state.old.kind) arrival.now name.now)) }
 {
     state.watches.tell(alloc, name, arrival)?;
     let Some(watch) = state.watches.get(name) else {
@@ -69,10 +67,10 @@ fn retire<L: Ledger>(state: &mut State, number: Gen, steps: &mut Steps<L>)
     requires indexed { IsIndexed state.old }
     requires live { is_live (status_in (row_in number state.old.table.rows)) ≡ true }
     ensures indexed { IsIndexed state.new }
-    ensures rows { state.new.table.rows ≡ with_status number (removed_status (status_in (row_in number state.old.table.rows))) state.old.table.rows }
+    ensures rows { state.new.table.rows ≡ rows_retired number state.old.table.rows }
     ensures made { state.new.table.made ≡ state.old.table.made }
     ensures marks { SameMarks state.old.watches state.new.watches }
-    ensures others { state.new ≡ record state.old { table = state.new.table; names = state.new.names; watches = state.new.watches; due = state.new.due } }
+    ensures others { KeepsResults state.old state.new }
     ensures due { (n : ℕ) → is_among state.new.due n ≡ (not (nat_eq number n) && is_among state.old.due n) }
     ensures count { length state.new.due + (if is_among state.old.due number then 1 else 0) ≡ length state.old.due }
     ensures steps { steps.new ≡ steps.old + 1 }
@@ -96,7 +94,7 @@ fn serve<L: Ledger>(state: &mut State, number: Gen, steps: &mut Steps<L>)
     ensures indexed { IsIndexed state.new }
     ensures rows { state.new.table.rows ≡ with_status number Active state.old.table.rows }
     ensures made { state.new.table.made ≡ state.old.table.made }
-    ensures others { state.new ≡ record state.old { table = state.new.table; names = state.new.names; due = state.new.due } }
+    ensures others { KeepsKnown state.old state.new }
     ensures due { (n : ℕ) → is_among state.new.due n ≡ (not (nat_eq number n) && is_among state.old.due n) }
     ensures count { length state.new.due + (if is_among state.old.due number then 1 else 0) ≡ length state.old.due }
     ensures steps { steps.new ≡ steps.old + 1 }
@@ -124,12 +122,12 @@ fn make_way<L: Ledger>(
     requires warms { is_warming (status_in (row_in number state.old.table.rows)) ≡ true }
     requires active { active ≡ (standing_in state.old.names (name_in (row_in number state.old.table.rows))).active }
     ensures indexed { IsIndexed state.new }
-    ensures rows { state.new.table.rows ≡ with_statuses (status_drained (name_in (row_in number state.old.table.rows))) state.old.table.rows }
+    ensures rows { state.new.table.rows ≡ rows_giving_way number state.old.table.rows }
     ensures row { row_in number state.new.table.rows ≡ row_in number state.old.table.rows }
     ensures alone { (standing_in state.new.names (name_in (row_in number state.old.table.rows))).active ≡ None }
     ensures made { state.new.table.made ≡ state.old.table.made }
     ensures marks { SameMarks state.old.watches state.new.watches }
-    ensures others { state.new ≡ record state.old { table = state.new.table; names = state.new.names; watches = state.new.watches; due = state.new.due } }
+    ensures others { KeepsResults state.old state.new }
     ensures due { (n : ℕ) → is_among state.new.due n ≡ is_among state.old.due n }
     ensures count { length state.new.due ≤ length state.old.due }
     ensures steps { steps.new ≤ steps.old + 1 }
@@ -148,11 +146,11 @@ fn promote_one<L: Ledger>(state: &mut State, number: Gen, steps: &mut Steps<L>) 
     requires due { is_among state.old.due number ≡ true }
     ensures indexed { IsIndexed state.new }
     ensures before { result ≡ (standing_in state.old.names (name_in (row_in number state.old.table.rows))).active }
-    ensures changed { state.new.table.rows ≡ with_status number Active (with_statuses (status_drained (name_in (row_in number state.old.table.rows))) state.old.table.rows) }
-    ensures rows { rows_promoted (is_ready_in state.old.watches state.old.results) state.new.table.rows ≡ rows_promoted (is_ready_in state.old.watches state.old.results) state.old.table.rows }
+    ensures changed { state.new.table.rows ≡ with_status number Active (rows_giving_way number state.old.table.rows) }
+    ensures rows { promoted_by state.old state.new.table.rows ≡ promoted_by state.old state.old.table.rows }
     ensures made { state.new.table.made ≡ state.old.table.made }
     ensures marks { SameMarks state.old.watches state.new.watches }
-    ensures others { state.new ≡ record state.old { table = state.new.table; names = state.new.names; watches = state.new.watches; due = state.new.due } }
+    ensures others { KeepsResults state.old state.new }
     ensures due { (n : ℕ) → is_among state.new.due n ≡ (not (nat_eq number n) && is_among state.old.due n) }
     ensures count { length state.new.due < length state.old.due }
     ensures steps { steps.new ≤ steps.old + 3 }
@@ -176,16 +174,16 @@ pub(crate) fn promote<L: Ledger>(
 ) -> Result<Promoted, AllocError>
     requires indexed { IsIndexed state.old }
     ensures indexed { OnOk result (IsIndexed state.new) }
-    ensures rows { OnOk result (state.new.table.rows ≡ rows_promoted (is_ready_in state.old.watches state.old.results) state.old.table.rows) }
-    ensures served { IfOk result (λ promoted. (n : ℕ) → is_among promoted.served n ≡ is_due_at state.old.watches state.old.results n state.old.table.rows) }
-    ensures began { IfOk result (λ promoted. (n : ℕ) → is_among promoted.served n ≡ began_to_serve n state.old.table.rows state.new.table.rows) }
-    ensures drained { IfOk result (λ promoted. (n : ℕ) → is_among promoted.drained n ≡ began_to_drain n state.old.table.rows state.new.table.rows) }
+    ensures rows { OnOk result (state.new.table.rows ≡ promoted_by state.old state.old.table.rows) }
+    ensures served { IfOk result (λ promoted. AreDue promoted.served state.old) }
+    ensures began { IfOk result (λ promoted. CameToServe promoted.served state.old state.new) }
+    ensures drained { IfOk result (λ promoted. BeganToDrain promoted.drained state.old state.new) }
     ensures made { OnOk result (state.new.table.made ≡ state.old.table.made) }
     ensures marks { OnOk result (SameMarks state.old.watches state.new.watches) }
-    ensures others { OnOk result (state.new ≡ record state.old { table = state.new.table; names = state.new.names; watches = state.new.watches; due = [] }) }
+    ensures others { OnOk result (LeavesNoneDue state.old state.new) }
     ensures steps { IfOk result (λ promoted. steps.new ≤ steps.old + 3 * length promoted.served) }
     // Whatever world the state stood for, it stands for that world with all that are due promoted.
-    ensures stands { OnOk result ((world : World) → StandsFor state.old world → StandsFor state.new (promoted world)) }
+    ensures stands { OnOk result (Follows state.old state.new promoted) }
 {
     let mut served = Seq::new(alloc);
     let mut drained = Seq::new(alloc);
@@ -211,14 +209,14 @@ pub(crate) fn add<L: Ledger>(
     requires room { state.old.table.made + 1 < 2 ^ 32 }
     ensures indexed { OnOk result (IsIndexed state.new) }
     ensures number { IfOk result (λ number. number ≡ state.old.table.made + 1) }
-    ensures rows { OnOk result (state.new.table.rows ≡ rows_with_new state.old.kind state.old.table.made name content state.old.table.rows) }
+    ensures rows { OnOk result (AddsRow state.old state.new name content) }
     ensures made { OnOk result (state.new.table.made ≡ state.old.table.made + 1) }
     ensures marks { OnOk result (SameMarks state.old.watches state.new.watches) }
-    ensures others { OnOk result (state.new ≡ record state.old { table = state.new.table; names = state.new.names; watches = state.new.watches; due = state.new.due }) }
+    ensures others { OnOk result (KeepsResults state.old state.new) }
     ensures steps { OnOk result (steps.new ≤ steps.old + 2) }
     ensures needs { OnOk result (IsNeedName (name_needed content)) }
     // Whatever world the state stood for, it stands for that world with the new generation.
-    ensures stands { OnOk result ((world : World) → StandsFor state.old world → StandsFor state.new (record world { rows = rows_with_new state.old.kind world.made name content world.rows; made = world.made + 1 })) }
+    ensures stands { OnOk result (Follows state.old state.new (with_generation state.old.kind name content)) }
 {
     let _text = name.as_str();
     drop_warming(state, &name, steps);
@@ -230,13 +228,13 @@ pub(crate) fn add<L: Ledger>(
 pub(crate) fn end<L: Ledger>(state: &mut State, name: &Name, steps: &mut Steps<L>)
     requires indexed { IsIndexed state.old }
     ensures indexed { IsIndexed state.new }
-    ensures rows { state.new.table.rows ≡ rows_ended state.old.kind name.now state.old.table.rows }
+    ensures rows { EndsRows state.old state.new name.now }
     ensures made { state.new.table.made ≡ state.old.table.made }
     ensures marks { SameMarks state.old.watches state.new.watches }
-    ensures others { state.new ≡ record state.old { table = state.new.table; names = state.new.names; watches = state.new.watches; due = state.new.due } }
+    ensures others { KeepsResults state.old state.new }
     ensures steps { steps.new ≤ steps.old + 2 }
     // Whatever world the state stood for, it stands for that world where the name has come to its end.
-    ensures stands { (world : World) → StandsFor state.old world → StandsFor state.new (record world { rows = rows_ended state.old.kind name.now world.rows }) }
+    ensures stands { Follows state.old state.new (with_rows_ended state.old.kind name.now) }
 {
     drop_warming(state, name, steps);
     drain_active(state, name, steps);
@@ -249,7 +247,7 @@ fn drain_active<L: Ledger>(state: &mut State, name: &Name, steps: &mut Steps<L>)
     ensures rows { state.new.table.rows ≡ with_statuses (status_drained name.now) state.old.table.rows }
     ensures made { state.new.table.made ≡ state.old.table.made }
     ensures marks { SameMarks state.old.watches state.new.watches }
-    ensures others { state.new ≡ record state.old { table = state.new.table; names = state.new.names; watches = state.new.watches; due = state.new.due } }
+    ensures others { KeepsResults state.old state.new }
     ensures steps { steps.new ≤ steps.old + 1 }
 {
     if let Some(before) = state.names.standing(name).active {
@@ -265,7 +263,7 @@ fn drop_warming<L: Ledger>(state: &mut State, name: &Name, steps: &mut Steps<L>)
     ensures alone { (standing_in state.new.names name.now).warming ≡ None }
     ensures made { state.new.table.made ≡ state.old.table.made }
     ensures marks { SameMarks state.old.watches state.new.watches }
-    ensures others { state.new ≡ record state.old { table = state.new.table; names = state.new.names; watches = state.new.watches; due = state.new.due } }
+    ensures others { KeepsResults state.old state.new }
     ensures steps { steps.new ≤ steps.old + 1 }
 {
     if let Some(before) = state.names.standing(name).warming {
@@ -286,10 +284,10 @@ fn append<L: Ledger>(
     requires room { state.old.table.made + 1 < 2 ^ 32 }
     ensures indexed { OnOk result (IsIndexed state.new) }
     ensures number { IfOk result (λ number. number ≡ state.old.table.made + 1) }
-    ensures rows { OnOk result (state.new.table.rows ≡ state.old.table.rows ++ new_row state.old.kind state.old.table.made name content ∷ []) }
+    ensures rows { OnOk result (AppendsRow state.old state.new name content) }
     ensures made { OnOk result (state.new.table.made ≡ state.old.table.made + 1) }
     ensures marks { OnOk result (SameMarks state.old.watches state.new.watches) }
-    ensures others { OnOk result (state.new ≡ record state.old { table = state.new.table; names = state.new.names; watches = state.new.watches; due = state.new.due }) }
+    ensures others { OnOk result (KeepsResults state.old state.new) }
     ensures steps { OnOk result (steps.new ≡ steps.old + 1) }
     ensures needs { OnOk result (IsNeedName (name_needed content)) }
 {
@@ -343,7 +341,7 @@ fn left(standing: Standing, warms: bool) -> Standing
 
 // A generation of this content no longer depends on anything.
 fn unwatch(watches: &mut Watches, content: &Content, number: Gen)
-    ensures { (q : List ℕ) → watch_in watches.new q ≡ (if is_needed q (name_needed content.now) then watched_less number (watch_in watches.old q) else watch_in watches.old q) }
+    ensures { UnwatchesNeed watches.old watches.new number content.now }
 {
     if let Some(name) = needed(content) {
         watches.unwatch(name, number);
@@ -357,7 +355,7 @@ fn watch(
     content: &Content,
     number: Gen,
 ) -> Result<(), AllocError>
-    ensures watched { OnOk result ((q : List ℕ) → watch_in watches.new q ≡ (if is_needed q (name_needed content.now) then watched_too number (is_limited content.now) (watch_in watches.old q) else watch_in watches.old q)) }
+    ensures watched { OnOk result (WatchesNeed watches.old watches.new number content.now) }
     ensures named { IsNeedName (name_needed content.now) }
 {
     match needed(content) {

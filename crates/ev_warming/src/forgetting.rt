@@ -1,16 +1,13 @@
-ghost use Rattle.std.specs.Prelude.{◌≡◌, ◌+◌, ◌&&◌, not, false, Some, nat_eq, ℕ, List, [], None, if◌then◌else◌, length, OnOk};
-ghost use Rattle.ev_types.specs.declared.hosts.Host as declared;
-ghost use Rattle.ev_model.specs.World.{World};
+ghost use Rattle.std.specs.Prelude.{◌≡◌, ◌+◌, false, Some, nat_eq, [], length, OnOk};
 ghost use Rattle.ev_model.specs.Watching.{is_by_name};
 ghost use Rattle.ev_model.specs.Warming.{rows_in};
-ghost use Rattle.ev_model.specs.Tidy.{without_unwatched, without_old_results};
-ghost use Rattle.ev_endpoints.specs.Results.{result_in, Trims};
-ghost use Rattle.ev_generations.specs.Tables.{row_in};
-ghost use Rattle.ev_indexes.specs.Watched.{unwatched, watch_in};
+ghost use Rattle.ev_endpoints.specs.Results.{Trims};
+ghost use Rattle.ev_indexes.specs.Watched.{watch_in};
 ghost use Rattle.ev_indexes.specs.Ready.{name_needed, assignment_in};
-ghost use Rattle.ev_indexes.specs.Indexes.{IsIndexed, is_needed};
-ghost use Rattle.ev_indexes.specs.Worlds.{StandsFor};
-ghost use Rattle.ev_warming.specs.Forgetting.{need_in, is_idle, keeps_result, loses_result, IsTidyBut};
+ghost use Rattle.ev_indexes.specs.Indexes.{IsIndexed};
+ghost use Rattle.ev_warming.specs.Forgetting.{IsTidyBut, ForgetsNeed, ForgetsNeedOf, TrimsRow, TrimsRowOf};
+ghost use Rattle.ev_warming.specs.Changes.{KeepsRows};
+ghost use Rattle.ev_warming.specs.Worlds.{Follows, without_unneeded};
 
 use ev_endpoints::Endpoints;
 use ev_generations::Steps;
@@ -34,10 +31,10 @@ pub(crate) fn forget<L: Ledger>(
     requires rows { is_by_name state.old.kind ≡ false }
     ensures indexed { OnOk result (IsIndexed state.new) }
     ensures tidy { OnOk result (IsTidyBut state.new []) }
-    ensures others { OnOk result (state.new ≡ record state.old { watches = state.new.watches; results = state.new.results }) }
+    ensures others { OnOk result (KeepsRows state.old state.new) }
     ensures steps { OnOk result (steps.new ≡ steps.old + length stale.now) }
     // Whatever world the state stood for, it stands for that world once the machine has forgotten.
-    ensures stands { OnOk result ((world : World) → StandsFor state.old world → StandsFor state.new (without_old_results (without_unwatched world))) }
+    ensures stands { OnOk result (Follows state.old state.new without_unneeded) }
 {
     for number in stale {
         forget_row(state, alloc, *number, steps)?;
@@ -54,9 +51,9 @@ fn forget_row<L: Ledger>(
 ) -> Result<(), AllocError>
     requires indexed { IsIndexed state.old }
     ensures indexed { OnOk result (IsIndexed state.new) }
-    ensures watches { OnOk result ((q : List ℕ) → watch_in state.new.watches q ≡ (if is_needed q (need_in (row_in number state.old.table.rows)) && is_idle state.old.table.rows q then unwatched else watch_in state.old.watches q)) }
-    ensures results { OnOk result ((n : ℕ) (h : declared.Host) → result_in state.new.results n h ≡ (if nat_eq number n && loses_result state.old.watches h (row_in n state.old.table.rows) then None else result_in state.old.results n h)) }
-    ensures others { OnOk result (state.new ≡ record state.old { watches = state.new.watches; results = state.new.results }) }
+    ensures watches { OnOk result (ForgetsNeedOf state.old state.new number) }
+    ensures results { OnOk result (TrimsRowOf state.old state.new number) }
+    ensures others { OnOk result (KeepsRows state.old state.new) }
     ensures steps { OnOk result (steps.new ≡ steps.old + 1) }
 {
     let Some(row) = state.table.row(number, steps) else {
@@ -74,7 +71,7 @@ fn trim(
     alloc: Global,
     row: &GenRow,
 ) -> Result<(), AllocError>
-    ensures { OnOk result ((n : ℕ) (h : declared.Host) → result_in results.new n h ≡ (if nat_eq row.now.number n && not (keeps_result watches.now h row.now) then None else result_in results.old n h)) }
+    ensures { OnOk result (TrimsRow watches.now results.old results.new row.now) }
 {
     if !row.status.is_live() {
         results.forget(row.number);
@@ -128,7 +125,7 @@ fn trim_value(
 
 // Forgets what came for the name that a generation of this content depends on, where no live one does.
 fn forget_need(watches: &mut Watches, content: &Content)
-    ensures { (q : List ℕ) → watch_in watches.new q ≡ (if is_needed q (name_needed content.now) && nat_eq (length (watch_in watches.old q).rows) 0 then unwatched else watch_in watches.old q) }
+    ensures { ForgetsNeed watches.old watches.new (name_needed content.now) }
 {
     if let Some(name) = needed(content) {
         forget_idle(watches, name);
@@ -137,7 +134,7 @@ fn forget_need(watches: &mut Watches, content: &Content)
 
 // Forgets what came for a name that no live generation depends on.
 fn forget_idle(watches: &mut Watches, name: &Name)
-    ensures { (q : List ℕ) → watch_in watches.new q ≡ (if is_needed q (Some name.now) && nat_eq (length (watch_in watches.old q).rows) 0 then unwatched else watch_in watches.old q) }
+    ensures { ForgetsNeed watches.old watches.new (Some name.now) }
 {
     if is_idle(watches, name) {
         watches.forget(name);

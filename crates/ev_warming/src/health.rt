@@ -1,12 +1,8 @@
-ghost use Rattle.std.specs.Prelude.{◌≡◌, ◌+◌, ◌≤◌, ℕ, List, [], if◌then◌else◌, option_to_list, IfOk, OnOk};
-ghost use Rattle.std.specs.List.{list_any};
-ghost use Rattle.ev_types.specs.declared.contents.Kind.TheVariants.{Cds};
-ghost use Rattle.ev_model.specs.World.{World};
-ghost use Rattle.ev_model.specs.Signals.{is_meant, rows_meant, with_results};
+ghost use Rattle.std.specs.Prelude.{◌≡◌, ℕ, ◌+◌, ◌≤◌, List, IfOk, OnOk};
 ghost use Rattle.ev_warming.specs.Forgetting.{IsTidyBut};
-ghost use Rattle.ev_warming.specs.Health.{takes_at, is_meant_in, numbers_meant, NotesEach};
+ghost use Rattle.ev_warming.specs.Health.{takes_at, NotesMeant, NotesWhere, is_meant_by};
 ghost use Rattle.ev_indexes.specs.Indexes.{IsIndexed};
-ghost use Rattle.ev_indexes.specs.Worlds.{StandsFor};
+ghost use Rattle.ev_warming.specs.Worlds.{AnswersMeaning, FollowsResult};
 
 use crate::Manager;
 use ev_generations::Steps;
@@ -33,12 +29,12 @@ impl Manager {
         ensures kind { OnOk result (self.new.state.kind ≡ self.old.state.kind) }
         ensures stale { OnOk result (self.new.stale ≡ self.old.stale) }
         ensures table { OnOk result (self.new.state.table ≡ self.old.state.table) }
-        ensures meant { IfOk result (λ meant. meant ≡ list_any (is_meant_in self.old.state.watches name.now host.now) self.old.state.table.rows) }
-        ensures results { OnOk result (NotesEach self.old.state.results self.new.state.results (numbers_meant self.old.state.watches name.now host.now self.old.state.table.rows) host.now healthy) }
+        ensures meant { IfOk result (λ meant. meant ≡ is_meant_by self.old.state name.now host.now) }
+        ensures results { OnOk result (NotesMeant self.old.state self.new.state name.now host.now healthy) }
         ensures steps { OnOk result (steps.new ≤ steps.old + 4) }
         // Whatever world clusters stood for, they stand for that world with the result, which means something to the same rows.
-        ensures stands { OnOk result (self.old.state.kind ≡ Cds → (world : World) → StandsFor self.old.state world → StandsFor self.new.state (with_results host.now healthy (rows_meant world.arrivals name.now host.now world.rows) world)) }
-        ensures ignored { IfOk result (λ meant. self.old.state.kind ≡ Cds → (world : World) → StandsFor self.old.state world → meant ≡ list_any (is_meant world.arrivals name.now host.now) world.rows) }
+        ensures stands { OnOk result (FollowsResult self.old.state self.new.state name.now host.now healthy) }
+        ensures ignored { IfOk result (λ meant. AnswersMeaning self.old.state meant name.now host.now) }
     {
         note(&mut self.state, alloc, name, host, healthy, steps)
     }
@@ -57,14 +53,14 @@ pub(crate) fn note<L: Ledger>(
 ) -> Result<bool, AllocError>
     requires indexed { IsIndexed state.old }
     ensures indexed { OnOk result (IsIndexed state.new) }
-    ensures meant { IfOk result (λ meant. meant ≡ list_any (is_meant_in state.old.watches name.now host.now) state.old.table.rows) }
-    ensures results { OnOk result (NotesEach state.old.results state.new.results (numbers_meant state.old.watches name.now host.now state.old.table.rows) host.now healthy) }
+    ensures meant { IfOk result (λ meant. meant ≡ is_meant_by state.old name.now host.now) }
+    ensures results { OnOk result (NotesMeant state.old state.new name.now host.now healthy) }
     ensures others { OnOk result (state.new ≡ record state.old { results = state.new.results; due = state.new.due }) }
     ensures steps { OnOk result (steps.new ≤ steps.old + 4) }
     ensures tidy { OnOk result ((stale : List ℕ) → IsTidyBut state.old stale → IsTidyBut state.new stale) }
     // Whatever world clusters stood for, they stand for that world with the result, which means something to the same rows.
-    ensures stands { OnOk result (state.old.kind ≡ Cds → (world : World) → StandsFor state.old world → StandsFor state.new (with_results host.now healthy (rows_meant world.arrivals name.now host.now world.rows) world)) }
-    ensures ignored { IfOk result (λ meant. state.old.kind ≡ Cds → (world : World) → StandsFor state.old world → meant ≡ list_any (is_meant world.arrivals name.now host.now) world.rows) }
+    ensures stands { OnOk result (FollowsResult state.old state.new name.now host.now healthy) }
+    ensures ignored { IfOk result (λ meant. AnswersMeaning state.old meant name.now host.now) }
 {
     let standing = state.names.standing(name);
     let served = note_at(state, alloc, standing.active, host, healthy, steps)?;
@@ -84,7 +80,7 @@ fn note_at<L: Ledger>(
     requires indexed { IsIndexed state.old }
     ensures indexed { OnOk result (IsIndexed state.new) }
     ensures meant { IfOk result (λ meant. meant ≡ takes_at state.old.watches host.now number state.old.table.rows) }
-    ensures results { IfOk result (λ meant. NotesEach state.old.results state.new.results (if meant then option_to_list number else []) host.now healthy) }
+    ensures results { IfOk result (λ meant. NotesWhere state.old state.new meant number host.now healthy) }
     ensures others { OnOk result (state.new ≡ record state.old { results = state.new.results; due = state.new.due }) }
     ensures steps { OnOk result (steps.new ≤ steps.old + 2) }
 {

@@ -1,18 +1,14 @@
-ghost use Rattle.std.specs.Prelude.{◌≡◌, ◌+◌, ◌*◌, ◌^◌, ◌≤◌, ◌<◌, [], ◌∷◌, ◌++◌, ℕ, List, true, false, length, option_to_list, IfOk, OnOk};
+ghost use Rattle.std.specs.Prelude.{◌≡◌, ℕ, ◌+◌, ◌*◌, ◌^◌, ◌≤◌, ◌<◌, [], ◌++◌, List, true, false, length, IfOk, OnOk};
 ghost use Rattle.std.specs.List.{list_any};
 ghost use Rattle.ev_types.specs.Items.{content_kind};
-ghost use Rattle.ev_model.specs.World.{World, opening};
+ghost use Rattle.ev_model.specs.World.{opening};
 ghost use Rattle.ev_model.specs.Watching.{is_by_name};
-ghost use Rattle.ev_model.specs.Rows.{arrived, rows_with_new};
-ghost use Rattle.ev_model.specs.Signals.{rows_ended};
-ghost use Rattle.ev_model.specs.Tidy.{promoted, without_unwatched, without_old_results};
-ghost use Rattle.ev_indexes.specs.Due.{is_among};
-ghost use Rattle.ev_indexes.specs.Ready.{is_due_at};
-ghost use Rattle.ev_indexes.specs.Watched.{watch_in};
-ghost use Rattle.ev_indexes.specs.Indexes.{depends_on, serves, warms, numbers_where};
-ghost use Rattle.ev_indexes.specs.Reads.{names_watched};
+ghost use Rattle.ev_model.specs.Tidy.{promoted};
+ghost use Rattle.ev_indexes.specs.Indexes.{depends_on};
 ghost use Rattle.ev_indexes.specs.Worlds.{StandsFor, needs_of};
-ghost use Rattle.ev_warming.specs.Changes.{began_to_serve, began_to_drain};
+ghost use Rattle.ev_warming.specs.Arrivals.{with_arrived};
+ghost use Rattle.ev_warming.specs.Changes.{AddsRow, AreDue, BeganToDrain, CameToServe, EndsRows, ServesName, WarmsUnder, WatchesTheSame, dependents_in, watchers_in};
+ghost use Rattle.ev_warming.specs.Worlds.{Follows, with_generation, with_rows_ended, without_unneeded};
 
 use crate::changes::{self, Promoted, put_one};
 use crate::forgetting::forget;
@@ -70,9 +66,10 @@ impl Manager {
         ensures kept { OnOk result (IsKept self.new) }
         ensures kind { OnOk result (self.new.state.kind ≡ self.old.state.kind) }
         ensures table { OnOk result (self.new.state.table ≡ self.old.state.table) }
-        ensures steps { OnOk result (steps.new ≡ steps.old + length (numbers_where (depends_on name.now) self.old.state.table.rows)) }
+        ensures steps { OnOk result (steps.new ≡ steps.old + length (dependents_in self.old.state name.now)) }
         // Whatever world the manager stood for, it stands for that world with the arrival.
-        ensures stands { OnOk result ((world : World) → StandsFor self.old.state world → StandsFor self.new.state (record world { arrivals = world.arrivals ++ arrived (needs_of self.old.state.kind) arrival.now name.now ∷ [] })) }
+        ensures stands { OnOk result (Follows self.old.state self.new.state
+            (with_arrived (needs_of self.old.state.kind) arrival.now name.now)) }
     {
         self.touch(name)?;
         changes::arrive(&mut self.state, alloc, name, arrival, steps)
@@ -80,7 +77,8 @@ impl Manager {
 
     // The next forgetting looks at the generations that depend on a name.
     fn touch(&mut self, name: &Name) -> Result<(), AllocError>
-        ensures { OnOk result (self.new ≡ record self.old { stale = self.old.stale ++ (watch_in self.old.state.watches name.now).rows }) }
+        ensures { OnOk result (self.new
+            ≡ record self.old { stale = self.old.stale ++ watchers_in self.old.state name.now }) }
     {
         let Some(watch) = self.state.watches.get(name) else {
             return Ok(());
@@ -98,13 +96,14 @@ impl Manager {
         requires kept { IsKept self.old }
         ensures kept { OnOk result (IsKept self.new) }
         ensures kind { OnOk result (self.new.state.kind ≡ self.old.state.kind) }
-        ensures drains { IfOk result (λ ended. option_to_list ended.active ≡ numbers_where (serves name.now) self.old.state.table.rows) }
-        ensures dropped { IfOk result (λ ended. option_to_list ended.warming ≡ numbers_where (warms name.now) self.old.state.table.rows) }
-        ensures rows { OnOk result (self.new.state.table.rows ≡ rows_ended self.old.state.kind name.now self.old.state.table.rows) }
+        ensures drains { IfOk result (λ ended. ServesName ended.active name.now self.old.state) }
+        ensures dropped { IfOk result (λ ended. WarmsUnder ended.warming name.now self.old.state) }
+        ensures rows { OnOk result (EndsRows self.old.state self.new.state name.now) }
         ensures made { OnOk result (self.new.state.table.made ≡ self.old.state.table.made) }
         ensures steps { OnOk result (steps.new ≤ steps.old + 2) }
         // Whatever world the manager stood for, it stands for that world where the name has come to its end.
-        ensures stands { OnOk result ((world : World) → StandsFor self.old.state world → StandsFor self.new.state (record world { rows = rows_ended self.old.state.kind name.now world.rows })) }
+        ensures stands { OnOk result (Follows self.old.state self.new.state
+            (with_rows_ended self.old.state.kind name.now)) }
     {
         let ended = self.state.names.standing(name);
         put_one(&mut self.stale, &ended.warming)?;
@@ -128,12 +127,13 @@ impl Manager {
         ensures kept { OnOk result (IsKept self.new) }
         ensures kind { OnOk result (self.new.state.kind ≡ self.old.state.kind) }
         ensures number { IfOk result (λ added. added.number ≡ self.old.state.table.made + 1) }
-        ensures dropped { IfOk result (λ added. option_to_list added.dropped ≡ numbers_where (warms name) self.old.state.table.rows) }
-        ensures rows { OnOk result (self.new.state.table.rows ≡ rows_with_new self.old.state.kind self.old.state.table.made name content self.old.state.table.rows) }
+        ensures dropped { IfOk result (λ added. WarmsUnder added.dropped name self.old.state) }
+        ensures rows { OnOk result (AddsRow self.old.state self.new.state name content) }
         ensures made { OnOk result (self.new.state.table.made ≡ self.old.state.table.made + 1) }
         ensures steps { OnOk result (steps.new ≤ steps.old + 2) }
         // Whatever world the manager stood for, it stands for that world with the new generation.
-        ensures stands { OnOk result ((world : World) → StandsFor self.old.state world → StandsFor self.new.state (record world { rows = rows_with_new self.old.state.kind world.made name content world.rows; made = world.made + 1 })) }
+        ensures stands { OnOk result (Follows self.old.state self.new.state
+            (with_generation self.old.state.kind name content)) }
     {
         let dropped = self.state.names.standing(&name).warming;
         put_one(&mut self.stale, &dropped)?;
@@ -151,15 +151,15 @@ impl Manager {
         requires kept { IsKept self.old }
         ensures kept { OnOk result (IsKept self.new) }
         ensures kind { OnOk result (self.new.state.kind ≡ self.old.state.kind) }
-        ensures served { IfOk result (λ promoted. (n : ℕ) → is_among promoted.served n ≡ is_due_at self.old.state.watches self.old.state.results n self.old.state.table.rows) }
-        ensures began { IfOk result (λ promoted. (n : ℕ) → is_among promoted.served n ≡ began_to_serve n self.old.state.table.rows self.new.state.table.rows) }
-        ensures drained { IfOk result (λ promoted. (n : ℕ) → is_among promoted.drained n ≡ began_to_drain n self.old.state.table.rows self.new.state.table.rows) }
+        ensures served { IfOk result (λ promoted. AreDue promoted.served self.old.state) }
+        ensures began { IfOk result (λ promoted. CameToServe promoted.served self.old.state self.new.state) }
+        ensures drained { IfOk result (λ promoted. BeganToDrain promoted.drained self.old.state self.new.state) }
         ensures made { OnOk result (self.new.state.table.made ≡ self.old.state.table.made) }
         // Where none began to drain, the same names are watched as before.
-        ensures watched { IfOk result (λ promoted. promoted.drained ≡ [] → names_watched self.new.state.table.rows ≡ names_watched self.old.state.table.rows) }
+        ensures watched { IfOk result (λ promoted. WatchesTheSame promoted.drained self.old.state self.new.state) }
         ensures steps { IfOk result (λ promoted. steps.new ≤ steps.old + 3 * length promoted.served) }
         // Whatever world the manager stood for, it stands for that world with all that are due promoted.
-        ensures stands { OnOk result ((world : World) → StandsFor self.old.state world → StandsFor self.new.state (promoted world)) }
+        ensures stands { OnOk result (Follows self.old.state self.new.state promoted) }
     {
         let promoted = changes::promote(&mut self.state, alloc, steps)?;
         put_all(&mut self.stale, promoted.drained.as_slice())?;
@@ -180,7 +180,7 @@ impl Manager {
         ensures table { OnOk result (self.new.state.table ≡ self.old.state.table) }
         ensures steps { OnOk result (steps.new ≡ steps.old + length self.old.stale) }
         // Whatever world the manager stood for, it stands for that world once the machine has forgotten.
-        ensures stands { OnOk result ((world : World) → StandsFor self.old.state world → StandsFor self.new.state (without_old_results (without_unwatched world))) }
+        ensures stands { OnOk result (Follows self.old.state self.new.state without_unneeded) }
     {
         let stale = mem::replace(&mut self.stale, Seq::new(alloc));
         forget(&mut self.state, alloc, stale.as_slice(), steps)

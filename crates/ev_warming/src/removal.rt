@@ -1,9 +1,8 @@
 ghost use Rattle.std.specs.Prelude.{◌≡◌, ◌≤◌, [], Some, true};
-ghost use Rattle.ev_model.specs.World.{World};
 ghost use Rattle.ev_generations.specs.Tables.{row_in, without_row};
 ghost use Rattle.ev_warming.specs.Changes.{is_over};
-ghost use Rattle.ev_indexes.specs.Worlds.{StandsFor};
 ghost use Rattle.ev_warming.specs.Managers.{IsKept};
+ghost use Rattle.ev_warming.specs.Worlds.{Follows, with_made, without_generation};
 
 use crate::Manager;
 use ev_types::{Gen, GenRow};
@@ -20,7 +19,7 @@ impl Manager {
         ensures rows { self.new.state.table.rows ≡ without_row number self.old.state.table.rows }
         ensures others { self.new ≡ record self.old { state = record self.old.state { table = self.new.state.table } } }
         // Whatever world the manager stood for, it stands for that world without the generation.
-        ensures stands { (world : World) → StandsFor self.old.state world → StandsFor self.new.state (record world { rows = without_row number world.rows }) }
+        ensures stands { Follows self.old.state self.new.state (without_generation number) }
     {
         self.state.table.remove(number)
     }
@@ -41,7 +40,7 @@ impl Manager {
         ensures rows { self.new.state.table.rows ≡ self.old.state.table.rows }
         ensures others { self.new ≡ record self.old { state = record self.old.state { table = self.new.state.table } } }
         // Whatever world the manager stood for, it stands for that world with so many numbers drawn.
-        ensures stands { (world : World) → StandsFor self.old.state world → StandsFor self.new.state (record world { made = made }) }
+        ensures stands { Follows self.old.state self.new.state (with_made made) }
     {
         self.state.table.advance(made);
     }

@@ -1,15 +1,12 @@
-ghost use Rattle.std.specs.Prelude.{◌≡◌, ◌+◌, ◌^◌, ◌<◌, ◌≤◌, ℕ, [], ◌∷◌, true, Some, All, EachIndex, slice_index, length, IfOk, OnOk};
+ghost use Rattle.std.specs.Prelude.{◌≡◌, ◌+◌, ◌^◌, ◌<◌, ◌≤◌, true, Some, All, length, IfOk, OnOk};
 ghost use Rattle.ev_types.specs.Items.{IsBodyOf, content_kind};
 ghost use Rattle.ev_types.specs.declared.contents.Body.TheVariants.{Good};
 ghost use Rattle.ev_types.specs.declared.events.Verdict.TheVariants.{New};
-ghost use Rattle.ev_model.specs.World.{World};
 ghost use Rattle.ev_model.specs.Verdicts.{is_among as is_listed};
-ghost use Rattle.ev_model.specs.Rows.{rows_left, rows_with_new, with_statuses, with_removals, add_item, add_items};
-ghost use Rattle.ev_model.specs.Signals.{rows_ended};
-ghost use Rattle.ev_indexes.specs.Due.{is_among};
-ghost use Rattle.ev_indexes.specs.Worlds.{StandsFor};
-ghost use Rattle.ev_warming.specs.Changes.{has_retired, status_left_by, Draws, Tells};
+ghost use Rattle.ev_model.specs.Rows.{add_item, add_items};
 ghost use Rattle.ev_warming.specs.Managers.{IsKept};
+ghost use Rattle.ev_warming.specs.Changes.{AreNext, DrawsAll, DrawsMade, HaveRetired, TellsRetired};
+ghost use Rattle.ev_warming.specs.Worlds.{Follows, with_generation, with_name_left, with_response, with_rows_ended, with_rows_left};
 
 use crate::Manager;
 use crate::changes::put_one;
@@ -43,11 +40,12 @@ impl Manager {
         requires room { self.old.state.table.made + length response.now.items < 2 ^ 32 }
         ensures kept { OnOk result (IsKept self.new) }
         ensures kind { OnOk result (self.new.state.kind ≡ self.old.state.kind) }
-        ensures made { IfOk result (λ applied. self.new.state.table.made ≡ self.old.state.table.made + length applied.made) }
-        ensures numbers { IfOk result (λ applied. EachIndex applied.made (λ k. slice_index applied.made k ≡ self.old.state.table.made + k + 1)) }
-        ensures retired { IfOk result (λ applied. (n : ℕ) → is_among applied.retired n ≡ has_retired n self.old.state.table.rows self.new.state.table.rows) }
+        ensures made { IfOk result (λ applied. DrawsAll self.old.state self.new.state applied.made) }
+        ensures numbers { IfOk result (λ applied. AreNext self.old.state applied.made) }
+        ensures retired { IfOk result (λ applied. HaveRetired applied.retired self.old.state self.new.state) }
         // Whatever world the manager stood for, it stands for that world once the response's removals and resources are in.
-        ensures stands { OnOk result ((world : World) → StandsFor self.old.state world → StandsFor self.new.state (add_items self.old.state.kind verdicts.now response.now.items (with_removals self.old.state.kind response.now world))) }
+        ensures stands { OnOk result (Follows self.old.state self.new.state
+            (with_response self.old.state.kind verdicts.now response.now)) }
     {
         let mut applied = Applied {
             made: Seq::new(alloc),
@@ -77,8 +75,9 @@ impl Manager {
         ensures kind { OnOk result (self.new.state.kind ≡ self.old.state.kind) }
         ensures made { OnOk result (self.new.state.table.made ≡ self.old.state.table.made) }
         ensures others { OnOk result (applied.new.made ≡ applied.old.made) }
-        ensures told { OnOk result (Tells self.old.state.table.rows self.new.state.table.rows applied.old.retired applied.new.retired) }
-        ensures stands { OnOk result ((world : World) → StandsFor self.old.state world → StandsFor self.new.state (record world { rows = rows_left self.old.state.kind response.now world.rows })) }
+        ensures told { OnOk result (TellsRetired self.old.state self.new.state applied.old applied.new) }
+        ensures stands { OnOk result (Follows self.old.state self.new.state
+            (with_rows_left self.old.state.kind response.now)) }
     {
         if response.removed.is_empty() {
             return Ok(());
@@ -105,8 +104,9 @@ impl Manager {
         ensures kind { OnOk result (self.new.state.kind ≡ self.old.state.kind) }
         ensures made { OnOk result (self.new.state.table.made ≡ self.old.state.table.made) }
         ensures others { OnOk result (applied.new.made ≡ applied.old.made) }
-        ensures told { OnOk result (Tells self.old.state.table.rows self.new.state.table.rows applied.old.retired applied.new.retired) }
-        ensures stands { OnOk result ((world : World) → StandsFor self.old.state world → StandsFor self.new.state (record world { rows = with_statuses (status_left_by self.old.state.kind mentions.now (name.now ∷ [])) world.rows })) }
+        ensures told { OnOk result (TellsRetired self.old.state self.new.state applied.old applied.new) }
+        ensures stands { OnOk result (Follows self.old.state self.new.state
+            (with_name_left self.old.state.kind mentions.now name.now)) }
     {
         if !mentions.is_removed(name.as_str()) {
             return Ok(());
@@ -130,8 +130,9 @@ impl Manager {
         ensures kind { OnOk result (self.new.state.kind ≡ self.old.state.kind) }
         ensures made { OnOk result (self.new.state.table.made ≡ self.old.state.table.made) }
         ensures others { OnOk result (applied.new.made ≡ applied.old.made) }
-        ensures told { OnOk result (Tells self.old.state.table.rows self.new.state.table.rows applied.old.retired applied.new.retired) }
-        ensures stands { OnOk result ((world : World) → StandsFor self.old.state world → StandsFor self.new.state (record world { rows = rows_ended self.old.state.kind name.now world.rows })) }
+        ensures told { OnOk result (TellsRetired self.old.state self.new.state applied.old applied.new) }
+        ensures stands { OnOk result (Follows self.old.state self.new.state
+            (with_rows_ended self.old.state.kind name.now)) }
     {
         let ended = self.end(name, steps)?;
         put_one(&mut applied.retired, &ended.warming)?;
@@ -153,9 +154,10 @@ impl Manager {
         requires room { self.old.state.table.made + length items.now < 2 ^ 32 }
         ensures kept { OnOk result (IsKept self.new) }
         ensures kind { OnOk result (self.new.state.kind ≡ self.old.state.kind) }
-        ensures drawn { OnOk result (Draws self.old.state.table.made self.new.state.table.made applied.old.made applied.new.made) }
-        ensures told { OnOk result (Tells self.old.state.table.rows self.new.state.table.rows applied.old.retired applied.new.retired) }
-        ensures stands { OnOk result ((world : World) → StandsFor self.old.state world → StandsFor self.new.state (add_items self.old.state.kind verdicts.now items.now world)) }
+        ensures drawn { OnOk result (DrawsMade self.old.state self.new.state applied.old applied.new) }
+        ensures told { OnOk result (TellsRetired self.old.state self.new.state applied.old applied.new) }
+        ensures stands { OnOk result (Follows self.old.state self.new.state
+            (add_items self.old.state.kind verdicts.now items.now)) }
     {
         for (place, item) in items.iter().enumerate() {
             self.take_item(alloc, verdicts[place], item, applied, steps)?;
@@ -177,10 +179,11 @@ impl Manager {
         requires room { self.old.state.table.made + 1 < 2 ^ 32 }
         ensures kept { OnOk result (IsKept self.new) }
         ensures kind { OnOk result (self.new.state.kind ≡ self.old.state.kind) }
-        ensures drawn { OnOk result (Draws self.old.state.table.made self.new.state.table.made applied.old.made applied.new.made) }
-        ensures told { OnOk result (Tells self.old.state.table.rows self.new.state.table.rows applied.old.retired applied.new.retired) }
+        ensures drawn { OnOk result (DrawsMade self.old.state self.new.state applied.old applied.new) }
+        ensures told { OnOk result (TellsRetired self.old.state self.new.state applied.old applied.new) }
         ensures few { OnOk result (self.new.state.table.made ≤ self.old.state.table.made + 1) }
-        ensures stands { OnOk result ((world : World) → StandsFor self.old.state world → StandsFor self.new.state (add_item self.old.state.kind verdict item.now world)) }
+        ensures stands { OnOk result (Follows self.old.state self.new.state
+            (add_item self.old.state.kind verdict item.now)) }
     {
         match verdict {
             Verdict::New => self.take_new(alloc, item, applied, steps),
@@ -201,10 +204,11 @@ impl Manager {
         requires room { self.old.state.table.made + 1 < 2 ^ 32 }
         ensures kept { OnOk result (IsKept self.new) }
         ensures kind { OnOk result (self.new.state.kind ≡ self.old.state.kind) }
-        ensures drawn { OnOk result (Draws self.old.state.table.made self.new.state.table.made applied.old.made applied.new.made) }
-        ensures told { OnOk result (Tells self.old.state.table.rows self.new.state.table.rows applied.old.retired applied.new.retired) }
+        ensures drawn { OnOk result (DrawsMade self.old.state self.new.state applied.old applied.new) }
+        ensures told { OnOk result (TellsRetired self.old.state self.new.state applied.old applied.new) }
         ensures few { OnOk result (self.new.state.table.made ≤ self.old.state.table.made + 1) }
-        ensures stands { OnOk result ((world : World) → StandsFor self.old.state world → StandsFor self.new.state (add_item self.old.state.kind New item.now world)) }
+        ensures stands { OnOk result (Follows self.old.state self.new.state
+            (add_item self.old.state.kind New item.now)) }
     {
         match &item.body {
             Body::Good(content) => self.make(alloc, item, content, applied, steps),
@@ -227,10 +231,11 @@ impl Manager {
         requires room { self.old.state.table.made + 1 < 2 ^ 32 }
         ensures kept { OnOk result (IsKept self.new) }
         ensures kind { OnOk result (self.new.state.kind ≡ self.old.state.kind) }
-        ensures drawn { OnOk result (Draws self.old.state.table.made self.new.state.table.made applied.old.made applied.new.made) }
+        ensures drawn { OnOk result (DrawsMade self.old.state self.new.state applied.old applied.new) }
         ensures few { OnOk result (self.new.state.table.made ≤ self.old.state.table.made + 1) }
-        ensures told { OnOk result (Tells self.old.state.table.rows self.new.state.table.rows applied.old.retired applied.new.retired) }
-        ensures stands { OnOk result ((world : World) → StandsFor self.old.state world → StandsFor self.new.state (record world { rows = rows_with_new self.old.state.kind world.made item.now.name content.now world.rows; made = world.made + 1 })) }
+        ensures told { OnOk result (TellsRetired self.old.state self.new.state applied.old applied.new) }
+        ensures stands { OnOk result (Follows self.old.state self.new.state
+            (with_generation self.old.state.kind item.now.name content.now)) }
     {
         let name = item.resource_name(alloc)?;
         let added = self.add(alloc, name, content.copy(alloc)?, steps)?;
