@@ -1,14 +1,16 @@
 -- Look-ups of results in maps of maps, and what each change of a map does to them.
-use Rattle.std.proofs.Common.{◌≡◌, ◌∙◌, ℕ, Bool, true, false, cond, not, ◌&&◌, ◌||◌, nat_eq, List, [], ◌∷◌, Option, None, Some, option_map, unwrap_or, refl, take, get_or, length, ◌<◌, ◌+◌, sym, ap}
+use native.Mathlib.Omega.{arith}
+use Rattle.std.proofs.Common.{◌≡◌, ◌≢◌, ◌∙◌, ℕ, Bool, true, false, cond, not, ◌&&◌, ◌||◌, nat_eq, List, [], ◌∷◌, Option, None, Some, option_map, unwrap_or, refl, take, get_or, length, ◌<◌, ◌+◌, sym, ap}
 use Rattle.std.specs.HashMap.{HashMap}
 use Rattle.std.specs.Map.{lookup, set_value}
 use Rattle.std.proofs.lemmas.Bool.{eqb-true}
+use Rattle.std.proofs.lemmas.Option.{none-some}
 use Rattle.std.proofs.lemmas.List.Folds.{list_any-append}
 use Rattle.std.proofs.lemmas.List.{take_more}
 use Rattle.ev_types.specs.SameHosts.{host_same, has_host}
 use Rattle.ev_types.specs.Hosts.{HostRowParts}
 use Rattle.ev_types.specs.declared.hosts.Host.{Host}
-use Rattle.ev_endpoints.specs.Results.{ResultsKept, results_of, hosts_in, result_in, Notes, Trims}
+use Rattle.ev_endpoints.specs.Results.{ResultsKept, HasNoEmpty, results_of, hosts_in, result_in, Notes, Trims}
 
 module _ {S : Type 0} where
   -- the result of a host in a map that may be there
@@ -50,6 +52,18 @@ module _ {S : Type 0} where
             → inner (cond b u (lookup (nat_eq n) es)) h ≡ cond b (inner u h) (result_in (results_of es) n h)
         by true e = refl
         by false e = sym e
+
+    -- an entry that goes, or has a result, leaves none without one
+    pub still_no_empty : ((m : HashMap Host Bool S) → u ≡ Some m → m.entries ≢ []) → HasNoEmpty (results_of es) → HasNoEmpty (results_of fs)
+    still_no_empty some kept n at =
+        by (nat_eq number n) u refl (sym (lookup-results_of (nat_eq n) fs ∙ ap (option_map (λ (m : HashMap Host Bool S). m.entries)) (updates n)) ∙ at)
+      where
+        by : (b : Bool) (o : Option (HashMap Host Bool S)) → u ≡ o → option_map (λ (m : HashMap Host Bool S). m.entries) (cond b o (lookup (nat_eq n) es)) ≡ Some [] → ⊥
+        by true None is h = none-some [] h
+        by true (Some m) is h =
+            let own : m.entries ≡ [] = cc in
+            some m is own
+        by false o is h = kept n (lookup-results_of (nat_eq n) es ∙ h)
 
     -- what the new map says of the number, by what the old one said
     pub changed_by : (f : Host → Option Bool → Option Bool) → ((h : Host) → inner u h ≡ f h (result_in (results_of es) number h))
@@ -114,6 +128,24 @@ module _ {S : Type 0} where
       by : (b : Bool) {r : Option Bool} → r ≡ None → None ≡ cond b None r
       by true e = refl
       by false e = sym e
+
+-- a map in which a host is found isn't empty
+pub found_some : {S : Type 0} (m : HashMap Host Bool S) (host : Host) (healthy : Bool) → lookup (host_same host) m.entries ≡ Some healthy → m.entries ≢ []
+found_some m host healthy at empty = none-some healthy (sym (ap (lookup (host_same host)) empty) ∙ at)
+
+-- the same map
+pub some_as : {S : Type 0} (m other : HashMap Host Bool S) → Some m ≡ Some other → m.entries ≢ [] → other.entries ≢ []
+some_as m other is some empty =
+    let own : m ≡ other = cc in
+    some ((λ i. (own i).entries) ∙ empty)
+
+-- a map without entries has no result
+pub none_found : {S : Type 0} (m : HashMap Host Bool S) (host : Host) → length m.entries ≡ 0 → None ≡ lookup (host_same host) m.entries
+none_found m host none = by m.entries none
+  where
+    by : (es : List (Host × Bool)) → length es ≡ 0 → None ≡ lookup (host_same host) es
+    by [] h = refl
+    by (e ∷ es) h = absurd (omega (arith, h))
 
 -- one more row of hosts, whose result is kept
 pub standing_kept : (has here : Bool) (old kept : Option Bool) (healthy : Bool) → kept ≡ cond has old None → (here ≡ true → old ≡ Some healthy)

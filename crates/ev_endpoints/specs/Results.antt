@@ -1,8 +1,8 @@
 -- Health results that are kept by number and host. Source: cluster manager warming of Envoy's documentation (a first result
 -- of each host is awaited).
-use Rattle.std.specs.Prelude.{◌≡◌, ℕ, Bool, not, ◌&&◌, nat_eq, if◌then◌else◌, List, [], Option, Some, None, map, unwrap_or}
+use Rattle.std.specs.Prelude.{◌≡◌, ◌≢◌, ℕ, Bool, false, not, ◌&&◌, ◌||◌, nat_eq, if◌then◌else◌, List, [], ◌∷◌, ◌++◌, Option, Some, None, map, unwrap_or}
 use Rattle.std.specs.Map.{lookup}
-use Rattle.std.specs.HashMap.{HashMap}
+use Rattle.std.specs.HashMap.{HashMap, get}
 use Rattle.ev_types.specs.SameHosts.{host_same, has_host}
 use Rattle.ev_types.specs.Hosts.{HostRowParts}
 use Rattle.ev_types.specs.declared.hosts.Host.{Host}
@@ -22,6 +22,26 @@ hosts_in kept number = unwrap_or (lookup (nat_eq number) kept) []
 -- the result of a host for the generation of this number
 abbrev pub result_in : ResultsKept → ℕ → Host → Option Bool
 result_in kept number host = lookup (host_same host) (hosts_in kept number)
+
+-- the row's host may be chosen for the generation of this number: it is usable, and healthy where its hosts are health checked
+abbrev pub is_eligible : ResultsKept → ℕ → Bool → HostRowParts → Bool
+is_eligible kept number checked row = row.usable && (not checked || unwrap_or (result_in kept number row.host) false)
+
+-- no number has a list without a result: without one it has no entry
+abbrev pub HasNoEmpty : ResultsKept → Type 0
+HasNoEmpty kept = (number : ℕ) → lookup (nat_eq number) kept ≢ Some []
+
+-- the number with these results stands behind the others
+abbrev pub Appends : {S : Type 0} → List (ℕ × HashMap Host Bool S) → List (ℕ × HashMap Host Bool S) → ℕ → List (Host × Bool) → Type 0
+Appends old new number hosts = results_of new ≡ results_of old ++ (number, hosts) ∷ []
+
+-- the host has this result, and of each other host the map has what it had
+abbrev pub Keeps : {S : Type 0} → HashMap Host Bool S → HashMap Host Bool S → Host → Bool → Type 0
+Keeps old new host healthy = (h : Host) → get host_same new h ≡ (if host_same host h then Some healthy else get host_same old h)
+
+-- of the hosts among these rows the map has what it had, and of no other
+abbrev pub KeepsAmong : {S : Type 0} → HashMap Host Bool S → HashMap Host Bool S → List HostRowParts → Type 0
+KeepsAmong old new rows = (h : Host) → get host_same new h ≡ (if has_host h rows then get host_same old h else None)
 
 -- the host has this result for this number, and every other result stays
 abbrev pub Notes : ResultsKept → ResultsKept → ℕ → Host → Bool → Type 0

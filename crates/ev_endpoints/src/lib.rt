@@ -1,32 +1,34 @@
 //! Health results by generation and host, found without a walk.
 #![tactic(auto)]
 
-ghost use Rattle.std.specs.Prelude.{◌≡◌, [], ◌∷◌, ◌++◌, nat_eq, ◌&&◌, ◌||◌, not, false, if◌then◌else◌, None, Some, IfOk, unwrap_or, is_some, length, OnOk, OnErr};
+ghost use Rattle.std.specs.Prelude.{◌≡◌, [], ◌∷◌, ◌++◌, nat_eq, ◌&&◌, ◌||◌, not, false, None, Some, IfOk, unwrap_or, is_some, length, OnOk, OnErr};
 ghost use Rattle.std.specs.List.{list_all};
 ghost use Rattle.ev_types.specs.Hosts.{HostRowParts};
-ghost use Rattle.ev_types.specs.SameHosts.{host_same, has_host};
+ghost use Rattle.ev_types.specs.SameHosts.{host_same};
 ghost use Rattle.ev_types.specs.declared.hosts.Host as declared;
 ghost use Rattle.indexmap.specs.IndexMap.{get};
-ghost use Rattle.ev_endpoints.specs.Results.{hosts_in, result_in, results_of, Notes, Forgets, Trims};
+ghost use Rattle.ev_endpoints.specs.Results.{hosts_in, result_in, results_of, Notes, Forgets, Trims, Appends, Keeps, KeepsAmong, is_eligible};
 
 use ev_types::{Assignment, Gen, Host, HostRow, TryCopy};
 use indexmap::IndexMap;
 use std::alloc::{AllocError, Global};
 use std::marker::Model;
 
-/// The last health result of each host for each generation. Contracts see the results as a list of lists, by number and by
-/// host, and look them up by `result_in`.
+/// The last health result of each host for each generation; a generation without a result has no entry. Contracts see the results
+/// as a list of lists, by number and by host, and look them up by `result_in`.
 #[derive(Drop)]
 pub struct Endpoints {
     results: IndexMap<u32, IndexMap<Host, bool>>,
 }
 
 impl Model for Endpoints {
-    ghost use Rattle.ev_endpoints.specs.Results.{ResultsKept, results_of};
+    ghost use Rattle.ev_endpoints.specs.Results.{ResultsKept, HasNoEmpty, results_of};
 
     ghost Value = { ResultsKept };
 
     ghost view = { λ e. results_of e.results.entries };
+
+    ghost invariant = { λ e. HasNoEmpty (results_of e.results.entries) };
 }
 
 impl Endpoints {
@@ -103,7 +105,7 @@ impl Endpoints {
 
     /// Whether a host may be chosen for the generation, where its hosts are health checked or not.
     pub fn eligible(&self, number: Gen, checked: bool, row: &HostRow) -> bool
-        ensures { result ≡ (row.now.usable && (not checked || unwrap_or (result_in self.now number row.now.host) false)) }
+        ensures { result ≡ is_eligible self.now number checked row.now }
     {
         row.usable && (!checked || self.result(number, &row.host).unwrap_or(false))
     }
@@ -125,6 +127,10 @@ impl Endpoints {
             return Ok(());
         };
         let kept = standing(alloc, hosts, rows.rows())?;
+        if kept.is_empty() {
+            self.results.swap_remove(&at);
+            return Ok(());
+        }
         let Ok(_) = self.results.insert(at, kept) else {
             return Err(AllocError);
         };
@@ -149,7 +155,7 @@ fn put_hosts(
     hosts: IndexMap<Host, bool>,
 ) -> Result<(), AllocError>
     requires { get nat_eq results.old number ≡ None }
-    ensures { OnOk result (results_of results.new.entries ≡ results_of results.old.entries ++ (number, hosts.entries) ∷ []) }
+    ensures { OnOk result (Appends results.old.entries results.new.entries number hosts.entries) }
 {
     let Ok(_) = results.insert(number, hosts) else {
         return Err(AllocError);
@@ -188,7 +194,7 @@ fn standing(
     hosts: &IndexMap<Host, bool>,
     rows: &[HostRow],
 ) -> Result<IndexMap<Host, bool>, AllocError>
-    ensures { IfOk result (λ kept. (h : declared.Host) → get host_same kept h ≡ (if has_host h rows.now then get host_same hosts.now h else None)) }
+    ensures { IfOk result (λ kept. KeepsAmong hosts.now kept rows.now) }
 {
     let mut kept = IndexMap::new(alloc);
     for row in rows {
@@ -201,7 +207,7 @@ fn standing(
 
 // Keeps one more result.
 fn put(hosts: &mut IndexMap<Host, bool>, host: Host, healthy: bool) -> Result<(), AllocError>
-    ensures { OnOk result ((h : declared.Host) → get host_same hosts.new h ≡ (if host_same host h then Some healthy else get host_same hosts.old h)) }
+    ensures { OnOk result (Keeps hosts.old hosts.new host healthy) }
 {
     let Ok(_) = hosts.insert(host, healthy) else {
         return Err(AllocError);

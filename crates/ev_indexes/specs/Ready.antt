@@ -1,6 +1,6 @@
 -- Which rows are due, by what is known of names and by the results that are kept: the machine's words, where what came is looked
 -- up. Source: cluster manager warming of Envoy's documentation.
-use Rattle.std.specs.Prelude.{⊤, ℕ, Bool, true, false, not, ◌&&◌, ◌||◌, List, [], Option, Some, None, is_some, option_map}
+use Rattle.std.specs.Prelude.{◌≡◌, ⊤, ℕ, if◌then◌else◌, Bool, true, false, not, ◌&&◌, ◌||◌, List, [], Option, Some, None, is_some, option_map}
 use Rattle.std.specs.List.{list_all}
 use Rattle.ev_types.specs.Hosts.{HostRowParts}
 use Rattle.ev_types.specs.SameHosts.{has_host}
@@ -16,6 +16,7 @@ use Rattle.ev_model.specs.Watching.{Dependency, dependency_of, is_limited}
 use Rattle.ev_model.specs.Warming.{rows_in, is_checked}
 use Rattle.ev_endpoints.specs.Results.{ResultsKept, result_in}
 use Rattle.ev_generations.specs.Tables.{row_in}
+use Rattle.ev_indexes.specs.Due.{is_among}
 use Rattle.ev_indexes.specs.Watched.{WatchesKept, watch_in}
 
 -- the name that a generation of this content depends on
@@ -76,3 +77,8 @@ is_due_found watches results (Some row) = is_due_in watches results row
 -- the row of this number is due
 abbrev pub is_due_at : WatchesKept → ResultsKept → ℕ → List GenRow → Bool
 is_due_at watches results number rows = is_due_found watches results (row_in number rows)
+
+-- of these numbers those are due whose rows are due, and of all others those that were
+abbrev pub Refreshes : WatchesKept → ResultsKept → List GenRow → List ℕ → List ℕ → List ℕ → Type 0
+Refreshes watches results rows numbers old new =
+    (number : ℕ) → is_among new number ≡ (if is_among numbers number then is_due_at watches results number rows else is_among old number)

@@ -8,10 +8,11 @@ use Rattle.ev_model.specs.declared.pictures.ServedCluster.{ServedCluster}
 use Rattle.ev_model.specs.declared.pictures.ServedListener.{ServedListener}
 use Rattle.ev_model.specs.World.{World, Arrived, HealthResult}
 use Rattle.ev_model.specs.Phase.{is_serving}
-use Rattle.ev_model.specs.Picture.{served_cluster, served_listener}
+use Rattle.ev_model.specs.Picture.{served_cluster, served_clusters, served_listener, served_listeners}
 use Rattle.ev_endpoints.specs.Results.{ResultsKept}
 use Rattle.ev_generations.specs.Tables.{row_in}
-use Rattle.ev_indexes.specs.Reads.{cluster_in, listener_in}
+use Rattle.ev_indexes.specs.declared.state.State.{State}
+use Rattle.ev_indexes.specs.Reads.{cluster_in, clusters_in, listener_in, listeners_in}
 use Rattle.ev_indexes.specs.Watched.{WatchesKept}
 
 -- what a picture shows of a row that is found: an active cluster
@@ -24,6 +25,10 @@ cluster_shown arrivals results (Some row) =
 abbrev pub cluster_at : World → ℕ → Option ServedCluster
 cluster_at world number = cluster_shown world.arrivals world.results (row_in number world.rows)
 
+-- what it shows of all clusters
+abbrev pub clusters_at : World → List ServedCluster
+clusters_at world = served_clusters world.arrivals world.results world.rows
+
 -- the first of these, where there is one
 abbrev pub first_of : List ServedListener → Option ServedListener
 first_of [] = None
@@ -35,9 +40,17 @@ listener_shown arrivals None = None
 listener_shown arrivals (Some row) =
     if kind_same row.kind Lds && is_active row.status then first_of (served_listener arrivals row row.content) else None
 
+-- what it shows of the listener of this number once listeners serve
+abbrev pub routed_at : World → ℕ → Option ServedListener
+routed_at world number = listener_shown world.arrivals (row_in number world.rows)
+
+-- what it shows of all listeners once they serve
+abbrev pub all_routed_at : World → List ServedListener
+all_routed_at world = served_listeners world.arrivals world.rows
+
 -- what it shows of the listener of this number: nothing before listeners serve
 abbrev pub listener_at : World → ℕ → Option ServedListener
-listener_at world number = if is_serving world.phase then listener_shown world.arrivals (row_in number world.rows) else None
+listener_at world number = if is_serving world.phase then routed_at world number else None
 
 -- the same of a state's row that is found, by what is known of names and the results that are kept: an active cluster
 abbrev pub cluster_shown_in : WatchesKept → ResultsKept → Option GenRow → Option ServedCluster
@@ -48,3 +61,19 @@ cluster_shown_in watches results (Some row) = if is_active row.status then Some 
 abbrev pub listener_shown_in : WatchesKept → Option GenRow → Option ServedListener
 listener_shown_in watches None = None
 listener_shown_in watches (Some row) = if is_active row.status then first_of (listener_in watches row row.content) else None
+
+-- a state's active clusters with what is known of them, in the order of their names
+abbrev pub clusters_of : State → List ServedCluster
+clusters_of s = clusters_in s.watches s.results s.table.rows
+
+-- the same of the cluster of this number
+abbrev pub cluster_of : State → ℕ → Option ServedCluster
+cluster_of s number = cluster_shown_in s.watches s.results (row_in number s.table.rows)
+
+-- a state's active listeners with what is known of them, in the order of their names
+abbrev pub listeners_of : State → List ServedListener
+listeners_of s = listeners_in s.watches s.table.rows
+
+-- the same of the listener of this number
+abbrev pub listener_of : State → ℕ → Option ServedListener
+listener_of s number = listener_shown_in s.watches (row_in number s.table.rows)

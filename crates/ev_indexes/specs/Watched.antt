@@ -4,7 +4,7 @@ use Rattle.std.specs.Prelude.{ℕ, Bool, true, false, not, nat_eq, if◌then◌e
 use Rattle.ev_types.specs.declared.rows.Arrival.{Arrival}
 use Rattle.ev_types.specs.declared.rows.Arrival.TheVariants.{Value, Absent, Bad, TimedOut}
 use Rattle.ev_indexes.specs.declared.watches.Watch.{Watch}
-use Rattle.ev_indexes.specs.Kept.{kept_at}
+use Rattle.ev_indexes.specs.Kept.{kept_at, Sets}
 
 -- names with what is known of each
 abbrev pub WatchesKept : Type 0
@@ -17,6 +17,10 @@ unwatched = record { rows = []; limited = []; told = false; timed = false; value
 -- what is known of this name
 abbrev pub watch_in : WatchesKept → List ℕ → Watch
 watch_in kept name = kept_at unwatched kept name
+
+-- what is known of the name turns into what the change makes of it, and every other name's stays
+abbrev pub Turns : (Watch → Watch) → WatchesKept → WatchesKept → List ℕ → Type 0
+Turns change old new name = Sets unwatched old new name (change (watch_in old name))
 
 -- one more generation depends on the name
 abbrev pub watched_too : ℕ → Bool → Watch → Watch

@@ -9,6 +9,7 @@ use Rattle.ev_types.specs.declared.contents.Kind.TheVariants.{Cds, Eds, Lds, Rds
 use Rattle.ev_types.specs.declared.hosts.Host.{Host}
 use Rattle.ev_types.specs.declared.rows.GenRow.{GenRow}
 use Rattle.ev_model.specs.World.{World}
+use Rattle.ev_model.specs.Watching.{is_by_name}
 use Rattle.ev_model.specs.Warming.{value_by, is_told_by, is_timed_by, has_result, is_healthy}
 use Rattle.ev_endpoints.specs.Results.{result_in}
 use Rattle.ev_generations.specs.Tables.{IsTable, row_in}
@@ -45,3 +46,15 @@ pub record StandsFor (s : State) (world : World) : Type 0 where
   pub value : (name : List ℕ) → (watch_in s.watches name).value ≡ value_by world.arrivals (needs_of s.kind) name
   pub resulted : (number : ℕ) (host : Host) → IsSome (row_in number s.table.rows) → is_some (result_in s.results number host) ≡ has_result world.results number host
   pub healthy : (number : ℕ) (host : Host) → IsSome (row_in number s.table.rows) → unwrap_or (result_in s.results number host) false ≡ is_healthy world.results number host
+
+-- it is so in every world that the state stands for
+abbrev pub InWorlds : State → (World → Type 0) → Type 0
+InWorlds s Said = (world : World) → StandsFor s world → Said world
+
+-- where the state is of this kind, it is so in every world that it stands for
+abbrev pub InWorldsOf : Kind → State → (World → Type 0) → Type 0
+InWorldsOf kind s Said = s.kind ≡ kind → InWorlds s Said
+
+-- where rows of the state's kind wait for names, it is so in every world that it stands for, of the kind of these names
+abbrev pub InWorldsWatching : State → (World → Kind → Type 0) → Type 0
+InWorldsWatching s Said = (world : World) → is_by_name s.kind ≡ false → StandsFor s world → Said world (needs_of s.kind)

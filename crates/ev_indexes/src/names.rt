@@ -1,4 +1,4 @@
-ghost use Rattle.std.specs.Prelude.{◌≡◌, [], IsSome, OnOk};
+ghost use Rattle.std.specs.Prelude.{◌≡◌, [], Decides, IsSome, OnOk};
 ghost use Rattle.std.specs.Map.{lookup};
 ghost use Rattle.std.specs.Str.{bytes_eq};
 ghost use Rattle.ev_indexes.specs.Kept.{Sets};
@@ -25,11 +25,14 @@ pub struct Names {
 }
 
 impl Model for Names {
-    ghost use Rattle.ev_indexes.specs.Standings.{NamesKept};
+    ghost use Rattle.ev_indexes.specs.Kept.{HasNoDefault};
+    ghost use Rattle.ev_indexes.specs.Standings.{NamesKept, nobody};
 
     ghost Value = { NamesKept };
 
     ghost view = { λ n. n.names.entries };
+
+    ghost invariant = { λ n. HasNoDefault nobody n.names.entries };
 }
 
 impl Names {
@@ -66,6 +69,10 @@ impl Names {
     pub fn enter(&mut self, name: Name, standing: Standing) -> Result<(), AllocError>
         ensures { OnOk result (Sets nobody self.old self.new name standing) }
     {
+        if is_nobody(&standing) {
+            self.names.swap_remove(&name);
+            return Ok(());
+        }
         let Ok(_) = self.names.insert(name, standing) else {
             return Err(AllocError);
         };
@@ -77,7 +84,7 @@ impl Names {
         requires { IsSome (lookup (bytes_eq name.now) self.old) }
         ensures { Sets nobody self.old self.new name.now standing }
     {
-        if standing.active.is_none() && standing.warming.is_none() {
+        if is_nobody(&standing) {
             self.names.swap_remove(name);
             return;
         }
@@ -86,6 +93,13 @@ impl Names {
         };
         *place = standing;
     }
+}
+
+// Whether no generation stands.
+fn is_nobody(standing: &Standing) -> bool
+    ensures { Decides result (standing.now ≡ nobody) }
+{
+    standing.active.is_none() && standing.warming.is_none()
 }
 
 impl TryCopy for Names {

@@ -1,11 +1,10 @@
 ghost use Rattle.std.specs.Prelude.{◌≡◌, ◌||◌, not, is_some};
-ghost use Rattle.std.specs.List.{list_any};
-ghost use Rattle.ev_model.specs.World.{World};
 ghost use Rattle.ev_model.specs.Live.{lives_of, newest_of};
 ghost use Rattle.ev_model.specs.Phase.{has_come};
-ghost use Rattle.ev_indexes.specs.Indexes.{IsIndexed, serves, warms};
+ghost use Rattle.ev_indexes.specs.Indexes.{IsIndexed};
 ghost use Rattle.ev_indexes.specs.Newest.{later_number, newest_in, found_in};
-ghost use Rattle.ev_indexes.specs.Worlds.{StandsFor};
+ghost use Rattle.ev_indexes.specs.Worlds.{InWorlds};
+ghost use Rattle.ev_indexes.specs.Reads.{has_come_in};
 
 use crate::{Standing, State};
 use ev_generations::Generations;
@@ -17,7 +16,7 @@ impl State {
     pub fn newest(&self, name: &str) -> Option<LiveRow<'_>>
         requires indexed { IsIndexed self.now }
         ensures rows { result ≡ newest_in self.now.table.rows name.now }
-        ensures world { (world : World) → StandsFor self.now world → result ≡ newest_of (lives_of world) self.now.kind name.now }
+        ensures world { InWorlds self.now (λ world. result ≡ newest_of (lives_of world) self.now.kind name.now) }
     {
         found(&self.table, later(self.names.standing_of(name)))
     }
@@ -25,8 +24,8 @@ impl State {
     /// Whether nothing is waited for under the name: it serves, or nothing of it is live. It costs a look-up of the name.
     pub fn has_come(&self, name: &str) -> bool
         requires indexed { IsIndexed self.now }
-        ensures rows { result ≡ (list_any (serves name.now) self.now.table.rows || not (list_any (warms name.now) self.now.table.rows)) }
-        ensures world { (world : World) → StandsFor self.now world → result ≡ has_come world.rows self.now.kind name.now }
+        ensures rows { result ≡ has_come_in self.now.table.rows name.now }
+        ensures world { InWorlds self.now (λ world. result ≡ has_come world.rows self.now.kind name.now) }
     {
         is_settled(self.names.standing_of(name))
     }

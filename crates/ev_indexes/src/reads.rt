@@ -1,16 +1,12 @@
-ghost use Rattle.std.specs.Prelude.{◌≡◌, ◌++◌, [], ◌∷◌, ◌&&◌, ◌||◌, not, false, map, filter, IfOk, OnOk};
+ghost use Rattle.std.specs.Prelude.{◌≡◌, ◌++◌, [], ◌∷◌, ◌&&◌, ◌||◌, not, map, IfOk, OnOk};
 ghost use Rattle.std.specs.List.{list_any};
-ghost use Rattle.ev_types.specs.Kinds.{kind_same};
-ghost use Rattle.ev_types.specs.declared.rows.Live.{Live};
-ghost use Rattle.ev_model.specs.World.{World};
 ghost use Rattle.ev_model.specs.Live.{live_of, lives_of};
-ghost use Rattle.ev_model.specs.Signals.{is_awaited};
-ghost use Rattle.ev_model.specs.Watching.{is_by_name, is_watched};
+ghost use Rattle.ev_model.specs.Watching.{is_watched};
 ghost use Rattle.ev_indexes.specs.Due.{is_filled};
 ghost use Rattle.ev_generations.specs.Tables.{numbers_of};
 ghost use Rattle.ev_indexes.specs.Indexes.{IsIndexed, depends_on, numbers_where};
-ghost use Rattle.ev_indexes.specs.Reads.{live_rows, is_timeout_due};
-ghost use Rattle.ev_indexes.specs.Worlds.{StandsFor, needs_of};
+ghost use Rattle.ev_indexes.specs.Reads.{live_rows, is_timeout_due, is_awaited_at, seen_at};
+ghost use Rattle.ev_indexes.specs.Worlds.{InWorlds, InWorldsWatching};
 
 use crate::{State, Watch};
 use ev_generations::Generations;
@@ -23,7 +19,7 @@ impl State {
     pub fn is_watched(&self, name: &str) -> bool
         requires indexed { IsIndexed self.now }
         ensures rows { result ≡ list_any (depends_on name.now) self.now.table.rows }
-        ensures world { (world : World) → is_by_name self.now.kind ≡ false → StandsFor self.now world → result ≡ is_watched (lives_of world) (needs_of self.now.kind) name.now }
+        ensures world { InWorldsWatching self.now (λ world kind. result ≡ is_watched (lives_of world) kind name.now) }
     {
         match self.watches.get_text(name) {
             Some(watch) => is_filled(&watch.rows),
@@ -47,7 +43,7 @@ impl State {
     pub fn timeout_due(&self, name: &Name) -> bool
         requires indexed { IsIndexed self.now }
         ensures rows { result ≡ is_timeout_due self.now.watches self.now.table.rows name.now }
-        ensures world { (world : World) → is_by_name self.now.kind ≡ false → StandsFor self.now world → result ≡ is_awaited world.arrivals world.rows (needs_of self.now.kind) name.now }
+        ensures world { InWorldsWatching self.now (λ world kind. result ≡ is_awaited_at world kind name.now) }
     {
         match self.watches.get(name) {
             Some(watch) => is_awaited(watch),
@@ -58,7 +54,7 @@ impl State {
     /// The live generations, in order, as verdicts take them. It goes over the whole table.
     pub fn live<'a>(&'a self, alloc: Global) -> Result<Vec<LiveRow<'a>>, AllocError>
         ensures rows { IfOk result (λ lives. lives.items ≡ map live_of (live_rows self.now.table.rows)) }
-        ensures world { IfOk result (λ lives. (world : World) → StandsFor self.now world → lives.items ≡ filter (λ (live : Live). kind_same live.kind self.now.kind) (lives_of world)) }
+        ensures world { IfOk result (λ lives. InWorlds self.now (λ world. lives.items ≡ seen_at world self.now.kind)) }
     {
         lives(alloc, &self.table)
     }

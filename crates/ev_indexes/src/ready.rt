@@ -1,11 +1,10 @@
-ghost use Rattle.std.specs.Prelude.{◌≡◌, ◌+◌, Some, ℕ, if◌then◌else◌, length, OnOk};
+ghost use Rattle.std.specs.Prelude.{◌≡◌, ◌+◌, Some, length, OnOk};
 ghost use Rattle.std.specs.Option.{option_copied};
 ghost use Rattle.ev_types.specs.Texts.{IsName};
 ghost use Rattle.ev_model.specs.Watching.{is_limited};
 ghost use Rattle.ev_model.specs.Warming.{rows_in};
-ghost use Rattle.ev_indexes.specs.Due.{is_among};
 ghost use Rattle.ev_indexes.specs.Watched.{watch_in};
-ghost use Rattle.ev_indexes.specs.Ready.{name_needed, IsNeedName, are_results_in, is_answered_in, is_round_done_in, is_ready_in, is_due_at};
+ghost use Rattle.ev_indexes.specs.Ready.{name_needed, IsNeedName, are_results_in, is_answered_in, is_round_done_in, is_ready_in, Refreshes};
 
 use crate::{Due, Watches};
 use ev_endpoints::Endpoints;
@@ -118,7 +117,7 @@ pub fn refresh<L: Ledger>(
     numbers: &[Gen],
     steps: &mut Steps<L>,
 ) -> Result<(), AllocError>
-    ensures due { OnOk result ((n : ℕ) → is_among due.new n ≡ (if is_among numbers.now n then is_due_at watches.now results.now n table.now.rows else is_among due.old n)) }
+    ensures due { OnOk result (Refreshes watches.now results.now table.now.rows numbers.now due.old due.new) }
     ensures steps { OnOk result (steps.new ≡ steps.old + length numbers.now) }
 {
     for number in numbers {

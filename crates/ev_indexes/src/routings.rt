@@ -1,19 +1,16 @@
-ghost use Rattle.std.specs.Prelude.{◌≡◌, ◌++◌, [], ◌∷◌, Some, map, filter, option_to_list, IfOk, OnOk};
+ghost use Rattle.std.specs.Prelude.{◌≡◌, ◌++◌, [], ◌∷◌, Some, map, option_to_list, IfOk, OnOk};
 ghost use Rattle.std.specs.Str.{bytes_eq};
-ghost use Rattle.std.specs.List.{IsDistinct, flat_map};
-ghost use Rattle.ev_types.specs.Statuses.{is_active};
+ghost use Rattle.std.specs.List.{IsDistinct};
 ghost use Rattle.ev_types.specs.declared.contents.Kind.TheVariants.{Lds};
 ghost use Rattle.ev_types.specs.declared.rows.GenRow as declared;
-ghost use Rattle.ev_model.specs.World.{World};
 ghost use Rattle.ev_model.specs.Sorted.{sorted_by};
 ghost use Rattle.ev_model.specs.Versions.{is_before};
-ghost use Rattle.ev_model.specs.Picture.{served_listeners, table_in};
-ghost use Rattle.ev_generations.specs.Tables.{row_in};
+ghost use Rattle.ev_model.specs.Picture.{table_in};
 ghost use Rattle.ev_indexes.specs.Indexes.{IsIndexed};
-ghost use Rattle.ev_indexes.specs.Reads.{listener_in, listeners_in, routing_in};
-ghost use Rattle.ev_indexes.specs.Shown.{first_of, listener_shown, listener_shown_in};
+ghost use Rattle.ev_indexes.specs.Reads.{listener_in, routing_in, listeners_found};
+ghost use Rattle.ev_indexes.specs.Shown.{first_of, listener_shown_in, listener_of, listeners_of, routed_at, all_routed_at};
 ghost use Rattle.ev_indexes.specs.Watched.{watch_in};
-ghost use Rattle.ev_indexes.specs.Worlds.{StandsFor};
+ghost use Rattle.ev_indexes.specs.Worlds.{InWorldsOf};
 
 use crate::{State, Watches};
 use ev_generations::Generations;
@@ -26,8 +23,8 @@ impl State {
     /// names; where no routes came there are none. It goes over the whole table.
     pub fn listeners(&self, alloc: Global) -> Result<Seq<ServedListener>, AllocError>
         requires indexed { IsIndexed self.now }
-        ensures rows { IfOk result (λ served. served ≡ listeners_in self.now.watches self.now.table.rows) }
-        ensures world { IfOk result (λ served. self.now.kind ≡ Lds → (world : World) → StandsFor self.now world → served ≡ served_listeners world.arrivals world.rows) }
+        ensures rows { IfOk result (λ served. served ≡ listeners_of self.now) }
+        ensures world { IfOk result (λ served. InWorldsOf Lds self.now (λ world. served ≡ all_routed_at world)) }
     {
         let mut served = listeners(alloc, &self.watches, &self.table)?;
         sort(&mut served);
@@ -38,8 +35,8 @@ impl State {
     /// costs a look-up of the number, and one of the name that the listener depends on.
     pub fn listener(&self, alloc: Global, number: Gen) -> Result<Option<ServedListener>, AllocError>
         requires indexed { IsIndexed self.now }
-        ensures rows { IfOk result (λ served. served ≡ listener_shown_in self.now.watches (row_in number self.now.table.rows)) }
-        ensures world { IfOk result (λ served. self.now.kind ≡ Lds → (world : World) → StandsFor self.now world → served ≡ listener_shown world.arrivals (row_in number world.rows)) }
+        ensures rows { IfOk result (λ served. served ≡ listener_of self.now number) }
+        ensures world { IfOk result (λ served. InWorldsOf Lds self.now (λ world. served ≡ routed_at world number)) }
     {
         match self.table.get(number) {
             Some(row) => active_listener(alloc, &self.watches, row),
@@ -89,7 +86,7 @@ fn listeners(
     watches: &Watches,
     table: &Generations,
 ) -> Result<Vec<ServedListener>, AllocError>
-    ensures { IfOk result (λ served. served.items ≡ flat_map (λ (row : declared.GenRow). listener_in watches.now row row.content) (filter (λ (row : declared.GenRow). is_active row.status) table.now.rows)) }
+    ensures { IfOk result (λ served. served.items ≡ listeners_found watches.now table.now.rows) }
 {
     let mut served = Vec::new(alloc);
     for row in table.rows() {
@@ -105,7 +102,7 @@ fn push_listener(
     row: &GenRow,
     served: &mut Vec<ServedListener>,
 ) -> Result<(), AllocError>
-    ensures { OnOk result (served.new.items ≡ served.old.items ++ flat_map (λ (r : declared.GenRow). listener_in watches.now r r.content) (filter (λ (r : declared.GenRow). is_active r.status) (row.now ∷ []))) }
+    ensures { OnOk result (served.new.items ≡ served.old.items ++ listeners_found watches.now (row.now ∷ [])) }
 {
     if !row.status.is_active() {
         return Ok(());

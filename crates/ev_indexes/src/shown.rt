@@ -1,20 +1,15 @@
 ghost use Rattle.std.specs.Prelude.{◌≡◌, ◌<◌, ◌++◌, [], ◌∷◌, Some, map, filter, length, IfOk, OnOk};
 ghost use Rattle.std.specs.Str.{bytes_eq};
 ghost use Rattle.std.specs.List.{IsDistinct};
-ghost use Rattle.ev_types.specs.Statuses.{is_active};
 ghost use Rattle.ev_types.specs.declared.contents.Kind.TheVariants.{Cds};
 ghost use Rattle.ev_types.specs.declared.limits.TheConstants.{ROW_LIMIT};
 ghost use Rattle.ev_types.specs.declared.rows.GenRow as declared;
-ghost use Rattle.ev_model.specs.World.{World};
 ghost use Rattle.ev_model.specs.Sorted.{sorted_by};
 ghost use Rattle.ev_model.specs.Versions.{is_before};
-ghost use Rattle.ev_model.specs.Picture.{served_clusters};
-ghost use Rattle.ev_generations.specs.Tables.{row_in};
-ghost use Rattle.ev_indexes.specs.Ready.{assignment_in};
 ghost use Rattle.ev_indexes.specs.Indexes.{IsIndexed};
-ghost use Rattle.ev_indexes.specs.Reads.{is_eligible_in, cluster_in, clusters_in};
-ghost use Rattle.ev_indexes.specs.Shown.{cluster_at, cluster_shown_in};
-ghost use Rattle.ev_indexes.specs.Worlds.{StandsFor};
+ghost use Rattle.ev_indexes.specs.Reads.{is_eligible_in, cluster_in, cluster_found, clusters_found, eligible_in};
+ghost use Rattle.ev_indexes.specs.Shown.{cluster_at, cluster_shown_in, clusters_at, clusters_of, cluster_of};
+ghost use Rattle.ev_indexes.specs.Worlds.{InWorldsOf};
 
 use crate::hosts::{assignment, is_checked};
 use crate::{State, Watches};
@@ -29,8 +24,8 @@ impl State {
     /// goes over the whole table.
     pub fn clusters(&self, alloc: Global) -> Result<Seq<ServedCluster>, AllocError>
         requires indexed { IsIndexed self.now }
-        ensures rows { IfOk result (λ served. served ≡ clusters_in self.now.watches self.now.results self.now.table.rows) }
-        ensures world { IfOk result (λ served. self.now.kind ≡ Cds → (world : World) → StandsFor self.now world → served ≡ served_clusters world.arrivals world.results world.rows) }
+        ensures rows { IfOk result (λ served. served ≡ clusters_of self.now) }
+        ensures world { IfOk result (λ served. InWorldsOf Cds self.now (λ world. served ≡ clusters_at world)) }
     {
         let mut served = clusters(alloc, &self.watches, &self.results, &self.table)?;
         sort(&mut served);
@@ -41,8 +36,8 @@ impl State {
     /// look-up of the number and of the name that the cluster depends on, and one of each of its hosts.
     pub fn cluster(&self, alloc: Global, number: Gen) -> Result<Option<ServedCluster>, AllocError>
         requires indexed { IsIndexed self.now }
-        ensures rows { IfOk result (λ served. served ≡ cluster_shown_in self.now.watches self.now.results (row_in number self.now.table.rows)) }
-        ensures world { IfOk result (λ served. self.now.kind ≡ Cds → (world : World) → StandsFor self.now world → served ≡ cluster_at world number) }
+        ensures rows { IfOk result (λ served. served ≡ cluster_of self.now number) }
+        ensures world { IfOk result (λ served. InWorldsOf Cds self.now (λ world. served ≡ cluster_at world number)) }
     {
         match self.table.get(number) {
             Some(row) => active_cluster(alloc, &self.watches, &self.results, row),
@@ -89,7 +84,7 @@ fn clusters(
     results: &Endpoints,
     table: &Generations,
 ) -> Result<Vec<ServedCluster>, AllocError>
-    ensures { IfOk result (λ served. served.items ≡ map (cluster_in watches.now results.now) (filter (λ (row : declared.GenRow). is_active row.status) table.now.rows)) }
+    ensures { IfOk result (λ served. served.items ≡ clusters_found watches.now results.now table.now.rows) }
 {
     let mut served = Vec::new(alloc);
     for row in table.rows() {
@@ -106,7 +101,7 @@ fn push_cluster(
     row: &GenRow,
     served: &mut Vec<ServedCluster>,
 ) -> Result<(), AllocError>
-    ensures { OnOk result (served.new.items ≡ served.old.items ++ map (cluster_in watches.now results.now) (filter (λ (r : declared.GenRow). is_active r.status) (row.now ∷ []))) }
+    ensures { OnOk result (served.new.items ≡ served.old.items ++ cluster_found watches.now results.now row.now) }
 {
     if row.status.is_active() {
         served.push(cluster(alloc, watches, results, row)?)?;
@@ -121,7 +116,7 @@ fn eligible(
     results: &Endpoints,
     row: &GenRow,
 ) -> Result<Assignment, AllocError>
-    ensures { IfOk result (λ hosts. hosts ≡ filter (is_eligible_in results.now row.now) (assignment_in watches.now row.now.content)) }
+    ensures { IfOk result (λ hosts. hosts ≡ eligible_in watches.now results.now row.now) }
 {
     match assignment(watches, &row.content) {
         Some(hosts) => Ok(Assignment::new(choose(alloc, results, row, hosts.rows())?)),

@@ -1,8 +1,7 @@
-ghost use Rattle.std.specs.Prelude.{◌≡◌, ◌++◌, [], ◌∷◌, false, IfOk, OnOk};
-ghost use Rattle.ev_model.specs.World.{World};
-ghost use Rattle.ev_model.specs.Watching.{is_by_name, watched_of, sorted_names};
+ghost use Rattle.std.specs.Prelude.{◌≡◌, ◌++◌, [], ◌∷◌, IfOk, OnOk};
+ghost use Rattle.ev_model.specs.Watching.{watched_of, sorted_names};
 ghost use Rattle.ev_indexes.specs.Reads.{names_needed, names_watched};
-ghost use Rattle.ev_indexes.specs.Worlds.{StandsFor, needs_of};
+ghost use Rattle.ev_indexes.specs.Worlds.{InWorldsWatching};
 
 use crate::{State, needed};
 use ev_generations::Generations;
@@ -13,7 +12,7 @@ impl State {
     /// The names that live generations depend on, in the order of their bytes, each once. It goes over the whole table.
     pub fn watched(&self, alloc: Global) -> Result<Seq<Name>, AllocError>
         ensures rows { IfOk result (λ names. names ≡ names_watched self.now.table.rows) }
-        ensures world { IfOk result (λ names. (world : World) → is_by_name self.now.kind ≡ false → StandsFor self.now world → names ≡ watched_of world (needs_of self.now.kind)) }
+        ensures world { IfOk result (λ names. InWorldsWatching self.now (λ world kind. names ≡ watched_of world kind)) }
     {
         let mut names = needs(alloc, &self.table)?;
         sort(&mut names);

@@ -1,9 +1,9 @@
-ghost use Rattle.std.specs.Prelude.{◌≡◌, [], IsSome, OnOk};
+ghost use Rattle.std.specs.Prelude.{◌≡◌, ◌≢◌, [], Decides, IsSome, OnOk, OnErr};
 ghost use Rattle.std.specs.Map.{lookup};
 ghost use Rattle.std.specs.Option.{option_copied};
 ghost use Rattle.std.specs.Str.{bytes_eq};
 ghost use Rattle.ev_indexes.specs.Kept.{Sets};
-ghost use Rattle.ev_indexes.specs.Watched.{unwatched, watch_in, watched_too, watched_less, with_arrival, without_number};
+ghost use Rattle.ev_indexes.specs.Watched.{Turns, unwatched, watched_too, watched_less, with_arrival, without_number};
 
 use crate::copies::copy_map;
 use ev_mentions::NameKey;
@@ -23,18 +23,21 @@ pub struct Watch {
     pub value: Option<Content>,
 }
 
-/// By name what is known of it.
+/// By name what is known of it. A name of which nothing is known has no entry.
 #[derive(Drop)]
 pub struct Watches {
     watches: IndexMap<Name, Watch>,
 }
 
 impl Model for Watches {
-    ghost use Rattle.ev_indexes.specs.Watched.{WatchesKept};
+    ghost use Rattle.ev_indexes.specs.Kept.{HasNoDefault};
+    ghost use Rattle.ev_indexes.specs.Watched.{WatchesKept, unwatched};
 
     ghost Value = { WatchesKept };
 
     ghost view = { λ w. w.watches.entries };
+
+    ghost invariant = { λ w. HasNoDefault unwatched w.watches.entries };
 }
 
 impl Watches {
@@ -69,7 +72,7 @@ impl Watches {
         number: Gen,
         limited: bool,
     ) -> Result<(), AllocError>
-        ensures { OnOk result (Sets unwatched self.old self.new name.now (watched_too number limited (watch_in self.old name.now))) }
+        ensures { OnOk result (Turns (watched_too number limited) self.old self.new name.now) }
     {
         if let Some(watch) = self.watches.get_mut(name) {
             return add(watch, number, limited);
@@ -84,18 +87,21 @@ impl Watches {
 
     /// A generation no longer depends on the name. It takes no memory.
     pub fn unwatch(&mut self, name: &Name, number: Gen)
-        ensures { Sets unwatched self.old self.new name.now (watched_less number (watch_in self.old name.now)) }
+        ensures { Turns (watched_less number) self.old self.new name.now }
     {
-        if let Some(watch) = self.watches.get_mut(name) {
-            leave_out(&mut watch.rows, number);
-            leave_out(&mut watch.limited, number);
+        let Some(watch) = self.watches.get_mut(name) else {
+            return;
+        };
+        leave(watch, number);
+        if is_nothing(watch) {
+            self.watches.swap_remove(name);
         }
     }
 
     /// Something came for the name. Without memory nothing is promised.
     pub fn tell(&mut self, alloc: Global, name: &Name, arrival: &Arrival) -> Result<(), AllocError>
         requires { IsSome (lookup (bytes_eq name.now) self.old) }
-        ensures { OnOk result (Sets unwatched self.old self.new name.now (with_arrival arrival.now (watch_in self.old name.now))) }
+        ensures { OnOk result (Turns (with_arrival arrival.now) self.old self.new name.now) }
     {
         let Some(watch) = self.watches.get_mut(name) else {
             unreachable!()
@@ -132,9 +138,22 @@ fn nothing(alloc: Global) -> Watch
     }
 }
 
+// Whether nothing is known.
+fn is_nothing(watch: &Watch) -> bool
+    ensures { Decides result (watch.now ≡ unwatched) }
+{
+    !watch.told
+        && !watch.timed
+        && watch.value.is_none()
+        && watch.rows.is_empty()
+        && watch.limited.is_empty()
+}
+
 // One more generation depends on a name.
 fn add(watch: &mut Watch, number: Gen, limited: bool) -> Result<(), AllocError>
-    ensures { OnOk result (watch.new ≡ watched_too number limited watch.old) }
+    ensures ok { OnOk result (watch.new ≡ watched_too number limited watch.old) }
+    ensures some { OnOk result (watch.new ≢ unwatched) }
+    ensures err { OnErr result (watch.old ≢ unwatched → watch.new ≢ unwatched) }
 {
     watch.rows.push(number)?;
     if limited {
@@ -143,9 +162,19 @@ fn add(watch: &mut Watch, number: Gen, limited: bool) -> Result<(), AllocError>
     Ok(())
 }
 
+// A generation no longer depends on a name.
+fn leave(watch: &mut Watch, number: Gen)
+    ensures { watch.new ≡ watched_less number watch.old }
+{
+    leave_out(&mut watch.rows, number);
+    leave_out(&mut watch.limited, number);
+}
+
 // Something came for a name.
 fn note(alloc: Global, watch: &mut Watch, arrival: &Arrival) -> Result<(), AllocError>
-    ensures { OnOk result (watch.new ≡ with_arrival arrival.now watch.old) }
+    ensures ok { OnOk result (watch.new ≡ with_arrival arrival.now watch.old) }
+    ensures some { OnOk result (watch.new ≢ unwatched) }
+    ensures err { OnErr result (watch.new ≡ watch.old) }
 {
     match arrival {
         Arrival::Value(content) => {

@@ -1,7 +1,8 @@
-ghost use Rattle.std.specs.Prelude.{◌≡◌, ◌&&◌, ◌||◌, List, ℕ, false, nat_le, length, IfOk, OnOk};
+ghost use Rattle.std.specs.Prelude.{◌≡◌, ◌&&◌, List, ℕ, false, nat_le, length, IfOk, OnOk};
 ghost use Rattle.std.specs.Str.{bytes_eq};
 ghost use Rattle.indexmap.specs.IndexSet.{contains};
 ghost use Rattle.ev_model.specs.Verdicts.{items_named, is_among, is_removed};
+ghost use Rattle.ev_mentions.specs.Mentions.{HasNamed, Puts, PutsAgain};
 
 use crate::keys::NameKey;
 use ev_types::{Item, Response, Text};
@@ -92,8 +93,8 @@ fn note_all<'a>(
 ) -> Result<(), AllocError>
     requires named { (name : List ℕ) → contains bytes_eq named.old name ≡ false }
     requires twice { (name : List ℕ) → contains bytes_eq twice.old name ≡ false }
-    ensures named { OnOk result ((name : List ℕ) → contains bytes_eq named.new name ≡ nat_le 1 (length (items_named name items.now))) }
-    ensures twice { OnOk result ((name : List ℕ) → contains bytes_eq twice.new name ≡ nat_le 2 (length (items_named name items.now))) }
+    ensures named { OnOk result (HasNamed 1 items.now (contains bytes_eq named.new)) }
+    ensures twice { OnOk result (HasNamed 2 items.now (contains bytes_eq twice.new)) }
 {
     for item in items {
         note(item.name.as_str(), named, twice)?;
@@ -107,8 +108,8 @@ fn note<'a>(
     named: &mut IndexSet<NameKey<'a>>,
     twice: &mut IndexSet<NameKey<'a>>,
 ) -> Result<(), AllocError>
-    ensures named { OnOk result ((other : List ℕ) → contains bytes_eq named.new other ≡ (bytes_eq name.now other || contains bytes_eq named.old other)) }
-    ensures twice { OnOk result ((other : List ℕ) → contains bytes_eq twice.new other ≡ (bytes_eq name.now other && contains bytes_eq named.old name.now || contains bytes_eq twice.old other)) }
+    ensures named { OnOk result (Puts named.old named.new name.now) }
+    ensures twice { OnOk result (PutsAgain named.old twice.old twice.new name.now) }
 {
     if named.contains(&NameKey::new(name)) {
         insert(twice, name)
@@ -119,7 +120,7 @@ fn note<'a>(
 
 // Puts the name into the set.
 fn insert<'a>(set: &mut IndexSet<NameKey<'a>>, name: &'a str) -> Result<(), AllocError>
-    ensures { OnOk result ((other : List ℕ) → contains bytes_eq set.new other ≡ (bytes_eq name.now other || contains bytes_eq set.old other)) }
+    ensures { OnOk result (Puts set.old set.new name.now) }
 {
     let Ok(_) = set.insert(NameKey::new(name)) else {
         return Err(AllocError);

@@ -1,3 +1,5 @@
 pub mod Held
 pub mod Subscriptions
 pub mod Texts
+pub mod Asked
+pub mod Sets

@@ -1,12 +1,15 @@
 -- What a subscription knows, and which worlds it stands for. Source: the xDS transport protocol, incremental variant.
 use Rattle.std.specs.Prelude.{◌≡◌, ℕ, Bool, true, false, not, ◌&&◌, List, filter}
 use Rattle.std.specs.List.{list_any}
+use Rattle.ev_types.specs.Items.{ItemParts}
 use Rattle.ev_types.specs.Kinds.{kind_same}
 use Rattle.ev_types.specs.declared.contents.Kind.{Kind}
 use Rattle.ev_types.specs.declared.contents.Kind.TheVariants.{Cds, Eds, Lds, Rds}
 use Rattle.ev_types.specs.declared.rows.KeptVersion.{KeptVersion}
 use Rattle.ev_model.specs.World.{World}
 use Rattle.ev_model.specs.Live.{lives_of}
+use Rattle.ev_model.specs.Rows.{keep_version, with_content}
+use Rattle.ev_model.specs.Tidy.{without_unwatched}
 use Rattle.ev_model.specs.Verdicts.{is_among}
 use Rattle.ev_model.specs.Versions.{is_version_of}
 use Rattle.ev_model.specs.Watching.{is_watched}
@@ -60,3 +63,29 @@ without_versions kind names versions = filter (λ (kept : KeptVersion). not (kin
 pub record AreEnded (kind : Kind) (names : List (List ℕ)) (world : World) : Type 0 where
   pub ended : (name : List ℕ) → is_among name names ≡ true → is_watched (lives_of world) kind name ≡ false
   pub others : (name : List ℕ) → list_any (is_version_of kind name) world.versions ≡ true → is_among name names ≡ false → is_watched (lives_of world) kind name ≡ true
+
+-- it is so in every world that the subscription stands for
+abbrev pub InWorlds : SubscriptionParts → (World → Type 0) → Type 0
+InWorlds subscription Said = (world : World) → StandsFor subscription world → Said world
+
+-- whatever world the old one stood for, the new one stands for what the change makes of it
+abbrev pub StandsAfter : (World → World) → SubscriptionParts → SubscriptionParts → Type 0
+StandsAfter change old new = (world : World) → StandsFor old world → StandsFor new (change world)
+
+-- the world with the version of this item, where its body is good
+abbrev pub with_good : Kind → ItemParts → World → World
+with_good kind item world = with_content (λ content. keep_version kind item) item.body world
+
+-- the world with its stream open, or not
+abbrev pub with_stream : Bool → World → World
+with_stream is_open world = record world { stream = is_open }
+
+-- the world with its versions changed so
+abbrev pub with_versions : (List KeptVersion → List KeptVersion) → World → World
+with_versions change world = record world { versions = change world.versions }
+
+-- whatever world the old one stood for, where these are the names of endpoints and routes that nobody watches any more, the new one
+-- stands for that world without what isn't watched
+abbrev pub StandsWithoutEnded : List (List ℕ) → List (List ℕ) → SubscriptionParts → SubscriptionParts → Type 0
+StandsWithoutEnded endpoints routes old new =
+    (world : World) → StandsFor old world → AreEnded Eds endpoints world → AreEnded Rds routes world → StandsFor new (without_unwatched world)

@@ -1,8 +1,10 @@
-ghost use Rattle.std.specs.Prelude.{◌≡◌, ◌++◌, ◌∷◌, [], ℕ, List, ◌||◌, not, filter, IfOk, OnOk};
+ghost use Rattle.std.specs.Prelude.{◌≡◌, ◌++◌, ◌∷◌, [], ℕ, List, IfOk, OnOk};
 ghost use Rattle.std.specs.Str.{bytes_eq};
 ghost use Rattle.indexmap.specs.IndexSet.{contains};
 ghost use Rattle.ev_model.specs.Requests.{other_than};
 ghost use Rattle.ev_model.specs.Verdicts.{is_among};
+ghost use Rattle.ev_mentions.specs.Mentions.{Puts};
+ghost use Rattle.ev_subscription.specs.Sets.{names_outside};
 
 use ev_mentions::NameKey;
 use ev_types::{Name, Seq, TryCopy};
@@ -56,7 +58,7 @@ fn set_of<'a>(alloc: Global, names: &'a [Name]) -> Result<IndexSet<NameKey<'a>>,
 
 // Puts the name into the set.
 fn insert<'a>(set: &mut IndexSet<NameKey<'a>>, name: &'a str) -> Result<(), AllocError>
-    ensures { OnOk result ((other : List ℕ) → contains bytes_eq set.new other ≡ (bytes_eq name.now other || contains bytes_eq set.old other)) }
+    ensures { OnOk result (Puts set.old set.new name.now) }
 {
     let Ok(_) = set.insert(NameKey::new(name)) else {
         return Err(AllocError);
@@ -70,7 +72,7 @@ fn outside(
     set: &IndexSet<NameKey<'_>>,
     names: &[Name],
 ) -> Result<Vec<Name>, AllocError>
-    ensures { IfOk result (λ left. left.items ≡ filter (λ name. not (contains bytes_eq set.now name)) names.now) }
+    ensures { IfOk result (λ left. left.items ≡ names_outside set.now names.now) }
 {
     let mut left = Vec::new(alloc);
     for name in names {
@@ -86,7 +88,7 @@ fn push_outside(
     name: &Name,
     left: &mut Vec<Name>,
 ) -> Result<(), AllocError>
-    ensures { OnOk result (left.new.items ≡ left.old.items ++ filter (λ n. not (contains bytes_eq set.now n)) (name.now ∷ [])) }
+    ensures { OnOk result (left.new.items ≡ left.old.items ++ names_outside set.now (name.now ∷ [])) }
 {
     if !set.contains(&NameKey::new(name.as_str())) {
         left.push(name.copy(alloc)?)?;

@@ -1,7 +1,8 @@
-ghost use Rattle.std.specs.Prelude.{◌≡◌, ◌++◌, [], ◌∷◌, Some, None, if◌then◌else◌, IfOk, OnOk, option_to_list};
+ghost use Rattle.std.specs.Prelude.{◌≡◌, ◌++◌, [], Some, None, IfOk, OnOk};
 ghost use Rattle.ev_model.specs.World.{World};
-ghost use Rattle.ev_model.specs.Requests.{Watched, connect_requests_by, clusters_request, listeners_request, listeners_asked, names_request, other_than, requests_by, whole_request};
-ghost use Rattle.ev_subscription.specs.Subscriptions.{StandsFor};
+ghost use Rattle.ev_model.specs.Requests.{Watched, connect_requests_by, clusters_request, listeners_request, names_request, other_than, requests_by};
+ghost use Rattle.ev_subscription.specs.Subscriptions.{StandsFor, InWorlds};
+ghost use Rattle.ev_subscription.specs.Asked.{AsksWhole, bare_request, clusters_request_in};
 
 use crate::changes::NameChange;
 use crate::subscription::Subscription;
@@ -62,7 +63,7 @@ impl Subscription {
 
     // The first request of a stream: all clusters are asked for, and the node is named.
     fn clusters_request(&self, alloc: Global) -> Result<Request, AllocError>
-        ensures { IfOk result (λ request. (world : World) → StandsFor self.now world → request ≡ clusters_request world.node world.versions) }
+        ensures { IfOk result (λ request. InWorlds self.now (λ world. request ≡ clusters_request_in world)) }
     {
         let mut request = request_of(alloc, Kind::Cds, self.versions(alloc, Kind::Cds)?);
         request.node = Some(self.node().copy(alloc)?);
@@ -71,7 +72,7 @@ impl Subscription {
 
     // All listeners are asked for.
     fn listeners_request(&self, alloc: Global) -> Result<Request, AllocError>
-        ensures { IfOk result (λ request. (world : World) → StandsFor self.now world → request ≡ listeners_request world.versions) }
+        ensures { IfOk result (λ request. InWorlds self.now (λ world. request ≡ listeners_request world.versions)) }
     {
         Ok(request_of(alloc, Kind::Lds, self.versions(alloc, Kind::Lds)?))
     }
@@ -84,7 +85,7 @@ impl Subscription {
         names: &Seq<Name>,
         requests: &mut Seq<Request>,
     ) -> Result<(), AllocError>
-        ensures { OnOk result ((world : World) → StandsFor self.now world → requests.new ≡ requests.old ++ whole_request kind names.now world.versions) }
+        ensures { OnOk result (AsksWhole kind names.now self.now requests.old requests.new) }
     {
         if names.len() == 0 {
             return Ok(());
@@ -97,7 +98,7 @@ impl Subscription {
 
 // A request that asks for all of a kind, with these versions.
 fn request_of(alloc: Global, kind: Kind, versions: Seq<(Name, Text)>) -> Request
-    ensures { result ≡ record { kind = kind; node = None; subscribe = []; unsubscribe = []; versions = versions; nonce = None; error = None } }
+    ensures { result ≡ bare_request kind versions }
 {
     Request {
         kind,

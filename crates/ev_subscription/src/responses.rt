@@ -1,7 +1,7 @@
 ghost use Rattle.std.specs.Prelude.{◌≡◌, OnOk, length};
 ghost use Rattle.ev_model.specs.World.{World};
-ghost use Rattle.ev_model.specs.Rows.{add_item, add_items, keep_version, with_content, with_removals};
-ghost use Rattle.ev_subscription.specs.Subscriptions.{StandsFor};
+ghost use Rattle.ev_model.specs.Rows.{add_item, add_items, with_removals};
+ghost use Rattle.ev_subscription.specs.Subscriptions.{StandsFor, StandsAfter, with_good};
 
 use crate::subscription::Subscription;
 use ev_mentions::Mentions;
@@ -38,7 +38,7 @@ impl Subscription {
         items: &[Item],
     ) -> Result<(), AllocError>
         requires { length verdicts.now ≡ length items.now }
-        ensures { OnOk result ((world : World) → StandsFor self.old world → StandsFor self.new (add_items kind verdicts.now items.now world)) }
+        ensures { OnOk result (StandsAfter (add_items kind verdicts.now items.now) self.old self.new) }
     {
         for (place, item) in items.iter().enumerate() {
             self.keep(alloc, kind, verdicts[place], item)?;
@@ -54,7 +54,7 @@ impl Subscription {
         verdict: Verdict,
         item: &Item,
     ) -> Result<(), AllocError>
-        ensures { OnOk result ((world : World) → StandsFor self.old world → StandsFor self.new (add_item kind verdict item.now world)) }
+        ensures { OnOk result (StandsAfter (add_item kind verdict item.now) self.old self.new) }
     {
         match verdict {
             Verdict::New | Verdict::Same | Verdict::Kept => self.keep_good(alloc, kind, item),
@@ -68,7 +68,7 @@ impl Subscription {
 
     // The version of a resource, where its body is good.
     fn keep_good(&mut self, alloc: Global, kind: Kind, item: &Item) -> Result<(), AllocError>
-        ensures { OnOk result ((world : World) → StandsFor self.old world → StandsFor self.new (with_content (λ content. keep_version kind item.now) item.now.body world)) }
+        ensures { OnOk result (StandsAfter (with_good kind item.now) self.old self.new) }
     {
         let Body::Good(_) = &item.body else {
             return Ok(());

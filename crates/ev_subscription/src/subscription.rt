@@ -2,12 +2,11 @@ ghost use Rattle.std.specs.Prelude.{◌≡◌, [], false, map, if◌then◌else�
 ghost use Rattle.ev_types.specs.declared.contents.Kind.{Kind};
 ghost use Rattle.ev_types.specs.declared.contents.Kind.TheVariants.{Eds, Rds};
 ghost use Rattle.ev_model.specs.Rows.{versions_left};
-ghost use Rattle.ev_model.specs.Tidy.{without_unwatched};
 ghost use Rattle.ev_model.specs.Verdicts.{is_removed};
 ghost use Rattle.ev_model.specs.Versions.{is_bounded, is_kept, renewed, versions_of, with_version, without_version};
 ghost use Rattle.ev_model.specs.World.{World};
 ghost use Rattle.ev_subscription.specs.Held.{versions_in};
-ghost use Rattle.ev_subscription.specs.Subscriptions.{AreEnded, StandsFor, held_of, with_held, without_versions};
+ghost use Rattle.ev_subscription.specs.Subscriptions.{StandsFor, held_of, with_held, without_versions, InWorlds, StandsAfter, StandsWithoutEnded, with_stream, with_versions};
 
 use crate::names::VersionName;
 use crate::versions::{self, Held, Versions};
@@ -83,7 +82,7 @@ impl Subscription {
 
     /// A stream opens, or is lost.
     pub fn set_stream(&mut self, is_open: bool)
-        ensures stands { (world : World) → StandsFor self.old world → StandsFor self.new (record world { stream = is_open }) }
+        ensures stands { StandsAfter (with_stream is_open) self.old self.new }
     {
         self.stream = is_open;
     }
@@ -129,7 +128,7 @@ impl Subscription {
     /// Whether this version is held of the kind and name.
     pub fn is_kept(&self, kind: Kind, name: &str, version: &str) -> bool
         ensures held { result ≡ is_kept (held_of self.now kind) kind name.now version.now }
-        ensures stands { (world : World) → StandsFor self.now world → result ≡ is_kept world.versions kind name.now version.now }
+        ensures stands { InWorlds self.now (λ world. result ≡ is_kept world.versions kind name.now version.now) }
     {
         versions::is_kept(self.of(kind), name, version)
     }
@@ -137,7 +136,7 @@ impl Subscription {
     /// Whether the life of the resource of this kind and name is bounded.
     pub fn is_bounded(&self, kind: Kind, name: &str) -> bool
         ensures held { result ≡ is_bounded (held_of self.now kind) kind name.now }
-        ensures stands { (world : World) → StandsFor self.now world → result ≡ is_bounded world.versions kind name.now }
+        ensures stands { InWorlds self.now (λ world. result ≡ is_bounded world.versions kind name.now) }
     {
         versions::is_bounded(self.of(kind), name)
     }
@@ -173,7 +172,7 @@ impl Subscription {
     pub fn forget(&mut self, kind: Kind, name: &str)
         ensures held { self.new ≡ with_held kind (without_version kind name.now (held_of self.old kind)) self.old }
         // Whatever world it stood for, it stands for that world without this version.
-        ensures stands { (world : World) → StandsFor self.old world → StandsFor self.new (record world { versions = without_version kind name.now world.versions }) }
+        ensures stands { StandsAfter (with_versions (without_version kind name.now)) self.old self.new }
     {
         let mut versions = self.take(kind);
         versions::forget(&mut versions, name);
@@ -184,7 +183,7 @@ impl Subscription {
     pub fn renew(&mut self, kind: Kind, name: &str)
         ensures held { self.new ≡ with_held kind (renewed kind name.now (held_of self.old kind)) self.old }
         // Whatever world it stood for, it stands for that world where the life of this resource is bounded.
-        ensures stands { (world : World) → StandsFor self.old world → StandsFor self.new (record world { versions = renewed kind name.now world.versions }) }
+        ensures stands { StandsAfter (with_versions (renewed kind name.now)) self.old self.new }
     {
         let mut versions = self.take(kind);
         versions::bound(&mut versions, name);
@@ -194,7 +193,7 @@ impl Subscription {
     /// Forgets the versions of the names that a response of this kind removes, by what it mentions. It takes no memory, and looks
     /// at the removed names alone.
     pub fn forget_removed(&mut self, kind: Kind, mentions: &Mentions<'_>)
-        ensures { (world : World) → StandsFor self.old world → StandsFor self.new (record world { versions = versions_left kind mentions.now world.versions }) }
+        ensures { StandsAfter (with_versions (versions_left kind mentions.now)) self.old self.new }
     {
         for name in mentions.response().removed.as_slice() {
             self.forget_where_removed(kind, mentions, name.as_str());
@@ -216,8 +215,7 @@ impl Subscription {
     pub fn forget_unwatched(&mut self, endpoints: &Seq<Name>, routes: &Seq<Name>)
         // Whatever world it stood for, where no other name that is held of either kind is one that nobody watches, it stands for
         // that world without what isn't watched.
-        ensures { (world : World) → StandsFor self.old world → AreEnded Eds endpoints.now world → AreEnded Rds routes.now world
-            → StandsFor self.new (without_unwatched world) }
+        ensures { StandsWithoutEnded endpoints.now routes.now self.old self.new }
     {
         self.forget_all(Kind::Eds, endpoints.as_slice());
         self.forget_all(Kind::Rds, routes.as_slice());
@@ -225,7 +223,7 @@ impl Subscription {
 
     // Forgets the versions of these names of a kind.
     fn forget_all(&mut self, kind: Kind, names: &[Name])
-        ensures { (world : World) → StandsFor self.old world → StandsFor self.new (record world { versions = without_versions kind names.now world.versions }) }
+        ensures { StandsAfter (with_versions (without_versions kind names.now)) self.old self.new }
     {
         for name in names {
             self.forget(kind, name.as_str());
@@ -235,7 +233,7 @@ impl Subscription {
     /// Each name of a kind with its version, in the order of the names.
     pub fn versions(&self, alloc: Global, kind: Kind) -> Result<Seq<(Name, Text)>, AllocError>
         ensures list { IfOk result (λ list. list ≡ map (λ kept. (kept.name, kept.version)) (held_of self.now kind)) }
-        ensures stands { IfOk result (λ list. (world : World) → StandsFor self.now world → list ≡ versions_of kind world.versions) }
+        ensures stands { IfOk result (λ list. InWorlds self.now (λ world. list ≡ versions_of kind world.versions)) }
     {
         versions::list(alloc, self.of(kind))
     }

@@ -1,7 +1,8 @@
 ghost use Rattle.std.specs.Prelude.{◌≡◌, ◌<◌, ◌||◌, ◌++◌, [], ◌∷◌, None, false, true, not, is_some, length, if◌then◌else◌, IfOk, IfSome, OnOk};
 ghost use Rattle.std.specs.List.{list_all};
-ghost use Rattle.ev_model.specs.Rows.{made_names, noted_once};
+ghost use Rattle.ev_model.specs.Rows.{made_names};
 ghost use Rattle.ev_model.specs.Phase.{have_come};
+ghost use Rattle.ev_targets.specs.Targets.{names_noted};
 
 use crate::waited::Waited;
 use ev_types::{Item, Response, Seq, Text, TryCopy, Verdict};
@@ -46,7 +47,7 @@ impl First {
         verdicts: &[Verdict],
     ) -> Result<(), AllocError>
         requires one_each { length verdicts.now ≡ length response.now.items }
-        ensures names { OnOk result (self.new.names ≡ noted_once self.old.names (made_names verdicts.now response.now.items)) }
+        ensures names { OnOk result (self.new.names ≡ names_noted self.old verdicts.now response.now) }
         ensures late { OnOk result (self.new.late ≡ self.old.late) }
     {
         if self.names.is_some() {

@@ -9,15 +9,12 @@
 //! - `advance` takes both managers, and asks the listeners only where the first clusters have come.
 #![tactic(auto)]
 
-ghost use Rattle.std.specs.Prelude.{◌≡◌, ◌&&◌, ◌||◌, not, ℕ, List, true, length, is_some, if◌then◌else◌, OnOk};
-ghost use Rattle.ev_model.specs.World.{World, opening};
-ghost use Rattle.ev_model.specs.Rows.{made_names, with_first};
+ghost use Rattle.std.specs.Prelude.{◌≡◌, ◌&&◌, not, ℕ, List, true, length, if◌then◌else◌, OnOk};
+ghost use Rattle.ev_model.specs.World.{opening};
 ghost use Rattle.ev_model.specs.Phase.{have_come, is_clusters, listeners_phase, phase_from};
-ghost use Rattle.ev_model.specs.Tidy.{with_phase};
 ghost use Rattle.ev_clusters.specs.Clusters.{AreKept as AreClustersKept};
-ghost use Rattle.ev_listeners.specs.Listeners.{AreKept as AreListenersKept, StandsFor as ListenersStandFor};
-ghost use Rattle.ev_indexes.specs.Worlds.{StandsFor as ClustersStandFor};
-ghost use Rattle.ev_targets.specs.Targets.{StandsFor, come_in};
+ghost use Rattle.ev_listeners.specs.Listeners.{AreKept as AreListenersKept};
+ghost use Rattle.ev_targets.specs.Targets.{StandsFor, InWorlds, StandAfter, MoveOn, awaits_clusters, awaits_listeners, clusters_come, listeners_come, with_late_clusters, with_late_listeners, with_first_made};
 
 mod first;
 mod waited;
@@ -66,7 +63,7 @@ impl Targets {
     /// How far the proxy has booted.
     pub fn phase(&self) -> Phase
         ensures value { result ≡ self.now.phase }
-        ensures world { (world : World) → StandsFor self.now world → result ≡ world.phase }
+        ensures world { InWorlds self.now (λ world. result ≡ world.phase) }
     {
         self.phase
     }
@@ -82,7 +79,7 @@ impl Targets {
     ) -> Result<(), AllocError>
         requires one_each { length verdicts.now ≡ length response.now.items }
         // Whatever world it stood for, it stands for that world with the names noted.
-        ensures stands { OnOk result ((world : World) → StandsFor self.old world → StandsFor self.new (with_first kind (made_names verdicts.now response.now.items) world)) }
+        ensures stands { OnOk result (StandAfter (with_first_made kind verdicts.now response.now) self.old self.new) }
     {
         match kind {
             Kind::Cds => self.clusters.note(alloc, response, verdicts),
@@ -95,9 +92,9 @@ impl Targets {
     /// came or they are late already.
     pub fn clusters_timeout(&mut self) -> bool
         ensures late { self.new ≡ (if result then record self.old { late_clusters = true } else self.old) }
-        ensures heard { (world : World) → StandsFor self.old world → result ≡ not (is_some world.first_clusters || world.late_clusters) }
+        ensures heard { InWorlds self.old (λ world. result ≡ awaits_clusters world) }
         // Whatever world it stood for, it stands for that world with the mark, where the timeout isn't ignored.
-        ensures stands { (world : World) → StandsFor self.old world → StandsFor self.new (if result then record world { late_clusters = true } else world) }
+        ensures stands { StandAfter (with_late_clusters result) self.old self.new }
     {
         self.clusters.time_out()
     }
@@ -105,9 +102,9 @@ impl Targets {
     /// The fetch timeout of listeners: the same, and it is ignored also while the first clusters are awaited.
     pub fn listeners_timeout(&mut self) -> bool
         ensures late { self.new ≡ (if result then record self.old { late_listeners = true } else self.old) }
-        ensures heard { (world : World) → StandsFor self.old world → result ≡ not (is_clusters world.phase || (is_some world.first_listeners || world.late_listeners)) }
+        ensures heard { InWorlds self.old (λ world. result ≡ awaits_listeners world) }
         // Whatever world it stood for, it stands for that world with the mark, where the timeout isn't ignored.
-        ensures stands { (world : World) → StandsFor self.old world → StandsFor self.new (if result then record world { late_listeners = true } else world) }
+        ensures stands { StandAfter (with_late_listeners result) self.old self.new }
     {
         if let Phase::Clusters = self.phase {
             return false;
@@ -123,12 +120,12 @@ impl Targets {
         requires listeners { AreListenersKept listeners.now }
         ensures phase { self.new ≡ record self.old {
           phase = phase_from
-              (have_come self.old.late_clusters (come_in clusters.now.state) self.old.first_clusters)
-              (have_come self.old.late_listeners (come_in listeners.now.state) self.old.first_listeners) self.old.phase;
+              (clusters_come self.old clusters.now.state)
+              (listeners_come self.old listeners.now.state) self.old.phase;
         } }
         ensures left { result ≡ (is_clusters self.old.phase && not (is_clusters self.new.phase)) }
         // Whatever world all three stood for, it stands for that world in the phase that follows.
-        ensures stands { (world : World) → StandsFor self.old world → ClustersStandFor clusters.now.state world → ListenersStandFor listeners.now world → StandsFor self.new (with_phase world) }
+        ensures stands { MoveOn clusters.now.state listeners.now self.old self.new }
     {
         let before = self.phase;
         self.phase = self.phase_after(clusters, listeners);
@@ -140,8 +137,8 @@ impl Targets {
         requires clusters { AreClustersKept clusters.now }
         requires listeners { AreListenersKept listeners.now }
         ensures phase { result ≡ phase_from
-            (have_come self.old.late_clusters (come_in clusters.now.state) self.old.first_clusters)
-            (have_come self.old.late_listeners (come_in listeners.now.state) self.old.first_listeners) self.old.phase }
+            (clusters_come self.old clusters.now.state)
+            (listeners_come self.old listeners.now.state) self.old.phase }
         ensures same { self.new ≡ self.old }
     {
         match self.phase {
@@ -159,7 +156,7 @@ impl Targets {
     // The phase that follows once listeners are awaited.
     fn listeners_phase(&mut self, listeners: &Listeners) -> Phase
         requires listeners { AreListenersKept listeners.now }
-        ensures phase { result ≡ listeners_phase (have_come self.old.late_listeners (come_in listeners.now.state) self.old.first_listeners) }
+        ensures phase { result ≡ listeners_phase (listeners_come self.old listeners.now.state) }
         ensures same { self.new ≡ self.old }
     {
         if self.listeners.have_come(listeners) {

@@ -1,6 +1,6 @@
 -- The verdicts by the answers to look-ups, and by what the response itself made so far. That they are the verdicts over the live
 -- rows and the versions is proved.
-use Rattle.std.specs.Prelude.{ℕ, Bool, false, not, ◌&&◌, ◌||◌, if◌then◌else◌, List, [], ◌∷◌, ◌++◌, map, filter, Option, Some, None}
+use Rattle.std.specs.Prelude.{◌≡◌, ℕ, Bool, false, not, ◌&&◌, ◌||◌, if◌then◌else◌, List, [], ◌∷◌, ◌++◌, map, filter, Option, Some, None}
 use Rattle.std.specs.List.{list_any}
 use Rattle.std.specs.Str.{bytes_eq}
 use Rattle.ev_types.specs.Items.{ItemParts, ResponseParts}
@@ -13,10 +13,11 @@ use Rattle.ev_types.specs.declared.contents.Content.{Content}
 use Rattle.ev_types.specs.declared.events.Verdict.{Verdict}
 use Rattle.ev_types.specs.declared.events.Verdict.TheVariants.{New, Same, Kept, Unasked, Renewed, Refused}
 use Rattle.ev_types.specs.declared.hosts.Host.{Host}
+use Rattle.ev_types.specs.declared.rows.KeptVersion.{KeptVersion}
 use Rattle.ev_types.specs.declared.rows.Live.{Live}
-use Rattle.ev_model.specs.Verdicts.{is_removed, twice_rule, removed_rule, form_rule, lesser, listening_address, shares_address, against}
+use Rattle.ev_model.specs.Verdicts.{is_removed, twice_rule, removed_rule, form_rule, lesser, listening_address, shares_address, against, verdicts_of}
 use Rattle.ev_model.specs.Watching.{is_by_name}
-use Rattle.ev_verdicts.specs.Known.{Answers}
+use Rattle.ev_verdicts.specs.Known.{Answers, Tells}
 
 -- what a response made so far: names, each with the address of a listener
 abbrev pub MadeKept : Type 0
@@ -42,26 +43,37 @@ stays kind response made live = not (kind_same live.kind kind && (is_removed res
 abbrev pub has_other : List ℕ → List (List ℕ) → Bool
 has_other name names = list_any (λ n. not (bytes_eq n name)) names
 
+-- one of these live rows still is after the response, and has another name
+abbrev pub has_another : Kind → ResponseParts → MadeKept → List ℕ → List Live → Bool
+has_another kind response made name lives = list_any (λ (live : Live). stays kind response made live && not (bytes_eq live.name name)) lives
+
 -- of those that hold the address one has another name
 abbrev pub is_held : Kind → ResponseParts → Answers → MadeKept → List ℕ → Host → Bool
 is_held kind response answers made name address =
-    list_any (λ (live : Live). stays kind response made live && not (bytes_eq live.name name)) (answers.holders address)
-    || has_other name (names_at address made)
+    has_another kind response made name (answers.holders address) || has_other name (names_at address made)
 
 -- a listener of another name has the address
 abbrev pub is_taken_by : Kind → ResponseParts → Answers → MadeKept → List ℕ → Option Host → Bool
 is_taken_by kind response answers made name None = false
 is_taken_by kind response answers made name (Some address) = is_held kind response answers made name address
 
+-- a listener of another name has the address that this content listens at
+abbrev pub is_taken_for : ResponseParts → Answers → MadeKept → List ℕ → Content → Bool
+is_taken_for response answers made name content = is_taken_by Lds response answers made name (listening_address content)
+
 -- somebody hears a resource of this kind and name
 abbrev pub is_heard_by : Answers → Kind → List ℕ → Bool
 is_heard_by answers kind name = not (is_by_name kind) || answers.watched kind name
+
+-- the version isn't the one that is kept, and somebody hears the resource
+abbrev pub is_stale : Answers → Kind → ItemParts → Bool
+is_stale answers kind item = not (answers.kept kind item.name item.version) && is_heard_by answers kind item.name
 
 -- a heartbeat is stale
 abbrev pub stale_by : Answers → Kind → ItemParts → Body → Option ℕ
 stale_by answers kind item (Good content) = None
 stale_by answers kind item (Bad rule) = None
-stale_by answers kind item Beat = if not (answers.kept kind item.name item.version) && is_heard_by answers kind item.name then Some 1 else None
+stale_by answers kind item Beat = if is_stale answers kind item then Some 1 else None
 
 -- the least rule that the resource breaks, the addresses that are taken left aside
 abbrev pub rule_by : Answers → Kind → ResponseParts → ItemParts → Option ℕ
@@ -72,7 +84,7 @@ rule_by answers kind response item =
 abbrev pub good_by : Answers → ResponseParts → MadeKept → List ℕ → Content → Kind → Verdict
 good_by answers response made name content Cds = against (answers.newest Cds name) content
 good_by answers response made name content Lds =
-    if is_taken_by Lds response answers made name (listening_address content) then Refused 15 else against (answers.newest Lds name) content
+    if is_taken_for response answers made name content then Refused 15 else against (answers.newest Lds name) content
 good_by answers response made name content Eds = if answers.watched Eds name then Kept else Unasked
 good_by answers response made name content Rds = if answers.watched Rds name then Kept else Unasked
 
@@ -82,10 +94,14 @@ body_by answers kind response made item (Good content) = good_by answers respons
 body_by answers kind response made item (Bad rule) = Refused rule
 body_by answers kind response made item Beat = if answers.kept kind item.name item.version then Renewed else Unasked
 
+-- the same by the item's own body
+abbrev pub by_its_body : Answers → Kind → ResponseParts → MadeKept → ItemParts → Verdict
+by_its_body answers kind response made item = body_by answers kind response made item item.body
+
 -- the verdict by the rule that is broken
 abbrev pub ruled : Answers → Kind → ResponseParts → MadeKept → ItemParts → Option ℕ → Verdict
 ruled answers kind response made item (Some rule) = Refused rule
-ruled answers kind response made item None = body_by answers kind response made item item.body
+ruled answers kind response made item None = by_its_body answers kind response made item
 
 -- the verdict on a resource
 abbrev pub judged : Answers → Kind → ResponseParts → MadeKept → ItemParts → Verdict
@@ -108,3 +124,17 @@ all_judged answers kind response made [] = []
 all_judged answers kind response made (item ∷ items) =
     let verdict = judged answers kind response made item in
     verdict ∷ all_judged answers kind response (made_by verdict item.name item.body made) items
+
+-- the verdicts on these resources, before which the response made nothing
+abbrev pub judged_first : Answers → Kind → ResponseParts → List ItemParts → List Verdict
+judged_first answers kind response items = all_judged answers kind response [] items
+
+-- the verdicts on a response's resources
+abbrev pub response_judged : Answers → Kind → ResponseParts → List Verdict
+response_judged answers kind response = judged_first answers kind response response.items
+
+-- the verdicts are those over the live rows and the versions of which the answers tell
+abbrev pub AreVerdicts : Answers → ResponseParts → List Verdict → Type 0
+AreVerdicts answers response verdicts =
+    (kind : Kind) (lives : List Live) (versions : List KeptVersion) → response.kind ≡ Some kind → Tells answers kind lives versions
+    → verdicts ≡ verdicts_of lives versions response

@@ -1,9 +1,10 @@
 -- The table by which the rows that a response made are found by address.
-use Rattle.std.specs.Prelude.{◌≡◌, ℕ, List, []}
+use Rattle.std.specs.Prelude.{◌≡◌, ◌++◌, ℕ, if◌then◌else◌, List, [], ◌∷◌, Option, Some}
 use Rattle.std.specs.Option.{unwrap_or}
 use Rattle.indexmap.specs.IndexMap.{IndexMap, get}
 use Rattle.ev_types.specs.SameHosts.{host_same}
 use Rattle.ev_types.specs.declared.hosts.Host.{Host}
+use Rattle.ev_model.specs.Verdicts.{shares_address}
 use Rattle.ev_verdicts.specs.Judged.{MadeKept, names_at}
 
 -- the names that a table has at an address; no entry is none
@@ -13,3 +14,11 @@ names_in table address = unwrap_or (get host_same table address) []
 -- the names at each address are what a search finds
 abbrev pub AreByAddress : {S : Type 0} → MadeKept → IndexMap Host (List (List ℕ)) S → Type 0
 AreByAddress made table = (address : Host) → names_in table address ≡ names_at address made
+
+-- the new table has the name with its address behind the others
+abbrev pub AddsName : {S : Type 0} → IndexMap (List ℕ) (Option Host) S → IndexMap (List ℕ) (Option Host) S → List ℕ → Option Host → Type 0
+AddsName old new name address = new.entries ≡ old.entries ++ (name, address) ∷ []
+
+-- at the address, where there is one, the new table has the name behind the others, and at each other the names that it had
+abbrev pub AddsAt : {S : Type 0} → IndexMap Host (List (List ℕ)) S → IndexMap Host (List (List ℕ)) S → List ℕ → Option Host → Type 0
+AddsAt old new name address = (a : Host) → names_in new a ≡ names_in old a ++ (if shares_address address (Some a) then name ∷ [] else [])

@@ -1,14 +1,9 @@
-ghost use Rattle.std.specs.Prelude.{◌≡◌, ◌&&◌, not, List, [], IfOk, IsSome, Some, length, if◌then◌else◌};
-ghost use Rattle.std.specs.List.{list_any};
-ghost use Rattle.std.specs.Str.{bytes_eq};
+ghost use Rattle.std.specs.Prelude.{◌≡◌, ◌&&◌, IfOk, IsSome, Some, length, if◌then◌else◌};
 ghost use Rattle.ev_types.specs.declared.contents.Kind.{Kind};
 ghost use Rattle.ev_types.specs.declared.contents.Kind.TheVariants.{Lds};
 ghost use Rattle.ev_types.specs.declared.events.Verdict.TheVariants.{Kept, Renewed, Unasked};
-ghost use Rattle.ev_types.specs.declared.rows.KeptVersion.{KeptVersion};
-ghost use Rattle.ev_types.specs.declared.rows.Live.{Live};
-ghost use Rattle.ev_model.specs.Verdicts.{verdicts_of, against, listening_address};
-ghost use Rattle.ev_verdicts.specs.Known.{Tells};
-ghost use Rattle.ev_verdicts.specs.Judged.{all_judged, judged, body_by, good_by, is_taken_by, is_held, made_by, stays};
+ghost use Rattle.ev_model.specs.Verdicts.{against};
+ghost use Rattle.ev_verdicts.specs.Judged.{judged, good_by, is_held, made_by, stays, AreVerdicts, response_judged, judged_first, by_its_body, is_taken_for, has_another};
 
 use crate::addresses::address_of;
 use crate::known::Known;
@@ -28,8 +23,7 @@ pub fn verdicts<K: Known>(
     response: &Response,
 ) -> Result<Seq<Verdict>, AllocError>
     requires { IsSome response.now.kind }
-    ensures verdicts { IfOk result (λ verdicts. (kind : Kind) (lives : List Live) (versions : List KeptVersion) → response.now.kind ≡ Some kind
-        → Tells (K.answers known.now) kind lives versions → verdicts ≡ verdicts_of lives versions response.now) }
+    ensures verdicts { IfOk result (λ verdicts. AreVerdicts (K.answers known.now) response.now verdicts) }
     ensures one_each { IfOk result (λ verdicts. length verdicts ≡ length response.now.items) }
 {
     let mentions = Mentions::of(alloc, response)?;
@@ -43,8 +37,7 @@ pub fn verdicts_by_mentions<K: Known>(
     mentions: &Mentions<'_>,
 ) -> Result<Seq<Verdict>, AllocError>
     requires { IsSome mentions.now.kind }
-    ensures verdicts { IfOk result (λ verdicts. (kind : Kind) (lives : List Live) (versions : List KeptVersion) → mentions.now.kind ≡ Some kind
-        → Tells (K.answers known.now) kind lives versions → verdicts ≡ verdicts_of lives versions mentions.now) }
+    ensures verdicts { IfOk result (λ verdicts. AreVerdicts (K.answers known.now) mentions.now verdicts) }
     ensures one_each { IfOk result (λ verdicts. length verdicts ≡ length mentions.now.items) }
 {
     let Some(kind) = mentions.response().kind else {
@@ -60,7 +53,7 @@ fn judge_all<K: Known>(
     known: &K,
     mentions: &Mentions<'_>,
 ) -> Result<Seq<Verdict>, AllocError>
-    ensures verdicts { IfOk result (λ verdicts. verdicts ≡ all_judged (K.answers known.now) kind mentions.now [] mentions.now.items) }
+    ensures verdicts { IfOk result (λ verdicts. verdicts ≡ response_judged (K.answers known.now) kind mentions.now) }
     ensures one_each { IfOk result (λ verdicts. length verdicts ≡ length mentions.now.items) }
 {
     let response = mentions.response();
@@ -75,7 +68,7 @@ fn judge_items<K: Known>(
     mentions: &Mentions<'_>,
     items: &[Item],
 ) -> Result<Seq<Verdict>, AllocError>
-    ensures verdicts { IfOk result (λ verdicts. verdicts ≡ all_judged (K.answers known.now) kind mentions.now [] items.now) }
+    ensures verdicts { IfOk result (λ it. it ≡ judged_first (K.answers known.now) kind mentions.now items.now) }
     ensures one_each { IfOk result (λ verdicts. length verdicts ≡ length items.now) }
 {
     let mut made = Made::new(alloc);
@@ -114,7 +107,7 @@ fn judge_body<K: Known>(
     made: &Made<'_>,
     item: &Item,
 ) -> Result<Verdict, AllocError>
-    ensures { IfOk result (λ verdict. verdict ≡ body_by (K.answers known.now) kind mentions.now made.now item.now item.now.body) }
+    ensures { IfOk result (λ verdict. verdict ≡ by_its_body (K.answers known.now) kind mentions.now made.now item.now) }
 {
     match &item.body {
         Body::Good(content) => {
@@ -143,7 +136,7 @@ fn judge_content<K: Known>(
     name: &str,
     content: &Content,
 ) -> Result<Verdict, AllocError>
-    ensures { IfOk result (λ verdict. verdict ≡ good_by (K.answers known.now) mentions.now made.now name.now content.now kind) }
+    ensures { IfOk result (λ it. it ≡ good_by (K.answers known.now) mentions.now made.now name.now content.now kind) }
 {
     match kind {
         Kind::Cds => Ok(compare(known.newest(Kind::Cds, name), content)),
@@ -204,7 +197,7 @@ fn is_taken<K: Known>(
     name: &str,
     content: &Content,
 ) -> Result<bool, AllocError>
-    ensures { IfOk result (λ taken. taken ≡ is_taken_by Lds mentions.now (K.answers known.now) made.now name.now (listening_address content.now)) }
+    ensures { IfOk result (λ it. it ≡ is_taken_for mentions.now (K.answers known.now) made.now name.now content.now) }
 {
     match address_of(content) {
         Some(address) => is_held(alloc, known, mentions, made, name, address),
@@ -221,7 +214,7 @@ fn is_held<K: Known>(
     name: &str,
     address: &Host,
 ) -> Result<bool, AllocError>
-    ensures { IfOk result (λ held. held ≡ is_held Lds mentions.now (K.answers known.now) made.now name.now address.now) }
+    ensures { IfOk result (λ it. it ≡ is_held Lds mentions.now (K.answers known.now) made.now name.now address.now) }
 {
     let holders = known.holders(alloc, address)?;
     let held = has_another(holders.as_slice(), mentions, made, name);
@@ -235,7 +228,7 @@ fn has_another(
     made: &Made<'_>,
     name: &str,
 ) -> bool
-    ensures { result ≡ list_any (λ live. stays Lds mentions.now made.now live && not (bytes_eq live.name name.now)) holders.now }
+    ensures { result ≡ has_another Lds mentions.now made.now name.now holders.now }
 {
     holders
         .iter()

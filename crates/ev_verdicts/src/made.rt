@@ -1,9 +1,7 @@
-ghost use Rattle.std.specs.Prelude.{◌≡◌, ◌++◌, [], ◌∷◌, List, ℕ, Some, false, option_map, if◌then◌else◌, IfOk};
-ghost use Rattle.ev_types.specs.SameHosts.{host_same};
+ghost use Rattle.std.specs.Prelude.{◌≡◌, [], Some, false, option_map, IfOk};
 ghost use Rattle.ev_types.specs.declared.hosts.Host.{Host};
-ghost use Rattle.ev_model.specs.Verdicts.{shares_address};
 ghost use Rattle.ev_verdicts.specs.Judged.{has_other, is_made, names_at, with_made};
-ghost use Rattle.ev_verdicts.specs.Made.{names_in};
+ghost use Rattle.ev_verdicts.specs.Made.{AddsName, AddsAt};
 
 use crate::addresses::address_of;
 use crate::keys::AddressKey;
@@ -98,7 +96,7 @@ fn with_name<'a>(
     address: Option<&'a Host>,
 ) -> Result<Names<'a>, AllocError>
     requires absent { is_made table.entries name.now ≡ false }
-    ensures { IfOk result (λ new. new.entries ≡ table.entry.entries ++ (name.now, option_map (λ a. a.now) address.entry) ∷ []) }
+    ensures { IfOk result (λ new. AddsName table.entry new name.now (option_map (λ a. a.now) address.entry)) }
 {
     let mut table = table;
     let Ok(_) = table.insert(NameKey::new(name), key_of(address)) else {
@@ -124,8 +122,7 @@ fn with_address<'a>(
     name: &'a str,
     address: Option<&'a Host>,
 ) -> Result<Addresses<'a>, AllocError>
-    ensures { IfOk result (λ new. (a : Host) → names_in new a
-        ≡ names_in table.entry a ++ (if shares_address (option_map (λ h. h.now) address.entry) (Some a) then name.now ∷ [] else [])) }
+    ensures { IfOk result (λ new. AddsAt table.entry new name.now (option_map (λ a. a.now) address.entry)) }
 {
     match address {
         Some(address) => with_name_at(alloc, table, name, address),
@@ -140,7 +137,7 @@ fn with_name_at<'a>(
     name: &'a str,
     address: &'a Host,
 ) -> Result<Addresses<'a>, AllocError>
-    ensures { IfOk result (λ new. (a : Host) → names_in new a ≡ names_in table.entry a ++ (if host_same address.now a then name.now ∷ [] else [])) }
+    ensures { IfOk result (λ new. AddsAt table.entry new name.now (Some address.now)) }
 {
     let mut table = table;
     if let Some(names) = table.get_mut(&AddressKey::new(address)) {

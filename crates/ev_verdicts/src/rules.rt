@@ -1,6 +1,6 @@
-ghost use Rattle.std.specs.Prelude.{◌≡◌, ◌&&◌, not};
+ghost use Rattle.std.specs.Prelude.{◌≡◌, ◌&&◌};
 ghost use Rattle.ev_model.specs.Verdicts.{twice_rule, removed_rule, form_rule, lesser};
-ghost use Rattle.ev_verdicts.specs.Judged.{rule_by, stale_by, is_heard_by};
+ghost use Rattle.ev_verdicts.specs.Judged.{rule_by, stale_by, is_heard_by, is_stale};
 
 use crate::known::Known;
 use ev_mentions::Mentions;
@@ -39,7 +39,7 @@ fn stale_rule<K: Known>(kind: Kind, known: &K, item: &Item) -> Option<u8>
 
 // Whether the version isn't the one that is kept, and somebody hears the resource.
 fn is_stale<K: Known>(kind: Kind, known: &K, item: &Item) -> bool
-    ensures { result ≡ (not ((K.answers known.now).kept kind item.now.name item.now.version) && is_heard_by (K.answers known.now) kind item.now.name) }
+    ensures { result ≡ is_stale (K.answers known.now) kind item.now }
 {
     !known.is_kept(kind, item.name.as_str(), item.version.as_str())
         && is_heard(kind, known, item.name.as_str())
