@@ -1,5 +1,4 @@
-use Rattle.std.proofs.Common.{◌≡◌, ◌<◌, sym, subst, length}
-use Rattle.ev_endpoints.specs.Results.{hosts_in}
+use Rattle.std.proofs.Common.{◌<◌, sym, subst}
 use Rattle.ev_endpoints.proofs.RoundLemmas.{round_open}
 use Rattle.ev_endpoints.proofs.Endpoints.first_round_done.Goals as goal
 
