@@ -1,4 +1,4 @@
-//! Tests of devices and lines, of scripts, and of gates whose seats stand in threads. It has no code but tests.
+//! Tests of devices and lines, and of gates whose seats stand in threads. It has no code but tests.
 #![tactic(auto)]
 
 #[cfg(test)]
@@ -7,5 +7,3 @@ mod devices;
 mod gates;
 #[cfg(test)]
 mod lines;
-#[cfg(test)]
-mod scripts;

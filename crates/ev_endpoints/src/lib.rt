@@ -214,6 +214,3 @@ fn put(hosts: &mut IndexMap<Host, bool>, host: Host, healthy: bool) -> Result<()
     };
     Ok(())
 }
-
-#[cfg(test)]
-mod tests;

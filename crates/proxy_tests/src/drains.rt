@@ -1,142 +1,105 @@
-//! One way through the calls of a drain: a listener that drains while a connection is open on it, and a cluster that was dropped.
+//! What is dead by the rules of either format, and the rows that were reaped.
 ghost use Rattle.std.specs.Prelude.{◌≡◌, ◌<◌, ◌-◌, [], OnOk};
 
 use ev_drain::{Deferred, Drain, Shows};
 use ev_ledger::Ledger;
-use ev_types::{
-    Content, Format, Gen, GenRow, Kind, Name, RouteTable, RowStatus, Seq, Shared, TryCopy,
-};
+use ev_types::{Content, Format, Gen, GenRow, Kind, Name, RouteTable, RowStatus, Seq, Shared};
 use std::alloc::Global;
 use std::mem::drop;
 use std::process::Abort;
 use std::test::Fail;
 
-// A list of what is shown.
+// The listener, number 1, is shown, or nothing is.
 #[derive(Drop)]
-struct Listed(Vec<Gen>);
+struct Shown(bool);
 
-impl Shows for Listed {
-    ghost use Rattle.ev_model.specs.Picture.{has_number};
+impl Shows for Shown {
+    ghost use Rattle.std.specs.Prelude.{◌&&◌, ◌==◌};
 
-    ghost has = { λ listed number. has_number number listed.0.items };
+    ghost has = { λ shown number. shown.0 && (number == 1) };
 
     fn shows(&self, number: Gen) -> bool {
-        self.0.iter().any(|shown| *shown == number)
+        self.0 && number == Gen::new(1)
     }
 }
 
-// These are dead where this is shown.
+// These are dead where the listener is shown or not.
 fn find_dead(
     rt: &impl Abort,
     alloc: Global,
     drain: &Drain,
     ledger: &Ledger,
     format: Format,
-    shown: &Listed,
+    shown: bool,
     want: &[Gen],
 ) -> Result<(), Fail> {
-    let dead = drain.dead(alloc, format, ledger, shown)?;
+    let dead = drain.dead(alloc, format, ledger, &Shown(shown))?;
     assert_eq!(rt; dead.as_slice(), want);
     Ok(())
 }
 
-// The listener drains, and the cluster was dropped.
-fn retire(rt: &impl Abort, alloc: Global, drain: &mut Drain, name: &Name) -> Result<(), Fail>
+// The listener, number 1, drains, and cluster 2 was dropped.
+fn retire(alloc: Global, drain: &mut Drain, name: &Name) -> Result<(), Fail>
     requires { drain.old ≡ [] }
 {
-    let (listener, cluster) = (Gen::new(1), Gen::new(2));
-    drain.retire(alloc, Kind::Cds, cluster, name, true)?;
-    drain.retire(alloc, Kind::Lds, listener, name, false)?;
-    assert_eq!(rt; drain.kind(listener), Some(Kind::Lds));
-    assert_eq!(rt; drain.kind(Gen::new(3)), None);
-    Ok(())
+    drain.retire(alloc, Kind::Cds, Gen::new(2), name, true)?;
+    Ok(drain.retire(alloc, Kind::Lds, Gen::new(1), name, false)?)
 }
 
-// A connection holds the listener until it is closed, and a picture until it shows it no more.
-fn hold(rt: &impl Abort, alloc: Global, drain: &Drain, ledger: &mut Ledger) -> Result<(), Fail>
-    requires { ledger.old ≡ [] }
-{
+// By the rules of format 1 a connection holds the listener, and a picture that shows it; by those of format 2 its drain timeout too.
+fn hold(
+    rt: &impl Abort,
+    alloc: Global,
+    drain: &Drain,
+    open: &Ledger,
+    closed: &Ledger,
+) -> Result<(), Fail> {
     let (listener, cluster) = (Gen::new(1), Gen::new(2));
-    let none = Listed(Vec::new(alloc));
-    let shown = Listed(vec![in alloc; listener]?);
-    ledger.open(0, 1, listener, None)?;
-    find_dead(rt, alloc, drain, ledger, Format::One, &none, &[cluster])?;
-    assert!(rt; ledger.close(0, 1));
-    find_dead(rt, alloc, drain, ledger, Format::One, &shown, &[cluster])?;
+    find_dead(rt, alloc, drain, open, Format::One, false, &[cluster])?;
+    find_dead(rt, alloc, drain, closed, Format::One, true, &[cluster])?;
     find_dead(
         rt,
         alloc,
         drain,
-        ledger,
+        closed,
         Format::One,
-        &none,
+        false,
         &[listener, cluster],
     )?;
-    find_dead(rt, alloc, drain, ledger, Format::Two, &none, &[cluster])
+    find_dead(rt, alloc, drain, closed, Format::Two, false, &[cluster])
 }
 
-// In format 2 the listener waits for its drain timeout as well.
-fn expire(
+// The same, and both are dead after it.
+fn go(
     rt: &impl Abort,
     alloc: Global,
     drain: &mut Drain,
-    ledger: &Ledger,
-    name: &Name,
-) -> Result<(), Fail> {
-    let (listener, cluster) = (Gen::new(1), Gen::new(2));
-    let none = Listed(Vec::new(alloc));
-    assert!(rt; drain.expire(name) && drain.expired(listener) && !drain.expire(name));
-    assert!(rt; !drain.expired(cluster));
-    find_dead(
-        rt,
-        alloc,
-        drain,
-        ledger,
-        Format::Two,
-        &none,
-        &[listener, cluster],
-    )
-}
-
-fn go(rt: &impl Abort, alloc: Global, drain: &mut Drain, ledger: &mut Ledger) -> Result<(), Fail>
+    open: &mut Ledger,
+    closed: &Ledger,
+) -> Result<(), Fail>
     requires nothing { drain.old ≡ [] }
-    requires closed { ledger.old ≡ [] }
+    requires closed { open.old ≡ [] }
 {
+    open.open(0, 1, Gen::new(1), None)?;
     let name = Name::new(alloc, "in")?;
-    retire(rt, alloc, drain, &name)?;
-    hold(rt, alloc, drain, ledger)?;
-    expire(rt, alloc, drain, ledger, &name)
+    retire(alloc, drain, &name)?;
+    hold(rt, alloc, drain, open, closed)?;
+    assert!(rt; drain.expire(&name) && !drain.expire(&name));
+    let both = [Gen::new(1), Gen::new(2)];
+    find_dead(rt, alloc, drain, closed, Format::Two, false, &both)
 }
 
 #[test]
 fn rows_are_dead_once_nothing_holds_them(rt: HostRuntime) -> Result<(), Fail> {
-    let mut drain = Drain::new(rt.alloc());
-    let mut ledger = Ledger::new(rt.alloc());
-    let went = go(&rt, rt.alloc(), &mut drain, &mut ledger);
-    drop(ledger);
+    let alloc = rt.alloc();
+    let mut drain = Drain::new(alloc);
+    let closed = Ledger::new(alloc);
+    let mut open = Ledger::new(alloc);
+    let went = go(&rt, alloc, &mut drain, &mut open, &closed);
+    drop(open);
+    drop(closed);
     drop(drain);
     went
-}
-
-// What is taken out of a drain stays in a copy that was made before.
-fn copy_and_remove(rt: &impl Abort, alloc: Global, drain: &mut Drain) -> Result<(), Fail>
-    requires { drain.old ≡ [] }
-{
-    let name = Name::new(alloc, "in")?;
-    drain.retire(alloc, Kind::Lds, Gen::new(1), &name, false)?;
-    let before = drain.copy(alloc)?;
-    drain.remove(Gen::new(1));
-    assert!(rt; drain.kind(Gen::new(1)).is_none() && before.kind(Gen::new(1)).is_some());
-    drop(before);
-    Ok(())
-}
-
-#[test]
-fn removed_rows_stay_in_a_copy(rt: HostRuntime) -> Result<(), Fail> {
-    let mut drain = Drain::new(rt.alloc());
-    let removed = copy_and_remove(&rt, rt.alloc(), &mut drain);
-    drop(drain);
-    removed
 }
 
 fn row(alloc: Global, number: Gen) -> Result<GenRow, Fail> {

@@ -1,26 +1,10 @@
-//! Tests of what a proxy stands on: snapshots, workers, pictures, open connections and what retires; listeners, the phases and the
-//! subscription. It has no code but tests.
+//! Tests of what no script shows of the crates below a proxy: copies, the rules of format 1 for what is dead, the rows that were
+//! reaped, and an idle worker. It has no code but tests.
 #![tactic(auto)]
 
 #[cfg(test)]
-mod domains;
+mod copies;
 #[cfg(test)]
 mod drains;
-#[cfg(test)]
-mod fixtures;
-#[cfg(test)]
-mod ledgers;
-#[cfg(test)]
-mod listeners;
-#[cfg(test)]
-mod pictures;
-#[cfg(test)]
-mod retirements;
-#[cfg(test)]
-mod subscriptions;
-#[cfg(test)]
-mod targets;
-#[cfg(test)]
-mod weights;
 #[cfg(test)]
 mod workers;
