@@ -7,6 +7,7 @@ ghost use Rattle.ev_listeners.specs.Listeners.{AreKept};
 
 mod endings;
 mod responses;
+mod survey;
 
 use crate::names::news;
 use anyhow::{Result, anyhow};
@@ -18,6 +19,7 @@ use std::alloc::Global;
 use std::marker::Brand;
 use std::mem::drop;
 use std::sync::ledger::{Blank, Ledger};
+use survey::{Counts, survey};
 
 /// What a run does.
 #[derive(Clone, Copy)]
@@ -27,23 +29,35 @@ pub(crate) struct Plan {
     pub(crate) arrivals: u16,
 }
 
-/// What a run tells: at how many addresses a listener was found, how many came to serve, and whether the first one goes once its
-/// time to live has ended.
+/// What a run tells: at how many addresses a listener was found, how many came to serve, what is told of all of them, and whether
+/// the first one goes once its time to live has ended.
 #[derive(Clone, Copy)]
 struct Told {
     held: u32,
     served: u32,
+    survey: Counts,
     goes: bool,
 }
 
-/// Prints how many hold an address that was asked, how many came to serve, and whether the first goes.
+/// Prints how many hold an address that was asked, how many came to serve, what is told of all, and whether the first goes.
 ///
 /// # Errors
 /// Those of printing, and out of memory.
 pub(crate) fn print_run<R: Print + AllocGlobal>(rt: &R, plan: Plan) -> Result<()> {
     let told = measured(rt.alloc(), plan)?;
-    let Told { held, served, goes } = told;
+    let Told {
+        held,
+        served,
+        survey,
+        goes,
+    } = told;
     println!(rt; "{held} hold an address, {served} serve")?;
+    let Counts {
+        live,
+        shown,
+        copied,
+    } = survey;
+    println!(rt; "{live} are live, {shown} are shown, {copied} are live in a copy")?;
     println!(rt; "the first goes: {goes}")?;
     Ok(())
 }
@@ -79,8 +93,14 @@ fn go<L: Ledger>(
     take_all(alloc, listeners, plan.size, steps)?;
     let held = ask_all(alloc, listeners, plan.asks)?;
     let served = warm_all(alloc, listeners, plan.arrivals, steps)?;
+    let survey = survey(alloc, listeners)?;
     let goes = end_first(alloc, listeners, steps)?;
-    Ok(Told { held, served, goes })
+    Ok(Told {
+        held,
+        served,
+        survey,
+        goes,
+    })
 }
 
 // A response brings so many listeners.

@@ -16,6 +16,14 @@ pub(crate) fn news(alloc: Global, size: u16) -> Result<Seq<Verdict>, AllocError>
     Ok(verdicts)
 }
 
+/// The name of this word and number.
+///
+/// # Errors
+/// The text is no name, or out of memory.
+pub(crate) fn numbered(alloc: Global, word: &str, number: u16) -> Result<Name> {
+    named(alloc, format!(in alloc; "{word}-{number}")?.as_str())
+}
+
 /// The name of this text.
 ///
 /// # Errors

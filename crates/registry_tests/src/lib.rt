@@ -1,5 +1,4 @@
-//! Tests of verdicts and of a registry with ample memory, of what copies tell, and of the line of each answer. It has no code but
-//! tests.
+//! Tests of a registry with ample memory, of verdicts by listed generations, and of what copies tell. It has no code but tests.
 #![tactic(auto)]
 
 #[cfg(test)]

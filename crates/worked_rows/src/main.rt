@@ -102,6 +102,35 @@ fn passes<R: Files + AllocGlobal + Threads + Wait + Sync>(rt: &R, row: &Row) -> 
     Ok(true)
 }
 
+// The devices of a run: how many bytes a read gives, and a write takes, at most, and the number of the read, and of the write, that
+// fails, or 0.
+#[derive(Clone, Copy)]
+struct Devices {
+    piece: usize,
+    failing_read: u64,
+    taken: usize,
+    failing_write: u64,
+}
+
+// How the program ends a row on these devices, and whether it wrote these bytes.
+fn run<R: Threads + Wait + Sync>(
+    rt: &R,
+    alloc: Global,
+    row: &Row,
+    input: &[u8],
+    wanted: &[u8],
+    devices: Devices,
+) -> io::Result<(Status, bool)> {
+    let fails = vec![in alloc; devices.failing_read]?;
+    let mut source = MemSource::new(input.to_vec(alloc)?, devices.piece.max(1), fails);
+    let fails = vec![in alloc; devices.failing_write]?;
+    let room = wanted.len().saturating_add(ROOM);
+    let mut sink = MemSink::new(alloc, room, devices.taken.max(1), fails)?;
+    let arguments = row.arguments.as_slice();
+    let status = run_program(rt, alloc, arguments, &mut source, &mut sink, &Free);
+    Ok((status, sink.as_bytes() == wanted))
+}
+
 // Whether the program, which reads so many bytes at once, ends a row with its status and writes its output.
 fn answers<R: Threads + Wait + Sync>(
     rt: &R,
@@ -111,23 +140,14 @@ fn answers<R: Threads + Wait + Sync>(
     wanted: &[u8],
     piece: usize,
 ) -> io::Result<bool> {
-    let piece = piece.max(1);
-    let mut source = MemSource::new(input.to_vec(alloc)?, piece, Vec::new(alloc));
-    let mut sink = MemSink::new(
-        alloc,
-        wanted.len().saturating_add(ROOM),
+    let devices = Devices {
         piece,
-        Vec::new(alloc),
-    )?;
-    let status = run_program(
-        rt,
-        alloc,
-        row.arguments.as_slice(),
-        &mut source,
-        &mut sink,
-        &Free,
-    );
-    Ok(row.is_end(status) && sink.as_bytes() == wanted)
+        failing_read: 0,
+        taken: piece,
+        failing_write: 0,
+    };
+    let (status, same) = run(rt, alloc, row, input, wanted, devices)?;
+    Ok(same && row.is_end(status))
 }
 
 // Whether the program, which reads one byte at once, tells that the read of this number fails, or, where the row is no
@@ -139,20 +159,15 @@ fn tells_failure<R: Threads + Wait + Sync>(
     input: &[u8],
     number: u64,
 ) -> io::Result<bool> {
-    let mut fails = Vec::new(alloc);
-    fails.push(number)?;
-    let mut source = MemSource::new(input.to_vec(alloc)?, 1, fails);
-    let mut sink = MemSink::new(alloc, 1, 1, Vec::new(alloc))?;
-    let status = run_program(
-        rt,
-        alloc,
-        row.arguments.as_slice(),
-        &mut source,
-        &mut sink,
-        &Free,
-    );
+    let devices = Devices {
+        piece: 1,
+        failing_read: number,
+        taken: 1,
+        failing_write: 0,
+    };
+    let (status, nothing) = run(rt, alloc, row, input, &[], devices)?;
     let told = status == Status::ReadFault || (status != Status::Done && row.is_end(status));
-    Ok(told && sink.as_bytes().is_empty())
+    Ok(told && nothing)
 }
 
 // Whether the program, which reads one byte at once, ends a row as it has to where each read behind the end of the input fails.
@@ -163,20 +178,14 @@ fn reads_no_further<R: Threads + Wait + Sync>(
     input: &[u8],
     wanted: &[u8],
 ) -> io::Result<bool> {
-    let mut fails = Vec::new(alloc);
-    fails.push((input.len() as u64).saturating_add(2))?;
-    let mut source = MemSource::new(input.to_vec(alloc)?, 1, fails);
-    let room = wanted.len().saturating_add(ROOM);
-    let mut sink = MemSink::new(alloc, room, PIECE, Vec::new(alloc))?;
-    let status = run_program(
-        rt,
-        alloc,
-        row.arguments.as_slice(),
-        &mut source,
-        &mut sink,
-        &Free,
-    );
-    Ok(row.is_end(status) && sink.as_bytes() == wanted)
+    let devices = Devices {
+        piece: 1,
+        failing_read: (input.len() as u64).saturating_add(2),
+        taken: PIECE,
+        failing_write: 0,
+    };
+    let (status, same) = run(rt, alloc, row, input, wanted, devices)?;
+    Ok(same && row.is_end(status))
 }
 
 // Whether the program tells of each write of a row's output that it fails, with what was written before it in the sink.
@@ -189,35 +198,16 @@ fn tells_lost_writes<R: Threads + Wait + Sync>(
 ) -> io::Result<bool> {
     for (place, _) in wanted.chunks(WRITTEN).enumerate() {
         let written = place.saturating_mul(WRITTEN).min(wanted.len());
-        let number = (place as u64).saturating_add(1);
-        if !tells_lost_write(rt, alloc, row, input, &wanted[..written], number)? {
+        let devices = Devices {
+            piece: PIECE,
+            failing_read: 0,
+            taken: WRITTEN,
+            failing_write: (place as u64).saturating_add(1),
+        };
+        let (status, same) = run(rt, alloc, row, input, &wanted[..written], devices)?;
+        if !same || status != Status::WriteFault {
             return Ok(false);
         }
     }
     Ok(true)
-}
-
-// Whether the program, of whose writes each takes ten bytes, tells that the write of this number fails, behind these bytes.
-fn tells_lost_write<R: Threads + Wait + Sync>(
-    rt: &R,
-    alloc: Global,
-    row: &Row,
-    input: &[u8],
-    written: &[u8],
-    number: u64,
-) -> io::Result<bool> {
-    let mut fails = Vec::new(alloc);
-    fails.push(number)?;
-    let mut source = MemSource::new(input.to_vec(alloc)?, PIECE, Vec::new(alloc));
-    let room = written.len().saturating_add(ROOM);
-    let mut sink = MemSink::new(alloc, room, WRITTEN, fails)?;
-    let status = run_program(
-        rt,
-        alloc,
-        row.arguments.as_slice(),
-        &mut source,
-        &mut sink,
-        &Free,
-    );
-    Ok(status == Status::WriteFault && sink.as_bytes() == written)
 }

@@ -2,7 +2,7 @@ ghost use Rattle.std.specs.Prelude.{◌≡◌, Some, length, IfOk};
 ghost use Rattle.ev_types.specs.Items.{IsBodyOf};
 ghost use Rattle.ev_types.specs.declared.contents.Kind.TheVariants.{Cds};
 
-use crate::names::named;
+use crate::names::{named, numbered};
 use anyhow::Result;
 use ev_types::{
     Arrival, Assignment, Body, Cluster, Content, Discovery, Host, HostRow, Item, Kind, Name,
@@ -29,12 +29,12 @@ pub(crate) fn response(alloc: Global, size: u16) -> Result<Response>
 
 /// The name of the endpoints of the cluster at this place.
 pub(crate) fn service(alloc: Global, place: u16) -> Result<Name> {
-    named(alloc, format!(in alloc; "endpoints-{place}")?.as_str())
+    numbered(alloc, "endpoints", place)
 }
 
 /// The name of the cluster at this place.
 pub(crate) fn cluster_name(alloc: Global, place: u16) -> Result<Name> {
-    named(alloc, format!(in alloc; "cluster-{place}")?.as_str())
+    numbered(alloc, "cluster", place)
 }
 
 /// Endpoints of one host.
@@ -57,9 +57,10 @@ pub(crate) fn endpoints(alloc: Global) -> Result<Arrival> {
 fn item(alloc: Global, place: u16) -> Result<Item>
     ensures { IfOk result (λ item. IsBodyOf Cds item.body) }
 {
-    let text = format!(in alloc; "cluster-{place}")?;
+    let name = cluster_name(alloc, place)?;
+    let text = Text::new(alloc, name.as_str())?;
     let cluster = Cluster {
-        name: named(alloc, text.as_str())?,
+        name,
         discovery: Discovery::Eds {
             service: service(alloc, place)?,
             limited: true,
@@ -67,7 +68,7 @@ fn item(alloc: Global, place: u16) -> Result<Item>
         checked: false,
     };
     Ok(Item {
-        name: Text::new(alloc, text.as_str())?,
+        name: text,
         version: Text::new(alloc, "1")?,
         ttl: false,
         body: Body::Good(Content::Cluster(Shared::new(alloc, cluster)?)),

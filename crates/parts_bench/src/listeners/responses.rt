@@ -2,7 +2,7 @@ ghost use Rattle.std.specs.Prelude.{◌≡◌, Some, length, IfOk};
 ghost use Rattle.ev_types.specs.Items.{IsBodyOf};
 ghost use Rattle.ev_types.specs.declared.contents.Kind.TheVariants.{Lds};
 
-use crate::names::named;
+use crate::names::{named, numbered};
 use anyhow::Result;
 use ev_types::{
     Arrival, Body, Content, Host, Item, Kind, Listener, Name, Response, RouteTable, Seq, Serve,
@@ -29,12 +29,12 @@ pub(crate) fn response(alloc: Global, size: u16) -> Result<Response>
 
 /// The name of the listener at this place.
 pub(crate) fn listener_name(alloc: Global, place: u16) -> Result<Name> {
-    named(alloc, format!(in alloc; "listener-{place}")?.as_str())
+    numbered(alloc, "listener", place)
 }
 
 /// The name of the routes of the listener at this place.
 pub(crate) fn routes_name(alloc: Global, place: u16) -> Result<Name> {
-    named(alloc, format!(in alloc; "routes-{place}")?.as_str())
+    numbered(alloc, "routes", place)
 }
 
 /// The address of the listener at this place: each place has a port of its own.
@@ -55,9 +55,10 @@ pub(crate) fn routes(alloc: Global) -> Result<Arrival> {
 fn item(alloc: Global, place: u16) -> Result<Item>
     ensures { IfOk result (λ item. IsBodyOf Lds item.body) }
 {
-    let text = format!(in alloc; "listener-{place}")?;
+    let name = listener_name(alloc, place)?;
+    let text = Text::new(alloc, name.as_str())?;
     let listener = Listener {
-        name: named(alloc, text.as_str())?,
+        name,
         address: address(alloc, place)?,
         serve: Serve::Rds {
             name: routes_name(alloc, place)?,
@@ -65,7 +66,7 @@ fn item(alloc: Global, place: u16) -> Result<Item>
         },
     };
     Ok(Item {
-        name: Text::new(alloc, text.as_str())?,
+        name: text,
         version: Text::new(alloc, "1")?,
         ttl: false,
         body: Body::Good(Content::Listener(Shared::new(alloc, listener)?)),

@@ -1,4 +1,4 @@
-use crate::names::named;
+use crate::names::{named, numbered};
 use anyhow::{Result, anyhow};
 use ev_model::{Routing, ServedCluster, ServedListener};
 use ev_snapshot::{Changes, ClusterChange, ListenerChange};
@@ -80,7 +80,7 @@ fn row(alloc: Global, weight: u32) -> Result<HostRow> {
 }
 
 fn listener(alloc: Global, size: u16, place: u16) -> Result<ServedListener> {
-    let target = format!(in alloc; "{place}")?;
+    let target = name(alloc, place)?;
     Ok(ServedListener {
         number: Gen::new(u32::from(size) + u32::from(place) + 1),
         name: name(alloc, place)?,
@@ -90,8 +90,7 @@ fn listener(alloc: Global, size: u16, place: u16) -> Result<ServedListener> {
 }
 
 fn name(alloc: Global, place: u16) -> Result<Name> {
-    let text = format!(in alloc; "{place}")?;
-    named(alloc, text.as_str())
+    numbered(alloc, "part", place)
 }
 
 // Each place has a port of its own.
