@@ -1,0 +1,77 @@
+-- What a pass at the gate has seen of the journal. This project's own.
+use Rattle.std.specs.Prelude.{ℕ, ◌≡◌, ◌≤◌, List, [], ◌∷◌, ◌++◌}
+use Rattle.ev_types.specs.declared.events.Entry.{Entry}
+use Rattle.ev_model.specs.World.{opening}
+use Rattle.ev_model.specs.Dead.{last_picture}
+use Rattle.ev_model.specs.Runs.{IsRun, world_after}
+use Rattle.ev_model.specs.declared.pictures.Picture.{Picture}
+use Rattle.ev_actors.specs.Journals.{JournalParts, world_now}
+use Rattle.ev_types.specs.declared.events.Actor.TheVariants.{Worker}
+use Rattle.ev_model.specs.Operations.{Operation}
+use Rattle.ev_worker.specs.Workers.{WorkerParts}
+use Rattle.ev_actors.specs.Taken.{HasEntered, HasSettled}
+use Rattle.ev_gate.specs.History.{seen_of}
+use Rattle.ev_gate.specs.Words.{first_of, pass_heard, pass_knows}
+use Rattle.ev_gate.specs.declared.gate.Gate.{Gate}
+use Rattle.ev_gate.specs.declared.gate.Pass.{Pass}
+use Rattle.ev_gate.specs.declared.stands.Stands.{Ghosts}
+use Rattle.ev_commits.specs.Commits.{GrowsByOthers, commits_of, entries_in, seat_of}
+use Rattle.ev_commits.specs.declared.kept.Began.{Began}
+use Rattle.ev_commits.specs.declared.kept.Kept.{Kept}
+
+-- what the journal began as
+abbrev pub began_as : JournalParts → Began
+began_as parts = record { format = parts.format; workers = parts.workers; node = parts.node }
+
+-- the journal of these commits
+abbrev pub journal_with : Began → List (ℕ × List Entry) → JournalParts
+journal_with began commits = record { format = began.format; workers = began.workers; node = began.node; journal = entries_in commits }
+
+-- the version of the last picture behind these commits
+abbrev pub version_after : Began → List (ℕ × List Entry) → ℕ
+version_after began commits = (last_picture (world_now (journal_with began commits))).version
+
+-- the journal is a run of the machine, by the rules of its format
+abbrev pub IsSound : JournalParts → Type 0
+IsSound parts = IsRun parts.format parts.workers parts.node parts.journal
+
+-- one commit of the seat is added, and no version falls
+pub record CommitsOnce (seat : ℕ) (before after : JournalParts) : Type 0 where
+  pub began : began_as after ≡ began_as before
+  pub entries : List Entry
+  pub commits : commits_of after.journal ≡ commits_of before.journal ++ (seat, entries) ∷ []
+  pub forward : (last_picture (world_now before)).version ≤ (last_picture (world_now after)).version
+
+module _ {J : Type 0} (shows : J → JournalParts) where
+  -- what the gate's journal began as
+  abbrev pub began_at : Gate (Kept J) Began (List Entry) → Began
+  began_at gate = began_as (shows (first_of gate).journaled)
+
+  module _ {g : Ghosts (Kept J) Began (List Entry)} where
+    -- the journal that a pass of the gate has seen
+    abbrev pub seen_by : Gate (Kept J) Began (List Entry) → Pass (Kept J) Began (List Entry) g → JournalParts
+    seen_by gate pass = journal_with (began_at gate) (seen_of (pass_knows pass))
+
+    -- the journal with the greatest version that the pass has heard of
+    abbrev pub heard_by : Gate (Kept J) Began (List Entry) → Pass (Kept J) Began (List Entry) g → JournalParts
+    heard_by gate pass = journal_with (began_at gate) (pass_heard pass)
+
+-- an operation of the main side is entered, behind entries of others
+pub record HasActed (o : Operation) (before after : JournalParts) : Type 0 where
+  pub turn : JournalParts
+  pub grows : GrowsByOthers (seat_of o.actor) before turn
+  pub entered : HasEntered o turn after
+
+-- a worker's batch and its settle are entered, behind entries of others
+pub record HasCommitted (at step : ℕ) (before after : JournalParts) (old new : WorkerParts) : Type 0 where
+  pub turn : JournalParts
+  pub grows : GrowsByOthers (seat_of (Worker old.number)) before turn
+  pub settled : HasSettled at step turn after old new
+
+-- a settle is left out: the worker did nothing since it settled and has nothing open, and it has the newest version that its pass
+-- has heard of
+pub record IsLeftOut (before after heard : JournalParts) (old new : WorkerParts) : Type 0 where
+  pub seen : after ≡ before
+  pub same : new ≡ old
+  pub idle : (old.lines ≡ []) × (old.opened ≡ [])
+  pub newest : old.picture.version ≡ (last_picture (world_now heard)).version
