@@ -1,7 +1,7 @@
 -- A turn shows what its pass has seen and entries of others behind, and ends with one commit more.
-use Rattle.std.proofs.Common.{◌≡◌, ◌≤◌, ◌<◌, ◌+◌, ℕ, Bool, true, false, List, [], ◌∷◌, ◌++◌, length, refl, ap, sym, ◌∙◌, subst, append_assoc, length-append, le_trans, arith}
+use Rattle.std.proofs.Common.{◌≡◌, ◌≤◌, ◌<◌, ◌+◌, ◌-◌, if◌then◌else◌, ℕ, true, false, List, [], ◌∷◌, ◌++◌, length, refl, ap, sym, ◌∙◌, subst, subst₂, append_assoc, length-append, le_trans, arith}
 use Rattle.std.specs.List.{AllByRecursion as ByRecursion}
-use Rattle.ev_types.specs.Events.{IsMainSide, IsStream, MayMake}
+use Rattle.ev_types.specs.Events.{IsMainSide, MayMake}
 use Rattle.ev_types.specs.Scripts.{items_in}
 use Rattle.ev_types.specs.declared.events.Actor.{Actor}
 use Rattle.ev_types.specs.declared.events.Actor.TheVariants.{Stream, Health, Timer, Main, Worker}
@@ -10,27 +10,28 @@ use Rattle.ev_types.specs.declared.events.Event.{Event}
 use Rattle.ev_types.specs.declared.events.Event.TheVariants.{Connect, Disconnect, Response, Health as health, FetchTimeout, DrainTimeout, TtlExpired, Publish, Reap, Accept, Close, Settle}
 use Rattle.ev_types.specs.declared.journals.Format.{Format}
 use Rattle.ev_model.specs.declared.pictures.Shown.{Shown}
-use Rattle.ev_model.specs.World.{World, OpenMember, opening}
-use Rattle.ev_model.specs.Dead.{last_picture, shown_at, last_version}
+use Rattle.ev_model.specs.World.{World, opening}
+use Rattle.ev_model.specs.Dead.{last_picture}
 use Rattle.ev_model.specs.Operations.{Operation, entry_of}
-use Rattle.ev_model.specs.Picture.{shown_of, shown_same}
+use Rattle.ev_model.specs.Picture.{shown_of}
 use Rattle.ev_model.specs.Runs.{RunsFrom, is_batched, world_after}
 use Rattle.ev_model.specs.Step.{step}
 use Rattle.ev_model_laws.proofs.KeepLemmas.{either, step-each}
 use Rattle.ev_model_laws.proofs.SeenLemmas.{same_seen}
 use Rattle.ev_run_laws.proofs.NumberLemmas.{rest_made}
-use Rattle.ev_gate.specs.History.{GrowsWithout, commits_by}
+use Rattle.ev_gate.specs.History.{GrowsWithout, Knowledge, seen_of}
 use Rattle.ev_worker.specs.Batches.{entries_of}
 use Rattle.ev_worker.specs.Workers.{AreAnswered, HasWorker, IsAnswer, WorkerParts}
 use Rattle.ev_worker.specs.declared.lines.BatchLine.{BatchLine}
 use Rattle.ev_worker.specs.declared.lines.Outcome.{Outcome}
-use Rattle.ev_actors.specs.Journals.{JournalParts, SufficeFor, WorksIn, entries_made, settle_made, with_entries, with_settled, world_now}
+use Rattle.ev_actors.specs.Journals.{JournalParts, SufficeFor, WorksIn, entries_made, settle_made, with_entries, world_now}
 use Rattle.ev_actors.specs.Taken.{HasEntered, HasSettled}
 use Rattle.ev_actors.proofs.LineLemmas.{main_alone}
 use Rattle.ev_actors.proofs.SettleLemmas.{published_now, world_with}
 use Rattle.ev_actors.proofs.WorldLemmas.{AreOfOthers, entries_leave}
 use Rattle.ev_commits.specs.Commits.{AreElsewhere, GrowsByOthers, commits_from, commits_of, entries_in, seat_of}
-use Rattle.ev_commits.specs.Seen.{CommitsOnce, IsSound, began_as, journal_with}
+use Rattle.ev_commits.specs.Seen.{CommitsOnce, IsSound, began_as, journal_with, version_after}
+use Rattle.ev_commits.specs.declared.kept.Began.{Began}
 use Rattle.ev_commits.proofs.CommitLemmas.{IsSeated, back_each, commits_append, elsewhere, entries_append, runs_behind, seated, whole}
 
 -- no event takes a picture away
@@ -95,14 +96,14 @@ answer_batched worker world (Accept ask) outcome is = refl
 answer_batched worker world (Close connection) outcome is = refl
 answer_batched worker world Settle outcome is = absurd is
 
-AreBatched : List BatchLine → Type 0
+abbrev AreBatched : List BatchLine → Type 0
 AreBatched lines = ByRecursion (λ (line : BatchLine). is_batched line.event ≡ true) lines
 
 lines_batched : (format : Format) (worker : ℕ) (world : World) (lines : List BatchLine) → AreAnswered format worker world lines → AreBatched lines
 lines_batched format worker world [] answered = tt
 lines_batched format worker world (line ∷ lines) answered = (
   answer_batched worker world line.event line.outcome answered.0,
-  lines_batched format worker _ lines answered.1,
+  lines_batched format worker (step format world (Worker worker) line.event).0 lines answered.1,
 )
 
 -- a batch and its settle are a commit
@@ -178,7 +179,7 @@ others_draw : (format : Format) (workers : ℕ) (world : World) (entries : List 
     → (world_after format world entries).made ≡ world.made
 others_draw format workers world [] others runs = refl
 others_draw format workers world (entry ∷ entries) others runs =
-    others_draw format workers (step format world entry.actor entry.event).0 entries others.1 runs.1.1
+    others_draw format workers (step format world entry.actor entry.event).0 entries others.1 runs.2
     ∙ rest_made format world entry.actor entry.event (of_stream workers entry.actor entry.event runs.0 others.0)
 
 no_items : (n made : ℕ) → n ≡ 0 → 0 < n → made + n < 4294967296
@@ -218,3 +219,28 @@ works_on worker before turn grows works = record {
       (entries_leave worker.number worker.picture works.begun before.format (world_now before) grows.more (published_now before)
       (of_others worker.number grows.more grows.others) works.has);
 }
+
+-- what is known of the commits of a sound journal is the journal
+pub known_whole : (parts : JournalParts) (began : Began) (commits : List (ℕ × List Entry)) → IsSound parts → began_as parts ≡ began
+    → commits ≡ commits_of parts.journal → journal_with began commits ≡ parts
+known_whole parts began commits sound is are =
+    ap (λ (b : Began). journal_with b commits) (sym is) ∙ ap (journal_with (began_as parts)) are ∙ shown_whole parts sound
+
+-- at a turn the pass has seen all, and others' entries lie between
+pub turn_shows : (parts : JournalParts) (began : Began) (seat : ℕ) (before now : Knowledge Began (List Entry)) → IsSound parts → began_as parts ≡ began
+    → commits_of parts.journal ≡ seen_of now → now ≡ record before { since = now.since } → GrowsWithout before.number before.since now.since
+    → before.number ≡ seat → GrowsByOthers seat (journal_with began (seen_of before)) parts
+turn_shows parts began seat before now sound is history knows grows numbered =
+    subst (λ n. GrowsByOthers n (journal_with began (seen_of before)) parts) numbered
+    (subst (λ (b : Began). GrowsByOthers before.number (journal_with b (seen_of before)) parts) is
+    (turned parts before.number before.start before.since now.since sound
+    (history ∙ ap (λ (k : Knowledge Began (List Entry)). k.start ++ now.since) knows) grows))
+
+-- the version at the end of a turn isn't below that at the turn
+pub turn_forward : (seat : ℕ) (before after : JournalParts) (seen : List (ℕ × List Entry)) → IsSound before → IsSound after → CommitsOnce seat before after
+    → commits_of before.journal ≡ seen → version_after (began_as after) seen ≤ version_after (began_as after) (commits_of after.journal)
+turn_forward seat before after seen sound sound_then once are =
+    subst₂ (λ m n. m ≤ n)
+    (ap (λ (p : JournalParts). (last_picture (world_now p)).version) (sym (known_whole before (began_as after) seen sound (sym once.began) (sym are))))
+    (ap (λ (p : JournalParts). (last_picture (world_now p)).version) (sym (shown_whole after sound_then)))
+    once.forward

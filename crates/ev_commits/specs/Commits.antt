@@ -1,14 +1,11 @@
 -- The commits of a journal, each beside the number of its actor's seat. This project's own.
-use Rattle.std.specs.Prelude.{ℕ, ◌≡◌, ◌+◌, ⊤, Bool, true, false, if◌then◌else◌, List, [], ◌∷◌, ◌++◌}
+use Rattle.std.specs.Prelude.{ℕ, ◌≡◌, ◌+◌, if◌then◌else◌, List, [], ◌∷◌, ◌++◌}
 use Rattle.std.specs.List.{AllByRecursion as ByRecursion, flat_map}
 use Rattle.ev_types.specs.declared.events.Actor.{Actor}
 use Rattle.ev_types.specs.declared.events.Actor.TheVariants.{Stream, Health, Timer, Main, Worker}
 use Rattle.ev_types.specs.declared.events.Entry.{Entry}
 use Rattle.ev_types.specs.declared.journals.Format.{Format}
-use Rattle.ev_model.specs.World.{opening}
-use Rattle.ev_model.specs.Dead.{last_picture}
-use Rattle.ev_model.specs.Runs.{RunsFrom, is_batched, world_after}
-use Rattle.ev_model.specs.declared.pictures.Picture.{Picture}
+use Rattle.ev_model.specs.Runs.{RunsFrom, is_batched}
 use Rattle.ev_actors.specs.Journals.{JournalParts, with_entries, world_now}
 
 -- the seat of an actor at the gate

@@ -1,10 +1,8 @@
 -- What a pass at the gate has seen of the journal. This project's own.
 use Rattle.std.specs.Prelude.{ℕ, ◌≡◌, ◌≤◌, List, [], ◌∷◌, ◌++◌}
 use Rattle.ev_types.specs.declared.events.Entry.{Entry}
-use Rattle.ev_model.specs.World.{opening}
 use Rattle.ev_model.specs.Dead.{last_picture}
-use Rattle.ev_model.specs.Runs.{IsRun, world_after}
-use Rattle.ev_model.specs.declared.pictures.Picture.{Picture}
+use Rattle.ev_model.specs.Runs.{IsRun}
 use Rattle.ev_actors.specs.Journals.{JournalParts, world_now}
 use Rattle.ev_types.specs.declared.events.Actor.TheVariants.{Worker}
 use Rattle.ev_model.specs.Operations.{Operation}
