@@ -1,6 +1,10 @@
 -- A turn shows what its pass has seen and entries of others behind, and ends with one commit more.
-use Rattle.std.proofs.Common.{◌≡◌, ◌≤◌, ◌<◌, ◌+◌, ◌-◌, if◌then◌else◌, ℕ, true, false, List, [], ◌∷◌, ◌++◌, length, refl, ap, sym, ◌∙◌, subst, subst₂, append_assoc, length-append, le_trans, arith}
+use Rattle.std.proofs.Common.{◌≡◌, ◌≤◌, ◌<◌, ◌+◌, ◌-◌, if◌then◌else◌, nat_lt, ℕ, true, false, List, [], ◌∷◌, ◌++◌, length, refl, ap, sym, ◌∙◌, subst, subst₂, append_assoc, length-append, le_trans, arith}
+use Rattle.std.proofs.Common.{Bool, Err, Ok}
+use Rattle.std.proofs.lemmas.Bool.Decides.{nat_tests}
 use Rattle.std.specs.List.{AllByRecursion as ByRecursion}
+use Rattle.std.specs.Prelude.{IfOk, OnOk, Result}
+use Rattle.std.specs.declared.alloc.AllocError.{AllocError}
 use Rattle.ev_types.specs.Events.{IsMainSide, MayMake}
 use Rattle.ev_types.specs.Scripts.{items_in}
 use Rattle.ev_types.specs.declared.events.Actor.{Actor}
@@ -11,7 +15,8 @@ use Rattle.ev_types.specs.declared.events.Event.TheVariants.{Connect, Disconnect
 use Rattle.ev_types.specs.declared.journals.Format.{Format}
 use Rattle.ev_model.specs.declared.pictures.Shown.{Shown}
 use Rattle.ev_model.specs.World.{World, opening}
-use Rattle.ev_model.specs.Dead.{last_picture}
+use Rattle.ev_model.specs.Dead.{last_picture, version_held}
+use Rattle.ev_model.specs.declared.pictures.Picture.{Picture}
 use Rattle.ev_model.specs.Operations.{Operation, entry_of}
 use Rattle.ev_model.specs.Picture.{shown_of}
 use Rattle.ev_model.specs.Runs.{RunsFrom, is_batched, world_after}
@@ -30,7 +35,7 @@ use Rattle.ev_actors.proofs.LineLemmas.{main_alone}
 use Rattle.ev_actors.proofs.SettleLemmas.{published_now, world_with}
 use Rattle.ev_actors.proofs.WorldLemmas.{AreOfOthers, entries_leave}
 use Rattle.ev_commits.specs.Commits.{AreElsewhere, GrowsByOthers, commits_from, commits_of, entries_in, seat_of}
-use Rattle.ev_commits.specs.Seen.{CommitsOnce, IsSound, began_as, journal_with, version_after}
+use Rattle.ev_commits.specs.Seen.{CommitsOnce, HasCommitted, IsSound, began_as, journal_with, version_after, version_shown}
 use Rattle.ev_commits.specs.declared.kept.Began.{Began}
 use Rattle.ev_commits.proofs.CommitLemmas.{IsSeated, back_each, commits_append, elsewhere, entries_append, runs_behind, seated, whole}
 
@@ -244,3 +249,60 @@ turn_forward seat before after seen sound sound_then once are =
     (ap (λ (p : JournalParts). (last_picture (world_now p)).version) (sym (known_whole before (began_as after) seen sound (sym once.began) (sym are))))
     (ap (λ (p : JournalParts). (last_picture (world_now p)).version) (sym (shown_whole after sound_then)))
     once.forward
+
+-- behind its turn a pass has seen no older version than it had heard of
+pub turn_newer : (seat : ℕ) (before after : JournalParts) (began : Began) (heard : List (ℕ × List Entry)) → IsSound before → CommitsOnce seat before after
+    → began_as before ≡ began → version_after (began_as before) heard ≤ version_after (began_as before) (commits_of before.journal)
+    → version_after began heard ≤ version_shown after
+turn_newer seat before after began heard sound once is newer =
+    le_trans
+    (subst₂ (λ m n. m ≤ n) (ap (λ (b : Began). version_after b heard) is) (ap version_shown (shown_whole before sound)) newer)
+    once.forward
+
+-- a worker's picture has no newer version than the last one of the world in which it works
+pub works_behind : (worker : WorkerParts) (parts : JournalParts) → WorksIn worker (world_now parts) → worker.picture.version ≤ version_shown parts
+works_behind worker parts works =
+    let held : version_held (world_now parts) worker.number < length (world_now parts).pictures = published_now parts worker.number in
+    let same : version_held (world_now parts) worker.number ≡ worker.picture.version = ap (λ (p : Picture). p.version) works.has.holds in
+    below (version_held (world_now parts) worker.number) worker.picture.version (length (world_now parts).pictures) held same
+  where
+    below : (m n k : ℕ) → m < k → m ≡ n → n ≤ k - 1
+    below m n k less same = omega arith
+
+-- a worker that has taken its memory has committed as the worker that it was
+prepared_commits : (at n spare : ℕ) (before after : JournalParts) (old new : WorkerParts) → HasCommitted at n before after (record old { spare = spare }) new
+    → HasCommitted at n before after old new
+prepared_commits at n spare before after old new committed = record {
+  turn = committed.turn;
+  grows = committed.grows;
+  settled = record {
+    entered = committed.settled.entered;
+    number = committed.settled.number;
+    lines = committed.settled.lines;
+    works = committed.settled.works;
+  };
+  alive = committed.alive;
+}
+
+pub commits_if : (result : Result Bool AllocError) (at n : ℕ) (before asked after : JournalParts) (old prepared new : WorkerParts)
+    → prepared ≡ record old { spare = prepared.spare } → asked ≡ before → OnOk result (HasCommitted at n asked after prepared new)
+    → IfOk result (λ made. made ≡ true → HasCommitted at n before after old new)
+commits_if (Ok made) at n before asked after old prepared new kept same committed =
+    λ is.
+    prepared_commits at n prepared.spare before after old new
+    (subst (λ (w : WorkerParts). HasCommitted at n before after w new) kept
+    (subst (λ (p : JournalParts). HasCommitted at n p after prepared new) same committed))
+commits_if (Err error) at n before asked after old prepared new kept same committed = tt
+
+-- an idle worker whose version isn't the newest has seen a newer one behind its turn
+pub newer_if : (result : Result Bool AllocError) (version newest later : ℕ) (Idle : Type 0) → (Idle → version < newest) → OnOk result (newest ≤ later)
+    → IfOk result (λ made. made ≡ true → Idle → version < later)
+newer_if (Ok made) version newest later Idle less seen = λ is idle. let below : version < newest = less idle in let above : newest ≤ later = seen in omega arith
+newer_if (Err error) version newest later Idle less seen = tt
+
+pub is_newer : (version seen heard newest : ℕ) → version ≤ seen → seen ≤ heard → heard ≤ newest → (newest ≡ version → ⊥) → version < newest
+is_newer version seen heard newest one other third apart = above version newest (le_trans one (le_trans other third)) apart (nat_lt version newest) refl
+  where
+    above : (m n : ℕ) → m ≤ n → (n ≡ m → ⊥) → (b : Bool) → nat_lt m n ≡ b → m < n
+    above m n le apart true is = grind (arith, nat_tests)
+    above m n le apart false is = absurd (apart (let same : n ≤ m = grind (arith, nat_tests) in omega arith))

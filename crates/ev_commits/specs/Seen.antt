@@ -1,9 +1,13 @@
 -- What a pass at the gate has seen of the journal. This project's own.
-use Rattle.std.specs.Prelude.{ℕ, ◌≡◌, ◌≤◌, List, [], ◌∷◌, ◌++◌}
+use Rattle.std.specs.Prelude.{ℕ, ◌≡◌, ◌≤◌, ◌==◌, ◌||◌, ◌&&◌, Bool, true, false, List, [], ◌∷◌, ◌++◌}
+use Rattle.std.specs.List.{list_any}
 use Rattle.ev_types.specs.declared.events.Entry.{Entry}
-use Rattle.ev_model.specs.Dead.{last_picture}
+use Rattle.ev_model.specs.World.{OpenMember}
+use Rattle.ev_model.specs.Dead.{is_open_on, last_picture}
+use Rattle.ev_model.specs.Picture.{has_number, is_shown}
+use Rattle.ev_model_laws.specs.Kept.{numbers_gone}
 use Rattle.ev_model.specs.Runs.{IsRun}
-use Rattle.ev_actors.specs.Journals.{JournalParts, world_now}
+use Rattle.ev_actors.specs.Journals.{JournalParts, entries_made, world_now}
 use Rattle.ev_types.specs.declared.events.Actor.TheVariants.{Worker}
 use Rattle.ev_model.specs.Operations.{Operation}
 use Rattle.ev_worker.specs.Workers.{WorkerParts}
@@ -60,16 +64,38 @@ pub record HasActed (o : Operation) (before after : JournalParts) : Type 0 where
   pub grows : GrowsByOthers (seat_of o.actor) before turn
   pub entered : HasEntered o turn after
 
--- a worker's batch and its settle are entered, behind entries of others
+-- the picture that a worker serves from shows the generation of this number, or a connection of its own is open on it
+abbrev pub is_named_by : WorkerParts → ℕ → Bool
+is_named_by worker number =
+    is_shown number worker.picture.shown || list_any (λ (m : OpenMember). (m.worker == worker.number) && is_open_on number m) worker.opened
+
+-- nothing that a worker names was reaped in this journal before the worker's settle
+abbrev pub NamesNothingGone : WorkerParts → JournalParts → Type 0
+NamesNothingGone worker turn =
+    (number : ℕ) → is_named_by worker number ≡ true → has_number number (numbers_gone (turn.journal ++ entries_made worker)) ≡ false
+
+-- a worker's batch and its settle are entered, behind entries of others, and nothing that it names was reaped before
 pub record HasCommitted (at step : ℕ) (before after : JournalParts) (old new : WorkerParts) : Type 0 where
   pub turn : JournalParts
   pub grows : GrowsByOthers (seat_of (Worker old.number)) before turn
   pub settled : HasSettled at step turn after old new
+  pub alive : NamesNothingGone old turn
 
--- a settle is left out: the worker did nothing since it settled and has nothing open, and it has the newest version that its pass
--- has heard of
+-- the version of the last picture behind this journal
+abbrev pub version_shown : JournalParts → ℕ
+version_shown parts = (last_picture (world_now parts)).version
+
+-- the journal that was heard of has no older version than the one that was seen
+abbrev pub HasHeard : JournalParts → JournalParts → Type 0
+HasHeard seen heard = version_shown seen ≤ version_shown heard
+
+-- the worker did nothing since it settled, and has nothing open
+abbrev pub IsIdle : WorkerParts → Type 0
+IsIdle worker = (worker.lines ≡ []) × (worker.opened ≡ [])
+
+-- a settle is left out: the worker is idle, and its picture's version is not below any that its pass had heard of
 pub record IsLeftOut (before after heard : JournalParts) (old new : WorkerParts) : Type 0 where
   pub seen : after ≡ before
   pub same : new ≡ old
-  pub idle : (old.lines ≡ []) × (old.opened ≡ [])
-  pub newest : old.picture.version ≡ (last_picture (world_now heard)).version
+  pub idle : IsIdle old
+  pub newest : version_shown heard ≤ old.picture.version

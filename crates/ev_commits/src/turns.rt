@@ -4,7 +4,7 @@ ghost use Rattle.ev_types.specs.declared.events.Actor.TheVariants.{Worker as by_
 ghost use Rattle.ev_gate.specs.Words.{gate_id, pass_gate, pass_knows};
 ghost use Rattle.ev_actors.specs.Journals.{SufficeFor, WorksIn, world_now};
 ghost use Rattle.ev_commits.specs.Commits.{GrowsByOthers, seat_of};
-ghost use Rattle.ev_commits.specs.Seen.{HasActed, HasCommitted, IsLeftOut, began_at, heard_by, seen_by};
+ghost use Rattle.ev_commits.specs.Seen.{HasActed, HasCommitted, HasHeard, IsIdle, IsLeftOut, began_at, heard_by, seen_by, version_shown};
 ghost use Rattle.ev_model.specs.Operations.{batch_limit};
 
 use crate::acts::{apply_in, settle_in};
@@ -36,6 +36,7 @@ pub fn enter<R: Threads + Wait + Sync, J: Journaled>(
     requires numbered { SufficeFor event.now (seen_by J.shows gate.now pass) }
     ensures here { pass_gate result.0 ≡ gate_id gate.now }
     ensures seat { (pass_knows result.0).number ≡ seat_of actor }
+    ensures heard { HasHeard (seen_by J.shows gate.now result.0) (heard_by J.shows gate.now result.0) }
     ensures entered { OnOk result.1 (HasActed record { actor = actor; at = at; step = step; event = event.now }
         (seen_by J.shows gate.now pass) (seen_by J.shows gate.now result.0)) }
     ensures refused { OnErr result.1 (GrowsByOthers (seat_of actor) (seen_by J.shows gate.now pass) (seen_by J.shows gate.now result.0)) }
@@ -67,12 +68,16 @@ pub fn settle<R: Threads + Wait + Sync, J: Journaled>(
     requires seat { (pass_knows pass).number ≡ seat_of (by_worker worker.old.number) }
     requires within { worker.old.number < (began_at J.shows gate.now).workers }
     requires works { WorksIn worker.old (world_now (seen_by J.shows gate.now pass)) }
+    requires heard { HasHeard (seen_by J.shows gate.now pass) (heard_by J.shows gate.now pass) }
     ensures here { pass_gate result.0 ≡ gate_id gate.now }
     ensures seat { (pass_knows result.0).number ≡ seat_of (by_worker worker.old.number) }
+    ensures heard { HasHeard (seen_by J.shows gate.now result.0) (heard_by J.shows gate.now result.0) }
+    ensures newer { IfOk result.1 (λ made. made ≡ true → IsIdle worker.old
+        → worker.old.picture.version < version_shown (seen_by J.shows gate.now result.0)) }
     ensures settled { IfOk result.1 (λ made. made ≡ true → HasCommitted at step
         (seen_by J.shows gate.now pass) (seen_by J.shows gate.now result.0) worker.old worker.new) }
     ensures left_out { IfOk result.1 (λ made. made ≡ false → IsLeftOut
-        (seen_by J.shows gate.now pass) (seen_by J.shows gate.now result.0) (heard_by J.shows gate.now result.0) worker.old worker.new) }
+        (seen_by J.shows gate.now pass) (seen_by J.shows gate.now result.0) (heard_by J.shows gate.now pass) worker.old worker.new) }
     ensures refused { OnErr result.1 (GrowsByOthers (seat_of (by_worker worker.old.number))
         (seen_by J.shows gate.now pass) (seen_by J.shows gate.now result.0)) }
     ensures as_it_was { OnErr result.1 (worker.new ≡ record worker.old { spare = worker.new.spare }) }
@@ -105,6 +110,8 @@ fn commit<R: Threads + Wait + Sync, J: Journaled>(
     requires works { WorksIn worker.old (world_now (seen_by J.shows gate.now pass)) }
     ensures here { pass_gate result.0 ≡ gate_id gate.now }
     ensures seat { (pass_knows result.0).number ≡ seat_of (by_worker worker.old.number) }
+    ensures heard { HasHeard (seen_by J.shows gate.now result.0) (heard_by J.shows gate.now result.0) }
+    ensures newer { OnOk result.1 (version_shown (heard_by J.shows gate.now pass) ≤ version_shown (seen_by J.shows gate.now result.0)) }
     ensures made { IfOk result.1 (λ made. made ≡ true) }
     ensures settled { OnOk result.1 (HasCommitted at step
         (seen_by J.shows gate.now pass) (seen_by J.shows gate.now result.0) worker.old worker.new) }
