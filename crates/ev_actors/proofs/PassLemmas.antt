@@ -162,7 +162,7 @@ record Goes (script : ScriptParts) (front : List Line) (before waiting : List Op
   keeps : Keeps (front ++ line ∷ []) after (waiting_behind waiting line)
 
 -- tests of an operation
-settle_joins_not : (event : Event) → is_batched event ≡ true → is_settle event ≡ false
+pub settle_joins_not : (event : Event) → is_batched event ≡ true → is_settle event ≡ false
 settle_joins_not Connect h = refl
 settle_joins_not Disconnect h = refl
 settle_joins_not (Response response) h = refl
@@ -215,28 +215,28 @@ since_ended actor before o alone ends same =
     (first_not (is_batched o.event) (actor_same o.actor actor) alone)
     (both (is_settle o.event) (actor_same o.actor actor) ends same)
 
-lines_same : (actor : Actor) (front : List Line) (line : Line) → is_batched line.event ≡ false → is_settle line.event ≡ false
+pub lines_same : (actor : Actor) (front : List Line) (line : Line) → is_batched line.event ≡ false → is_settle line.event ≡ false
     → lines_since actor (front ++ line ∷ []) ≡ lines_since actor front
 lines_same actor front line one other =
     run_same (line_joins actor) (line_ends actor) front line
     (first_not (is_batched line.event) (actor_same line.actor actor) one)
     (first_not (is_settle line.event) (actor_same line.actor actor) other)
 
-lines_other : (actor : Actor) (front : List Line) (line : Line) → actor_same line.actor actor ≡ false
+pub lines_other : (actor : Actor) (front : List Line) (line : Line) → actor_same line.actor actor ≡ false
     → lines_since actor (front ++ line ∷ []) ≡ lines_since actor front
 lines_other actor front line apart =
     run_same (line_joins actor) (line_ends actor) front line
     (second_not (is_batched line.event) (actor_same line.actor actor) apart)
     (second_not (is_settle line.event) (actor_same line.actor actor) apart)
 
-lines_joined : (actor : Actor) (front : List Line) (line : Line) → is_batched line.event ≡ true → actor_same line.actor actor ≡ true
+pub lines_joined : (actor : Actor) (front : List Line) (line : Line) → is_batched line.event ≡ true → actor_same line.actor actor ≡ true
     → lines_since actor (front ++ line ∷ []) ≡ lines_since actor front ++ line ∷ []
 lines_joined actor front line batched same =
     run_joined (line_joins actor) (line_ends actor) front line
     (both (is_batched line.event) (actor_same line.actor actor) batched same)
     (first_not (is_settle line.event) (actor_same line.actor actor) (settle_joins_not line.event batched))
 
-lines_ended : (actor : Actor) (front : List Line) (line : Line) → is_batched line.event ≡ false → is_settle line.event ≡ true → actor_same line.actor actor ≡ true
+pub lines_ended : (actor : Actor) (front : List Line) (line : Line) → is_batched line.event ≡ false → is_settle line.event ≡ true → actor_same line.actor actor ≡ true
     → lines_since actor (front ++ line ∷ []) ≡ []
 lines_ended actor front line alone ends same =
     run_ended (line_joins actor) (line_ends actor) front line
@@ -244,13 +244,13 @@ lines_ended actor front line alone ends same =
     (both (is_settle line.event) (actor_same line.actor actor) ends same)
 
 -- the remainder of one more
-more_full : (waits count : ℕ) → waits ≡ count % 256 → ((waits + 1) == 256) ≡ ((count + 1) % 256 == 0)
+pub more_full : (waits count : ℕ) → waits ≡ count % 256 → ((waits + 1) == 256) ≡ ((count + 1) % 256 == 0)
 more_full waits count is = grind (arith, nat_tests)
 
-more_counted : (waits count : ℕ) → waits ≡ count % 256 → ((waits + 1) == 256) ≡ false → waits + 1 ≡ (count + 1) % 256
+pub more_counted : (waits count : ℕ) → waits ≡ count % 256 → ((waits + 1) == 256) ≡ false → waits + 1 ≡ (count + 1) % 256
 more_counted waits count is few = grind (arith, nat_tests)
 
-more_none : (waits count : ℕ) → waits ≡ count % 256 → ((waits + 1) == 256) ≡ true → 0 ≡ (count + 1) % 256
+pub more_none : (waits count : ℕ) → waits ≡ count % 256 → ((waits + 1) == 256) ≡ true → 0 ≡ (count + 1) % 256
 more_none waits count is full = grind (arith, nat_tests)
 
 one_longer : {X : Type 0} (xs : List X) (x : X) → length (xs ++ x ∷ []) ≡ length xs + 1

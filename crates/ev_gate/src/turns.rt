@@ -17,6 +17,10 @@ use std::thread::Threads;
 // Of a word as many bits as a thread parks on.
 const PARKED_BITS: u64 = 0xffff_ffff;
 
+// How often a seat looks whether its ticket is served before it parks. Where seats contend for short turns, a park and its
+// wake cost far more than the turn.
+const LOOKS: u32 = 100;
+
 impl<V: Stands> Gate<V> {
     /// Waits until it is this seat's turn. No promise says when that is.
     pub fn turn<R: Threads + Wait + Sync>(&self, rt: &R, pass: Pass<V>) -> Turn<'_, V>
@@ -47,6 +51,7 @@ impl<V: Stands> Gate<V> {
         } = pass;
         let shared = &self.table.shared;
         let ticket = self.draw::<Brand>(&mut seat);
+        let mut looks = 0;
         for _ in rt.forever() {
             let served = shared.load::<Look>(&mut seat, SERVING);
             let is_served = served == ticket;
@@ -58,7 +63,10 @@ impl<V: Stands> Gate<V> {
                     value: slot.unwrap(),
                 };
             }
-            shared.park(rt, SERVING, (served & PARKED_BITS) as u32);
+            looks = if looks < LOOKS { looks + 1 } else { 0 };
+            if looks == 0 {
+                shared.park(rt, SERVING, (served & PARKED_BITS) as u32);
+            }
         }
         unreachable!()
     }

@@ -1,0 +1,3 @@
+pub mod CommitLemmas
+pub mod TurnLemmas
+pub mod UseLemmas

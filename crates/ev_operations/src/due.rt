@@ -1,0 +1,14 @@
+/// What an actor is to do, by the place of a line among the script's lines.
+#[derive(Clone, Copy, Debug, PartialEq, Eq)]
+pub enum Due {
+    /// The line at this place.
+    Line(u32),
+    /// The publication behind it.
+    Publish(u32),
+    /// The reaping behind that.
+    Reap(u32),
+    /// The settle behind an accept or close that makes its worker's batch full.
+    Settle(u32),
+    /// The worker's settle behind the script's last line.
+    LastSettle,
+}
