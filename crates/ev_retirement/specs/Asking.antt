@@ -4,7 +4,7 @@ use Rattle.std.specs.Prelude.{◌≡◌, ℕ, Bool, true, false, not, ◌&&◌, 
 use Rattle.std.specs.List.{list_any, AllByRecursion}
 use Rattle.std.specs.Ordering.{nat_cmp}
 use Rattle.std.specs.BTreeSet.{BTreeSet, contains}
-use Rattle.indexmap.specs.IndexMap.{get}
+use Rattle.ev_retirement.specs.Aside.{is_under}
 use Rattle.ev_types.specs.declared.journals.Format.TheVariants.{Two}
 use Rattle.ev_model.specs.declared.pictures.Picture.{Picture}
 use Rattle.ev_model.specs.World.{OpenMember}
@@ -24,18 +24,9 @@ is_asked asking number = contains nat_cmp asking.asked number
 abbrev pub AreAllAsked : Asking → List ℕ → Type 0
 AreAllAsked asking numbers = (number : ℕ) → has_number number numbers ≡ true → is_asked asking number ≡ true
 
--- the second test is true wherever the first is
-abbrev pub HoldsMore : {A : Type 0} → (A → Bool) → (A → Bool) → Type 0
-HoldsMore {A} before after = (x : A) → before x ≡ true → after x ≡ true
-
--- it is one of these
-abbrev pub is_in : Option (BTreeSet ℕ) → ℕ → Bool
-is_in None number = false
-is_in (Some numbers) number = contains nat_cmp numbers number
-
 -- it is set aside under the picture of this version
 abbrev pub is_aside : Asking → ℕ → ℕ → Bool
-is_aside asking version number = is_in (get nat_eq asking.aside version) number
+is_aside asking version number = is_under asking.aside version number
 
 -- it is set aside under a picture in use that shows it
 abbrev pub is_set_aside : Asking → PicturesParts → ℕ → Bool

@@ -1,3 +1,4 @@
+pub mod Aside
 pub mod Asking
 pub mod Closing
 pub mod Holders

@@ -1,10 +1,10 @@
 ghost use Rattle.std.specs.Prelude.{◌≡◌, ℕ, false, true, IfOk, OnOk};
 ghost use Rattle.std.specs.Ordering.{nat_cmp};
 ghost use Rattle.std.specs.BTreeSet.{contains, IsOrdered};
-ghost use Rattle.ev_retirement.specs.Asking.{AreAllAsked, AsksMore, Forgets, HoldsMore, is_asked, is_aside};
+ghost use Rattle.ev_retirement.specs.Asking.{AreAllAsked, AsksMore, Forgets, is_asked, is_aside};
 
+use crate::aside::{Aside, put};
 use ev_types::Gen;
-use indexmap::IndexMap;
 use std::alloc::{AllocError, Global};
 use std::collections::BTreeSet;
 
@@ -13,7 +13,7 @@ use std::collections::BTreeSet;
 pub(crate) struct Asking {
     asked: BTreeSet<Gen>,
     // Those that a picture holds, by its version.
-    aside: IndexMap<u64, BTreeSet<Gen>>,
+    aside: Aside,
 }
 
 impl Asking {
@@ -24,7 +24,7 @@ impl Asking {
     {
         Asking {
             asked: BTreeSet::new(alloc),
-            aside: IndexMap::new(alloc),
+            aside: Aside::new(alloc),
         }
     }
 
@@ -53,12 +53,12 @@ impl Asking {
         ensures none { OnOk result ((number : ℕ) → is_aside self.new version number ≡ false) }
         ensures more { AsksMore self.old self.new }
     {
-        let Some(aside) = self.aside.get(&version) else {
+        let Some(aside) = self.aside.under(version) else {
             return Ok(());
         };
         let numbers = in_order(alloc, aside)?;
         self.ask_each(numbers.as_slice())?;
-        self.aside.swap_remove(&version);
+        self.aside.take_out(version);
         Ok(())
     }
 
@@ -81,15 +81,7 @@ impl Asking {
         ensures more { AsksMore self.old self.new }
         ensures same { self.new.asked ≡ self.old.asked }
     {
-        if let Some(numbers) = self.aside.get_mut(&version) {
-            return put(numbers, number);
-        }
-        let mut numbers = BTreeSet::new(alloc);
-        put(&mut numbers, number)?;
-        let Ok(_) = self.aside.insert(version, numbers) else {
-            return Err(AllocError);
-        };
-        Ok(())
+        self.aside.put(alloc, version, number)
     }
 
     /// A generation is no longer to be asked about. It takes no memory.
@@ -98,17 +90,6 @@ impl Asking {
     {
         self.asked.remove(&number);
     }
-}
-
-// Puts a number among the others. Out of memory, they stay as they were.
-fn put(numbers: &mut BTreeSet<Gen>, number: Gen) -> Result<(), AllocError>
-    ensures put { OnOk result (contains nat_cmp numbers.new number ≡ true) }
-    ensures kept { HoldsMore (contains nat_cmp numbers.old) (contains nat_cmp numbers.new) }
-{
-    let Ok(_) = numbers.insert(number) else {
-        return Err(AllocError);
-    };
-    Ok(())
 }
 
 // The numbers from the least.

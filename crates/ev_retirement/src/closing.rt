@@ -3,7 +3,7 @@ ghost use Rattle.std.specs.BTreeSet.{contains, IsOrdered};
 ghost use Rattle.ev_ledger.specs.Entries.{key_order};
 ghost use Rattle.ev_ledger.specs.Members.{AreApart, held_of};
 ghost use Rattle.ev_drain.specs.Retired.{is_expired};
-ghost use Rattle.ev_retirement.specs.Asking.{HoldsMore};
+ghost use Rattle.ev_retirement.specs.Aside.{HoldsMore};
 ghost use Rattle.ev_retirement.specs.Closing.{AreFound, AreFoundOn, AreFoundOnEach, ArePlacesFound, FindsMore, Leaves, LeavesOne, closed_all, closes_at, is_found, numbers_at, numbers_closing, numbers_found};
 
 use ev_drain::Drain;

@@ -22,6 +22,7 @@
 //! - The drain timeout's tidying is the managers': the clause gives the world before it.
 #![tactic(auto)]
 
+mod aside;
 mod asking;
 mod closing;
 mod holders;
