@@ -2,11 +2,15 @@
 use Rattle.std.specs.Prelude.{◌≡◌, ℕ, true, false, not, ◌&&◌, if◌then◌else◌, List, All, filter, Option, None, Some}
 use Rattle.std.specs.List.{AllByRecursion}
 use Rattle.ev_types.specs.Statuses.{is_live}
+use Rattle.ev_types.specs.declared.events.Actor.{Actor}
 use Rattle.ev_types.specs.declared.events.Answer.{Answer}
+use Rattle.ev_types.specs.declared.events.Event.{Event}
+use Rattle.ev_types.specs.declared.journals.Format.{Format}
 use Rattle.ev_types.specs.declared.rows.GenRow.{GenRow}
 use Rattle.ev_types.specs.declared.rows.KeptVersion.{KeptVersion}
 use Rattle.ev_model.specs.World.{World}
 use Rattle.ev_model.specs.Live.{lives_of}
+use Rattle.ev_model.specs.Step.{step as machine_step}
 use Rattle.ev_model.specs.Tidy.{is_version_due}
 use Rattle.ev_model.specs.Watching.{is_by_name}
 use Rattle.ev_generations.specs.Tables.{is_number, row_in}
@@ -81,3 +85,11 @@ where_over (Some row) = if is_live row.status then None else Some row
 -- that of this number, where it drains or was dropped
 abbrev pub over_in : ℕ → List GenRow → Option GenRow
 over_in number rows = where_over (row_in number rows)
+
+-- at every world that the old state follows between two events, the change is a step of the new state, with what is told
+abbrev pub StepBy : (World → World × Answer) → State → State → Stepped → Type 0
+StepBy change old new told = (world : World) → Follows old world world → Steps new told world (change world)
+
+-- whatever the format, and whoever brings the event, it is so of the machine's step
+abbrev pub InEachStep : World → Event → (World × Answer → Type 0) → Type 0
+InEachStep here event Said = (format : Format) (actor : Actor) → Said (machine_step format here actor event)

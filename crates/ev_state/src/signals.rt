@@ -1,9 +1,9 @@
-ghost use Rattle.std.specs.Prelude.{◌≡◌, IfOk, OnOk};
+ghost use Rattle.std.specs.Prelude.{◌≡◌, IfOk};
 ghost use Rattle.ev_types.specs.declared.contents.Kind.TheVariants.{Eds, Rds};
 ghost use Rattle.ev_model.specs.World.{World};
-ghost use Rattle.ev_model.specs.Signals.{health, fetch_timeout, clusters_timeout, listeners_timeout, name_timeout, ttl_expired, moved};
+ghost use Rattle.ev_model.specs.Signals.{health, clusters_timeout, listeners_timeout, name_timeout, ttl_expired, moved};
 ghost use Rattle.ev_managers.specs.Managers.{AreForgotten, AreKept};
-ghost use Rattle.ev_state.specs.States.{Follows, Steps as AreSteps};
+ghost use Rattle.ev_state.specs.States.{Follows, Steps as AreSteps, StepBy};
 ghost use Rattle.ev_state.specs.Retirements.{HaveRetired};
 ghost use Rattle.ev_state.specs.Changed.{HaveChanged};
 
@@ -52,7 +52,7 @@ impl State {
     ) -> Result<Stepped, AllocError>
         requires kept { AreKept self.old.managers }
         requires forgotten { AreForgotten self.old.managers }
-        ensures { IfOk result (λ stepped. (world : World) → Follows self.old world world → AreSteps self.new stepped world (health cluster.now host.now healthy world)) }
+        ensures { IfOk result (λ stepped. StepBy (health cluster.now host.now healthy) self.old self.new stepped) }
     {
         if !self.managers.health(alloc, cluster, host, healthy, steps)? {
             return Ok(Stepped::ignored(alloc));
@@ -71,7 +71,7 @@ impl State {
     ) -> Result<Stepped, AllocError>
         requires kept { AreKept self.old.managers }
         requires forgotten { AreForgotten self.old.managers }
-        ensures { IfOk result (λ stepped. (world : World) → Follows self.old world world → AreSteps self.new stepped world (clusters_timeout world)) }
+        ensures { IfOk result (λ stepped. StepBy clusters_timeout self.old self.new stepped) }
     {
         if !self.targets.clusters_timeout() {
             return Ok(Stepped::ignored(alloc));
@@ -88,7 +88,7 @@ impl State {
     ) -> Result<Stepped, AllocError>
         requires kept { AreKept self.old.managers }
         requires forgotten { AreForgotten self.old.managers }
-        ensures { IfOk result (λ stepped. (world : World) → Follows self.old world world → AreSteps self.new stepped world (listeners_timeout world)) }
+        ensures { IfOk result (λ stepped. StepBy listeners_timeout self.old self.new stepped) }
     {
         if !self.targets.listeners_timeout() {
             return Ok(Stepped::ignored(alloc));
@@ -106,7 +106,7 @@ impl State {
     ) -> Result<Stepped, AllocError>
         requires kept { AreKept self.old.managers }
         requires forgotten { AreForgotten self.old.managers }
-        ensures { IfOk result (λ stepped. (world : World) → Follows self.old world world → AreSteps self.new stepped world (name_timeout Eds name.now world)) }
+        ensures { IfOk result (λ stepped. StepBy (name_timeout Eds name.now) self.old self.new stepped) }
     {
         if !self.managers.clusters.timeout_due(name) {
             return Ok(Stepped::ignored(alloc));
@@ -126,7 +126,7 @@ impl State {
     ) -> Result<Stepped, AllocError>
         requires kept { AreKept self.old.managers }
         requires forgotten { AreForgotten self.old.managers }
-        ensures { IfOk result (λ stepped. (world : World) → Follows self.old world world → AreSteps self.new stepped world (name_timeout Rds name.now world)) }
+        ensures { IfOk result (λ stepped. StepBy (name_timeout Rds name.now) self.old self.new stepped) }
     {
         if !self.managers.listeners.timeout_due(name) {
             return Ok(Stepped::ignored(alloc));
@@ -147,7 +147,7 @@ impl State {
     ) -> Result<Stepped, AllocError>
         requires kept { AreKept self.old.managers }
         requires forgotten { AreForgotten self.old.managers }
-        ensures { IfOk result (λ stepped. (world : World) → Follows self.old world world → AreSteps self.new stepped world (ttl_expired kind name.now world)) }
+        ensures { IfOk result (λ stepped. StepBy (ttl_expired kind name.now) self.old self.new stepped) }
     {
         if !self.subscription.is_bounded(kind, name.as_str()) {
             return Ok(Stepped::ignored(alloc));

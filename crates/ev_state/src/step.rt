@@ -9,7 +9,7 @@ ghost use Rattle.ev_managers.specs.Managers.{AreForgotten, AreKept};
 ghost use Rattle.ev_state.specs.Managed.{event_of};
 ghost use Rattle.ev_state.specs.Changed.{HaveChanged};
 ghost use Rattle.ev_state.specs.Retirements.{HaveCeased};
-ghost use Rattle.ev_state.specs.States.{Follows, IsAt, Steps as AreSteps};
+ghost use Rattle.ev_state.specs.States.{IsAt, Steps as AreSteps, StepBy, InEachStep};
 
 use crate::managed::Managed;
 use crate::state::State;
@@ -28,10 +28,10 @@ impl State {
         ghost here: { World }
         requires at { IsAt self.old here }
         requires room { 0 < items_in (event_of event) → here.made + items_in (event_of event) < 2 ^ 32 }
-        ensures at { OnOk result ((format : Format) (actor : Actor) → IsAt self.new (machine_step format here actor (event_of event.entry)).0) }
-        ensures answer { IfOk result (λ stepped. (format : Format) (actor : Actor) → stepped.answer ≡ (machine_step format here actor (event_of event.entry)).1) }
-        ensures ceased { IfOk result (λ stepped. (format : Format) (actor : Actor) → HaveCeased stepped.retired here (machine_step format here actor (event_of event.entry)).0) }
-        ensures changed { IfOk result (λ stepped. (format : Format) (actor : Actor) → HaveChanged stepped.changed here (machine_step format here actor (event_of event.entry)).0) }
+        ensures at { OnOk result (InEachStep here (event_of event.entry) (λ after. IsAt self.new after.0)) }
+        ensures answer { IfOk result (λ stepped. InEachStep here (event_of event.entry) (λ after. stepped.answer ≡ after.1)) }
+        ensures ceased { IfOk result (λ stepped. InEachStep here (event_of event.entry) (λ after. HaveCeased stepped.retired here after.0)) }
+        ensures changed { IfOk result (λ stepped. InEachStep here (event_of event.entry) (λ after. HaveChanged stepped.changed here after.0)) }
     {
         let stepped = self.counted::<Brand>(Blank::new(1), alloc, event)?;
         Ok(stepped)
@@ -76,7 +76,7 @@ impl State {
     ) -> Result<Stepped, AllocError>
         requires kept { AreKept self.old.managers }
         requires forgotten { AreForgotten self.old.managers }
-        ensures { IfOk result (λ stepped. (world : World) → Follows self.old world world → AreSteps self.new stepped world (fetch_timeout timeout.now.kind timeout.now.name world)) }
+        ensures { IfOk result (λ stepped. StepBy (fetch_timeout timeout.now.kind timeout.now.name) self.old self.new stepped) }
     {
         match (timeout.kind, &timeout.name) {
             (Kind::Cds, _) => self.clusters_timeout(alloc, steps),

@@ -4,7 +4,7 @@ ghost use Rattle.ev_model.specs.World.{World};
 ghost use Rattle.ev_model.specs.Requests.{connect_requests};
 ghost use Rattle.ev_model.specs.Step.{connect, disconnect};
 ghost use Rattle.ev_managers.specs.Managers.{AreForgotten, AreKept};
-ghost use Rattle.ev_state.specs.States.{Follows, StandsFor, Steps as AreSteps};
+ghost use Rattle.ev_state.specs.States.{StandsFor, StepBy};
 
 use crate::state::State;
 use crate::stepped::Stepped;
@@ -23,7 +23,7 @@ impl State {
     ) -> Result<Stepped, AllocError>
         requires kept { AreKept self.old.managers }
         requires forgotten { AreForgotten self.old.managers }
-        ensures { IfOk result (λ stepped. (world : World) → Follows self.old world world → AreSteps self.new stepped world (connect world)) }
+        ensures { IfOk result (λ stepped. StepBy connect self.old self.new stepped) }
     {
         if self.subscription.is_open() {
             return Ok(Stepped::ignored(alloc));
@@ -71,7 +71,7 @@ impl State {
     ) -> Result<Stepped, AllocError>
         requires kept { AreKept self.old.managers }
         requires forgotten { AreForgotten self.old.managers }
-        ensures { IfOk result (λ stepped. (world : World) → Follows self.old world world → AreSteps self.new stepped world (disconnect world)) }
+        ensures { IfOk result (λ stepped. StepBy disconnect self.old self.new stepped) }
     {
         if !self.subscription.is_open() {
             return Ok(Stepped::ignored(alloc));
