@@ -1,5 +1,5 @@
 -- The generations that are set aside under a picture, by its version. This project's own.
-use Rattle.std.specs.Prelude.{◌≡◌, ◌≢◌, ℕ, Bool, true, false, nat_eq, List, [], Option, None, Some}
+use Rattle.std.specs.Prelude.{◌≡◌, ℕ, Bool, true, false, nat_eq, List, Option, None, Some}
 use Rattle.std.specs.Map.{lookup}
 use Rattle.std.specs.Ordering.{nat_cmp}
 use Rattle.std.specs.BTreeSet.{BTreeSet, contains}
@@ -17,9 +17,13 @@ is_in (Some numbers) number = contains nat_cmp numbers number
 abbrev pub is_under : AsideKept → ℕ → ℕ → Bool
 is_under kept version number = is_in (lookup (nat_eq version) kept) number
 
+-- some generation is among these
+abbrev pub HasSome : BTreeSet ℕ → Type 0
+HasSome numbers = (number : ℕ) × (contains nat_cmp numbers number ≡ true)
+
 -- no version stands there with no generation under it
 abbrev pub HasNoEmpty : AsideKept → Type 0
-HasNoEmpty kept = (version : ℕ) (numbers : BTreeSet ℕ) → lookup (nat_eq version) kept ≡ Some numbers → numbers.keys ≢ []
+HasNoEmpty kept = (version : ℕ) (numbers : BTreeSet ℕ) → lookup (nat_eq version) kept ≡ Some numbers → HasSome numbers
 
 -- the second test is true wherever the first is
 abbrev pub HoldsMore : {A : Type 0} → (A → Bool) → (A → Bool) → Type 0
