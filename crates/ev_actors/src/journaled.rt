@@ -32,7 +32,8 @@ pub trait Journaled {
         ensures answer { IfOk result (λ answer. answer ≡ answer_now actor event.now (shows self.old)) }
         ensures entry { IfOk result (λ answer. shows self.new
             ≡ with_entry record { actor = actor; at = at; step = step; event = event.now; answer = answer } (shows self.old)) }
-        ensures drawn { OnOk result ((world_now (shows self.new)).made ≤ (world_now (shows self.old)).made + items_in event.now) }
+        ensures drawn { OnOk result ((world_now (shows self.new)).made
+            ≤ (world_now (shows self.old)).made + items_in event.now) }
         ensures err { OnErr result (shows self.new ≡ shows self.old) };
 
     /// Enters what a worker did since it settled, and its settle behind, and answers what the worker takes over. Out of memory,
@@ -41,7 +42,8 @@ pub trait Journaled {
         requires within { worker.now.number < (shows self.old).workers }
         requires works { WorksIn worker.now (world_now (shows self.old)) }
         ensures entries { OnOk result (shows self.new ≡ with_settled worker.now at step (shows self.old)) }
-        ensures told { IfOk result (λ settled. IsToldBehind worker.now settled.closed (arc_value settled.snapshot) (shows self.old)) }
+        ensures told { IfOk result (λ settled. IsToldBehind worker.now settled.closed
+            (arc_value settled.snapshot) (shows self.old)) }
         ensures err { OnErr result (shows self.new ≡ shows self.old) };
 
     /// The last picture. It may be refused.
@@ -60,5 +62,6 @@ pub trait Journaled {
     /// The entries of what was done, in order.
     fn journal(&self) -> &[Entry]
         ensures entries { result.now ≡ (shows self.now).journal }
-        ensures run { IsRun (shows self.now).format (shows self.now).workers (shows self.now).node (shows self.now).journal };
+        ensures run { IsRun (shows self.now).format (shows self.now).workers (shows self.now).node
+            (shows self.now).journal };
 }

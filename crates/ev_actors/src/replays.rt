@@ -40,7 +40,8 @@ pub fn replay<R: Journaled + Drop>(
 
 // The workers, each of which has the last picture and has done nothing yet.
 fn begin<R: Journaled>(alloc: Global, journaled: &R, count: u32) -> Result<Vec<Worker>, AllocError>
-    ensures { IfOk result (λ workers. HaveBegun count (last_picture (world_now (R.shows journaled.now))) workers.items) }
+    ensures { IfOk result (λ workers. HaveBegun count (last_picture (world_now
+        (R.shows journaled.now))) workers.items) }
 {
     let mut workers = Vec::new(alloc);
     for number in 0..count {

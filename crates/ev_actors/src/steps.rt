@@ -153,7 +153,8 @@ pub(crate) fn take_line<R: Journaled>(
     requires working { AreAtWork (world_now (R.shows journaled.old)) workers.old }
     requires allowed { MayMake (R.shows journaled.old).workers line.now.actor line.now.event }
     requires numbered { SufficeFor line.now.event (R.shows journaled.old) }
-    ensures { OnOk result (IsTaken auto line.now (R.shows journaled.old) (R.shows journaled.new) workers.old workers.new) }
+    ensures { OnOk result (IsTaken auto line.now (R.shows journaled.old)
+        (R.shows journaled.new) workers.old workers.new) }
 {
     match line.actor {
         Actor::Worker(number) => {

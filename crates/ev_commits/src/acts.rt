@@ -29,7 +29,8 @@ pub(crate) fn apply_in<J: Journaled>(
     ensures sound_then { IsSound (J.shows kept.new.journaled) }
     ensures entered { OnOk result (HasEntered record { actor = actor; at = at; step = step; event = event.now }
         (J.shows kept.old.journaled) (J.shows kept.new.journaled)) }
-    ensures committed { OnOk result (CommitsOnce (seat_of actor) (J.shows kept.old.journaled) (J.shows kept.new.journaled)) }
+    ensures committed { OnOk result (CommitsOnce (seat_of actor)
+        (J.shows kept.old.journaled) (J.shows kept.new.journaled)) }
     ensures refused { OnErr result (J.shows kept.new.journaled ≡ J.shows kept.old.journaled) }
 {
     let _ = kept.journaled.journal();
@@ -48,11 +49,14 @@ pub(crate) fn settle_in<J: Journaled>(
 ) -> Result<(), AllocError>
     requires prepared { batch_limit ≤ worker.old.spare }
     requires within { worker.old.number < (J.shows kept.old.journaled).workers }
-    requires works { IsSound (J.shows kept.old.journaled) → WorksIn worker.old (world_now (J.shows kept.old.journaled)) }
+    requires works { IsSound (J.shows kept.old.journaled)
+        → WorksIn worker.old (world_now (J.shows kept.old.journaled)) }
     ensures sound { IsSound (J.shows kept.old.journaled) }
     ensures sound_then { IsSound (J.shows kept.new.journaled) }
-    ensures settled { OnOk result (HasSettled at step (J.shows kept.old.journaled) (J.shows kept.new.journaled) worker.old worker.new) }
-    ensures committed { OnOk result (CommitsOnce (seat_of (by_worker worker.old.number)) (J.shows kept.old.journaled) (J.shows kept.new.journaled)) }
+    ensures settled { OnOk result (HasSettled at step
+        (J.shows kept.old.journaled) (J.shows kept.new.journaled) worker.old worker.new) }
+    ensures committed { OnOk result (CommitsOnce (seat_of (by_worker worker.old.number))
+        (J.shows kept.old.journaled) (J.shows kept.new.journaled)) }
     ensures refused { OnErr result (J.shows kept.new.journaled ≡ J.shows kept.old.journaled) }
     ensures as_it_was { OnErr result (worker.new ≡ worker.old) }
 {

@@ -36,10 +36,12 @@ pub fn enter<R: Threads + Wait + Sync, J: Journaled>(
     requires numbered { SufficeFor event.now (seen_by J.shows gate.now pass) }
     ensures here { pass_gate result.0 ≡ gate_id gate.now }
     ensures seat { (pass_knows result.0).number ≡ seat_of actor }
+    ensures start { (pass_knows result.0).start ≡ (pass_knows pass).start }
     ensures heard { HasHeard (seen_by J.shows gate.now result.0) (heard_by J.shows gate.now result.0) }
     ensures entered { OnOk result.1 (HasActed record { actor = actor; at = at; step = step; event = event.now }
         (seen_by J.shows gate.now pass) (seen_by J.shows gate.now result.0)) }
-    ensures refused { OnErr result.1 (GrowsByOthers (seat_of actor) (seen_by J.shows gate.now pass) (seen_by J.shows gate.now result.0)) }
+    ensures refused { OnErr result.1 (GrowsByOthers (seat_of actor)
+        (seen_by J.shows gate.now pass) (seen_by J.shows gate.now result.0)) }
 {
     let mut turn = gate.turn(rt, pass);
     match apply_in(turn.value(), actor, at, step, event) {
@@ -71,6 +73,7 @@ pub fn settle<R: Threads + Wait + Sync, J: Journaled>(
     requires heard { HasHeard (seen_by J.shows gate.now pass) (heard_by J.shows gate.now pass) }
     ensures here { pass_gate result.0 ≡ gate_id gate.now }
     ensures seat { (pass_knows result.0).number ≡ seat_of (by_worker worker.old.number) }
+    ensures start { (pass_knows result.0).start ≡ (pass_knows pass).start }
     ensures heard { HasHeard (seen_by J.shows gate.now result.0) (heard_by J.shows gate.now result.0) }
     ensures newer { IfOk result.1 (λ made. made ≡ true → IsIdle worker.old
         → worker.old.picture.version < version_shown (seen_by J.shows gate.now result.0)) }
@@ -110,8 +113,10 @@ fn commit<R: Threads + Wait + Sync, J: Journaled>(
     requires works { WorksIn worker.old (world_now (seen_by J.shows gate.now pass)) }
     ensures here { pass_gate result.0 ≡ gate_id gate.now }
     ensures seat { (pass_knows result.0).number ≡ seat_of (by_worker worker.old.number) }
+    ensures start { (pass_knows result.0).start ≡ (pass_knows pass).start }
     ensures heard { HasHeard (seen_by J.shows gate.now result.0) (heard_by J.shows gate.now result.0) }
-    ensures newer { OnOk result.1 (version_shown (heard_by J.shows gate.now pass) ≤ version_shown (seen_by J.shows gate.now result.0)) }
+    ensures newer { OnOk result.1 (version_shown (heard_by J.shows gate.now pass)
+        ≤ version_shown (seen_by J.shows gate.now result.0)) }
     ensures made { IfOk result.1 (λ made. made ≡ true) }
     ensures settled { OnOk result.1 (HasCommitted at step
         (seen_by J.shows gate.now pass) (seen_by J.shows gate.now result.0) worker.old worker.new) }

@@ -17,7 +17,8 @@ pub(crate) fn note_each(
     state: &State,
     numbers: &[Gen],
 ) -> Result<(), AllocError>
-    ensures { OnOk result ((world : World) → ManagesAt state.now world → holders.new ≡ record holders.old { drain = noted_each world.rows numbers.now holders.old.drain }) }
+    ensures { OnOk result ((world : World) → ManagesAt state.now world
+        → holders.new ≡ record holders.old { drain = noted_each world.rows numbers.now holders.old.drain }) }
 {
     for number in numbers {
         note_row(alloc, holders, state.row(*number))?;
@@ -27,7 +28,10 @@ pub(crate) fn note_each(
 
 // Notes a generation that was found, where it drains or was dropped.
 fn note_row(alloc: Global, holders: &mut Holders, row: Option<&GenRow>) -> Result<(), AllocError>
-    ensures { OnOk result (holders.new ≡ record holders.old { drain = noted_over holders.old.drain (option_copied row.entry) }) }
+    ensures { OnOk result (holders.new ≡ record holders.old {
+      drain = noted_over holders.old.drain
+          (option_copied row.entry);
+    }) }
 {
     let Some(row) = row else {
         return Ok(());
@@ -44,8 +48,10 @@ pub(crate) fn remove_each(state: &mut State, numbers: &[Gen], deferred: &mut Def
     requires kept { AreKept state.old.managers }
     requires forgotten { AreForgotten state.old.managers }
     requires room { length numbers.now ≤ deferred.old.1 }
-    ensures at { (world : World) → ManagesAt state.old world → ManagesAt state.new (record world { rows = without_each numbers.now world.rows }) }
-    ensures rows { (world : World) → ManagesAt state.old world → deferred.new.0 ≡ deferred.old.0 ++ rows_gone numbers.now world.rows }
+    ensures at { (world : World) → ManagesAt state.old world
+        → ManagesAt state.new (record world { rows = without_each numbers.now world.rows }) }
+    ensures rows { (world : World) → ManagesAt state.old world
+        → deferred.new.0 ≡ deferred.old.0 ++ rows_gone numbers.now world.rows }
 {
     for number in numbers {
         defer(deferred, state.remove(*number));

@@ -68,7 +68,8 @@ impl Proxy {
         requires room { NumbersSuffice here event.now }
         ensures at { OnOk result (IsAt self.new (machine_step format here actor event.now).0) }
         ensures answer { IfOk result (λ answer. answer ≡ (machine_step format here actor event.now).1) }
-        ensures deferred { OnOk result (AreRowsOf (numbers_reaped format here event.now) here.rows self.new.deferred.0) }
+        ensures deferred { OnOk result (AreRowsOf
+            (numbers_reaped format here event.now) here.rows self.new.deferred.0) }
     {
         self.deferred = Deferred::new(alloc);
         match event {
@@ -107,7 +108,8 @@ impl Proxy {
     pub fn take_batch(&mut self, batch: &Batch) -> Result<(), AllocError>
         ghost here: { World }
         requires at { IsAt self.old here }
-        ensures at { OnOk result ((format : Format) (picture : Picture) → AreAnswered format batch.now.worker here batch.now.lines
+        ensures at { OnOk result ((format : Format) (picture : Picture)
+            → AreAnswered format batch.now.worker here batch.now.lines
             → IsAt self.new (world_after format here (entries_of batch.now.worker picture batch.now.lines))) }
         ensures deferred { self.new.deferred ≡ self.old.deferred }
     {
@@ -120,7 +122,8 @@ impl Proxy {
         requires at { IsAt self.old here }
         requires known { worker < length here.held }
         ensures at { OnOk result (IsAt self.new (settle worker here).0) }
-        ensures answer { IfOk result (λ settled. (settle worker here).1 ≡ settled_answer settled.closed settled.version) }
+        ensures answer { IfOk result (λ settled. (settle worker here).1
+            ≡ settled_answer settled.closed settled.version) }
         ensures told { IfOk result (λ settled. IsToldBy worker settled.closed (arc_value settled.snapshot) here) }
         ensures deferred { self.new.deferred ≡ self.old.deferred }
     {
@@ -129,7 +132,8 @@ impl Proxy {
 
     /// The last snapshot. It takes no memory; it is refused where 2^63 - 1 owners hold it already.
     pub fn snapshot(&self) -> Result<Arc<Snapshot>, AllocError>
-        ensures { IfOk result (λ snapshot. (world : World) → IsAt self.now world → arc_value snapshot ≡ last_picture world) }
+        ensures { IfOk result (λ snapshot. (world : World) → IsAt self.now world
+            → arc_value snapshot ≡ last_picture world) }
     {
         self.holders.snapshot()
     }

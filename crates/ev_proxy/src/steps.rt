@@ -26,8 +26,10 @@ impl Proxy {
         ghost here: { World }
         requires at { IsAt self.old here }
         requires room { NumbersSuffice here (event_of event) }
-        ensures at { OnOk result ((format : Format) (actor : Actor) → IsAt self.new (machine_step format here actor (event_of event.entry)).0) }
-        ensures answer { IfOk result (λ answer. (format : Format) (actor : Actor) → answer ≡ (machine_step format here actor (event_of event.entry)).1) }
+        ensures at { OnOk result ((format : Format) (actor : Actor)
+            → IsAt self.new (machine_step format here actor (event_of event.entry)).0) }
+        ensures answer { IfOk result (λ answer. (format : Format) (actor : Actor)
+            → answer ≡ (machine_step format here actor (event_of event.entry)).1) }
         ensures deferred { OnOk result (self.new.deferred ≡ self.old.deferred) }
     {
         let stepped = self.state.step(alloc, event)?;

@@ -19,7 +19,8 @@ pub(crate) fn enter_batch(
     step: u32,
     settled: &Settled,
 ) -> Result<(), AllocError>
-    ensures ok { OnOk result (journal.new.items ≡ journal.old.items ++ (entries_made worker.now ++ settle_told worker.now.number at step settled.now.closed settled.now.version ∷ [])) }
+    ensures ok { OnOk result (journal.new.items ≡ journal.old.items ++ (entries_made worker.now
+        ++ settle_told worker.now.number at step settled.now.closed settled.now.version ∷ [])) }
     ensures err { OnErr result (journal.new.items ≡ journal.old.items) }
 {
     let mut entries = Vec::new(alloc);
@@ -39,7 +40,8 @@ fn enter_through(
     settled: &Settled,
 ) -> Result<(), AllocError>
     requires { entries.old.items ≡ [] }
-    ensures ok { OnOk result (journal.new.items ≡ journal.old.items ++ (entries_made worker.now ++ settle_told worker.now.number at step settled.now.closed settled.now.version ∷ [])) }
+    ensures ok { OnOk result (journal.new.items ≡ journal.old.items ++ (entries_made worker.now
+        ++ settle_told worker.now.number at step settled.now.closed settled.now.version ∷ [])) }
     ensures err { OnErr result (journal.new.items ≡ journal.old.items) }
 {
     enter_lines(entries, alloc, worker)?;

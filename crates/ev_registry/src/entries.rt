@@ -13,7 +13,8 @@ pub(crate) fn entry_of(
     event: &Event,
     answer: &Answer,
 ) -> Result<Entry, AllocError>
-    ensures { IfOk result (λ entry. entry ≡ record { actor = actor; at = at; step = step; event = event.now; answer = answer.now }) }
+    ensures { IfOk result (λ entry. entry
+        ≡ record { actor = actor; at = at; step = step; event = event.now; answer = answer.now }) }
 {
     Ok(Entry {
         actor,

@@ -63,7 +63,8 @@ impl Registry {
     ) -> Result<Registry, AllocError>
         requires some { 1 ≤ workers }
         requires few { workers ≤ 16 }
-        ensures empty { IfOk result (λ made. made.journaled ≡ record { format = format; workers = workers; node = node.now; journal = [] }) }
+        ensures empty { IfOk result (λ made. made.journaled
+            ≡ record { format = format; workers = workers; node = node.now; journal = [] }) }
         ensures none { IfOk result (λ made. made.deferred ≡ []) }
     {
         let registry = Registry::of_journal(alloc, format, workers, node, Vec::new(alloc))?;
@@ -80,7 +81,8 @@ impl Registry {
     ) -> Result<Registry, AllocError>
         requires run { IsRun format workers node.now journal.items }
         requires stepped { HaveStepped format workers (opening workers node.now) journal.items }
-        ensures shown { IfOk result (λ made. made.journaled ≡ record { format = format; workers = workers; node = node.now; journal = journal.items }) }
+        ensures shown { IfOk result (λ made. made.journaled
+            ≡ record { format = format; workers = workers; node = node.now; journal = journal.items }) }
         ensures none { IfOk result (λ made. made.deferred ≡ []) }
     {
         let kept = node.copy(alloc)?;
@@ -138,7 +140,8 @@ impl Journaled for Registry {
         ensures answer { IfOk result (λ answer. answer ≡ answer_now actor event.now self.old.journaled) }
         ensures entry { IfOk result (λ answer. self.new.journaled
             ≡ with_entry record { actor = actor; at = at; step = step; event = event.now; answer = answer } self.old.journaled) }
-        ensures drawn { OnOk result ((world_now self.new.journaled).made ≤ (world_now self.old.journaled).made + items_in event.now) }
+        ensures drawn { OnOk result ((world_now self.new.journaled).made ≤
+            (world_now self.old.journaled).made + items_in event.now) }
         // What a reaping names waits behind the rows that waited, each row as the world had it; no other event puts a row there.
         ensures deferred { OnOk result (DefersReaped event.now self.old.journaled self.old.deferred self.new.deferred) }
         ensures err { OnErr result (self.new.journaled ≡ self.old.journaled) }
@@ -169,7 +172,8 @@ impl Journaled for Registry {
         requires within { worker.now.number < self.old.journaled.workers }
         requires works { WorksIn worker.now (world_now self.old.journaled) }
         ensures entries { OnOk result (self.new.journaled ≡ with_settled worker.now at step self.old.journaled) }
-        ensures told { IfOk result (λ settled. IsToldBehind worker.now settled.closed (arc_value settled.snapshot) self.old.journaled) }
+        ensures told { IfOk result (λ settled. IsToldBehind worker.now settled.closed
+            (arc_value settled.snapshot) self.old.journaled) }
         ensures err { OnErr result (self.new.journaled ≡ self.old.journaled) }
         // The rows that wait go on waiting.
         ensures deferred { self.new.deferred ≡ self.old.deferred }

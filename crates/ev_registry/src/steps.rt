@@ -88,7 +88,8 @@ pub(crate) fn step_after(
     requires room { NumbersSuffice here event.now }
     ensures at { OnOk result (IsAt proxy.new (machine_step past.entry.format here actor event.now).0) }
     ensures answer { IfOk result (λ answer. answer ≡ (machine_step past.entry.format here actor event.now).1) }
-    ensures deferred { OnOk result (AreRowsOf (numbers_reaped past.entry.format here event.now) here.rows proxy.new.deferred.0) }
+    ensures deferred { OnOk result (AreRowsOf
+        (numbers_reaped past.entry.format here event.now) here.rows proxy.new.deferred.0) }
 {
     proxy.step(alloc, past.format, actor, event)
 }
@@ -107,8 +108,10 @@ pub(crate) fn settle_after(
     requires works { WorksIn worker.now worlds.0 }
     requires known { worker.now.number < past.workers }
     ensures at { OnOk result (IsAt proxy.new (settle worker.now.number worlds.1).0) }
-    ensures answer { IfOk result (λ settled. (settle worker.now.number worlds.1).1 ≡ settled_answer settled.closed settled.version) }
-    ensures told { IfOk result (λ settled. IsToldBy worker.now.number settled.closed (arc_value settled.snapshot) worlds.1) }
+    ensures answer { IfOk result (λ settled. (settle worker.now.number worlds.1).1
+        ≡ settled_answer settled.closed settled.version) }
+    ensures told { IfOk result (λ settled. IsToldBy worker.now.number settled.closed
+        (arc_value settled.snapshot) worlds.1) }
 {
     proxy.take_batch(worker.batch())?;
     proxy.settle(alloc, worker.batch().worker())

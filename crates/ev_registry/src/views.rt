@@ -30,7 +30,8 @@ pub struct View {
 
 // The generations by number. It costs look-ups of each number that was drawn.
 pub(crate) fn rows_of(alloc: Global, proxy: &Proxy) -> Result<Seq<ViewRow>, AllocError>
-    ensures { IfOk result (λ rows. (world : World) → IsAt proxy.now world → IsNumbered world → rows ≡ map (view_row world) world.rows) }
+    ensures { IfOk result (λ rows. (world : World) → IsAt proxy.now world → IsNumbered world
+        → rows ≡ map (view_row world) world.rows) }
 {
     let mut rows = Seq::new(alloc);
     for drawn in 0..proxy.made() {
@@ -46,7 +47,8 @@ fn put_row(
     proxy: &Proxy,
     number: Gen,
 ) -> Result<(), AllocError>
-    ensures { OnOk result ((world : World) → IsAt proxy.now world → rows.new ≡ rows.old ++ option_to_list (option_map (view_row world) (row_in number world.rows))) }
+    ensures { OnOk result ((world : World) → IsAt proxy.now world
+        → rows.new ≡ rows.old ++ option_to_list (option_map (view_row world) (row_in number world.rows))) }
 {
     let Some(row) = proxy.row(number) else {
         return Ok(());

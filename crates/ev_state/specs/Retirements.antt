@@ -1,6 +1,7 @@
 -- Which generations an event retired.
-use Rattle.std.specs.Prelude.{◌≡◌, ◌||◌, ℕ, false, Some}
+use Rattle.std.specs.Prelude.{◌≡◌, ◌||◌, ℕ, false, List, Some}
 use Rattle.ev_types.specs.Statuses.{is_live}
+use Rattle.ev_types.specs.declared.contents.Kind.{Kind}
 use Rattle.ev_types.specs.declared.contents.Kind.TheVariants.{Cds, Lds}
 use Rattle.ev_types.specs.declared.rows.GenRow.{GenRow}
 use Rattle.ev_model.specs.World.{World}
@@ -10,10 +11,15 @@ use Rattle.ev_warming.specs.Changes.{has_retired}
 use Rattle.ev_indexes.specs.Worlds.{rows_of_kind}
 use Rattle.ev_managers.specs.declared.retired.Retired.{Retired}
 
+-- these generations of a kind retired between the worlds, and no others
+abbrev pub AreRetired : Kind → List ℕ → World → World → Type 0
+AreRetired kind numbers before world =
+    (number : ℕ) → is_among numbers number ≡ has_retired number (rows_of_kind kind before.rows) (rows_of_kind kind world.rows)
+
 -- these generations retired between the worlds, and no others: by kind
 pub record HaveRetired (retired : Retired) (before world : World) : Type 0 where
-  pub clusters : (number : ℕ) → is_among retired.clusters number ≡ has_retired number (rows_of_kind Cds before.rows) (rows_of_kind Cds world.rows)
-  pub listeners : (number : ℕ) → is_among retired.listeners number ≡ has_retired number (rows_of_kind Lds before.rows) (rows_of_kind Lds world.rows)
+  pub clusters : AreRetired Cds retired.clusters before world
+  pub listeners : AreRetired Lds retired.listeners before world
 
 -- these generations ceased to be live between the worlds, and no others; and one that was over before is as it was
 pub record HaveCeased (retired : Retired) (before world : World) : Type 0 where

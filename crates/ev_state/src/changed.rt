@@ -17,7 +17,8 @@ impl State {
         changed: &mut Seq<Gen>,
     ) -> Result<(), AllocError>
         requires kept { AreKept self.now.managers }
-        ensures { OnOk result (changed.new ≡ changed.old ++ dependents_in self.now.managers.clusters.state self.now.managers.listeners.state kind name.now) }
+        ensures { OnOk result (changed.new ≡ changed.old
+            ++ dependents_in self.now.managers.clusters.state self.now.managers.listeners.state kind name.now) }
     {
         match kind {
             Kind::Eds => put_all(changed, self.managers.clusters.dependents(name)),
@@ -34,7 +35,8 @@ impl State {
         changed: &mut Seq<Gen>,
     ) -> Result<(), AllocError>
         requires kept { AreKept self.now.managers }
-        ensures { OnOk result (changed.new ≡ changed.old ++ dependents_of self.now.managers.clusters.state self.now.managers.listeners.state kind response.now.items) }
+        ensures { OnOk result (changed.new ≡ changed.old ++ dependents_of self.now.managers.clusters.state
+            self.now.managers.listeners.state kind response.now.items) }
     {
         for item in response.items.as_slice() {
             self.put_dependents(kind, item.name.as_str(), changed)?;
@@ -45,7 +47,8 @@ impl State {
     /// Puts the number of the cluster that serves this name to the others, where there is one.
     pub(crate) fn put_active(&self, name: &Name, changed: &mut Seq<Gen>) -> Result<(), AllocError>
         requires kept { AreKept self.now.managers }
-        ensures { OnOk result (changed.new ≡ changed.old ++ numbers_where (serves name.now) self.now.managers.clusters.state.table.rows) }
+        ensures { OnOk result (changed.new ≡ changed.old
+            ++ numbers_where (serves name.now) self.now.managers.clusters.state.table.rows) }
     {
         if let Some(number) = self.managers.clusters.of_name(name).active {
             changed.push(number)?;
@@ -60,7 +63,8 @@ impl State {
         before: Phase,
         changed: &mut Seq<Gen>,
     ) -> Result<(), AllocError>
-        ensures { OnOk result (changed.new ≡ changed.old ++ listeners_begun before self.now.targets.phase self.now.managers.listeners.state) }
+        ensures { OnOk result (changed.new ≡ changed.old
+            ++ listeners_begun before self.now.targets.phase self.now.managers.listeners.state) }
     {
         match (before, self.targets.phase()) {
             (Phase::Clusters | Phase::Listeners, Phase::Serving) => {

@@ -32,7 +32,11 @@ impl<'a> Before<'a> {
     /// What these know.
     pub(crate) fn new(managers: &'a Managers, subscription: &'a Subscription) -> Before<'a>
         requires kept { AreKept managers.now }
-        ensures { result ≡ record { clusters = managers.now.clusters.state; listeners = managers.now.listeners; subscription = subscription.now } }
+        ensures { result ≡ record {
+          clusters = managers.now.clusters.state;
+          listeners = managers.now.listeners;
+          subscription = subscription.now;
+        } }
     {
         Before {
             managers,

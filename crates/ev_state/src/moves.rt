@@ -1,17 +1,12 @@
 ghost use Rattle.std.specs.Prelude.{◌≡◌, ℕ, IfOk, OnOk};
 ghost use Rattle.ev_types.specs.declared.contents.Kind.TheVariants.{Cds, Eds, Lds, Rds};
 ghost use Rattle.ev_model.specs.World.{World};
-ghost use Rattle.ev_model.specs.Tidy.{tidy};
 ghost use Rattle.ev_model.specs.Watching.{watched_of};
-ghost use Rattle.ev_indexes.specs.Due.{is_among};
-ghost use Rattle.ev_warming.specs.Changes.{has_retired};
-ghost use Rattle.ev_indexes.specs.Worlds.{IsSound, rows_of_kind};
+ghost use Rattle.ev_indexes.specs.Worlds.{IsSound};
 ghost use Rattle.ev_managers.specs.Managers.{AreForgotten, AreKept, StandFor};
 ghost use Rattle.ev_state.specs.Ages.{AreLater};
-ghost use Rattle.ev_state.specs.States.{Follows};
-ghost use Rattle.ev_state.specs.Moves.{IsChange, IsOver};
-ghost use Rattle.ev_state.specs.Retirements.{HaveRetired};
-ghost use Rattle.ev_state.specs.Changed.{HaveChanged};
+ghost use Rattle.ev_state.specs.Moves.{IsChange, TidiesUp};
+ghost use Rattle.ev_state.specs.Retirements.{AreRetired};
 
 use crate::state::State;
 use ev_generations::Steps;
@@ -47,7 +42,7 @@ impl State {
         requires kept { AreKept self.old.managers }
         ensures kept { OnOk result (AreKept self.new.managers) }
         ensures forgotten { OnOk result (AreForgotten self.new.managers) }
-        ensures over { IfOk result (λ moves. (before world : World) → Follows self.old before world → made ≡ before.made → HaveRetired retired before world → HaveChanged changed before world → IsOver self.new moves before (tidy world)) }
+        ensures over { IfOk result (λ moves. TidiesUp self.old self.new made retired changed moves) }
     {
         self.managers
             .promote(alloc, &mut retired, &mut changed, steps)?;
@@ -78,8 +73,8 @@ impl State {
         retired: &[Gen],
     ) -> Result<NameChange, AllocError>
         requires kept { AreKept self.now.managers }
-        ensures { IfOk result (λ change. (before world : World) → StandFor self.now.managers world → IsSound before → AreLater before.made before.rows world.rows
-            → made ≡ before.made → ((n : ℕ) → is_among retired.now n ≡ has_retired n (rows_of_kind Cds before.rows) (rows_of_kind Cds world.rows))
+        ensures { IfOk result (λ change. (before world : World) → StandFor self.now.managers world → IsSound before
+            → AreLater before.made before.rows world.rows → made ≡ before.made → AreRetired Cds retired.now before world
             → IsChange change (watched_of before Eds) (watched_of world Eds)) }
     {
         let clusters = &self.managers.clusters;
@@ -97,8 +92,8 @@ impl State {
         retired: &[Gen],
     ) -> Result<NameChange, AllocError>
         requires kept { AreKept self.now.managers }
-        ensures { IfOk result (λ change. (before world : World) → StandFor self.now.managers world → IsSound before → AreLater before.made before.rows world.rows
-            → made ≡ before.made → ((n : ℕ) → is_among retired.now n ≡ has_retired n (rows_of_kind Lds before.rows) (rows_of_kind Lds world.rows))
+        ensures { IfOk result (λ change. (before world : World) → StandFor self.now.managers world → IsSound before
+            → AreLater before.made before.rows world.rows → made ≡ before.made → AreRetired Lds retired.now before world
             → IsChange change (watched_of before Rds) (watched_of world Rds)) }
     {
         let listeners = &self.managers.listeners;

@@ -25,8 +25,10 @@ impl State {
     pub fn tidy_up(&mut self, alloc: Global) -> Result<Altered, AllocError>
         requires kept { AreKept self.old.managers }
         ensures at { OnOk result ((world : World) → IsAt self.old world → IsAt self.new (tidy world)) }
-        ensures ceased { IfOk result (λ altered. (world : World) → IsAt self.old world → HaveCeased altered.retired world (tidy world)) }
-        ensures changed { IfOk result (λ altered. (world : World) → IsAt self.old world → HaveChanged altered.changed world (tidy world)) }
+        ensures ceased { IfOk result (λ altered. (world : World) → IsAt self.old world
+            → HaveCeased altered.retired world (tidy world)) }
+        ensures changed { IfOk result (λ altered. (world : World) → IsAt self.old world
+            → HaveChanged altered.changed world (tidy world)) }
     {
         let moves = self.tidy_counted::<Brand>(Blank::new(1), alloc)?;
         Ok(Altered {
@@ -43,7 +45,8 @@ impl State {
         requires kept { AreKept self.old.managers }
         ensures kept { OnOk result (AreKept self.new.managers) }
         ensures forgotten { OnOk result (AreForgotten self.new.managers) }
-        ensures over { IfOk result (λ moves. (world : World) → Follows self.old world world → IsOver self.new moves world (tidy world)) }
+        ensures over { IfOk result (λ moves. (world : World) → Follows self.old world world
+            → IsOver self.new moves world (tidy world)) }
     {
         let mut steps = Steps::<L>::new(blank);
         let made = self.managers.clusters.made();
@@ -64,10 +67,12 @@ impl State {
         requires forgotten { AreForgotten self.old.managers }
         ensures kept { AreKept self.new.managers }
         ensures forgotten { AreForgotten self.new.managers }
-        ensures at { (world : World) → IsAt self.old world → IsAt self.new (record world { rows = without_over number world.rows }) }
+        ensures at { (world : World) → IsAt self.old world
+            → IsAt self.new (record world { rows = without_over number world.rows }) }
         ensures row { (world : World) → IsAt self.old world → result ≡ over_in number world.rows }
         // A picture shows what it showed.
-        ensures shown { (world : World) → IsAt self.old world → HaveChanged [] world (record world { rows = without_over number world.rows }) }
+        ensures shown { (world : World) → IsAt self.old world
+            → HaveChanged [] world (record world { rows = without_over number world.rows }) }
     {
         if has_ended(self.managers.clusters.get(number)) {
             return Some(self.managers.remove_cluster(number));

@@ -58,7 +58,8 @@ impl State {
         requires at { IsAt self.old here }
         requires typed { response.now.kind ≡ Some kind }
         requires room { 0 < length response.now.items → here.made + length response.now.items < 2 ^ 32 }
-        ensures { IfOk result (λ stepped. AreSteps self.new stepped here (answered kind response.now (verdicts_of (lives_of here) here.versions response.now) here)) }
+        ensures { IfOk result (λ stepped. AreSteps self.new stepped here (answered kind response.now
+            (verdicts_of (lives_of here) here.versions response.now) here)) }
     {
         let mentions = Mentions::of(alloc, response)?;
         let verdicts = self.judge(alloc, &mentions)?;
@@ -72,8 +73,8 @@ impl State {
         requires kept { AreKept self.now.managers }
         requires typed { IsSome mentions.now.kind }
         ensures one_each { IfOk result (λ verdicts. length verdicts ≡ length mentions.now.items) }
-        ensures judged { IfOk result (λ verdicts. (kind : Kind) (world : World) → IsAt self.now world → mentions.now.kind ≡ Some kind
-            → verdicts ≡ verdicts_of (lives_of world) world.versions mentions.now) }
+        ensures judged { IfOk result (λ verdicts. (kind : Kind) (world : World) → IsAt self.now world
+            → mentions.now.kind ≡ Some kind → verdicts ≡ verdicts_of (lives_of world) world.versions mentions.now) }
     {
         let before = Before::new(&self.managers, &self.subscription);
         let verdicts = verdicts_by_mentions(alloc, &before, mentions)?;
@@ -97,7 +98,8 @@ impl State {
         requires judged { verdicts.now ≡ verdicts_of (lives_of here) here.versions mentions.now }
         ensures kept { OnOk result (AreKept self.new.managers) }
         ensures forgotten { OnOk result (AreForgotten self.new.managers) }
-        ensures over { IfOk result (λ moves. IsOver self.new moves here (responded kind mentions.now verdicts.now here)) }
+        ensures over { IfOk result (λ moves. IsOver self.new moves here
+            (responded kind mentions.now verdicts.now here)) }
     {
         let made = self.managers.clusters.made();
         let altered = self.enter(alloc, kind, verdicts, mentions, steps)?;
@@ -117,10 +119,14 @@ impl State {
         requires one_each { length verdicts ≡ length response.now.items }
         ensures retired { IfOk result (λ stepped. stepped.retired ≡ moves.retired) }
         ensures changed { IfOk result (λ stepped. stepped.changed ≡ moves.changed) }
-        ensures answer { IfOk result (λ stepped. (world : World) (before after : Watched) → HasVersions self.now.subscription world
-            → moves.endpoints.begun ≡ other_than before.endpoints after.endpoints → moves.endpoints.ended ≡ other_than after.endpoints before.endpoints
-            → moves.routes.begun ≡ other_than before.routes after.routes → moves.routes.ended ≡ other_than after.routes before.routes
-            → stepped.answer ≡ Replied (requests_by world.stream before after moves.left world.versions (Some (reply_of kind response.now verdicts))) verdicts) }
+        ensures answer { IfOk result (λ stepped. (world : World) (before after : Watched)
+            → HasVersions self.now.subscription world
+            → moves.endpoints.begun ≡ other_than before.endpoints after.endpoints
+            → moves.endpoints.ended ≡ other_than after.endpoints before.endpoints
+            → moves.routes.begun ≡ other_than before.routes after.routes
+            → moves.routes.ended ≡ other_than after.routes before.routes
+            → stepped.answer ≡ Replied (requests_by world.stream before after moves.left world.versions
+            (Some (reply_of kind response.now verdicts))) verdicts) }
     {
         let reply = reply_of(alloc, kind, response, verdicts.as_slice())?;
         let requests = self.subscription.requests_after(
@@ -154,11 +160,14 @@ impl State {
         requires one_each { length verdicts.now ≡ length mentions.now.items }
         requires judged { verdicts.now ≡ verdicts_of (lives_of here) here.versions mentions.now }
         ensures kept { OnOk result (AreKept self.new.managers) }
-        ensures follows { OnOk result (Follows self.new here (with_first kind (made_names verdicts.now mentions.now.items)
+        ensures follows { OnOk result (Follows self.new here
+            (with_first kind (made_names verdicts.now mentions.now.items)
             (add_items kind verdicts.now mentions.now.items (with_removals kind mentions.now here)))) }
-        ensures retired { IfOk result (λ altered. HaveRetired altered.retired here (with_first kind (made_names verdicts.now mentions.now.items)
+        ensures retired { IfOk result (λ altered. HaveRetired altered.retired here
+            (with_first kind (made_names verdicts.now mentions.now.items)
             (add_items kind verdicts.now mentions.now.items (with_removals kind mentions.now here)))) }
-        ensures changed { IfOk result (λ altered. HaveChanged altered.changed here (with_first kind (made_names verdicts.now mentions.now.items)
+        ensures changed { IfOk result (λ altered. HaveChanged altered.changed here
+            (with_first kind (made_names verdicts.now mentions.now.items)
             (add_items kind verdicts.now mentions.now.items (with_removals kind mentions.now here)))) }
     {
         let response = mentions.response();

@@ -4,8 +4,7 @@ ghost use Rattle.ev_model.specs.World.{World};
 ghost use Rattle.ev_model.specs.Signals.{health, clusters_timeout, listeners_timeout, name_timeout, ttl_expired, moved};
 ghost use Rattle.ev_managers.specs.Managers.{AreForgotten, AreKept};
 ghost use Rattle.ev_state.specs.States.{Follows, Steps as AreSteps, StepBy};
-ghost use Rattle.ev_state.specs.Retirements.{HaveRetired};
-ghost use Rattle.ev_state.specs.Changed.{HaveChanged};
+ghost use Rattle.ev_state.specs.Moves.{MovesOn};
 
 use crate::changed::put_retired;
 use crate::state::State;
@@ -27,7 +26,7 @@ impl State {
         steps: &mut Steps<L>,
     ) -> Result<Stepped, AllocError>
         requires kept { AreKept self.old.managers }
-        ensures { IfOk result (λ stepped. (before world : World) → Follows self.old before world → world.made ≡ before.made → HaveRetired retired before world → HaveChanged changed before world → AreSteps self.new stepped before (moved before world)) }
+        ensures { IfOk result (λ stepped. MovesOn self.old self.new retired changed stepped) }
     {
         let made = self.managers.clusters.made();
         let moves = self.tidy(alloc, made, retired, changed, steps)?;

@@ -29,9 +29,12 @@ impl State {
         requires at { IsAt self.old here }
         requires room { 0 < items_in (event_of event) → here.made + items_in (event_of event) < 2 ^ 32 }
         ensures at { OnOk result (InEachStep here (event_of event.entry) (λ after. IsAt self.new after.0)) }
-        ensures answer { IfOk result (λ stepped. InEachStep here (event_of event.entry) (λ after. stepped.answer ≡ after.1)) }
-        ensures ceased { IfOk result (λ stepped. InEachStep here (event_of event.entry) (λ after. HaveCeased stepped.retired here after.0)) }
-        ensures changed { IfOk result (λ stepped. InEachStep here (event_of event.entry) (λ after. HaveChanged stepped.changed here after.0)) }
+        ensures answer { IfOk result (λ stepped. InEachStep here (event_of event.entry)
+            (λ after. stepped.answer ≡ after.1)) }
+        ensures ceased { IfOk result (λ stepped. InEachStep here (event_of event.entry)
+            (λ after. HaveCeased stepped.retired here after.0)) }
+        ensures changed { IfOk result (λ stepped. InEachStep here (event_of event.entry)
+            (λ after. HaveChanged stepped.changed here after.0)) }
     {
         let stepped = self.counted::<Brand>(Blank::new(1), alloc, event)?;
         Ok(stepped)
@@ -50,7 +53,8 @@ impl State {
         requires one { L.parts ≡ 1 }
         requires at { IsAt self.old here }
         requires room { 0 < items_in (event_of event) → here.made + items_in (event_of event) < 2 ^ 32 }
-        ensures { (format : Format) (actor : Actor) → IfOk result (λ stepped. AreSteps self.new stepped here (machine_step format here actor (event_of event.entry))) }
+        ensures { (format : Format) (actor : Actor) → IfOk result (λ stepped. AreSteps self.new stepped here
+            (machine_step format here actor (event_of event.entry))) }
     {
         let mut steps = Steps::<L>::new(blank);
         match event {
@@ -76,7 +80,8 @@ impl State {
     ) -> Result<Stepped, AllocError>
         requires kept { AreKept self.old.managers }
         requires forgotten { AreForgotten self.old.managers }
-        ensures { IfOk result (λ stepped. StepBy (fetch_timeout timeout.now.kind timeout.now.name) self.old self.new stepped) }
+        ensures { IfOk result (λ stepped. StepBy
+            (fetch_timeout timeout.now.kind timeout.now.name) self.old self.new stepped) }
     {
         match (timeout.kind, &timeout.name) {
             (Kind::Cds, _) => self.clusters_timeout(alloc, steps),

@@ -26,7 +26,11 @@ pub struct Altered {
 impl Stepped {
     /// Nothing was done. It takes no memory.
     pub(crate) fn ignored(alloc: Global) -> Stepped
-        ensures { result ≡ record { answer = Ignored; retired = record { clusters = []; listeners = [] }; changed = [] } }
+        ensures { result ≡ record {
+          answer = Ignored;
+          retired = record { clusters = []; listeners = [] };
+          changed = [];
+        } }
     {
         Stepped {
             answer: Answer::Ignored,

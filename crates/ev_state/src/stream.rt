@@ -42,7 +42,8 @@ impl State {
     // What is asked for as a stream opens. It goes over all generations, for the names that they depend on.
     fn asked_at_first(&self, alloc: Global) -> Result<Seq<Request>, AllocError>
         requires kept { AreKept self.now.managers }
-        ensures { IfOk result (λ requests. (world : World) → StandsFor self.now world → requests ≡ connect_requests world) }
+        ensures { IfOk result (λ requests. (world : World) → StandsFor self.now world
+            → requests ≡ connect_requests world) }
     {
         let endpoints = self.managers.clusters.watched(alloc)?;
         let routes = self.managers.listeners.watched(alloc)?;
