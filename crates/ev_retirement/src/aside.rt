@@ -62,7 +62,8 @@ impl Aside {
 
     /// Those under a version are set aside no longer. It takes no memory.
     pub(crate) fn take_out(&mut self, version: u64)
-        ensures { (v : ℕ) → lookup (nat_eq v) self.new ≡ (if nat_eq version v then None else lookup (nat_eq v) self.old) }
+        ensures { (v : ℕ) → lookup (nat_eq v) self.new
+            ≡ (if nat_eq version v then None else lookup (nat_eq v) self.old) }
     {
         self.sets.swap_remove(&version);
     }
