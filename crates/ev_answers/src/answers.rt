@@ -1,0 +1,78 @@
+ghost use Rattle.std.specs.Prelude.{◌≡◌};
+ghost use Rattle.ev_types.specs.SameAnswers.{answer_same};
+
+use crate::requests::are_same;
+use ev_types::Answer;
+
+/// Whether the two are the same answer, with the same content. It goes over both once, and takes no memory.
+pub fn is_same_answer(one: &Answer, other: &Answer) -> bool
+    ensures { result ≡ answer_same one.now other.now }
+{
+    match (one, other) {
+        (Answer::Ignored, Answer::Ignored) => true,
+        (Answer::Done, Answer::Done) => true,
+        (Answer::Moved { requests: ones }, Answer::Moved { requests: others }) => {
+            are_same(ones.as_slice(), others.as_slice())
+        }
+        (
+            Answer::Replied {
+                requests: ones,
+                verdicts: first,
+            },
+            Answer::Replied {
+                requests: others,
+                verdicts: second,
+            },
+        ) => {
+            are_same(ones.as_slice(), others.as_slice())
+                && are_same(first.as_slice(), second.as_slice())
+        }
+        (Answer::Version(one), Answer::Version(other)) => one == other,
+        (Answer::Unchanged, Answer::Unchanged) => true,
+        (Answer::Reaped(ones), Answer::Reaped(others)) => ones == others,
+        (Answer::InUse, Answer::InUse) => true,
+        (Answer::NoListener, Answer::NoListener) => true,
+        (Answer::NoRoute { listener: one }, Answer::NoRoute { listener: other }) => one == other,
+        (Answer::Redirect { listener: one }, Answer::Redirect { listener: other }) => one == other,
+        (Answer::NoCluster { listener: one }, Answer::NoCluster { listener: other }) => {
+            one == other
+        }
+        (Answer::NoEndpoint { listener: one }, Answer::NoEndpoint { listener: other }) => {
+            one == other
+        }
+        (
+            Answer::Local {
+                listener: one,
+                status: first,
+            },
+            Answer::Local {
+                listener: other,
+                status: second,
+            },
+        ) => one == other && first == second,
+        (
+            Answer::Served {
+                listener: one,
+                cluster: first,
+                host,
+            },
+            Answer::Served {
+                listener: other,
+                cluster: second,
+                host: other_host,
+            },
+        ) => one == other && first == second && host == other_host,
+        (Answer::NotOpen, Answer::NotOpen) => true,
+        (
+            Answer::Settled {
+                closed: ones,
+                version: first,
+            },
+            Answer::Settled {
+                closed: others,
+                version: second,
+            },
+        ) => ones == others && first == second,
+        _ => false,
+    }
+}
