@@ -1,0 +1,4 @@
+pub mod FirstLemmas
+pub mod ToldLemmas
+pub mod NextLemmas
+pub mod DrawnLemmas
