@@ -1,0 +1,197 @@
+-- The header and the lines.
+use Rattle.std.proofs.Common.{◌≡◌, ℕ, List, [], ◌∷◌, Bool, false, cond, Option, None, Some, option_map, option_and_then, codes, refl, ap, ◌∙◌}
+use Rattle.std.specs.Str.{bytes_eq}
+use Rattle.serde_json.specs.Data.{Data}
+use Rattle.serde_json.specs.Find.{as_str, as_bool}
+use Rattle.ev_types.specs.Items.{ResponseParts}
+use Rattle.ev_types.specs.declared.contents.Kind.{Kind}
+use Rattle.ev_types.specs.declared.contents.Kind.TheVariants.{Cds, Eds, Lds, Rds}
+use Rattle.ev_types.specs.declared.limits.TheConstants.{MAX_WORKERS, MAX_NAME_LENGTH}
+use Rattle.ev_types.specs.declared.hosts.Host.{Host}
+use Rattle.ev_types.specs.declared.events.Actor.TheVariants.{Stream, Health as health, Timer, Worker}
+use Rattle.ev_types.specs.declared.events.Ask.{Ask}
+use Rattle.ev_types.specs.declared.events.Event.{Event}
+use Rattle.ev_types.specs.declared.events.Event.TheVariants.{Response, Health, FetchTimeout, DrainTimeout, TtlExpired, Accept, Close, Settle}
+use Rattle.ev_types.specs.declared.events.Line.{Line}
+use Rattle.ev_wire.specs.Responses.{response_of}
+use Rattle.ev_script.specs.declared.header.Header.{Header}
+use Rattle.ev_script.specs.declared.limits.TheConstants.{MAX_WORKER, MAX_NUMBER, MAX_PATH_LENGTH}
+use Rattle.ev_script.specs.Faults.{worker_of}
+use Rattle.ev_script.specs.Header.{header_of}
+use Rattle.ev_script.specs.Members.{whole_within, text_within, name_of, member_of}
+use Rattle.ev_script.specs.LineForms.{line_at, with_only, host_in, kind_with, kind_in}
+use Rattle.ev_script.specs.StreamLines.{connect_line, disconnect_line, response_line}
+use Rattle.ev_script.specs.HealthLines.{health_in, health_line}
+use Rattle.ev_script.specs.TimerLines.{timeout_of, timeout_line, drain_line, expired_in, expired_line}
+use Rattle.ev_script.specs.MainLines.{publish_line, reap_line}
+use Rattle.ev_script.specs.WorkerLines.{worker_in, conn_in, named_host_in, path_in, pick_in, ask_in, worker_line, accept_line, close_line, settle_line}
+use Rattle.ev_script.specs.Lines.{main_side_line, line_by, line_of}
+use Rattle.ev_trees.specs.Floats.{whole}
+use Rattle.ev_whole_laws.specs.OneForm.{NumbersHaveOneForm}
+use Rattle.ev_whole_laws.proofs.Parts.{as_str-whole, as_bool-whole, and_then-by}
+use Rattle.ev_whole_laws.proofs.Responses.{response_of-whole}
+use Rattle.ev_whole_laws.proofs.LineMembers.{has_only-whole, whole_within-whole, text_within-whole, name_of-whole, member_of-whole, member_or-whole, has_format-whole}
+
+-- ---- the header
+
+header_of-whole : (tree : Data) → header_of (whole tree) ≡ header_of tree
+header_of-whole tree = λ i.
+    cond (has_only-whole (codes "workers" ∷ codes "auto" ∷ codes "node" ∷ []) tree i)
+    (option_and_then
+    (λ (workers : ℕ). option_and_then
+    (λ (auto : Bool). option_map (λ (node : List ℕ). record { workers = workers; auto = auto; node = node }) (member_or-whole (codes "warmgate") name_of name_of-whole (codes "node") tree i))
+    (member_or-whole false as_bool as_bool-whole (codes "auto") tree i))
+    (member_of-whole (whole_within 1 MAX_WORKERS) (whole_within-whole 1 MAX_WORKERS) (codes "workers") tree i))
+    None
+
+-- ---- what lines have in common
+
+host_in-whole : (tree : Data) → host_in (whole tree) ≡ host_in tree
+host_in-whole tree = λ i. option_and_then
+    (λ (address : List ℕ). option_map (λ (port : ℕ). record { address = address; port = port }) (member_of-whole (whole_within 0 65535) (whole_within-whole 0 65535) (codes "port") tree i))
+    (member_of-whole name_of name_of-whole (codes "address") tree i)
+
+kind_in-whole : (tree : Data) → kind_in (whole tree) ≡ kind_in tree
+kind_in-whole tree = λ i. option_and_then kind_with (member_of-whole as_str as_str-whole (codes "type") tree i)
+
+-- a form of an object with these members alone
+with_only-whole : {A : Type 0} (names : List (List ℕ)) (tree : Data) (there here : Option A) → there ≡ here → with_only names (whole tree) there ≡ with_only names tree here
+with_only-whole names tree there here same = λ i. cond (has_only-whole (codes "op" ∷ names) tree i) (same i) None
+
+-- ---- the lines
+
+connect_line-whole : (at : ℕ) (tree : Data) → connect_line at (whole tree) ≡ connect_line at tree
+connect_line-whole at tree = with_only-whole [] tree _ _ refl
+
+disconnect_line-whole : (at : ℕ) (tree : Data) → disconnect_line at (whole tree) ≡ disconnect_line at tree
+disconnect_line-whole at tree = with_only-whole [] tree _ _ refl
+
+publish_line-whole : (at : ℕ) (tree : Data) → publish_line at (whole tree) ≡ publish_line at tree
+publish_line-whole at tree = with_only-whole [] tree _ _ refl
+
+reap_line-whole : (at : ℕ) (tree : Data) → reap_line at (whole tree) ≡ reap_line at tree
+reap_line-whole at tree = with_only-whole [] tree _ _ refl
+
+response_line-whole : (at : ℕ) (tree : Data) → response_line at (whole tree) ≡ response_line at tree
+response_line-whole at tree =
+    with_only-whole (codes "message" ∷ []) tree _ _
+    (λ i. line_at at Stream (option_map (λ (response : ResponseParts). Response response) (member_of-whole response_of response_of-whole (codes "message") tree i)))
+
+health_in-whole : (tree : Data) → health_in (whole tree) ≡ health_in tree
+health_in-whole tree = λ i. option_and_then
+    (λ (cluster : List ℕ). option_and_then
+    (λ (host : Host). option_map (λ (healthy : Bool). Health cluster host healthy) (member_of-whole as_bool as_bool-whole (codes "healthy") tree i))
+    (host_in-whole tree i))
+    (member_of-whole name_of name_of-whole (codes "cluster") tree i)
+
+health_line-whole : (at : ℕ) (tree : Data) → health_line at (whole tree) ≡ health_line at tree
+health_line-whole at tree =
+    with_only-whole (codes "cluster" ∷ codes "address" ∷ codes "port" ∷ codes "healthy" ∷ []) tree _ _ (λ i. line_at at health (health_in-whole tree i))
+
+timeout_of-whole : (kind : Kind) (tree : Data) → timeout_of kind (whole tree) ≡ timeout_of kind tree
+timeout_of-whole Cds tree = with_only-whole (codes "type" ∷ []) tree _ _ refl
+timeout_of-whole Eds tree =
+    with_only-whole (codes "type" ∷ codes "name" ∷ []) tree _ _
+    (λ i. option_map (λ (name : List ℕ). FetchTimeout (record { kind = Eds; name = Some name })) (member_of-whole name_of name_of-whole (codes "name") tree i))
+timeout_of-whole Lds tree = with_only-whole (codes "type" ∷ []) tree _ _ refl
+timeout_of-whole Rds tree =
+    with_only-whole (codes "type" ∷ codes "name" ∷ []) tree _ _
+    (λ i. option_map (λ (name : List ℕ). FetchTimeout (record { kind = Rds; name = Some name })) (member_of-whole name_of name_of-whole (codes "name") tree i))
+
+timeout_line-whole : (at : ℕ) (tree : Data) → timeout_line at (whole tree) ≡ timeout_line at tree
+timeout_line-whole at tree =
+    ap (line_at at Timer)
+    ((λ i. option_and_then (λ (kind : Kind). timeout_of kind (whole tree)) (kind_in-whole tree i))
+    ∙ and_then-by (λ (kind : Kind). timeout_of kind (whole tree)) (λ (kind : Kind). timeout_of kind tree) (λ kind. timeout_of-whole kind tree) (kind_in tree))
+
+drain_line-whole : (at : ℕ) (tree : Data) → drain_line at (whole tree) ≡ drain_line at tree
+drain_line-whole at tree =
+    with_only-whole (codes "listener" ∷ []) tree _ _
+    (λ i. line_at at Timer (option_map (λ (name : List ℕ). DrainTimeout name) (member_of-whole name_of name_of-whole (codes "listener") tree i)))
+
+expired_in-whole : (tree : Data) → expired_in (whole tree) ≡ expired_in tree
+expired_in-whole tree = λ i. option_and_then
+    (λ (kind : Kind). option_map (λ (name : List ℕ). TtlExpired kind name) (member_of-whole name_of name_of-whole (codes "name") tree i)) (kind_in-whole tree i)
+
+expired_line-whole : (at : ℕ) (tree : Data) → expired_line at (whole tree) ≡ expired_line at tree
+expired_line-whole at tree = with_only-whole (codes "type" ∷ codes "name" ∷ []) tree _ _ (λ i. line_at at Timer (expired_in-whole tree i))
+
+-- ---- the lines of the workers
+
+worker_in-whole : (tree : Data) → worker_in (whole tree) ≡ worker_in tree
+worker_in-whole tree = member_of-whole (whole_within 0 MAX_WORKER) (whole_within-whole 0 MAX_WORKER) (codes "worker") tree
+
+conn_in-whole : (tree : Data) → conn_in (whole tree) ≡ conn_in tree
+conn_in-whole tree = member_of-whole (whole_within 0 MAX_NUMBER) (whole_within-whole 0 MAX_NUMBER) (codes "conn") tree
+
+named_host_in-whole : (tree : Data) → named_host_in (whole tree) ≡ named_host_in tree
+named_host_in-whole tree = member_or-whole [] (text_within 0 MAX_NAME_LENGTH) (text_within-whole 0 MAX_NAME_LENGTH) (codes "host") tree
+
+path_in-whole : (tree : Data) → path_in (whole tree) ≡ path_in tree
+path_in-whole tree = member_or-whole (codes "/") (text_within 0 MAX_PATH_LENGTH) (text_within-whole 0 MAX_PATH_LENGTH) (codes "path") tree
+
+pick_in-whole : (tree : Data) → pick_in (whole tree) ≡ pick_in tree
+pick_in-whole tree = member_or-whole 0 (whole_within 0 MAX_NUMBER) (whole_within-whole 0 MAX_NUMBER) (codes "pick") tree
+
+ask_in-whole : (tree : Data) → ask_in (whole tree) ≡ ask_in tree
+ask_in-whole tree = λ i. option_and_then
+    (λ (conn : ℕ). option_and_then
+    (λ (address : Host). option_and_then
+    (λ (host : List ℕ). option_and_then
+    (λ (path : List ℕ). option_map (λ (pick : ℕ). record { conn = conn; address = address; host = host; path = path; pick = pick }) (pick_in-whole tree i))
+    (path_in-whole tree i))
+    (named_host_in-whole tree i))
+    (host_in-whole tree i))
+    (conn_in-whole tree i)
+
+worker_line-whole : (at : ℕ) (there here : Option Event) (tree : Data) → there ≡ here → worker_line at there (whole tree) ≡ worker_line at here tree
+worker_line-whole at there here tree same = λ i. option_and_then (λ (worker : ℕ). line_at at (Worker worker) (same i)) (worker_in-whole tree i)
+
+accept_line-whole : (at : ℕ) (tree : Data) → accept_line at (whole tree) ≡ accept_line at tree
+accept_line-whole at tree =
+    with_only-whole (codes "worker" ∷ codes "conn" ∷ codes "address" ∷ codes "port" ∷ codes "host" ∷ codes "path" ∷ codes "pick" ∷ []) tree _ _
+    (worker_line-whole at _ _ tree (λ i. option_map (λ (ask : Ask). Accept ask) (ask_in-whole tree i)))
+
+close_line-whole : (at : ℕ) (tree : Data) → close_line at (whole tree) ≡ close_line at tree
+close_line-whole at tree =
+    with_only-whole (codes "worker" ∷ codes "conn" ∷ []) tree _ _
+    (worker_line-whole at _ _ tree (λ i. option_map (λ (conn : ℕ). Close conn) (conn_in-whole tree i)))
+
+settle_line-whole : (at : ℕ) (tree : Data) → settle_line at (whole tree) ≡ settle_line at tree
+settle_line-whole at tree =
+    with_only-whole (codes "worker" ∷ []) tree _ _ (worker_line-whole at (Some Settle) (Some Settle) tree refl)
+
+-- ---- any line
+
+main_side_line-whole : (op : List ℕ) (at : ℕ) (tree : Data) → main_side_line op at (whole tree) ≡ main_side_line op at tree
+main_side_line-whole op at tree = λ i.
+    cond (bytes_eq op (codes "connect")) (connect_line-whole at tree i)
+    (cond (bytes_eq op (codes "disconnect")) (disconnect_line-whole at tree i)
+    (cond (bytes_eq op (codes "response")) (response_line-whole at tree i)
+    (cond (bytes_eq op (codes "health")) (health_line-whole at tree i)
+    (cond (bytes_eq op (codes "fetchTimeout")) (timeout_line-whole at tree i)
+    (cond (bytes_eq op (codes "drainTimeout")) (drain_line-whole at tree i)
+    (cond (bytes_eq op (codes "ttlExpired")) (expired_line-whole at tree i)
+    (cond (bytes_eq op (codes "publish")) (publish_line-whole at tree i)
+    (cond (bytes_eq op (codes "reap")) (reap_line-whole at tree i) None))))))))
+
+line_by-whole : (op : List ℕ) (at : ℕ) (tree : Data) → line_by op at (whole tree) ≡ line_by op at tree
+line_by-whole op at tree = λ i.
+    cond (bytes_eq op (codes "accept")) (accept_line-whole at tree i)
+    (cond (bytes_eq op (codes "close")) (close_line-whole at tree i)
+    (cond (bytes_eq op (codes "settle")) (settle_line-whole at tree i) (main_side_line-whole op at tree i)))
+
+line_of-whole : (at : ℕ) (tree : Data) → line_of at (whole tree) ≡ line_of at tree
+line_of-whole at tree =
+    (λ i. option_and_then (λ (op : List ℕ). line_by op at (whole tree)) (member_of-whole as_str as_str-whole (codes "op") tree i))
+    ∙ and_then-by (λ (op : List ℕ). line_by op at (whole tree)) (λ (op : List ℕ). line_by op at tree) (λ op. line_by-whole op at tree) (member_of as_str (codes "op") tree)
+
+pub one_form : NumbersHaveOneForm
+one_form tree = record {
+  header = header_of-whole tree;
+  line = λ at. line_of-whole at tree;
+  response = response_of-whole tree;
+  journal = has_format-whole tree;
+  heads = ap (option_map (λ (header : Header). header.workers)) (header_of-whole tree);
+  lines = λ at. ap (option_map (λ (line : Line). worker_of line.actor)) (line_of-whole at tree);
+}
