@@ -1,6 +1,6 @@
 -- An actor of the main side begins, and goes on by an entry.
-use Rattle.std.proofs.Common.{◌≡◌, ℕ, ◌+◌, ◌<◌, ◌≤◌, Bool, true, false, List, [], ◌∷◌, ◌++◌, Some, map, refl, ap, sym, ◌∙◌, subst, arith}
-use Rattle.ev_types.specs.Events.{IsMainSide, IsStream, MayMake}
+use Rattle.std.proofs.Common.{◌≡◌, ℕ, ◌+◌, ◌<◌, ◌≤◌, List, [], ◌∷◌, ◌++◌, refl, ap, ◌∙◌, subst, arith}
+use Rattle.ev_types.specs.Events.{IsStream, MayMake}
 use Rattle.ev_types.specs.Scripts.{ScriptParts, items_in}
 use Rattle.ev_types.specs.declared.events.Actor.{Actor}
 use Rattle.ev_types.specs.declared.events.Actor.TheVariants.{Stream, Health, Timer, Main, Worker}
@@ -11,14 +11,14 @@ use Rattle.ev_types.specs.declared.journals.Format.{Format}
 use Rattle.ev_model.specs.World.{World}
 use Rattle.ev_model.specs.Step.{step}
 use Rattle.ev_model.specs.Runs.{RunsFrom, world_after}
-use Rattle.ev_model.specs.Operations.{Deed, Operation, deeds_from, entry_of, operation_of, operations_of, rests_behind}
-use Rattle.ev_model_laws.proofs.DeedLemmas.{ops, rest_after}
+use Rattle.ev_model.specs.Operations.{Deed, Operation, deeds_from, entry_of, operation_of, operations_of}
+use Rattle.ev_model_laws.proofs.DeedLemmas.{rest_after}
 use Rattle.ev_run_laws.proofs.NumberLemmas.{rest_made}
 use Rattle.ev_actors.specs.Journals.{JournalParts, SufficeFor, world_now}
 use Rattle.ev_actors.proofs.SettleLemmas.{world_with}
 use Rattle.ev_commits.specs.Commits.{AreElsewhere, GrowsByOthers, seat_of}
 use Rattle.ev_commits.specs.Seen.{HasActed}
-use Rattle.ev_fits.specs.Left.{AreOwn, FitsSoFar, SufficeForAll, deeds_in, items_left}
+use Rattle.ev_fits.specs.Left.{SufficeForAll, deeds_in, items_left}
 use Rattle.ev_fits.specs.Acting.{HasEnded, IsActing}
 use Rattle.ev_fits.proofs.FitLemmas.{all_own, deeds_with, fits_ended, fits_more, fits_stays, own_deeds}
 

@@ -1,14 +1,14 @@
 -- An actor begins with all its operations, and goes on by what is due next.
-use Rattle.std.proofs.Common.{◌≡◌, ℕ, zero, suc, ◌+◌, ◌<◌, true, List, [], ◌∷◌, ◌++◌, Option, Some, map, length, drop, get_or, replicate, add-one, refl, ap, sym, ◌∙◌, subst, arith}
+use Rattle.std.proofs.Common.{◌≡◌, ℕ, zero, suc, ◌+◌, ◌<◌, true, List, [], ◌∷◌, ◌++◌, Some, map, length, drop, get_or, replicate, add-one, refl, ap, sym, ◌∙◌, subst}
 use Rattle.std.specs.Prelude.{slice_index_or}
 use Rattle.std.proofs.Math.Seq.{drop-cons}
-use Rattle.ev_types.specs.Events.{IsMainSide, MayMake}
+use Rattle.ev_types.specs.Events.{MayMake}
 use Rattle.ev_types.specs.Scripts.{IsScript, ScriptParts}
 use Rattle.ev_types.specs.declared.events.Actor.{Actor}
 use Rattle.ev_types.specs.declared.events.Actor.TheVariants.{Worker}
 use Rattle.ev_model.specs.World.{opening}
 use Rattle.ev_model.specs.Dead.{last_picture, picture_at}
-use Rattle.ev_model.specs.Operations.{AreDone, Operation, operations_of}
+use Rattle.ev_model.specs.Operations.{Operation, operations_of}
 use Rattle.ev_worker.specs.Workers.{WorkerParts}
 use Rattle.ev_worker.specs.declared.lines.BatchLine.{BatchLine}
 use Rattle.ev_actors.specs.Journals.{JournalParts, WorksIn, nothing_done, world_now}
@@ -17,7 +17,7 @@ use Rattle.ev_actors.specs.Working.{operation_made}
 use Rattle.ev_operations.specs.Dues.{AreDue, operation_due}
 use Rattle.ev_operations.specs.declared.due.Due.{Due}
 use Rattle.ev_fits.specs.Left.{FitsSoFar, KeepToBatches}
-use Rattle.ev_fits.specs.Acting.{GoesThrough, HasDone, HasEnded, HasGoneThrough, IsActing, IsActingOn, IsNextAct, IsNextWork, IsWorking, IsWorkingOn}
+use Rattle.ev_fits.specs.Acting.{HasDone, HasEnded, HasGoneThrough, IsActing, IsActingOn, IsNextAct, IsNextWork, IsWorking, IsWorkingOn}
 use Rattle.ev_fits.proofs.ActLemmas.{acts, acts_ended, suffices}
 use Rattle.ev_fits.proofs.OwnLemmas.{all_own, few_items, keep_to_batches}
 use Rattle.ev_fits.proofs.WorkLemmas.{works_ended}

@@ -1,36 +1,30 @@
 -- A worker's operation: an accept or close joins its batch, and a settle is made or left out.
-use Rattle.std.proofs.Common.{◌≡◌, ℕ, suc, ◌+◌, ◌<◌, ◌==◌, ◌&&◌, Bool, true, false, not, if◌then◌else◌, List, [], ◌∷◌, ◌++◌, map, filter, length, refl, ap, sym, ◌∙◌, subst, append_assoc, append-nil, arith}
+use Rattle.std.proofs.Common.{◌≡◌, ℕ, suc, ◌+◌, ◌==◌, ◌&&◌, Bool, true, false, not, if◌then◌else◌, List, [], ◌∷◌, ◌++◌, map, filter, length, refl, ap, sym, ◌∙◌, subst, append_assoc, arith}
 use Rattle.std.specs.List.{AllByRecursion as ByRecursion, list_any}
-use Rattle.std.specs.Cmp.{first_so, second_so}
 use Rattle.std.proofs.lemmas.List.{map-append}
 use Rattle.ev_types.specs.Same.{numbers_decide}
 use Rattle.ev_types.specs.Scripts.{ScriptParts}
-use Rattle.ev_types.specs.declared.events.Actor.{Actor}
 use Rattle.ev_types.specs.declared.events.Actor.TheVariants.{Worker}
 use Rattle.ev_types.specs.declared.events.Entry.{Entry}
-use Rattle.ev_types.specs.declared.events.Event.TheVariants.{Settle}
-use Rattle.ev_types.specs.declared.events.Line.{Line}
 use Rattle.ev_types.specs.declared.journals.Format.TheVariants.{Two}
 use Rattle.ev_model.specs.declared.pictures.Picture.{Picture}
 use Rattle.ev_model.specs.World.{World, OpenMember}
 use Rattle.ev_model.specs.Connections.{is_member}
 use Rattle.ev_model.specs.Runs.{is_batched, world_after}
-use Rattle.ev_model.specs.Operations.{Deed, Operation, deeds_from, is_held_by, line_operation, operation_of, operations_of, rests_behind}
+use Rattle.ev_model.specs.Operations.{Deed, Operation, deeds_from, is_held_by, operation_of, operations_of, rests_behind}
 use Rattle.ev_model_laws.proofs.DeedLemmas.{ops, rest_after}
 use Rattle.ev_model_laws.proofs.OperationLists.{IsIn, any_none, each_append}
 use Rattle.ev_worker.specs.Batches.{entries_of}
 use Rattle.ev_worker.specs.Workers.{HasWorker, IsMadeFrom, StandsFor, WorkerParts}
 use Rattle.ev_worker.specs.declared.lines.BatchLine.{BatchLine}
-use Rattle.ev_actors.specs.Journals.{JournalParts, WorksIn, entries_made, settle_made, with_entries, world_now}
-use Rattle.ev_actors.specs.Taken.{HasJoined, HasSettled}
+use Rattle.ev_actors.specs.Journals.{JournalParts, WorksIn, entries_made, settle_made, world_now}
 use Rattle.ev_actors.specs.Working.{operation_made, operations_made}
 use Rattle.ev_actors.proofs.SettleLemmas.{batch_operations, world_with}
 use Rattle.ev_actors.proofs.SinceLemmas.{in_kept}
-use Rattle.ev_commits.specs.Commits.{GrowsByOthers, seat_of}
 use Rattle.ev_commits.specs.Seen.{HasCommitted, IsIdle, IsLeftOut}
-use Rattle.ev_fits.specs.Left.{AreOwn, FitsSoFar, KeepToBatches, deeds_in, waiting_past}
+use Rattle.ev_fits.specs.Left.{AreOwn, FitsSoFar, KeepToBatches, deeds_in}
 use Rattle.ev_fits.specs.Acting.{HasEnded, IsWorking, settle_of}
-use Rattle.ev_fits.proofs.FitLemmas.{all_own, deeds_ops, deeds_with, fits_ended, fits_idle, fits_more, fits_stays, own_deeds, rest_last}
+use Rattle.ev_fits.proofs.FitLemmas.{all_own, deeds_ops, deeds_with, fits_ended, fits_idle, fits_more, fits_stays, rest_last}
 
 -- where nothing of a worker is open by number, it has nothing open
 none_held : (number : ℕ) (opened : List OpenMember) → ((connection : ℕ) → filter (is_member number connection) opened ≡ [])

@@ -1,5 +1,5 @@
 -- Actors at their operations, beside a journal. This project's own.
-use Rattle.std.specs.Prelude.{ℕ, ◌≡◌, ◌<◌, Bool, true, List, [], ◌∷◌, ◌++◌, length, Some}
+use Rattle.std.specs.Prelude.{ℕ, ◌≡◌, ◌<◌, Bool, true, List, ◌∷◌, ◌++◌, length, Some}
 use Rattle.ev_types.specs.Events.{MayMake}
 use Rattle.ev_types.specs.Scripts.{ScriptParts}
 use Rattle.ev_types.specs.declared.events.Actor.{Actor}

@@ -1,5 +1,5 @@
 -- What an actor has left to do, behind what it did in a journal. This project's own.
-use Rattle.std.specs.Prelude.{ℕ, ◌≡◌, ◌+◌, ◌<◌, ◌^◌, ⊤, Bool, true, if◌then◌else◌, List, [], ◌∷◌, ◌++◌, filter}
+use Rattle.std.specs.Prelude.{ℕ, ◌≡◌, ◌+◌, ◌<◌, ◌^◌, Bool, true, if◌then◌else◌, List, [], ◌∷◌, ◌++◌, filter}
 use Rattle.std.specs.List.{AllByRecursion as ByRecursion}
 use Rattle.ev_types.specs.Events.{IsStream, MayMake}
 use Rattle.ev_types.specs.Scripts.{items_in}
