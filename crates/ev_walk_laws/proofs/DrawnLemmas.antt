@@ -1,10 +1,9 @@
 -- While nothing is found, the numbers of generations suffice: those that were drawn, with the resources that may still come, are at
 -- most the script's resources.
-use Rattle.std.proofs.Common.{◌≡◌, ◌⊎◌, inl, inr, ℕ, zero, suc, ◌+◌, ◌<◌, ◌≤◌, ◌^◌, Bool, true, false, ◌&&◌, if◌then◌else◌, List, [], ◌∷◌, ◌++◌, map, filter, take, length, Option, Some, None, refl, ap, sym, ◌∙◌, subst, append-nil, arith}
+use Rattle.std.proofs.Common.{◌≡◌, ℕ, zero, suc, ◌+◌, ◌<◌, ◌≤◌, Bool, true, false, ◌&&◌, if◌then◌else◌, List, [], ◌∷◌, ◌++◌, map, filter, take, length, Some, refl, ap, sym, ◌∙◌, subst, arith}
 use Rattle.std.specs.Prelude.{slice_get}
 use Rattle.std.specs.List.{flat_map, range_with_len, list_all}
 use Rattle.std.proofs.lemmas.List.Sums.{sum_by-cons}
-use Rattle.std.proofs.lemmas.Option.{slice_get-get_or}
 use Rattle.ev_types.specs.Events.{IsStream, MayMake}
 use Rattle.ev_types.specs.Scripts.{ScriptParts, IsScript, items_in, items_of}
 use Rattle.std.proofs.lemmas.Bool.{both_ways}
@@ -14,17 +13,14 @@ use Rattle.ev_types.specs.declared.events.Entry.{Entry}
 use Rattle.ev_types.specs.declared.events.Event.{Event}
 use Rattle.ev_types.specs.declared.events.Event.TheVariants.{Connect, Disconnect, Response, Health, FetchTimeout, DrainTimeout, TtlExpired, Publish, Reap, Accept, Close, Settle}
 use Rattle.ev_types.specs.declared.events.Line.{Line}
-use Rattle.ev_types.specs.declared.limits.TheConstants.{ITEM_LIMIT}
 use Rattle.ev_types.specs.declared.journals.Format.{Format}
 use Rattle.ev_types.specs.declared.journals.Row.{Row}
-use Rattle.ev_model.specs.World.{World, opening}
-use Rattle.ev_model.specs.Step.{step}
-use Rattle.ev_model.specs.Runs.{world_after}
+use Rattle.ev_model.specs.World.{opening}
 use Rattle.ev_model.specs.Operations.{Operation, actor_same, actor_decides, is_automatic, is_earlier, is_full_at, line_operations, followers, step_behind, last_settle, all_operations, operations_of, entry_of, entries_of}
-use Rattle.ev_model.specs.Finding.{operations_left, journal_told, finding_at}
+use Rattle.ev_model.specs.Finding.{operations_left, journal_told}
 use Rattle.ev_run_laws.specs.Drawing.{NumbersSuffice}
 use Rattle.ev_run_laws.proofs.NumberLemmas.{entry_made}
-use Rattle.ev_walk_laws.specs.Walks.{NothingFound, IsNextFor, ComesNext, journal_before, may_leave_out, world_behind}
+use Rattle.ev_walk_laws.specs.Walks.{NothingFound, IsNextFor, journal_before, world_behind}
 use Rattle.ev_walk_laws.proofs.NextLemmas.{HasNext, journal_more, left_other, left_own, next_actor, next_allowed, next_entry, next_of_none}
 
 -- the resources that operations bring

@@ -1,14 +1,12 @@
 -- A row that tells of what comes next: its entry, and what is left behind it.
-use Rattle.std.proofs.Common.{◌≡◌, ◌⊎◌, inl, inr, ℕ, suc, ◌+◌, Bool, true, false, not, ◌&&◌, ◌||◌, if◌then◌else◌, List, [], ◌∷◌, ◌++◌, map, filter, take, length, Option, Some, None, refl, ap, sym, ◌∙◌, subst, append-nil, arith}
-use Rattle.std.specs.Prelude.{IsTrue, option_map, option_and_then, slice_get, unwrap_or}
-use Rattle.std.specs.List.{AllByRecursion as ByRecursion, last_or, list_any, list_all, prefix_len, cons_option}
+use Rattle.std.proofs.Common.{◌≡◌, inl, ℕ, ◌+◌, Bool, true, false, not, if◌then◌else◌, List, [], ◌∷◌, ◌++◌, map, filter, take, Option, Some, None, refl, ap, sym, ◌∙◌, subst, append-nil}
+use Rattle.std.specs.Prelude.{option_map, option_and_then, slice_get, unwrap_or}
+use Rattle.std.specs.List.{last_or, list_any, list_all, cons_option}
 use Rattle.std.proofs.lemmas.List.{map-append}
 use Rattle.std.proofs.lemmas.List.Elements.{filter-append, filter_map-append, recursion_from_All}
 use Rattle.ev_types.specs.Events.{MayMake}
 use Rattle.ev_types.specs.Scripts.{ScriptParts, IsScript}
-use Rattle.ev_types.specs.SameAnswers.{answer_same}
 use Rattle.ev_types.specs.declared.events.Actor.{Actor}
-use Rattle.ev_types.specs.declared.events.Answer.{Answer}
 use Rattle.ev_types.specs.declared.events.Entry.{Entry}
 use Rattle.ev_types.specs.declared.journals.Format.{Format}
 use Rattle.ev_types.specs.declared.journals.Format.TheVariants.{One, Two}
@@ -18,8 +16,8 @@ use Rattle.ev_types.specs.declared.journals.Finding.TheVariants.{IllegalAt, NotT
 use Rattle.ev_model.specs.World.{World, opening}
 use Rattle.ev_model.specs.Step.{step}
 use Rattle.ev_model.specs.Runs.{world_after}
-use Rattle.ev_model.specs.Operations.{Operation, Deed, actor_same, actor_decides, is_earlier, is_settle, all_operations, operations_of, operation_of, entry_of, entries_of, rests_behind, deeds_from, deeds_of}
-use Rattle.ev_model.specs.Finding.{tells_of, entry_told, journal_told, operations_left, rests_by, is_resting, next_operations, is_stray, breaks_batch, is_wrong, is_illegal, row_finding, finding_at}
+use Rattle.ev_model.specs.Operations.{Operation, Deed, actor_same, actor_decides, is_earlier, all_operations, operations_of, operation_of, entry_of, entries_of, rests_behind, deeds_from, deeds_of}
+use Rattle.ev_model.specs.Finding.{tells_of, entry_told, journal_told, operations_left, rests_by, next_operations, is_stray, is_wrong, is_illegal, row_finding, finding_at}
 use Rattle.ev_model_laws.proofs.OperationLists.{IsIn, at_in, in_filter, in_back}
 use Rattle.ev_model_laws.proofs.PlaceLemmas.{take_one}
 use Rattle.ev_model_laws.proofs.RisingOperations.{operations_rise}

@@ -1,7 +1,7 @@
 -- A walk over a journal's rows, place by place: what is known as long as nothing is found. This project's own.
-use Rattle.std.specs.Prelude.{ℕ, ◌≡◌, ◌+◌, ◌<◌, ◌≤◌, Bool, true, false, ◌&&◌, IsTrue, if◌then◌else◌, List, [], ◌∷◌, ◌++◌, take, length, Option, Some, None, slice_get}
+use Rattle.std.specs.Prelude.{ℕ, ◌≡◌, ◌+◌, ◌<◌, ◌≤◌, Bool, false, ◌&&◌, IsTrue, if◌then◌else◌, List, [], ◌∷◌, ◌++◌, take, length, Some, None, slice_get}
 use Rattle.std.specs.List.{list_any, prefix_len, AllByRecursion}
-use Rattle.ev_types.specs.Scripts.{ScriptParts, IsScript, items_in}
+use Rattle.ev_types.specs.Scripts.{ScriptParts, IsScript}
 use Rattle.ev_types.specs.Events.{MayMake}
 use Rattle.ev_types.specs.declared.events.Actor.{Actor}
 use Rattle.ev_types.specs.declared.events.Entry.{Entry}
