@@ -1,0 +1,3 @@
+pub mod DrawLemmas
+pub mod NameLemmas
+pub mod SoakLemmas
