@@ -1,9 +1,8 @@
 -- The main side never settles, so a run leaves nothing of it out.
-use Rattle.std.proofs.Common.{◌≡◌, ◌⊎◌, inl, inr, ℕ, Bool, true, false, ◌&&◌, List, [], ◌∷◌, refl, sym, ap, ◌∙◌, subst}
-use Rattle.std.specs.Prelude.{All, IsTrue}
+use Rattle.std.proofs.Common.{◌≡◌, inl, inr, ℕ, Bool, true, false, List, [], ◌∷◌, refl, sym, ap, ◌∙◌, subst}
 use Rattle.std.specs.Cmp.{first_so}
 use Rattle.std.specs.List.{AllByRecursion as ByRecursion}
-use Rattle.std.proofs.lemmas.Bool.{both_ways, false_from_ne_true}
+use Rattle.std.proofs.lemmas.Bool.{both_ways}
 use Rattle.ev_types.specs.Events.{IsMainSide, IsWorkerOf, MayMake}
 use Rattle.ev_types.specs.Scripts.{IsScript, ScriptParts}
 use Rattle.ev_types.specs.declared.events.Actor.{Actor}

@@ -1,5 +1,5 @@
 -- A connect opens the stream and a disconnect closes it; no other event does.
-use Rattle.std.proofs.Common.{◌≡◌, ℕ, Bool, true, false, cond, List, [], ◌∷◌, ◌++◌, map, fold, filter_map, Option, Some, None, refl, sym, ap, ◌∙◌}
+use Rattle.std.proofs.Common.{◌≡◌, ℕ, Bool, true, false, cond, List, [], ◌∷◌, fold, filter_map, Option, Some, None, refl, sym, ap, ◌∙◌}
 use Rattle.std.specs.Prelude.{unwrap_or}
 use Rattle.std.specs.List.{last_or, zip}
 use Rattle.ev_types.specs.Items.{ItemParts, ResponseParts}
@@ -17,12 +17,12 @@ use Rattle.ev_types.specs.declared.journals.Format.{Format}
 use Rattle.ev_types.specs.declared.rows.GenRow.{GenRow}
 use Rattle.ev_types.specs.declared.hosts.Host.{Host}
 use Rattle.ev_model.specs.World.{World}
-use Rattle.ev_model.specs.Rows.{with_removals, with_content, add_row, keep_version, keep_value, told_of_refusal, refuse, add_item, add_items, with_first}
+use Rattle.ev_model.specs.Rows.{with_removals, with_content, add_row, keep_version, keep_value, refuse, add_item, add_items, with_first}
 use Rattle.ev_model.specs.Runs.{world_after}
 use Rattle.ev_model.specs.Signals.{health_of, name_timeout_of, fetch_timeout, with_end, expire, unexpired, rows_meant, forget_version}
 use Rattle.ev_model.specs.Step.{step, responded, respond_by}
 use Rattle.ev_model_laws.proofs.KeepLemmas.{either, of_worker-keeps}
-use Rattle.ev_stream_laws.specs.MainSide.{stream_told, is_open_behind}
+use Rattle.ev_stream_laws.specs.MainSide.{stream_told}
 
 -- what an event leaves of the stream, where it says nothing of it
 abbrev HasSame : World → World → Type 0

@@ -1,1 +1,3 @@
 pub mod MainSide
+pub mod Watches
+pub mod Told

@@ -1,7 +1,7 @@
-mod FeedLemmas
-mod BackLemmas
-mod FloatLemmas
-mod LineLemmas
-mod LimitLemmas
-mod MoveLemmas
-mod ScriptLemmas
+pub mod FeedLemmas
+pub mod BackLemmas
+pub mod FloatLemmas
+pub mod LineLemmas
+pub mod LimitLemmas
+pub mod MoveLemmas
+pub mod ScriptLemmas

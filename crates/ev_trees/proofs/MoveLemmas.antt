@@ -19,23 +19,23 @@ use Rattle.ev_script.specs.Lines.{main_side_line, line_by}
 use Rattle.ev_trees.specs.Scripts.{moved, LinesMove}
 
 -- a form gives the same line at another place
-abbrev Moves : ℕ → Option Line → Option Line → Type 0
+abbrev pub Moves : ℕ → Option Line → Option Line → Type 0
 Moves other there here = there ≡ option_map (moved other) here
 
-moves_cond : (other : ℕ) (test : Bool) (a b c d : Option Line) → Moves other a b → Moves other c d → Moves other (cond test a c) (cond test b d)
+pub moves_cond : (other : ℕ) (test : Bool) (a b c d : Option Line) → Moves other a b → Moves other c d → Moves other (cond test a c) (cond test b d)
 moves_cond other true a b c d first second = first
 moves_cond other false a b c d first second = second
 
-moves_chain : {A : Type 0} (other : ℕ) (there here : A → Option Line) (found : Option A) → ((x : A) → Moves other (there x) (here x))
+pub moves_chain : {A : Type 0} (other : ℕ) (there here : A → Option Line) (found : Option A) → ((x : A) → Moves other (there x) (here x))
     → Moves other (option_and_then there found) (option_and_then here found)
 moves_chain other there here None each = refl
 moves_chain other there here (Some x) each = each x
 
-at_moves : (at other : ℕ) (actor : Actor) (event : Option Event) → Moves other (line_at other actor event) (line_at at actor event)
+pub at_moves : (at other : ℕ) (actor : Actor) (event : Option Event) → Moves other (line_at other actor event) (line_at at actor event)
 at_moves at other actor None = refl
 at_moves at other actor (Some event) = refl
 
-worker_moves : (at other : ℕ) (event : Option Event) (tree : Data) → Moves other (worker_line other event tree) (worker_line at event tree)
+pub worker_moves : (at other : ℕ) (event : Option Event) (tree : Data) → Moves other (worker_line other event tree) (worker_line at event tree)
 worker_moves at other event tree = moves_chain other _ _ (worker_in tree) (λ worker. at_moves at other _ event)
 
 connect_line-moves : (at other : ℕ) (tree : Data) → Moves other (connect_line other tree) (connect_line at tree)

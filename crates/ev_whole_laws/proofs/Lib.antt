@@ -1,19 +1,19 @@
-mod Parts
-mod Forms
-mod Addresses
-mod Sources
-mod Assignments
-mod Clusters
-mod Presence
-mod Targets
-mod Matches
-mod Routes
-mod Tables
-mod Members
-mod Managers
-mod Filters
-mod Listeners
-mod Bodies
-mod Responses
-mod LineMembers
-mod LineForms
+pub mod Parts
+pub mod Forms
+pub mod Addresses
+pub mod Sources
+pub mod Assignments
+pub mod Clusters
+pub mod Presence
+pub mod Targets
+pub mod Matches
+pub mod Routes
+pub mod Tables
+pub mod Members
+pub mod Managers
+pub mod Filters
+pub mod Listeners
+pub mod Bodies
+pub mod Responses
+pub mod LineMembers
+pub mod LineForms

@@ -46,16 +46,16 @@ header_of-whole tree = λ i.
 
 -- ---- what lines have in common
 
-host_in-whole : (tree : Data) → host_in (whole tree) ≡ host_in tree
+pub host_in-whole : (tree : Data) → host_in (whole tree) ≡ host_in tree
 host_in-whole tree = λ i. option_and_then
     (λ (address : List ℕ). option_map (λ (port : ℕ). record { address = address; port = port }) (member_of-whole (whole_within 0 65535) (whole_within-whole 0 65535) (codes "port") tree i))
     (member_of-whole name_of name_of-whole (codes "address") tree i)
 
-kind_in-whole : (tree : Data) → kind_in (whole tree) ≡ kind_in tree
+pub kind_in-whole : (tree : Data) → kind_in (whole tree) ≡ kind_in tree
 kind_in-whole tree = λ i. option_and_then kind_with (member_of-whole as_str as_str-whole (codes "type") tree i)
 
 -- a form of an object with these members alone
-with_only-whole : {A : Type 0} (names : List (List ℕ)) (tree : Data) (there here : Option A) → there ≡ here → with_only names (whole tree) there ≡ with_only names tree here
+pub with_only-whole : {A : Type 0} (names : List (List ℕ)) (tree : Data) (there here : Option A) → there ≡ here → with_only names (whole tree) there ≡ with_only names tree here
 with_only-whole names tree there here same = λ i. cond (has_only-whole (codes "op" ∷ names) tree i) (same i) None
 
 -- ---- the lines
@@ -118,7 +118,7 @@ expired_line-whole at tree = with_only-whole (codes "type" ∷ codes "name" ∷ 
 
 -- ---- the lines of the workers
 
-worker_in-whole : (tree : Data) → worker_in (whole tree) ≡ worker_in tree
+pub worker_in-whole : (tree : Data) → worker_in (whole tree) ≡ worker_in tree
 worker_in-whole tree = member_of-whole (whole_within 0 MAX_WORKER) (whole_within-whole 0 MAX_WORKER) (codes "worker") tree
 
 conn_in-whole : (tree : Data) → conn_in (whole tree) ≡ conn_in tree
@@ -144,7 +144,7 @@ ask_in-whole tree = λ i. option_and_then
     (host_in-whole tree i))
     (conn_in-whole tree i)
 
-worker_line-whole : (at : ℕ) (there here : Option Event) (tree : Data) → there ≡ here → worker_line at there (whole tree) ≡ worker_line at here tree
+pub worker_line-whole : (at : ℕ) (there here : Option Event) (tree : Data) → there ≡ here → worker_line at there (whole tree) ≡ worker_line at here tree
 worker_line-whole at there here tree same = λ i. option_and_then (λ (worker : ℕ). line_at at (Worker worker) (same i)) (worker_in-whole tree i)
 
 accept_line-whole : (at : ℕ) (tree : Data) → accept_line at (whole tree) ≡ accept_line at tree

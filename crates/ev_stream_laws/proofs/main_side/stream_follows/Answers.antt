@@ -1,4 +1,3 @@
-use Rattle.std.specs.Prelude.{false}
 use Rattle.ev_model.specs.World.{opening}
 use Rattle.ev_stream_laws.proofs.StreamLemmas.{stream_after}
 use Rattle.ev_stream_laws.proofs.main_side.stream_follows.Goals as goal

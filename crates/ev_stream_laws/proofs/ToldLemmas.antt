@@ -1,0 +1,257 @@
+-- What came for a name stays while the name is watched and nothing is said of it.
+use Rattle.std.proofs.Common.{◌≡◌, ℕ, Bool, true, false, cond, ◌&&◌, ◌||◌, List, [], ◌∷◌, ◌++◌, map, filter, filter_map, Option, None, Some, option_map, refl, sym, ap, ◌∙◌}
+use Rattle.std.specs.Prelude.{unwrap_or}
+use Rattle.std.specs.List.{list_any, last_or, fold, zip, AllByRecursion as ByRecursion}
+use Rattle.std.specs.Str.{bytes_eq}
+use Rattle.std.specs.Cmp.{first_so, second_so}
+use Rattle.std.proofs.lemmas.Bool.{both_ways, and_from, or_left, or_right}
+use Rattle.std.proofs.lemmas.List.{append-nil, map-append}
+use Rattle.std.proofs.lemmas.List.Elements.{filter-append, filter_map-append, recursion_from_All}
+use Rattle.ev_types.specs.Items.{ItemParts, ResponseParts}
+use Rattle.ev_types.specs.Kinds.{kind_same, kind_decides}
+use Rattle.ev_types.specs.Same.{bytes_decide}
+use Rattle.ev_types.specs.declared.contents.Kind.{Kind}
+use Rattle.ev_types.specs.declared.contents.Kind.TheVariants.{Cds, Eds, Lds, Rds}
+use Rattle.ev_types.specs.declared.contents.Body.{Body}
+use Rattle.ev_types.specs.declared.contents.Body.TheVariants.{Good, Bad, Beat}
+use Rattle.ev_types.specs.declared.contents.Content.{Content}
+use Rattle.ev_types.specs.declared.events.Actor.{Actor}
+use Rattle.ev_types.specs.declared.events.Answer.{Answer}
+use Rattle.ev_types.specs.declared.events.Event.{Event}
+use Rattle.ev_types.specs.declared.events.Event.TheVariants.{Response}
+use Rattle.ev_types.specs.declared.events.Verdict.{Verdict}
+use Rattle.ev_types.specs.declared.events.Verdict.TheVariants.{New, Same, Kept, Unasked, Renewed, Refused}
+use Rattle.ev_types.specs.declared.journals.Format.{Format}
+use Rattle.ev_types.specs.declared.rows.Arrival.{Arrival}
+use Rattle.ev_types.specs.declared.rows.Arrival.TheVariants.{Value, Absent, Bad as bad, TimedOut}
+use Rattle.ev_model.specs.World.{World, Arrived}
+use Rattle.ev_model.specs.Live.{lives_of}
+use Rattle.ev_model.specs.Watching.{is_watched}
+use Rattle.ev_model.specs.Warming.{came_for, content_in, is_word}
+use Rattle.ev_model.specs.Verdicts.{is_removed, verdicts_for}
+use Rattle.ev_model.specs.Rows.{arrived, absent_names, with_absences, with_removals, keep_version, add_row, keep_value, with_content, refuse, add_item, add_items, made_names, with_first}
+use Rattle.ev_model.specs.Tidy.{promoted, tidy}
+use Rattle.ev_model.specs.Signals.{no_hosts, no_routes, with_end, forget_version}
+use Rattle.ev_model.specs.Entries.{is_word_on, has_word_on, is_response_of, tells_of_name}
+use Rattle.ev_model.specs.Step.{step, answered}
+use Rattle.ev_model_laws.proofs.AnyLemmas.{any_behind, any_first}
+use Rattle.ev_model_laws.proofs.TidyLists.{all_of, any_at}
+use Rattle.ev_model_laws.proofs.TidyLemmas.{came_same}
+use Rattle.ev_model_laws.proofs.ExpiredLemmas.{passed}
+use Rattle.ev_model_laws.proofs.EventLemmas.{step-leads}
+use Rattle.ev_stream_laws.specs.Told.{ends_name, HasSameValue, ToldStays}
+
+not_so : (b : Bool) → (b ≡ true → ⊥) → b ≡ false
+not_so true h = absurd (h refl)
+not_so false h = refl
+
+same_false : (a b : Bool) → (a ≡ true → b ≡ true) → (b ≡ true → a ≡ true) → a ≡ b
+same_false true b h k = sym (h refl)
+same_false false true h k = k refl
+same_false false false h k = refl
+
+module _ (kind : Kind) (name : List ℕ) where
+  abbrev pub is_for : Arrived → Bool
+  is_for a = kind_same a.kind kind && bytes_eq a.name name
+
+  abbrev pub came : List Arrived → List Arrival
+  came arrivals = came_for arrivals kind name
+
+  pub came-append : (xs ys : List Arrived) → came (xs ++ ys) ≡ came xs ++ came ys
+  came-append xs ys = ap (map (λ (a : Arrived). a.arrival)) (filter-append is_for xs ys) ∙ map-append (λ (a : Arrived). a.arrival) (filter is_for xs) (filter is_for ys)
+
+  other_alone : (a : Arrived) → is_for a ≡ false → came (a ∷ []) ≡ []
+  other_alone a e = ap (λ (b : Bool). map (λ (a : Arrived). a.arrival) (cond b (a ∷ []) [])) e
+
+  -- what came for another name says nothing
+  other_came : (arrivals : List Arrived) (a : Arrived) → is_for a ≡ false → came (arrivals ++ a ∷ []) ≡ came arrivals
+  other_came arrivals a e = came-append arrivals (a ∷ []) ∙ ap (λ (xs : List Arrival). came arrivals ++ xs) (other_alone a e) ∙ append-nil (came arrivals)
+
+  others_alone : (of : Kind) (names : List (List ℕ)) → ByRecursion (λ n. (kind_same of kind && bytes_eq n name) ≡ false) names → came (map (arrived of Absent) names) ≡ []
+  others_alone of [] each = refl
+  others_alone of (n ∷ names) each =
+      came-append (arrived of Absent n ∷ []) (map (arrived of Absent) names)
+      ∙ ap (λ (xs : List Arrival). xs ++ came (map (arrived of Absent) names)) (other_alone (arrived of Absent n) each.0)
+      ∙ others_alone of names each.1
+
+  others_came : (arrivals : List Arrived) (of : Kind) (names : List (List ℕ)) → ByRecursion (λ n. (kind_same of kind && bytes_eq n name) ≡ false) names
+      → came (arrivals ++ map (arrived of Absent) names) ≡ came arrivals
+  others_came arrivals of names each =
+      came-append arrivals (map (arrived of Absent) names)
+      ∙ ap (λ (xs : List Arrival). came arrivals ++ xs) (others_alone of names each)
+      ∙ append-nil (came arrivals)
+
+  pub tidied_came : (world : World) → is_watched (lives_of (tidy world)) kind name ≡ true → came (tidy world).arrivals ≡ came world.arrivals
+  tidied_came world watched = came_same (lives_of (promoted world)) world.arrivals kind name watched
+
+  module _ (world : World) where
+    -- what came for the name is what had come
+    abbrev pub Came : World → Type 0
+    Came after = came after.arrivals ≡ came world.arrivals
+
+    same_by : (after : World) → Came after → HasSameValue kind name world after
+    same_by after is = record {
+      value = ap (λ (xs : List Arrival). last_or None (filter_map content_in xs)) is;
+      told = ap (λ (xs : List Arrival). list_any is_word xs) is;
+    }
+
+    -- ---- a response
+
+    module _ (of : Kind) where
+      abbrev pub Other : List ℕ → Type 0
+      Other n = (kind_same of kind && bytes_eq n name) ≡ false
+
+      -- a resource that says nothing of the name
+      abbrev pub Hush : Verdict × ItemParts → Type 0
+      Hush one = is_word_on name one.0 one.1 ≡ true → kind_same of kind ≡ false
+
+      hushed : (n : List ℕ) → (bytes_eq n name ≡ true → kind_same of kind ≡ false) → Other n
+      hushed n so = not_so (kind_same of kind && bytes_eq n name) (λ h.
+          both_ways (kind_same of kind) (so (second_so (kind_same of kind) (bytes_eq n name) h)) (first_so (kind_same of kind) (bytes_eq n name) h))
+
+      made_came : (item : ItemParts) (body : Body) (after : World) → Came after → Came (with_content (add_row of item) body after)
+      made_came item (Good content) after is = is
+      made_came item (Bad rule) after is = is
+      made_came item Beat after is = is
+
+      version_came : (item : ItemParts) (body : Body) (after : World) → Came after → Came (with_content (λ content. keep_version of item) body after)
+      version_came item (Good content) after is = is
+      version_came item (Bad rule) after is = is
+      version_came item Beat after is = is
+
+      value_came : (item : ItemParts) (body : Body) (after : World) → Other item.name → Came after → Came (with_content (keep_value of item) body after)
+      value_came item (Good content) after other is = other_came after.arrivals (arrived of (Value content) item.name) other ∙ is
+      value_came item (Bad rule) after other is = is
+      value_came item Beat after other is = is
+
+    told_came : (of : Kind) (n : List ℕ) (watched : Bool) (after : World) → Other of n → Came after
+        → Came (cond watched (record after { arrivals = after.arrivals ++ arrived of bad n ∷ [] }) after)
+    told_came of n true after other is = other_came after.arrivals (arrived of bad n) other ∙ is
+    told_came of n false after other is = is
+
+    refused_came : (of : Kind) (n : List ℕ) (after : World) → Other of n → Came after → Came (refuse of n after)
+    refused_came Cds n after other is = is
+    refused_came Eds n after other is = told_came Eds n (is_watched (lives_of after) Eds n) after other is
+    refused_came Lds n after other is = is
+    refused_came Rds n after other is = told_came Rds n (is_watched (lives_of after) Rds n) after other is
+
+    item_came : (of : Kind) (verdict : Verdict) (item : ItemParts) (after : World) → Hush of (verdict, item) → Came after → Came (add_item of verdict item after)
+    item_came of New item after hush is = made_came of item item.body after is
+    item_came of Same item after hush is = version_came of item item.body after is
+    item_came of Kept item after hush is = value_came of item item.body after (hushed of item.name hush) is
+    item_came of Unasked item after hush is = is
+    item_came of Renewed item after hush is = is
+    item_came of (Refused rule) item after hush is = refused_came of item.name after (hushed of item.name hush) is
+
+    pub items_came : (of : Kind) (judged : List (Verdict × ItemParts)) (after : World) → ByRecursion (Hush of) judged → Came after
+        → Came (fold (λ (w : World) (one : Verdict × ItemParts). add_item of one.0 one.1 w) after judged)
+    items_came of [] after hush is = is
+    items_came of (one ∷ judged) after hush is =
+        items_came of judged (add_item of one.0 one.1 after) hush.1 (item_came of one.0 one.1 after hush.0 is)
+
+    pub first_came : (of : Kind) (names : List (List ℕ)) (after : World) → Came after → Came (with_first of names after)
+    first_came Cds names after is = is
+    first_came Eds names after is = is
+    first_came Lds names after is = is
+    first_came Rds names after is = is
+
+    absent_came : (of : Kind) (response : ResponseParts) → (is_removed response name ≡ true → kind_same of kind ≡ false) → Came (with_absences of response world)
+    absent_came of response hush =
+        let names : List (List ℕ) = absent_names of response world in
+        let test : List ℕ → Bool = λ n. is_removed response n && is_watched (lives_of world) of n in
+        others_came world.arrivals of names
+        (recursion_from_All (Other of) names (all_of (Other of) names
+        (λ n there. hushed of n (λ same.
+        hush (ap (is_removed response) (sym ((bytes_decide n name).0 same)) ∙ first_so (is_removed response n) (is_watched (lives_of world) of n) (passed test response.removed n there))))))
+
+    removed_came : (of : Kind) (response : ResponseParts) → (is_removed response name ≡ true → kind_same of kind ≡ false) → Came (with_removals of response world)
+    removed_came Cds response hush = refl
+    removed_came Eds response hush = absent_came Eds response hush
+    removed_came Lds response hush = refl
+    removed_came Rds response hush = absent_came Rds response hush
+
+    ended_came : (of : Kind) (n : List ℕ) → Other of n → Came (with_end of n (forget_version of n world))
+    ended_came Cds n other = refl
+    ended_came Eds n other = other_came world.arrivals (arrived Eds (Value no_hosts) n) other
+    ended_came Lds n other = refl
+    ended_came Rds n other = other_came world.arrivals (arrived Rds (Value no_routes) n) other
+
+    -- ---- a timeout
+
+    timed_same : (a : Arrived) (test : Bool) → a.arrival ≡ TimedOut → is_for a ≡ test → (after : World) → came after.arrivals ≡ came (world.arrivals ++ a ∷ [])
+        → HasSameValue kind name world after
+    timed_same a false timed for after is = same_by after (is ∙ other_came world.arrivals a for)
+    timed_same a true timed for after is =
+        let one : came (a ∷ []) ≡ TimedOut ∷ [] =
+        ap (λ (b : Bool). map (λ (a : Arrived). a.arrival) (cond b (a ∷ []) [])) for ∙ ap (λ (x : Arrival). x ∷ []) timed in
+        let all : came after.arrivals ≡ came world.arrivals ++ TimedOut ∷ [] =
+        is ∙ came-append world.arrivals (a ∷ []) ∙ ap (λ (xs : List Arrival). came world.arrivals ++ xs) one in
+        record {
+          value = ap (λ (xs : List Arrival). last_or None (filter_map content_in xs)) all
+              ∙ ap (λ (xs : List Content). last_or None xs)
+              (filter_map-append content_in (came world.arrivals) (TimedOut ∷ []) ∙ append-nil (filter_map content_in (came world.arrivals)));
+          told = ap (λ (xs : List Arrival). list_any is_word xs) all
+              ∙ same_false _ _
+              (λ h. any_behind is_word (came world.arrivals) (TimedOut ∷ []) (λ here. here) (λ none. absurd (both_ways false refl none)) h)
+              (λ h. any_first is_word (came world.arrivals) (TimedOut ∷ []) h);
+        }
+
+    -- ---- any event
+
+    module _ (format : Format) (actor : Actor) (event : Event) (goes_on : ends_name kind name event ≡ false) where
+      abbrev Stays : World × Answer → Type 0
+      Stays did = is_watched (lives_of did.0) kind name ≡ true → tells_of_name kind name event did.1 ≡ false → HasSameValue kind name world did.0
+
+      after_tidy : (after : World) (answer : Answer) → Came after → Stays (tidy after, answer)
+      after_tidy after answer is = λ watched hush. same_by (tidy after) (tidied_came after watched ∙ is)
+
+      alike : (after : World) (answer : Answer) → Came after → Stays (after, answer)
+      alike after answer is = λ watched hush. same_by after is
+
+      replied_stays : (of : Kind) (response : ResponseParts) → event ≡ Response response → response.kind ≡ Some of
+          → Stays (answered of response (verdicts_for of (lives_of world) world.versions response) world)
+      replied_stays of response is typed watched hush =
+          let verdicts : List Verdict = verdicts_for of (lives_of world) world.versions response in
+          let judged : List (Verdict × ItemParts) = zip verdicts response.items in
+          let left : World = with_removals of response world in
+          let after : World = with_first of (made_names verdicts response.items) (add_items of verdicts response.items left) in
+          let answer : Answer = (answered of response verdicts world).1 in
+          let quiet : (has_word_on name verdicts response.items || is_removed response name) ≡ true → kind_same of kind ≡ false =
+          λ told. not_so (kind_same of kind) (λ same.
+          both_ways (tells_of_name kind name event answer) hush
+          (ap (λ (e : Event). tells_of_name kind name e answer) is
+          ∙ and_from (is_response_of kind response) (has_word_on name verdicts response.items || is_removed response name)
+          (ap (λ (o : Option Kind). unwrap_or (option_map (kind_same kind) o) false) typed ∙ (kind_decides kind of).1 (sym ((kind_decides of kind).0 same)))
+          told)) in
+          same_by (tidy after)
+          (tidied_came after watched
+          ∙ first_came of (made_names verdicts response.items) (add_items of verdicts response.items left)
+          (items_came of judged left
+          (recursion_from_All (Hush of) judged (all_of (Hush of) judged (λ one there word.
+          quiet (or_left (has_word_on name verdicts response.items) (is_removed response name) (any_at (λ (other : Verdict × ItemParts). is_word_on name other.0 other.1) judged one there word)))))
+          (removed_came of response (λ gone. quiet (or_right (has_word_on name verdicts response.items) (is_removed response name) gone)))))
+
+      stays : Stays (step format world actor event)
+      stays = step-leads Stays format world actor event (record {
+        ignored = alike world _ refl;
+        connected = λ is. after_tidy _ _ refl;
+        disconnected = λ is. after_tidy _ _ refl;
+        replied = replied_stays;
+        resulted = λ cluster host healthy rows is. after_tidy _ _ refl;
+        timed = λ timeout n is named watched hush.
+            timed_same (arrived timeout.kind TimedOut n) (is_for (arrived timeout.kind TimedOut n)) refl refl _
+            (tidied_came (record world { arrivals = world.arrivals ++ arrived timeout.kind TimedOut n ∷ [] }) watched);
+        clusters_late = λ timeout is. after_tidy _ _ refl;
+        listeners_late = λ timeout is. after_tidy _ _ refl;
+        expired = λ n numbers is. after_tidy _ _ refl;
+        ended = λ of n is bounded. after_tidy _ _ (ended_came of n (sym (ap (λ (e : Event). ends_name kind name e) is) ∙ goes_on));
+        unchanged = λ is. alike world _ refl;
+        published = λ is. alike _ _ refl;
+        reaped = λ is. alike _ _ refl;
+        accepted = λ ask worker is by. alike _ _ refl;
+        closed = λ connection worker is by. alike _ _ refl;
+        settled = λ worker is by. alike _ _ refl;
+      })
+
+pub told_stay : ToldStays
+told_stay format world actor event kind name watched hush goes_on = stays kind name world format actor event goes_on watched hush
