@@ -18,7 +18,7 @@ from trials.data import made
 from trials.data.calling import TOP, browser, called, opened
 
 CLOSED = {'link', 'meta', 'input'}
-PICTURES = ['auto', 'listener_with_routes']
+PICTURES = ['auto', 'listener_with_routes', 'realistic']
 
 
 def run(check):
