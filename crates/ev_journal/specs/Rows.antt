@@ -111,6 +111,18 @@ pub record IsRow (row : Row) : Type 0 where
   -- its texts are UTF-8, so its line is
   pub utf8 : IsUtf8 (row_text row)
 
+-- a verdict's rule is within its bounds
+pub record KeepsRule (verdict : Verdict) : Type 0 where
+  pub rule : IsVerdict verdict
+
+-- a row's parts are within the bounds of their types, and its line is UTF-8
+pub record KeepsBounds (row : Row) : Type 0 where
+  pub actor : IsActor row.actor
+  pub at : row.at < 2 ^ 32
+  pub step : row.step < 2 ^ 32
+  pub answer : IsAnswer row.answer
+  pub utf8 : IsUtf8 (row_text row)
+
 -- ---- of several rows with one text, one
 
 -- none in place of an empty nonce

@@ -1,17 +1,20 @@
-ghost use Rattle.std.specs.Prelude.{◌≡◌, map, IfOk};
+ghost use Rattle.std.specs.Prelude.{◌≡◌, ◌<◌, ◌^◌, map, All, IfOk, OnOk};
 ghost use Rattle.serde_json.specs.Data.{array};
 ghost use Rattle.serde_json.specs.View.{view, items_of};
 ghost use Rattle.ev_journal.specs.Rendering.{numbers_tree, requests_tree, unserved_tree, local_tree, served_tree, answer_tree, verdict_tree};
+ghost use Rattle.ev_types.specs.Texts.{IsName};
+ghost use Rattle.ev_journal.specs.Rows.{IsAnswer, IsGeneration, IsHost, IsRequest, IsVerdict, KeepsRule};
 
 use crate::words::verdict_word;
-use ev_types::{Answer, Gen, Host, Request, Verdict};
+use ev_types::{Answer, Gen, Host, Name, Request, Text, Verdict};
 use ev_wire::request_value;
 use serde_json::{Value, json};
 use std::alloc::{AllocError, Global};
 
 /// An answer's tree.
 pub(crate) fn answer_value(alloc: Global, answer: &Answer) -> Result<Value, AllocError>
-    ensures { IfOk result (λ v. view v ≡ answer_tree answer.now) }
+    ensures tree { IfOk result (λ v. view v ≡ answer_tree answer.now) }
+    ensures bounded { OnOk result (IsAnswer answer.now) }
 {
     match answer {
         Answer::Ignored => json!(in alloc; "ignored"),
@@ -42,8 +45,10 @@ pub(crate) fn answer_value(alloc: Global, answer: &Answer) -> Result<Value, Allo
 
 // The tree of an answer with requests.
 fn moved_value(alloc: Global, requests: &[Request]) -> Result<Value, AllocError>
-    ensures { IfOk result (λ v. view v ≡ answer_tree (Answer.Moved requests.now)) }
+    ensures tree { IfOk result (λ v. view v ≡ answer_tree (Answer.Moved requests.now)) }
+    ensures bounded { OnOk result (IsAnswer (Answer.Moved requests.now)) }
 {
+    look_at_requests(requests);
     let requests = request_values(alloc, requests)?;
     json!(in alloc; {"requests": requests})
 }
@@ -54,8 +59,11 @@ fn replied_value(
     requests: &[Request],
     verdicts: &[Verdict],
 ) -> Result<Value, AllocError>
-    ensures { IfOk result (λ v. view v ≡ answer_tree (Answer.Replied requests.now verdicts.now)) }
+    ensures tree { IfOk result (λ v. view v ≡ answer_tree (Answer.Replied requests.now verdicts.now)) }
+    ensures bounded { OnOk result (IsAnswer (Answer.Replied requests.now verdicts.now)) }
 {
+    look_at_requests(requests);
+    look_at_verdicts(verdicts);
     let requests = request_values(alloc, requests)?;
     let verdicts = verdict_values(alloc, verdicts)?;
     json!(in alloc; {"requests": requests, "verdicts": verdicts})
@@ -63,22 +71,26 @@ fn replied_value(
 
 // The tree of an answer to a reaping.
 fn reaped_value(alloc: Global, numbers: &[Gen]) -> Result<Value, AllocError>
-    ensures { IfOk result (λ v. view v ≡ answer_tree (Answer.Reaped numbers.now)) }
+    ensures tree { IfOk result (λ v. view v ≡ answer_tree (Answer.Reaped numbers.now)) }
+    ensures bounded { OnOk result (All IsGeneration numbers.now) }
 {
+    look_at_generations(numbers);
     let numbers = generation_values(alloc, numbers)?;
     json!(in alloc; {"reaped": numbers})
 }
 
 // What becomes of a connection that a listener takes and no host serves.
 fn unserved_value(alloc: Global, word: &str, listener: Gen) -> Result<Value, AllocError>
-    ensures { IfOk result (λ v. view v ≡ unserved_tree word.now listener) }
+    ensures tree { IfOk result (λ v. view v ≡ unserved_tree word.now listener) }
+    ensures bounded { OnOk result (IsGeneration listener) }
 {
     json!(in alloc; {"listener": listener.number(), "result": word})
 }
 
 // The tree of a connection that is answered at once.
 fn local_value(alloc: Global, listener: Gen, status: u16) -> Result<Value, AllocError>
-    ensures { IfOk result (λ v. view v ≡ local_tree listener status) }
+    ensures tree { IfOk result (λ v. view v ≡ local_tree listener status) }
+    ensures bounded { OnOk result (IsGeneration listener) }
 {
     json!(in alloc; {"listener": listener.number(), "result": "local", "status": status})
 }
@@ -90,7 +102,10 @@ fn served_value(
     cluster: Gen,
     host: &Host,
 ) -> Result<Value, AllocError>
-    ensures { IfOk result (λ v. view v ≡ served_tree listener cluster host.now) }
+    ensures tree { IfOk result (λ v. view v ≡ served_tree listener cluster host.now) }
+    ensures bounded_listener { OnOk result (IsGeneration listener) }
+    ensures bounded_cluster { OnOk result (IsGeneration cluster) }
+    ensures bounded_host { OnOk result (IsHost host.now) }
 {
     json!(in alloc; {
         "address": host.address.as_str(),
@@ -103,7 +118,8 @@ fn served_value(
 
 // The tree of an answer to a settle.
 fn settled_value(alloc: Global, closed: &[u64], version: u64) -> Result<Value, AllocError>
-    ensures { IfOk result (λ v. view v ≡ answer_tree (Answer.Settled closed.now version)) }
+    ensures tree { IfOk result (λ v. view v ≡ answer_tree (Answer.Settled closed.now version)) }
+    ensures bounded { OnOk result (All (λ n. n < 2 ^ 64) closed.now) }
 {
     let closed = number_values(alloc, closed)?;
     json!(in alloc; {"closed": closed, "version": version})
@@ -120,9 +136,80 @@ fn request_values(alloc: Global, requests: &[Request]) -> Result<Value, AllocErr
     Ok(Value::Array(values))
 }
 
+// What requests keep, which only reading them tells.
+fn look_at_requests(requests: &[Request])
+    ensures { All IsRequest requests.now }
+{
+    for request in requests {
+        look_at_request(request);
+    }
+}
+
+// What the names of a request keep.
+fn look_at_request(request: &Request)
+    ensures { IsRequest request.now }
+{
+    look_at_names(request.subscribe.as_slice());
+    look_at_names(request.unsubscribe.as_slice());
+    look_at_versions(request.versions.as_slice());
+}
+
+// What names keep.
+fn look_at_names(names: &[Name])
+    ensures { All IsName names.now }
+{
+    for name in names {
+        let _ = name.as_str();
+    }
+}
+
+// What the names of versions keep.
+fn look_at_versions(versions: &[(Name, Text)])
+    ensures { All (λ version. IsName version.0) versions.now }
+{
+    for (name, _) in versions {
+        let _ = name.as_str();
+    }
+}
+
+// What the numbers of generations keep.
+fn look_at_generations(numbers: &[Gen])
+    ensures { All IsGeneration numbers.now }
+{
+    for number in numbers {
+        look_at_generation(*number);
+    }
+}
+
+// What the number of a generation keeps.
+fn look_at_generation(number: Gen)
+    ensures { IsGeneration number }
+{
+    let _ = number.number();
+}
+
+// What verdicts keep.
+fn look_at_verdicts(verdicts: &[Verdict])
+    ensures { All IsVerdict verdicts.now }
+{
+    for verdict in verdicts {
+        look_at_verdict(*verdict);
+    }
+}
+
+// What a verdict keeps.
+fn look_at_verdict(verdict: Verdict)
+    ensures { KeepsRule verdict }
+{
+    if let Verdict::Refused(rule) = verdict {
+        let _ = rule;
+    }
+}
+
 // The trees of connections' numbers.
 fn number_values(alloc: Global, numbers: &[u64]) -> Result<Value, AllocError>
-    ensures { IfOk result (λ v. view v ≡ numbers_tree numbers.now) }
+    ensures tree { IfOk result (λ v. view v ≡ numbers_tree numbers.now) }
+    ensures bounded { OnOk result (All (λ n. n < 2 ^ 64) numbers.now) }
 {
     let mut values = Vec::with_capacity(alloc, numbers.len())?;
     for number in numbers {

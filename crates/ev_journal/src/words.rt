@@ -1,5 +1,6 @@
-ghost use Rattle.std.specs.Prelude.{◌≡◌, string_bytes, IfOk};
+ghost use Rattle.std.specs.Prelude.{◌≡◌, string_bytes, IfOk, OnOk};
 ghost use Rattle.ev_journal.specs.Rendering.{format_number, actor_text, op_text, verdict_text};
+ghost use Rattle.ev_journal.specs.Rows.{IsActor};
 
 use ev_types::{Actor, Format, Op, Verdict};
 use std::alloc::{AllocError, Global};
@@ -16,7 +17,8 @@ pub(crate) fn format_number(format: Format) -> u32
 
 /// An actor in words.
 pub(crate) fn actor_word(alloc: Global, actor: Actor) -> Result<String, AllocError>
-    ensures { IfOk result (λ word. string_bytes word ≡ actor_text actor) }
+    ensures word { IfOk result (λ word. string_bytes word ≡ actor_text actor) }
+    ensures bounded { OnOk result (IsActor actor) }
 {
     match actor {
         Actor::Stream => String::from_str(alloc, "stream"),

@@ -1,9 +1,9 @@
-ghost use Rattle.std.specs.Prelude.{◌≡◌, false, IfOk};
+ghost use Rattle.std.specs.Prelude.{◌≡◌, ◌<◌, ◌^◌, false, All, IfOk, OnOk};
 ghost use Rattle.serde_json.specs.View.{view};
 ghost use Rattle.serde_json.specs.Written.{has_float, compact_text};
 ghost use Rattle.std.specs.Str.{IsUtf8};
-ghost use Rattle.ev_journal.specs.Rendering.{rendering_of, line_text, row_object, entry_tree, first_tree, end_tree};
-ghost use Rattle.ev_journal.specs.Rows.{row_text};
+ghost use Rattle.ev_journal.specs.Rendering.{rendering_of, line_text, row_object, entry_row, entry_tree, first_tree, end_tree};
+ghost use Rattle.ev_journal.specs.Rows.{IsActor, KeepsBounds, row_text};
 
 use crate::answers::answer_value;
 use crate::words::{actor_word, format_number, op_word};
@@ -20,6 +20,7 @@ pub fn render_journal(
     journal: &[Entry],
 ) -> Result<Vec<u8>, AllocError>
     ensures text { IfOk result (λ text. text.items ≡ rendering_of format workers journal.now) }
+    ensures bounded { OnOk result (All (λ entry. KeepsBounds (entry_row entry)) journal.now) }
 {
     let mut text = write_first_line(alloc, format, workers)?;
     for entry in journal {
@@ -37,10 +38,12 @@ pub fn write_first_line(alloc: Global, format: Format, workers: u32) -> Result<V
 }
 
 /// Writes the line of an entry, with the line feed that closes it: who did what, at which line and step of the
-/// script, and the answer, by the table of answers in docs/FORMATS.md.
-#[tactic(auto, using(crate::proofs::FloatLemmas::entry_whole))]
+/// script, and the answer, by the table of answers in docs/FORMATS.md. What the types of an entry keep is told with it:
+/// the parts of its row are within bounds, and its line is UTF-8.
+#[tactic(auto, using(crate::proofs::FloatLemmas::entry_whole), unfolding(crate::specs::Rows::row_text))]
 pub fn write_line(alloc: Global, entry: &Entry) -> Result<Vec<u8>, AllocError>
     ensures line { IfOk result (λ line. line.items ≡ line_text (entry_tree entry.now)) }
+    ensures bounded { OnOk result (KeepsBounds (entry_row entry.now)) }
 {
     let answer = answer_value(alloc, &entry.answer)?;
     let value = row_value(
@@ -90,7 +93,8 @@ pub fn write_end_text(alloc: Global, entries: usize) -> Result<Vec<u8>, AllocErr
 #[tactic(auto, unfolding(crate::specs::Rendering::line_text))]
 fn line_of(alloc: Global, value: &Value) -> Result<Vec<u8>, AllocError>
     requires { has_float (view value.now) ≡ false }
-    ensures { IfOk result (λ line. line.items ≡ line_text (view value.now)) }
+    ensures line { IfOk result (λ line. line.items ≡ line_text (view value.now)) }
+    ensures utf8 { OnOk result (IsUtf8 (compact_text (view value.now))) }
 {
     let mut line = value.to_vec(alloc)?;
     line.push(b'\n')?;
@@ -120,7 +124,10 @@ fn row_value(
     op: Op,
     answer: Value,
 ) -> Result<Value, AllocError>
-    ensures { IfOk result (λ v. view v ≡ row_object actor at step op (view answer)) }
+    ensures row { IfOk result (λ v. view v ≡ row_object actor at step op (view answer)) }
+    ensures bounded_actor { OnOk result (IsActor actor) }
+    ensures bounded_at { OnOk result (at < 2 ^ 32) }
+    ensures bounded_step { OnOk result (step < 2 ^ 32) }
 {
     let actor = actor_word(alloc, actor)?;
     json!(in alloc; {"actor": actor, "answer": answer, "at": at, "op": op_word(op), "step": step})

@@ -1,3 +1,4 @@
 pub mod FeedLemmas
+pub mod RowLemmas
 pub mod RunLemmas
 pub mod TextLemmas

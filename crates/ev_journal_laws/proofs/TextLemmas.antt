@@ -22,6 +22,7 @@ use Rattle.ev_journal_read.proofs.ChosenLemmas.{row_text-chosen, chosen_row-twic
 use Rattle.ev_journal_read.proofs.TextLemmas.{one_to_one}
 use Rattle.ev_journal_laws.specs.OneJournal.{HaveRows, meant_rows, RendersJournals, TextTellsJournal}
 use Rattle.ev_journal_laws.proofs.FeedLemmas.{NoFeed, NoFeed-compact_text, NoFeed-end, line_first}
+use Rattle.ev_journal_laws.proofs.RowLemmas.{have_rows}
 use Rattle.ev_journal_laws.proofs.RunLemmas.{same_run}
 
 -- ---- lines
@@ -146,7 +147,9 @@ same_format format another workers small e =
     format_by format another (ap (λ tree. number_in (format_in tree)) (sym one ∙ ap read e ∙ two))
 
 pub tells : TextTellsJournal
-tells script format another journal other kept one two h k same =
+tells script format another journal other kept one two bounded bounded_too same =
+    let h : HaveRows journal = have_rows format script.workers script.node journal one.run bounded in
+    let k : HaveRows other = have_rows another script.workers script.node other two.run bounded_too in
     let small : script.workers < 2 ^ 64 = omega (arith, kept.few_workers) in
     let lines : first_text format script.workers ∷ (map text_of journal ++ end_text (length journal) ∷ [])
     ≡ first_text another script.workers ∷ (map text_of other ++ end_text (length other) ∷ []) =

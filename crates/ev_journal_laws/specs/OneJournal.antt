@@ -6,13 +6,24 @@ use Rattle.ev_types.specs.declared.events.Entry.{Entry}
 use Rattle.ev_types.specs.declared.journals.Format.{Format}
 use Rattle.ev_types.specs.declared.journals.Row.{Row}
 use Rattle.ev_model.specs.Operations.{IsRunOf}
+use Rattle.ev_model.specs.Runs.{IsRun}
 use Rattle.ev_journal.specs.Rendering.{entry_row, rendering_of}
-use Rattle.ev_journal.specs.Rows.{IsRow, chosen_row}
+use Rattle.ev_journal.specs.Rows.{IsRow, KeepsBounds, chosen_row}
 use Rattle.ev_journal_read.specs.Journals.{first_text, IsJournalTo}
 
 -- the row of each entry is one
 abbrev pub HaveRows : List Entry → Type 0
 HaveRows journal = All (λ (entry : Entry). IsRow (entry_row entry)) journal
+
+-- each entry keeps what its types keep: its row's parts are within their bounds, and its line is UTF-8
+abbrev pub AreBounded : List Entry → Type 0
+AreBounded journal = All (λ (entry : Entry). KeepsBounds (entry_row entry)) journal
+
+-- then the row of each entry of a run is one
+abbrev pub RunsHaveRows : Type 0
+RunsHaveRows =
+    (format : Format) (workers : ℕ) (node : List ℕ) (journal : List Entry)
+    → IsRun format workers node journal → AreBounded journal → HaveRows journal
 
 -- the rows that are meant by those of the entries
 abbrev pub meant_rows : List Entry → List Row
@@ -32,6 +43,6 @@ RendersJournals = (format : Format) (workers : ℕ) (journal : List Entry) → w
 abbrev pub TextTellsJournal : Type 0
 TextTellsJournal =
     (script : ScriptParts) (format another : Format) (journal other : List Entry)
-    → IsScript script → IsRunOf format script journal → IsRunOf another script other → HaveRows journal → HaveRows other
+    → IsScript script → IsRunOf format script journal → IsRunOf another script other → AreBounded journal → AreBounded other
     → rendering_of format script.workers journal ≡ rendering_of another script.workers other
     → (format ≡ another) × (journal ≡ other)
