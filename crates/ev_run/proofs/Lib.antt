@@ -1,0 +1,4 @@
+pub mod CloseLemmas
+pub mod PlaceLemmas
+pub mod WorkerLemmas
+pub mod SeatLemmas
