@@ -1,11 +1,10 @@
 -- At the close what a pass has seen is a beginning of the journal, and the rest has none of its actor's entries.
-use Rattle.std.proofs.Common.{◌≡◌, ℕ, zero, suc, ◌+◌, ◌<◌, ◌≤◌, ◌==◌, ◌⊎◌, inl, inr, Bool, true, false, List, [], ◌∷◌, ◌++◌, map, filter, length, get_or, refl, ap, sym, ◌∙◌, subst, append_assoc, append-nil, length-append, arith}
+use Rattle.std.proofs.Common.{◌≡◌, ℕ, suc, ◌+◌, ◌<◌, ◌≤◌, ◌==◌, ◌⊎◌, inl, inr, true, List, [], ◌∷◌, ◌++◌, length, get_or, refl, ap, sym, ◌∙◌, subst, length-append, arith}
 use Rattle.std.specs.Prelude.{Some, slice_get}
-use Rattle.std.specs.List.{AllByRecursion as ByRecursion}
 use Rattle.std.proofs.lemmas.Bool.{cases_lt}
 use Rattle.std.proofs.lemmas.List.Elements.{filter-append}
 use Rattle.std.proofs.lemmas.Option.{slice_get-get_or}
-use Rattle.ev_types.specs.Events.{IsMainSide, MayMake}
+use Rattle.ev_types.specs.Events.{MayMake}
 use Rattle.ev_types.specs.Scripts.{IsScript, ScriptParts}
 use Rattle.ev_types.specs.declared.events.Actor.{Actor}
 use Rattle.ev_types.specs.declared.events.Actor.TheVariants.{Stream, Health, Timer, Main, Worker}
@@ -17,14 +16,14 @@ use Rattle.ev_types.specs.declared.journals.Format.TheVariants.{Two}
 use Rattle.ev_model.specs.World.{World, opening}
 use Rattle.ev_model.specs.Step.{step}
 use Rattle.ev_model.specs.Runs.{IsRun, RunsFrom}
-use Rattle.ev_model.specs.Laws.{Laws, RunsHaveLaws}
-use Rattle.ev_model.specs.Operations.{AreDone, Deed, Operation, deeds_from, deeds_of, Fits, IsRunOf, operations_of}
+use Rattle.ev_model.specs.Laws.{RunsHaveLaws}
+use Rattle.ev_model.specs.Operations.{AreDone, Operation, deeds_from, operations_of}
 use Rattle.ev_gate.specs.History.{Continues, GrowsWithout, Knowledge, commits_by, mine_of, seen_of}
 use Rattle.ev_gate.specs.Words.{IsWhole, first_of, pass_knows}
 use Rattle.ev_gate.specs.declared.gate.Gate.{Gate}
 use Rattle.ev_gate.specs.declared.gate.Pass.{Pass}
 use Rattle.ev_gate.specs.declared.stands.Stands.{Ghosts}
-use Rattle.ev_actors.specs.Journals.{JournalParts, nothing_done, world_now}
+use Rattle.ev_actors.specs.Journals.{JournalParts, nothing_done}
 use Rattle.ev_commits.specs.Commits.{GrowsByOthers, commits_of, seat_of}
 use Rattle.ev_commits.specs.Seen.{IsSound, began_as, journal_with}
 use Rattle.ev_commits.specs.declared.kept.Began.{Began}
