@@ -62,6 +62,8 @@ impl Courses {
     pub fn find(&self, script: &Script, row: &Row) -> Option<Found>
         ensures found { IfSome result (λ found. (journal : List Entry) → HaveCome script.now journal self.now
             → IsFound script.now journal row.now self.now found) }
+        ensures seat { IfSome result (λ found. found.seat < length self.now.seats.items) }
+        ensures place { IfSome result (λ found. found.place < u64.MAX) }
         ensures none { result ≡ None → (journal : List Entry) → HaveCome script.now journal self.now
             → list_any (tells_of row.now)
             (next_of (may_leave_out self.now.format script.now journal row.now.actor)
