@@ -129,8 +129,7 @@ def faults_of_command(line, commands):
     for place in COMMAND.finditer(line):
         name, words = place[1], words_behind(line[place.end():])
         if name == './warmgate':
-            good = len(words) == 1 and words[0] in commands + ['--help', '--version']
-            if not good:
+            if not is_form(words, commands):
                 yield f'./warmgate takes no {words}'
         elif not os.access(f'{TOP}/{name}', os.X_OK):
             yield f'{name} is no tool'
@@ -139,6 +138,13 @@ def faults_of_command(line, commands):
             for flag in [word.split('=')[0] for word in words if word.startswith('--')]:
                 if not re.search(rf"{re.escape(flag)}(?![\w-])", source):
                     yield f'{name} has no {flag}'
+
+
+def is_form(words, commands):
+    """The program takes these words."""
+    if words[:1] == ['soak']:
+        return len(words) == 3
+    return len(words) == 1 and words[0] in commands + ['--help', '--version']
 
 
 def words_behind(text):
@@ -181,12 +187,12 @@ def faults_of_printed(block):
 PLANTED = [
     ('[x](docs/NOPE.md)', 'link'), ('[x](docs/FORMATS.md#nope)', 'link'), ('see `tools/nope`', 'link'), ('see `crates/ev_nope/specs/`', 'link'),
     ('    parallel warmgate/tools/nope x', 'command'), ('    tools/nope x', 'command'), ('    tools/why --nope x', 'command'), ('    ./warmgate replay x', 'command'),
-    ('    ./warmgate nope < x | tools/explain x', 'command'), ('    ./warmgate', 'command'), ('```\n./warmgate replay < x | tools/explain --nope x\n```', 'command'),
+    ('    ./warmgate nope < x | tools/explain x', 'command'), ('    ./warmgate', 'command'), ('    ./warmgate soak 1', 'command'), ('```\n./warmgate replay < x | tools/explain --nope x\n```', 'command'),
     ('    $ ./warmgate replay < examples/connect.jsonl | tools/explain examples/connect.jsonl\n    nope', 'printed'),
 ]
 SOUND = ['[x](docs/FORMATS.md#faults)', 'see `tools/why --all`, `crates/*/specs/`, `crates/NAME/out/x`, `a/b`', '    tools/why --all x',
          "    (echo; ./warmgate replay < x 2> y | tools/explain x) && tools/why '{}'", "    parallel 'tools/why {} > y' ::: a b",
-         '    ./warmgate replay < {} > journals/{/.}.jsonl']
+         '    ./warmgate replay < {} > journals/{/.}.jsonl', '    ./warmgate soak 0 3000']
 
 
 def planted(check, tops, commands):

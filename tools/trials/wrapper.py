@@ -24,7 +24,7 @@ read -r status || status=4
 exit "$status"
 '''
 HINT = b'warmgate: tools/why SCRIPT says'
-USAGE = b'usage: warmgate replay\n'
+USAGE = b'usage: warmgate replay | run | soak SEED COUNT\n'
 
 # (words, status, what standard output begins with, what standard error has)
 WORDS = [
@@ -40,6 +40,14 @@ WORDS = [
     (['*'], 2, b'', USAGE + b"warmgate: '*' is no command"),
     (['replay', 'my script.jsonl'], 2, b'', USAGE + b"warmgate: a script comes by standard input: ./warmgate replay < 'my script.jsonl'"),
     (['replay', 'a', 'b'], 2, b'', USAGE + b"warmgate: a script comes by standard input: ./warmgate replay < 'a'"),
+    (['soak'], 2, b'', USAGE + b'warmgate: a soak has a seed and a count'),
+    (['soak', '1', '1', '1'], 2, b'', USAGE + b'warmgate: a soak has a seed and a count'),
+    (['soak', '01', '5'], 2, b'', USAGE + b"warmgate: '01' is no seed"),
+    (['soak', '+1', '1'], 2, b'', USAGE + b"warmgate: '+1' is no seed"),
+    (['soak', '', '1'], 2, b'', USAGE + b"warmgate: '' is no seed"),
+    (['soak', '18446744073709551616', '1'], 2, b'', USAGE + b"warmgate: '18446744073709551616' is no seed"),
+    (['soak', '1', '0'], 2, b'', USAGE + b"warmgate: '0' is no count"),
+    (['soak', '1', '100001'], 2, b'', USAGE + b"warmgate: '100001' is no count"),
     (['--no-such'], 2, b'', USAGE + b"warmgate: '--no-such' is no command"),
 ]
 
@@ -101,6 +109,7 @@ def proofs(check, trial):
     status, out, errors = trial.start('replay', env=trial.with_rt, data=b'0\n')
     check((status, out) == (0, b'program replay\n') and b'first start' in errors, f'warmgate\'s first start: {status} {out} {errors}')
     check(trial.start('replay', data=b'0\n') == (0, b'program replay\n', b''), 'warmgate\'s second start')
+    check(trial.start('soak', '18446744073709551615', '100000', data=b'0\n') == (0, b'program soak 18446744073709551615 100000\n', b''), 'warmgate soak hands on its numbers')
     check(b'program: proved and built\n' in trial.start('--version')[1], 'warmgate --version of what is built')
     os.utime(trial.main, (2 ** 32, 2 ** 32))
     check(b'program: older than crates/' in trial.start('--version')[1], 'warmgate --version of what is old')

@@ -5,10 +5,11 @@ use Rattle.ev_script.specs.declared.fault_kinds.FaultKind.{FaultKind}
 use Rattle.ev_script.specs.Faults.{Input, plain_lines}
 use Rattle.ev_script.proofs.PrefixLemmas.{stands_more}
 use Rattle.ev_app.specs.declared.commands.Command.{Command}
-use Rattle.ev_app.specs.declared.commands.Command.TheVariants.{Replay}
-use Rattle.ev_app.specs.Input.{has_journal, IsTakenFor}
-use Rattle.ev_app.specs.Faults.{IsEarly, NoneEarly, IsLate, IsFirstEarly, IsFaultFor, HasNoneFor}
-use Rattle.ev_app.specs.Status.{Outside, IsHonest}
+use Rattle.ev_app.specs.declared.commands.Command.TheVariants.{Replay, Run, Soak}
+use Rattle.ev_app.specs.Input.{has_journal, TakesInput, IsTakenFor}
+use Rattle.ev_io.specs.Outside.{Rose}
+use Rattle.ev_app.specs.Faults.{IsEarly, NoneEarly, IsLate, IsFirstEarly, IsFaultFor, HasNoneFor, IsCutOff}
+use Rattle.ev_app.specs.Status.{Outside, TellsInput, IsHonest}
 
 -- an input of a command
 abbrev told : Command → List ℕ → Bool → Input
@@ -17,6 +18,8 @@ told command bytes ended = record { bytes = bytes; ended = ended; audit = has_jo
 -- an early fault is one however the bytes go on
 early_more : (command : Command) (xs ys : List ℕ) (place : ℕ) (kind : FaultKind) → IsEarly command (told command xs false) place kind → IsEarly command (told command (xs ++ ys) true) place kind
 early_more Replay xs ys place kind early = stands_more plain_lines xs ys true false place kind early
+early_more Run xs ys place kind early = stands_more plain_lines xs ys true false place kind early
+early_more (Soak seed count) xs ys place kind early = early
 
 -- the bytes taken are a front of those told, and all of them at the end
 front_of : (bytes taken : List ℕ) (after : Option (List ℕ)) → Some bytes ≡ prepend_known taken after → (rest : List ℕ) × (bytes ≡ taken ++ rest) × (IsAtEnd after → rest ≡ [])
@@ -24,7 +27,7 @@ front_of bytes taken None e = cc
 front_of bytes taken (Some rest) e = let same : bytes ≡ taken ++ rest = cc in (rest, same, λ h. h)
 
 -- so a fault of the bytes taken is one of those told
-none_of_front : (command : Command) (bytes : List ℕ) (input : Input) (after : Option (List ℕ)) (line number : ℕ) → HasNoneFor command (told command bytes true) → IsTakenFor command (Some bytes) after input → IsFaultFor command input line number → ⊥
+none_of_front : (command : Command) (bytes : List ℕ) (input : Input) (after : Option (List ℕ)) (line number : ℕ) → HasNoneFor command (told command bytes true) → TakesInput (has_journal command) (Some bytes) after input → IsFaultFor command input line number → ⊥
 none_of_front command bytes input after line number sound takes fault = by_end input.ended refl
   where
     front : (rest : List ℕ) × (bytes ≡ input.bytes ++ rest) × (IsAtEnd after → rest ≡ [])
@@ -49,8 +52,24 @@ none_of_front command bytes input after line number sound takes fault = by_end i
         by_whole (λ i. record { bytes = sym same i; ended = e i; audit = takes.asked i }) fault
     by_end false e = by_part (λ i. record { bytes = input.bytes; ended = e i; audit = takes.asked i }) fault
 
--- an honest source's bytes are not refused
+-- a command that reads nothing has no faults
+no_fault_without_input : (seed count : ℕ) (input : Input) (line number : ℕ) → IsFaultFor (Soak seed count) input line number → ⊥
+no_fault_without_input seed count input line number (inl first) = first.stands
+no_fault_without_input seed count input line number (inr late) = late.2
+
+-- bytes that the source tells are not refused
+not_refused_by : (command : Command) (outside : Outside) (line number : ℕ) (input : Input) → TakesInput (has_journal command) outside.left_before outside.left_after input → IsFaultFor command input line number → TellsInput command outside → ⊥
+not_refused_by command outside line number input taken fault tells =
+    none_of_front command tells.bytes input outside.left_after line number tells.sound
+    (subst (λ (left : Option (List ℕ)). TakesInput (has_journal command) left outside.left_after input) tells.told taken) fault
+
 pub not_refused : (command : Command) (outside : Outside) (line number : ℕ) (input : Input) → IsTakenFor command outside.left_before outside.left_after input → IsFaultFor command input line number → IsHonest command outside → ⊥
-not_refused command outside line number input taken fault honest =
-    none_of_front command honest.bytes input outside.left_after line number honest.sound
-    (subst (λ (left : Option (List ℕ)). IsTakenFor command left outside.left_after input) honest.told taken) fault
+not_refused Replay outside line number input taken fault honest = not_refused_by Replay outside line number input taken fault honest.told
+not_refused Run outside line number input taken fault honest = not_refused_by Run outside line number input taken fault honest.told
+not_refused (Soak seed count) outside line number input taken fault honest = no_fault_without_input seed count input line number fault
+
+-- nor does a read of them fail
+pub not_cut_off : (command : Command) (outside : Outside) (input : Input) → IsTakenFor command outside.left_before outside.left_after input → IsCutOff command input → Rose outside.reads_before outside.reads_after → IsHonest command outside → ⊥
+not_cut_off Replay outside input taken cut rose honest = honest.told.no_read_fault rose
+not_cut_off Run outside input taken cut rose honest = honest.told.no_read_fault rose
+not_cut_off (Soak seed count) outside input taken cut rose honest = cut.goes_on (ap (λ (i : Input). i.ended) taken.empty)

@@ -3,17 +3,21 @@ use Rattle.std.specs.Prelude.{◌≡◌, ℕ, ◌<◌, ◌≤◌, ◌⊎◌, IsT
 use Rattle.ev_script.specs.declared.fault_kinds.FaultKind.{FaultKind}
 use Rattle.ev_script.specs.Faults.{Input, Stands, fault_order, fault_line, fault_number, plain_lines}
 use Rattle.ev_app.specs.declared.commands.Command.{Command}
-use Rattle.ev_app.specs.declared.commands.Command.TheVariants.{Replay}
+use Rattle.ev_app.specs.declared.commands.Command.TheVariants.{Replay, Run, Soak}
 
 -- ---- early faults: of kinds 1 to 9, at a place
 
 -- a fault that stands at a place of the bytes taken
 abbrev pub IsEarly : Command → Input → ℕ → FaultKind → Type 0
 IsEarly Replay input place kind = Stands plain_lines input place kind
+IsEarly Run input place kind = Stands plain_lines input place kind
+IsEarly (Soak seed count) input place kind = ⊥
 
 -- the line with which it is told
 abbrev pub IsToldOn : Command → Input → ℕ → FaultKind → ℕ → Type 0
 IsToldOn Replay input place kind line = line ≡ fault_line input place kind
+IsToldOn Run input place kind line = line ≡ fault_line input place kind
+IsToldOn (Soak seed count) input place kind line = ⊥
 
 abbrev pub NoneEarly : Command → Input → Type 0
 NoneEarly command input = (place : ℕ) (kind : FaultKind) → ¬ (IsEarly command input place kind)
@@ -33,6 +37,8 @@ pub record IsFirstEarly (command : Command) (input : Input) (line number : ℕ) 
 -- a late fault, by its line and its number
 abbrev pub IsLate : Command → List ℕ → ℕ → ℕ → Type 0
 IsLate Replay bytes line number = ⊥
+IsLate Run bytes line number = ⊥
+IsLate (Soak seed count) bytes line number = ⊥
 
 -- ---- the fault that is told
 

@@ -1,11 +1,11 @@
 -- What is taken of the input.
-use Rattle.std.specs.Prelude.{◌≡◌, ℕ, ◌+◌, ◌≤◌, Bool, false, IsTrue, List, length, Option}
+use Rattle.std.specs.Prelude.{◌≡◌, ℕ, ◌+◌, ◌≤◌, Bool, true, false, IsTrue, List, [], length, Option}
 use Rattle.std.specs.Io.KnownBytes.{IsAtEnd}
 use Rattle.ev_io.specs.declared.limits.TheConstants.{MAX_INPUT_BYTES}
 use Rattle.ev_io.specs.Outside.{Takes}
 use Rattle.ev_script.specs.Faults.{Input}
 use Rattle.ev_app.specs.declared.commands.Command.{Command}
-use Rattle.ev_app.specs.declared.commands.Command.TheVariants.{Replay}
+use Rattle.ev_app.specs.declared.commands.Command.TheVariants.{Replay, Run, Soak}
 
 -- these bytes were taken, at most one more than an input may have, to the end of the source where it gave that; whether a
 -- journal has to follow the script is `audit`
@@ -18,7 +18,16 @@ pub record TakesInput (audit : Bool) (before after : Option (List ℕ)) (input :
 -- whether a journal has to follow the script that a command reads
 abbrev pub has_journal : Command → Bool
 has_journal Replay = false
+has_journal Run = false
+has_journal (Soak seed count) = false
+
+-- nothing was taken: the source is as it was, and the input is empty and ended
+pub record TakesNothing (before after : Option (List ℕ)) (input : Input) : Type 0 where
+  pub left : after ≡ before
+  pub empty : input ≡ record { bytes = []; ended = true; audit = false }
 
 -- this was taken for a command
 abbrev pub IsTakenFor : Command → Option (List ℕ) → Option (List ℕ) → Input → Type 0
-IsTakenFor command before after input = TakesInput (has_journal command) before after input
+IsTakenFor Replay before after input = TakesInput (has_journal Replay) before after input
+IsTakenFor Run before after input = TakesInput (has_journal Run) before after input
+IsTakenFor (Soak seed count) before after input = TakesNothing before after input

@@ -3,6 +3,7 @@ pub mod Input
 pub mod Scripts
 pub mod Faults
 pub mod Replay
+pub mod Runs
 pub mod Texts
 pub mod Status
 pub mod Exit

@@ -1,9 +1,10 @@
 -- How a call of the program ends, for every command.
-use Rattle.std.specs.Prelude.{ℕ, ◌≡◌, ◌≤◌, List, true, Option, Some}
+use Rattle.std.specs.Prelude.{ℕ, ◌≡◌, ◌≤◌, ⊤, List, true, Option, Some}
 use Rattle.std.specs.Io.KnownBytes.{append_known}
 use Rattle.ev_io.specs.Outside.{Rose, AppendsPrefix}
 use Rattle.ev_script.specs.Faults.{Input}
 use Rattle.ev_app.specs.declared.commands.Command.{Command}
+use Rattle.ev_app.specs.declared.commands.Command.TheVariants.{Replay, Run, Soak}
 use Rattle.ev_app.specs.declared.status.Status.{Status}
 use Rattle.ev_app.specs.declared.status.Status.TheVariants.{Done, Illegal, Usage, BadScript, ReadFault, WriteFault, OutOfMemory}
 use Rattle.ev_app.specs.Input.{has_journal, IsTakenFor}
@@ -99,12 +100,22 @@ pub record LacksMemory (command : Command) (outside : Outside) : Type 0 where
   pub reads : ReadsWell outside
   pub written : WritesNothing outside
 
--- the source tells an input of the command without fault, and neither count of faults rose
-pub record IsHonest (command : Command) (outside : Outside) : Type 0 where
+-- the source tells an input of the command without fault, and its count of faults didn't rise
+pub record TellsInput (command : Command) (outside : Outside) : Type 0 where
   pub bytes : List ℕ
   pub told : outside.left_before ≡ Some bytes
   pub sound : HasNoneFor command record { bytes = bytes; ended = true; audit = has_journal command }
   pub no_read_fault : ¬ Rose outside.reads_before outside.reads_after
+
+-- so it is for a command that reads an input; the others ask for nothing
+abbrev pub IsToldFor : Command → Outside → Type 0
+IsToldFor Replay outside = TellsInput Replay outside
+IsToldFor Run outside = TellsInput Run outside
+IsToldFor (Soak seed count) outside = ⊤
+
+-- the source tells what the command reads, and no write failed
+pub record IsHonest (command : Command) (outside : Outside) : Type 0 where
+  pub told : IsToldFor command outside
   pub no_write_fault : ¬ Rose outside.writes_before outside.writes_after
 
 -- neither count of faults falls

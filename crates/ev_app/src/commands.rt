@@ -1,8 +1,10 @@
-ghost use Rattle.std.specs.Prelude.{◌≡◌, ◌↔◌, None, IsTrue, IfSome};
+ghost use Rattle.std.specs.Prelude.{◌≡◌, ℕ, ◌↔◌, [], ◌∷◌, None, IsTrue, IfSome};
 ghost use Rattle.ev_app.specs.declared.commands.Command.{Command};
-ghost use Rattle.ev_app.specs.declared.commands.Command.TheVariants.{Replay};
-ghost use Rattle.ev_app.specs.Commands.{Asks, words_of};
+ghost use Rattle.ev_app.specs.declared.commands.Command.TheVariants.{Replay, Run, Soak};
+ghost use Rattle.ev_app.specs.Commands.{Asks, IsSoak, IsWithin};
 
+use ev_numbers::number_of;
+use ev_soak::MAX_SOAK;
 use ev_types::Text;
 
 /// What the program can be asked for.
@@ -10,25 +12,64 @@ use ev_types::Text;
 pub enum Command {
     /// `replay`: the journal of a script, as one thread makes it.
     Replay,
+    /// `run`: the journal of a script, as a thread for each actor makes it.
+    Run,
+    /// `soak SEED COUNT`: a line that tells what the replay of a seed's script came to. The script has so many lines behind
+    /// its header, 1 to `MAX_SOAK`; nothing is read.
+    Soak { seed: u64, count: u32 },
 }
 
 // The command that the arguments ask for, or none where they ask for no one that is built.
+#[tactic(auto, using(crate::proofs::CommandLemmas::none_asked))]
 pub(crate) fn command_of(arguments: &[Text]) -> Option<Command>
     ensures some { IfSome result (Asks arguments.now) }
     ensures none { result ≡ None → (command : Command) → ¬ (Asks arguments.now command) }
 {
-    if is_replay(arguments) {
+    if is_word(arguments, "replay") {
         return Some(Command::Replay);
     }
-    None
+    if is_word(arguments, "run") {
+        return Some(Command::Run);
+    }
+    soak_of(arguments)
 }
 
-// Whether the arguments are the one argument `replay`.
-fn is_replay(arguments: &[Text]) -> bool
-    ensures { IsTrue result ↔ (arguments.now ≡ words_of Replay) }
+// Whether the arguments are this one word.
+fn is_word(arguments: &[Text], word: &str) -> bool
+    ensures { IsTrue result ↔ (arguments.now ≡ word.now ∷ []) }
 {
     match arguments {
-        [argument] => argument.as_str() == "replay",
+        [argument] => argument.as_str() == word,
         _ => false,
     }
+}
+
+// The soak that the arguments ask for: `soak`, a seed and a count.
+fn soak_of(arguments: &[Text]) -> Option<Command>
+    ensures some { IfSome result (Asks arguments.now) }
+    ensures none { result ≡ None → (seed : ℕ) → (count : ℕ) → ¬ (Asks arguments.now (Soak seed count)) }
+{
+    match arguments {
+        [word, seed, count] => {
+            if word.as_str() != "soak" {
+                return None;
+            }
+            soak_with(number_of(seed.as_str())?, number_of(count.as_str())?)
+        }
+        _ => None,
+    }
+}
+
+// The soak of these numbers, where the count is within its limits.
+fn soak_with(seed: u64, count: u64) -> Option<Command>
+    ensures some { IfSome result (λ command. (command ≡ Soak seed count) × IsWithin command) }
+    ensures none { result ≡ None → ¬ (IsSoak seed count) }
+{
+    if count == 0 || count > u64::from(MAX_SOAK) {
+        return None;
+    }
+    Some(Command::Soak {
+        seed,
+        count: count as u32,
+    })
 }

@@ -12,6 +12,8 @@ mod input;
 mod made;
 mod program;
 mod replay;
+mod run;
+mod soak;
 mod status;
 
 pub use commands::Command;

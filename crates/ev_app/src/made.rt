@@ -1,12 +1,18 @@
 ghost use Rattle.std.specs.Prelude.{◌≡◌, ◌≤◌, ◌⊎◌, Err};
 ghost use Rattle.ev_io.specs.Outside.{Rose};
+ghost use Rattle.ev_app.specs.Commands.{IsWithin};
 ghost use Rattle.ev_app.specs.Texts.{IsMadeBy};
 
 use crate::commands::Command;
 use crate::replay::make_replay;
+use crate::run::make_run;
+use crate::soak::soak_text;
 use crate::status::Status;
 use ev_io::{ScriptFault, Source};
+use ev_pace::Pace;
 use std::alloc::Global;
+use std::sync::Wait;
+use std::thread::Threads;
 
 // What a command makes of its input: a text, and how a call ends that writes it.
 #[derive(Drop)]
@@ -15,12 +21,16 @@ pub(crate) struct Made {
     pub status: Status,
 }
 
-// Makes what answers the source's bytes.
-pub(crate) fn make<S: Source>(
+// Makes what answers the source's bytes, or the command alone.
+#[tactic(auto, using(crate::proofs::SoakLemmas::soaked, crate::proofs::SoakLemmas::not_soaked))]
+pub(crate) fn make<R: Threads + Wait + Sync, S: Source, P: Pace + Sync>(
+    rt: &R,
     alloc: Global,
     command: Command,
     source: &mut S,
+    pace: &P,
 ) -> Result<Made, ScriptFault>
+    requires within { IsWithin command }
     ensures made { IsMadeBy command (S.left source.old) (S.left source.new) result }
     ensures failed { result ≡ Err ScriptFault.Read → Rose (S.faults source.old) (S.faults source.new) }
     ensures same_count { (S.faults source.new ≡ S.faults source.old) ⊎ (result ≡ Err ScriptFault.Read) }
@@ -28,5 +38,13 @@ pub(crate) fn make<S: Source>(
 {
     match command {
         Command::Replay => make_replay(alloc, source),
+        Command::Run => make_run(rt, alloc, source, pace),
+        Command::Soak { seed, count } => match soak_text(alloc, seed, count) {
+            Ok(text) => Ok(Made {
+                text,
+                status: Status::Done,
+            }),
+            Err(_) => Err(ScriptFault::OutOfMemory),
+        },
     }
 }

@@ -1,6 +1,6 @@
 ghost use Rattle.std.specs.Prelude.{◌≡◌, ◌↔◌};
 ghost use Rattle.ev_app.specs.declared.commands.Command.{Command};
-ghost use Rattle.ev_app.specs.Commands.{Asks};
+ghost use Rattle.ev_app.specs.Commands.{Asks, IsWithin};
 ghost use Rattle.ev_app.specs.Texts.{IsAnswered};
 ghost use Rattle.ev_app.specs.Status.{outside_of, TouchesNothing, IsHonest, CountsOn, Ends};
 
@@ -15,20 +15,25 @@ use std::sync::Wait;
 use std::thread::Threads;
 
 /// Runs the program on the arguments of its command line. The one argument `replay` reads a script, replays it on one
-/// thread and writes its journal, in format 2; other arguments are `Usage`. A run with a thread for each actor takes its
-/// threads of `rt`, and is told to `pace` at each step.
+/// thread and writes its journal, in format 2. The one argument `run` does so with a thread for each actor, which it takes of
+/// `rt`; `pace` is called before each turn of an actor. Which of the journals that the script has is written, the threads
+/// decide; each is a run that holds every actor's operations in order, but for settles that are left out while a worker
+/// rests. The three arguments `soak SEED COUNT` read nothing, replay the script of the
+/// seed with so many lines behind its header, 1 to 100,000, and write one line that tells what it came to. Other arguments
+/// are `Usage`.
 ///
 /// `BadScript` tells the first fault of the bytes taken, those at the end of the input only where the source gave its
 /// end. A read that failed is told only where the bytes taken have no fault. Out of memory, nothing is written. An answer
 /// without a fault of the source leaves the source's count of faults as it was, and so it is of the sink. The journal whose
 /// text is written, in full or cut off by a write that failed, has the laws of runs.
+#[tactic(auto, using(crate::proofs::CommandLemmas::ends_asked, crate::proofs::CommandLemmas::completes_asked))]
 pub fn run_program<R: Threads + Wait + Sync, S: Source, K: Sink, P: Pace + Sync>(
-    _rt: &R,
+    rt: &R,
     alloc: Global,
     arguments: &[Text],
     source: &mut S,
     sink: &mut K,
-    _pace: &P,
+    pace: &P,
 ) -> Status
     ensures usage { (result ≡ Status.Usage) ↔ ((command : Command) → ¬ (Asks arguments.now command)) }
     ensures untouched { result ≡ Status.Usage → TouchesNothing
@@ -44,16 +49,20 @@ pub fn run_program<R: Threads + Wait + Sync, S: Source, K: Sink, P: Pace + Sync>
     let Some(command) = command_of(arguments) else {
         return Status::Usage;
     };
-    run_command(alloc, command, source, sink)
+    run_command(rt, alloc, command, source, sink, pace)
 }
 
 // Runs a command.
-fn run_command<S: Source, K: Sink>(
+#[tactic(auto, using(crate::proofs::AnswerLemmas::answered, crate::proofs::AnswerLemmas::written_ends))]
+fn run_command<R: Threads + Wait + Sync, S: Source, K: Sink, P: Pace + Sync>(
+    rt: &R,
     alloc: Global,
     command: Command,
     source: &mut S,
     sink: &mut K,
+    pace: &P,
 ) -> Status
+    requires within { IsWithin command }
     ensures ends { Ends result command
         (outside_of S.left S.faults K.written K.faults source.old source.new sink.old sink.new) }
     ensures counts { CountsOn
@@ -62,7 +71,7 @@ fn run_command<S: Source, K: Sink>(
         (outside_of S.left S.faults K.written K.faults source.old source.new sink.old sink.new)
         → IsAnswered command result }
 {
-    let made = match make(alloc, command, source) {
+    let made = match make(rt, alloc, command, source, pace) {
         Ok(made) => made,
         Err(ScriptFault::Bad { line, kind }) => return Status::BadScript { line, kind },
         Err(ScriptFault::Read) => return Status::ReadFault,

@@ -47,7 +47,7 @@ fn replay_text(alloc: Global, script: &Script) -> Result<Vec<u8>, AllocError>
 }
 
 // The registry after the whole script.
-fn replay(alloc: Global, script: &Script) -> Result<Registry, AllocError>
+pub(crate) fn replay(alloc: Global, script: &Script) -> Result<Registry, AllocError>
     ensures { IfOk result (λ registry. HasReplayed script.now registry.journaled) }
 {
     let registry = Registry::new(alloc, script.workers, &script.node, Format::Two)?;

@@ -88,7 +88,7 @@ fn passes<R: Files + AllocGlobal + Threads + Wait + Sync>(rt: &R, row: &Row) -> 
             }
         }
     }
-    if input.len() <= SHORTEST && row.is_replay() {
+    if input.len() <= SHORTEST && row.reads_input() {
         for number in 1..=input.len() as u64 + 1 {
             if !tells_failure(rt, alloc, row, input.as_slice(), number)? {
                 return Ok(false);

@@ -15,9 +15,10 @@ pub(crate) struct Row {
 }
 
 impl Row {
-    /// Whether the row is of the command that reads an input.
-    pub(crate) fn is_replay(&self) -> bool {
-        self.exit != Status::Usage.exit_status()
+    /// Whether the row is of a command that reads an input.
+    pub(crate) fn reads_input(&self) -> bool {
+        let soaks = matches!(self.arguments.first(), Some(word) if word.as_str() == "soak");
+        !soaks && self.exit != Status::Usage.exit_status()
     }
 
     /// Whether the row has to end so.
