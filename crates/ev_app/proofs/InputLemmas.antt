@@ -32,7 +32,7 @@ reads_script before after state (Ok script) within ended read = record {
   is = record { ended = read.3.0.ended; sound = read.3.0.sound; reads = read.3.1 };
 }
 reads_script before after state (Err (Bad line kind)) within ended read = record { input = input_of false state read.0; takes = taken_input before after state read.0 read.1 read.2 within ended; is = read.3 }
-reads_script before after state (Err Read) within ended read = record { input = input_of false state read.0; takes = taken_input before after state read.0 read.1 read.2 within ended; is = read.3 }
+reads_script before after state (Err Read) within ended read = record { input = input_of false state read.0; takes = taken_input before after state read.0 read.1 read.2 within ended; is = (read.3.0, read.3.1) }
 reads_script before after state (Err OutOfMemory) within ended read = record { input = input_of false state read.0; takes = taken_input before after state read.0 read.1 read.2 within ended; is = tt }
 
 no_byte : (left : Option (List ℕ)) → Takes left left []

@@ -6,6 +6,7 @@ use Rattle.std.proofs.lemmas.List.{map-append}
 use Rattle.std.proofs.lemmas.List.Elements.{All-push}
 use Rattle.std.specs.Io.KnownBytes.{prepend_known, IsAtEnd}
 use Rattle.std.specs.declared.alloc.Global.{Global}
+use Rattle.ev_io.specs.declared.limits.TheConstants.{MAX_PIECE_BYTES}
 use Rattle.ev_io.specs.declared.faults.LineFault.{LineFault}
 use Rattle.ev_io.specs.declared.faults.LineFault.TheVariants as limit
 use Rattle.ev_io.specs.declared.faults.LineEnd.{LineEnd}
@@ -15,7 +16,7 @@ use Rattle.ev_io.specs.declared.faults.ScriptFault.TheVariants.{Bad, OutOfMemory
 use Rattle.ev_io.specs.Lines.{lines_of}
 use Rattle.ev_io.specs.Outside.{Takes}
 use Rattle.ev_io.specs.LinesState.{LinesState, HasTaken}
-use Rattle.ev_io.specs.ReadLine.{GivesLine, ReachesEnd, TellsFault, FailsToRead, IsUnfinished, ReadsLine}
+use Rattle.ev_io.specs.ReadLine.{GivesLine, ReachesEnd, TellsFault, FailsToRead, IsUnfinished, Means, ReadsLine}
 use Rattle.ev_types.specs.declared.journals.Format.{Format}
 use Rattle.ev_types.specs.declared.journals.Row.{Row}
 use Rattle.ev_script.specs.declared.fault_kinds.FaultKind.TheVariants.{NotJournal}
@@ -23,7 +24,7 @@ use Rattle.ev_script.specs.Faults.{fault_number}
 use Rattle.ev_script.specs.ReadInput.{script_fault}
 use Rattle.ev_script.proofs.StepLemmas.{few_lines}
 use Rattle.ev_journal.specs.Rows.{IsTextOf, row_text}
-use Rattle.ev_journal_read.specs.Journals.{first_text, texts_of, AreMeant, IsJournalTo, IsMisplaced, given_between, IsRead, IsRowsAnswer}
+use Rattle.ev_journal_read.specs.Journals.{first_text, texts_of, AreMeant, IsJournalTo, IsMisplaced, given_between, GoesOn, IsRead, IsRowsAnswer}
 
 -- ---- bytes
 
@@ -92,11 +93,13 @@ pub record IsReading (before now : Option (List ℕ)) (start state : LinesState)
   pub meant : AreMeant rows
   pub taken : (bytes : List ℕ) → HasTaken start bytes → HasTaken state (bytes ++ more)
   pub lines : (bytes : List ℕ) → HasTaken start bytes → given_between start state (bytes ++ more) ≡ texts_of rows ended
+  -- no line was given, where each was before
+  pub still : (bytes : List ℕ) → HasTaken start bytes → IsTrue start.ended → length (lines_of bytes) ≤ start.given → (more ≡ []) × (state ≡ start)
 
 -- what is ensured at the end
 abbrev pub Exits : ℕ → List ℕ → Option (List ℕ) → Option (List ℕ) → LinesState → LinesState → Result (Format × Vec Row Global) ScriptFault → Type 0
 Exits workers first before after start new answer =
-    (more : List ℕ) × Takes before after more × ((bytes : List ℕ) → HasTaken start bytes → HasTaken new (bytes ++ more) × IsRowsAnswer workers first start new (bytes ++ more) answer)
+    (more : List ℕ) × Takes before after more × ((bytes : List ℕ) → HasTaken start bytes → GoesOn start new bytes more × IsRowsAnswer workers first start new (bytes ++ more) answer)
 
 pub reading_none : (now : Option (List ℕ)) (state : LinesState) (rows : List Row) → state.told ≡ None → rows ≡ [] → IsReading now now state state rows false
 reading_none now state rows untold none = record {
@@ -107,6 +110,7 @@ reading_none now state rows untold none = record {
   meant = subst AreMeant (sym none) (λ k d h. absurd (omega arith));
   taken = λ bytes h. subst (HasTaken state) (sym (append-nil bytes)) h;
   lines = λ bytes h. nothing_between (lines_of (bytes ++ [])) state.given ∙ ap (λ (rs : List Row). texts_of rs false) (sym none);
+  still = λ bytes h end all. (refl, refl);
 }
 
 -- the call, behind all that was taken before it
@@ -121,6 +125,66 @@ taken_after : (before now after : Option (List ℕ)) (start old new : LinesState
     → HasTaken new (bytes ++ (r.more ++ call.0))
 taken_after before now after start old new rows ended out text answer r call bytes h =
     subst (HasTaken new) (append_assoc bytes r.more call.0) (the_call before now after start old new rows ended out text answer r call bytes h).taken
+
+-- no call gives fewer lines
+line_onward : (old new : LinesState) (all out text : List ℕ) (answer : Result LineEnd LineFault) → Means old new all out text answer → old.given ≤ new.given
+line_onward old new all out text (Ok Line) means = let number : new.given ≡ old.given + 1 = means.number in omega arith
+line_onward old new all out text (Ok End) means = let number : new.given ≡ old.given = means.0.number in omega arith
+line_onward old new all out text (Err limit.TooLong) means = let number : new.given ≡ old.given = means.0.number in omega arith
+line_onward old new all out text (Err limit.TooMany) means = let number : new.given ≡ old.given = means.0.number in omega arith
+line_onward old new all out text (Err limit.TooLarge) means = let number : new.given ≡ old.given = means.0.number in omega arith
+line_onward old new all out text (Err limit.Failed) means = let number : new.given ≡ old.given = means.0.number in omega arith
+line_onward old new all out text (Err limit.OutOfMemory) means = let number : new.given ≡ old.given = means.0.number in omega arith
+
+-- where the source had given its end, a call takes nothing
+takes_none : (old new : LinesState) (bytes more out text : List ℕ) (answer : Result LineEnd LineFault) → ReadsLine old new bytes more out text answer → IsTrue old.ended → more ≡ []
+takes_none old new bytes more out text answer reads end = by_need reads.needed
+  where
+    by_need : (more ≡ []) ⊎ ((n : ℕ) × (n < length more) × (length more ≤ n + MAX_PIECE_BYTES) × IsUnfinished old.given old.ended (bytes ++ take n more)) → more ≡ []
+    by_need (inl none) = none
+    by_need (inr some) = absurd (some.3.goes_on end)
+
+-- so nothing was taken at all, where each line was given before
+nothing_more : (before now after : Option (List ℕ)) (start old new : LinesState) (rows : List Row) (ended : Bool) (out text : List ℕ) (answer : Result LineEnd LineFault)
+    → (r : IsReading before now start old rows ended) → (call : Reads now after old new out text answer) → (bytes : List ℕ) → HasTaken start bytes
+    → IsTrue start.ended → length (lines_of bytes) ≤ start.given → r.more ++ call.0 ≡ []
+nothing_more before now after start old new rows ended out text answer r call bytes h end all =
+    let still = r.still bytes h end all in
+    let none : call.0 ≡ [] =
+    takes_none old new (bytes ++ r.more) call.0 out text answer (the_call before now after start old new rows ended out text answer r call bytes h)
+    (subst (λ (s : LinesState). IsTrue s.ended) (sym still.1) end) in
+    λ i. still.0 i ++ none i
+
+-- how it goes on after the call
+goes_after : (before now after : Option (List ℕ)) (start old new : LinesState) (rows : List Row) (ended : Bool) (out text : List ℕ) (answer : Result LineEnd LineFault)
+    → (r : IsReading before now start old rows ended) → (call : Reads now after old new out text answer) → (bytes : List ℕ) → HasTaken start bytes
+    → GoesOn start new bytes (r.more ++ call.0)
+goes_after before now after start old new rows ended out text answer r call bytes h =
+    let reads : ReadsLine old new (bytes ++ r.more) call.0 out text answer = the_call before now after start old new rows ended out text answer r call bytes h in
+    let onward : old.given ≤ new.given = line_onward old new ((bytes ++ r.more) ++ call.0) out text answer reads.means in
+    let later : start.given ≤ old.given = r.later in
+    record {
+      taken = taken_after before now after start old new rows ended out text answer r call bytes h;
+      onward = omega arith;
+      still = λ end all. nothing_more before now after start old new rows ended out text answer r call bytes h end all;
+    }
+
+-- nothing was done
+goes_not : (state : LinesState) (bytes : List ℕ) → HasTaken state bytes → GoesOn state state bytes []
+goes_not state bytes h = record { taken = subst (HasTaken state) (sym (append-nil bytes)) h; onward = omega arith; still = λ end all. refl }
+
+-- a line is given only where not each was given before
+not_each : (before now after : Option (List ℕ)) (start old new : LinesState) (rows : List Row) (ended : Bool) (out text : List ℕ)
+    → (r : IsReading before now start old rows ended) → (call : Reads now after old new out text (Ok Line)) → (bytes : List ℕ) → HasTaken start bytes
+    → IsTrue start.ended → length (lines_of bytes) ≤ start.given → ⊥
+not_each before now after start old new rows ended out text r call bytes h end all =
+    let reads : ReadsLine old new (bytes ++ r.more) call.0 out text (Ok Line) = the_call before now after start old new rows ended out text (Ok Line) r call bytes h in
+    let means : GivesLine old new ((bytes ++ r.more) ++ call.0) text = reads.means in
+    let none : r.more ++ call.0 ≡ [] = nothing_more before now after start old new rows ended out text (Ok Line) r call bytes h end all in
+    let same : (bytes ++ r.more) ++ call.0 ≡ bytes = append_assoc bytes r.more call.0 ∙ ap (λ (bs : List ℕ). bytes ++ bs) none ∙ append-nil bytes in
+    let given : old.given ≡ start.given = ap (λ (s : LinesState). s.given) (r.still bytes h end all).1 in
+    let lines : length (lines_of ((bytes ++ r.more) ++ call.0)) ≡ length (lines_of bytes) = ap (λ (bs : List ℕ). length (lines_of bs)) same in
+    omega (arith, ap length means.line, length-drop old.given (lines_of ((bytes ++ r.more) ++ call.0)))
 
 -- the lines given with the next one
 lines_after : (before now after : Option (List ℕ)) (start old new : LinesState) (rows : List Row) (ended : Bool) (out text : List ℕ)
@@ -177,6 +241,7 @@ reading_more before now after start old new rows more_rows ended more_ended out 
       meant = meant r.meant;
       taken = taken_after before now after start old new rows ended out text (Ok Line) r call;
       lines = λ bytes h. lines_after before now after start old new rows ended out text r call bytes h ∙ sym texts;
+      still = λ bytes h end all. absurd (not_each before now after start old new rows ended out text r call bytes h end all);
     }
 
 -- ---- ends
@@ -187,11 +252,11 @@ module _ (workers : ℕ) (first : List ℕ) where
   exit_first now state line wrong here = (
     [],
     takes_nothing now,
-    λ bytes h. (subst (HasTaken state) (sym (append-nil bytes)) h, inl (record { wrong = wrong; nothing = refl; here = here; numbered = refl })),
+    λ bytes h. (goes_not state bytes h, inl (record { wrong = wrong; nothing = refl; here = here; numbered = refl })),
   )
 
   pub exit_early : (now : Option (List ℕ)) (state : LinesState) → Exits workers first now now state state (Err OutOfMemory)
-  exit_early now state = ([], takes_nothing now, λ bytes h. (subst (HasTaken state) (sym (append-nil bytes)) h, tt))
+  exit_early now state = ([], takes_nothing now, λ bytes h. (goes_not state bytes h, tt))
 
   module _ (before now after : Option (List ℕ)) (start old new : LinesState) (format : Format) (rows : List Row) (ended : Bool) (out text : List ℕ)
       (head : first ≡ first_text format workers) (r : IsReading before now start old rows ended) where
@@ -199,7 +264,7 @@ module _ (workers : ℕ) (first : List ℕ) where
     exit_memory answer call = (
       r.more ++ call.0,
       takes_both before now after r.more call.0 r.takes call.1,
-      λ bytes h. (taken_after before now after start old new rows ended out text answer r call bytes h, tt),
+      λ bytes h. (goes_after before now after start old new rows ended out text answer r call bytes h, tt),
     )
 
     pub exit_line : (line : ℕ) → Reads now after old new out text (Ok Line) → IsMisplaced rows ended text → line ≡ new.given
@@ -208,7 +273,7 @@ module _ (workers : ℕ) (first : List ℕ) where
       r.more ++ call.0,
       takes_both before now after r.more call.0 r.takes call.1,
       λ bytes h. (
-        taken_after before now after start old new rows ended out text (Ok Line) r call bytes h,
+        goes_after before now after start old new rows ended out text (Ok Line) r call bytes h,
         inr (inl (record {
           format = format;
           rows = rows;
@@ -291,7 +356,7 @@ module _ (workers : ℕ) (first : List ℕ) where
     exit_fault fault call = (
       r.more ++ call.0,
       takes_both before now after r.more call.0 r.takes call.1,
-      λ bytes h. (taken_after before now after start old new rows ended out text (Err fault) r call bytes h, fault_exit fault call bytes h),
+      λ bytes h. (goes_after before now after start old new rows ended out text (Err fault) r call bytes h, fault_exit fault call bytes h),
     )
 
     end_reached : (call : Reads now after old new out text (Ok End)) (bytes : List ℕ) → HasTaken start bytes → ReachesEnd old new (bytes ++ (r.more ++ call.0))
@@ -304,7 +369,7 @@ module _ (workers : ℕ) (first : List ℕ) where
       r.more ++ call.0,
       takes_both before now after r.more call.0 r.takes call.1,
       λ bytes h. let end = end_reached call bytes h in (
-        taken_after before now after start old new rows ended out text (Ok End) r call bytes h,
+        goes_after before now after start old new rows ended out text (Ok End) r call bytes h,
         inr (inr (inl (record {
           format = format;
           rows = rows;
@@ -336,7 +401,7 @@ exit_whole workers first before now after start old new format rows ended out te
   r.more ++ call.0,
   takes_both before now after r.more call.0 r.takes call.1,
   λ bytes h. (
-    taken_after before now after start old new rows.items ended out text (Ok End) r call bytes h,
+    goes_after before now after start old new rows.items ended out text (Ok End) r call bytes h,
     end_read workers first before now after start old new format rows.items ended out text head r call whole bytes h,
   ),
 )

@@ -1,6 +1,6 @@
 -- The lines of a journal, and where they stop being one (kind 9). This project's own. Lines are told by their numbers,
 -- counted from 1; `given` lines were given by the reader of lines, those of the script before the journal among them.
-use Rattle.std.specs.Prelude.{◌≡◌, ◌≢◌, ℕ, ◌+◌, ◌⊎◌, ⊤, Bool, true, false, IsTrue, List, [], ◌∷◌, ◌++◌, length, map, take, drop, All, Vec, Option, Some, None, Result, Ok, Err}
+use Rattle.std.specs.Prelude.{◌≡◌, ◌≢◌, ℕ, ◌+◌, ◌≤◌, ◌⊎◌, ⊤, Bool, true, false, IsTrue, List, [], ◌∷◌, ◌++◌, length, map, take, drop, All, Vec, Option, Some, None, Result, Ok, Err}
 use Rattle.std.specs.declared.alloc.Global.{Global}
 use Rattle.serde_json.specs.Written.{compact_text}
 use Rattle.ev_io.specs.declared.faults.LineFault.{LineFault}
@@ -9,7 +9,7 @@ use Rattle.ev_io.specs.declared.faults.ScriptFault.{ScriptFault}
 use Rattle.ev_io.specs.declared.faults.ScriptFault.TheVariants.{Bad, Read, OutOfMemory}
 use Rattle.ev_io.specs.Lines.{lines_of, feeds_in}
 use Rattle.ev_io.specs.LineFaults.{IsSoundUpTo, IsFirstFault}
-use Rattle.ev_io.specs.LinesState.{LinesState}
+use Rattle.ev_io.specs.LinesState.{LinesState, HasTaken}
 use Rattle.ev_io.specs.ReadLine.{IsUnfinished}
 use Rattle.ev_types.specs.declared.journals.Format.{Format}
 use Rattle.ev_types.specs.declared.journals.Row.{Row}
@@ -62,6 +62,12 @@ IsAdded old new text true = (AreMeant old.rows.items → AreMeant new.rows.items
 IsAdded old new text false = IsMisplaced old.rows.items old.ended text
 
 -- ---- what was read
+
+-- these more bytes were taken and no fewer lines are given: none, where the source had given its end and each line was given
+pub record GoesOn (old new : LinesState) (bytes more : List ℕ) : Type 0 where
+  pub taken : HasTaken new (bytes ++ more)
+  pub onward : old.given ≤ new.given
+  pub still : IsTrue old.ended → length (lines_of bytes) ≤ old.given → more ≡ []
 
 -- the lines that a reader of lines gave between two of its states, of all bytes taken
 abbrev pub given_between : LinesState → LinesState → List ℕ → List (List ℕ)

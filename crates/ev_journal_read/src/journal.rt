@@ -6,7 +6,7 @@ ghost use Rattle.ev_script.specs.Faults.{fault_number};
 ghost use Rattle.ev_script.specs.ReadInput.{script_fault};
 ghost use Rattle.ev_types.specs.declared.journals.Format.{Format};
 ghost use Rattle.ev_script.specs.declared.fault_kinds.FaultKind.TheVariants.{NotJournal};
-ghost use Rattle.ev_journal_read.specs.Journals.{first_text, end_text, IsRowsAnswer, IsFirstAnswer, IsAdded};
+ghost use Rattle.ev_journal_read.specs.Journals.{first_text, end_text, GoesOn, IsRowsAnswer, IsFirstAnswer, IsAdded};
 
 use crate::outcome::RowError;
 use crate::rows::read_row;
@@ -33,7 +33,7 @@ pub fn read_rows<S: Source>(
     requires untold { lines.old.told ≡ None }
     requires taken { (bytes : List ℕ) × HasTaken lines.old bytes }
     ensures reads { (more : List ℕ) × Takes (S.left source.old) (S.left source.new) more
-        × ((bytes : List ℕ) → HasTaken lines.old bytes → HasTaken lines.new (bytes ++ more)
+        × ((bytes : List ℕ) → HasTaken lines.old bytes → GoesOn lines.old lines.new bytes more
         × IsRowsAnswer workers first.now lines.old lines.new (bytes ++ more) result) }
     ensures at_end { IsTrue lines.new.ended → IsTrue lines.old.ended ⊎ IsAtEnd (S.left source.new) }
     ensures at_most { IsWithin lines.old → IsWithin lines.new }

@@ -40,6 +40,7 @@ first_told forms input workers text kind g told = by_tree (tree_of text) refl to
           place = g.place;
           kind = NotHeader;
           first = header_first forms input workers g.place tree g.before g.index (given_tree forms input workers 0 text g ∙ e) f;
+          before = λ start h. no_journal_before forms input workers g.place start g.before h;
           told = told_at NotHeader;
           numbered = refl;
         }
@@ -52,6 +53,7 @@ first_told forms input workers text kind g told = by_tree (tree_of text) refl to
           place = g.place;
           kind = NotJson;
           first = json_first forms input workers g.place g.before (given_tree forms input workers 0 text g ∙ e);
+          before = λ start h. no_journal_before forms input workers g.place start g.before h;
           told = told_at NotJson;
           numbered = refl;
         }
@@ -80,13 +82,13 @@ unknown_worker forms input workers n text g some c =
 pub content_told : {A : Type 0} (forms : LineForms) (keeps : ℕ → Data → A → Type 0) (input : Input) (workers : ℕ) (n : ℕ) (text : List ℕ) (kind : FaultKind) → IsGiven forms input workers n text → 0 < n → IsContent forms keeps input.audit workers (n + 1) (tree_of text) (is.Fault kind) → IsFaultOf forms input (n + 1) (fault_number kind)
 content_told forms keeps input workers n text NotJson g some c =
     let e : index_at input g.place ≡ n = g.index in
-    record { place = g.place; kind = NotJson; first = json_first forms input workers g.place g.before (given_tree forms input workers n text g ∙ c); told = omega arith; numbered = refl }
+    record { place = g.place; kind = NotJson; first = json_first forms input workers g.place g.before (given_tree forms input workers n text g ∙ c); before = λ start h. no_journal_before forms input workers g.place start g.before h; told = omega arith; numbered = refl }
 content_told forms keeps input workers n text NotLine g some c =
     let e : index_at input g.place ≡ n = g.index in
-    record { place = g.place; kind = NotLine; first = no_line forms input workers n text g some c; told = omega arith; numbered = refl }
+    record { place = g.place; kind = NotLine; first = no_line forms input workers n text g some c; before = λ start h. no_journal_before forms input workers g.place start g.before h; told = omega arith; numbered = refl }
 content_told forms keeps input workers n text NoSuchWorker g some c =
     let e : index_at input g.place ≡ n = g.index in
-    record { place = g.place; kind = NoSuchWorker; first = unknown_worker forms input workers n text g some c; told = omega arith; numbered = refl }
+    record { place = g.place; kind = NoSuchWorker; first = unknown_worker forms input workers n text g some c; before = λ start h. no_journal_before forms input workers g.place start g.before h; told = omega arith; numbered = refl }
 content_told forms keeps input workers n text TooLong g some c = absurd c
 content_told forms keeps input workers n text TooMany g some c = absurd c
 content_told forms keeps input workers n text TooLarge g some c = absurd c

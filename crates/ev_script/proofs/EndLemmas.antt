@@ -1,5 +1,5 @@
 -- How the reading of an input ends.
-use Rattle.std.proofs.Common.{◌≡◌, ℕ, ◌+◌, ◌<◌, ◌≤◌, Bool, true, false, cond, List, [], ◌∷◌, ◌++◌, length, take, eqb, Option, Ok, Err, refl, sym, ap, subst, ◌∙◌, ◌⊎◌, inl, inr, arith}
+use Rattle.std.proofs.Common.{◌≡◌, ℕ, ◌+◌, ◌<◌, ◌≤◌, Bool, true, false, cond, List, [], ◌∷◌, ◌++◌, length, take, IsTrue, eqb, Option, Ok, Err, refl, sym, ap, subst, ◌∙◌, ◌⊎◌, inl, inr, arith}
 use Rattle.std.proofs.lemmas.List.{take_all}
 use Rattle.serde_json.specs.Data.{Data}
 use Rattle.ev_io.specs.declared.faults.LineFault.{LineFault}
@@ -10,13 +10,13 @@ use Rattle.ev_io.specs.LinesState.{LinesState}
 use Rattle.ev_io.specs.ReadLine.{ReadsLine, ReachesEnd, TellsFault, FailsToRead, IsUnfinished}
 use Rattle.ev_script.specs.declared.fault_kinds.FaultKind.{FaultKind}
 use Rattle.ev_script.specs.declared.fault_kinds.FaultKind.TheVariants.{TooLong, TooMany, TooLarge, NotJson, NotHeader, NotLine, NoSuchWorker, NoByte, NotJournal}
-use Rattle.ev_script.specs.Faults.{LineForms, index_at, EndsLine, fault_order, fault_line, fault_number, Stands, IsFaultOf, HasNoFault}
+use Rattle.ev_script.specs.Faults.{LineForms, index_at, EndsLine, BeginsJournal, fault_order, fault_line, fault_number, Stands, IsFaultOf, HasNoFault}
 use Rattle.ev_script.specs.ReadLines.{AreRead}
 use Rattle.ev_script.specs.ReadInput.{input_of, script_fault, IsTold, IsWhole}
 use Rattle.ev_script.proofs.PlaceLemmas.{feeds_below, ends_within}
 use Rattle.ev_script.proofs.SoundLemmas.{IsSoundAt, sound_at}
 use Rattle.ev_script.proofs.FirstLemmas.{no_fault}
-use Rattle.ev_script.proofs.LimitLemmas.{Tells, limit_first}
+use Rattle.ev_script.proofs.LimitLemmas.{Tells, limit_first, sound_line}
 use Rattle.ev_script.proofs.StepLemmas.{are_read_same}
 
 -- ---- a fault of the limits, and a read that failed
@@ -26,18 +26,23 @@ limit_told forms audit workers old new all fault kind means tells line read =
     let place : ℕ = means.first.0 in
     let index : index_at (input_of audit new all) place ≡ new.given = means.first.2 in
     let same : old.given ≡ index_at (input_of audit new all) place = sym means.number ∙ sym index in
+    let before : AreRead forms audit (lines_of all) workers (index_at (input_of audit new all) place) = subst (AreRead forms audit (lines_of all) workers) same read in
     record {
       place = place;
       kind = kind;
-      first = limit_first forms (input_of audit new all) workers place fault kind means.first.1 tells (subst (AreRead forms audit (lines_of all) workers) same read);
+      first = limit_first forms (input_of audit new all) workers place fault kind means.first.1 tells before;
+      before = λ start h b. (sound_line forms (input_of audit new all) workers place start before means.first.1.within b.ends h).journal b;
       told = ap (λ (n : ℕ). n + 1) (sym index) ∙ sym (line place);
       numbered = refl;
     }
 
 -- bytes that were all read to the last line's end, and go on
-unfinished_sound : (forms : LineForms) (audit : Bool) (workers : ℕ) (new : LinesState) (all : List ℕ) (given : ℕ) → IsUnfinished new.given new.ended all → new.given ≡ given → AreRead forms audit (lines_of all) workers given → HasNoFault forms (input_of audit new all)
-unfinished_sound forms audit workers new all given u number read =
-    no_fault forms (input_of audit new all) workers given read (λ place ends. within place ends) (λ other h. u.sound other h) (λ ended e. u.goes_on ended) (λ asked ended. u.goes_on ended)
+unfinished_told : (forms : LineForms) (audit : Bool) (workers : ℕ) (new : LinesState) (all : List ℕ) (given : ℕ) → IsUnfinished new.given new.ended all → new.given ≡ given → AreRead forms audit (lines_of all) workers given → HasNoFault forms (input_of audit new all) × (¬ (IsTrue new.ended)) × ((start : ℕ) → ¬ (BeginsJournal (input_of audit new all) start))
+unfinished_told forms audit workers new all given u number read = (
+  no_fault forms (input_of audit new all) workers given read (λ place ends. within place ends) (λ other h. u.sound other h) (λ ended e. u.goes_on ended) (λ asked ended. u.goes_on ended),
+  u.goes_on,
+  λ start b. (sound_at forms (input_of audit new all) start given workers read (within start b.ends)).journal b,
+)
   where
     within : (place : ℕ) → EndsLine (input_of audit new all) place → index_at (input_of audit new all) place < given
     within place (inl feed) =
@@ -55,10 +60,8 @@ fault_told forms audit workers old new bytes more before after limit.TooMany rea
 fault_told forms audit workers old new bytes more before after limit.TooLarge reads read =
     limit_told forms audit workers old new (bytes ++ more) limit.TooLarge TooLarge reads.means.0 refl (λ place. refl) (are_read_same forms audit (lines_of bytes) (lines_of (bytes ++ more)) workers old.given reads.kept read)
 fault_told forms audit workers old new bytes more before after limit.Failed reads read =
-    let failed : FailsToRead old new (bytes ++ more) = reads.means.0 in (
-      unfinished_sound forms audit workers new (bytes ++ more) old.given failed.unfinished failed.number (are_read_same forms audit (lines_of bytes) (lines_of (bytes ++ more)) workers old.given reads.kept read),
-      failed.unfinished.goes_on,
-    )
+    let failed : FailsToRead old new (bytes ++ more) = reads.means.0 in
+    unfinished_told forms audit workers new (bytes ++ more) old.given failed.unfinished failed.number (are_read_same forms audit (lines_of bytes) (lines_of (bytes ++ more)) workers old.given reads.kept read)
 fault_told forms audit workers old new bytes more before after limit.OutOfMemory reads read = tt
 
 -- ---- the end of the input
@@ -81,6 +84,7 @@ nothing_told forms audit old new bytes more before after reads none =
       place = 0;
       kind = NoByte;
       first = record { stands = (end.ended, empty, refl); first = λ other kind s. least empty other kind s };
+      before = λ start h. absurd (omega arith);
       told = refl;
       numbered = refl;
     }
@@ -149,6 +153,7 @@ journal_missing forms workers old new bytes more before after reads read some =
       place = length (bytes ++ more);
       kind = NotJournal;
       first = record { stands = (refl, end.ended, refl, λ start b. (sound_there lines start b.ends).journal b); first = λ other kind s. least end lines other kind s };
+      before = λ start h b. (sound_there lines start b.ends).journal b;
       told = ap (λ (n : ℕ). n + 1) (sym end.lines);
       numbered = refl;
     }

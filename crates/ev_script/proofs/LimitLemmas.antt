@@ -26,7 +26,7 @@ Tells limit.Failed kind = ⊥
 Tells limit.OutOfMemory kind = ⊥
 
 -- the lines before the one that the place belongs to were read
-sound_line : (forms : LineForms) (input : Input) (workers : ℕ) (place other : ℕ) → AreRead forms input.audit (lines_of input.bytes) workers (index_at input place) → place < length input.bytes → EndsLine input other → other < place → IsSoundAt forms input other
+pub sound_line : (forms : LineForms) (input : Input) (workers : ℕ) (place other : ℕ) → AreRead forms input.audit (lines_of input.bytes) workers (index_at input place) → place < length input.bytes → EndsLine input other → other < place → IsSoundAt forms input other
 sound_line forms input workers place other read within ends h = sound_at forms input other (index_at input place) workers read (index_below input other place ends h (omega arith))
 
 -- no fault stands before the first of the limits

@@ -152,11 +152,12 @@ fault_line input place NoSuchWorker = index_at input place + 1
 fault_line input place NoByte = 1
 fault_line input place NotJournal = length (lines_of input.bytes) + 1
 
--- the input's first fault has this line and this number
+-- the input's first fault has this line and this number, and no journal begins before it
 pub record IsFaultOf (forms : LineForms) (input : Input) (line number : ℕ) : Type 0 where
   pub place : ℕ
   pub kind : FaultKind
   pub first : IsFirstFault forms input place kind
+  pub before : (start : ℕ) → start < place → ¬ (BeginsJournal input start)
   pub told : line ≡ fault_line input place kind
   pub numbered : number ≡ fault_number kind
 

@@ -31,10 +31,11 @@ script_fault given limit.TooLarge = Bad (given + 1) 3
 script_fault given limit.Failed = Read
 script_fault given limit.OutOfMemory = OutOfMemory
 
--- a fault is the first of the bytes taken; a failed read is told where they have none, and go on
+-- a fault is the first of the bytes taken, before any journal; a failed read is told where they have none, and no journal
+-- begins, and go on
 abbrev pub IsTold : LineForms → Input → ScriptFault → Type 0
 IsTold forms input (Bad line kind) = IsFaultOf forms input line kind
-IsTold forms input Read = HasNoFault forms input × (¬ (IsTrue input.ended))
+IsTold forms input Read = HasNoFault forms input × (¬ (IsTrue input.ended)) × ((start : ℕ) → ¬ (BeginsJournal input start))
 IsTold forms input OutOfMemory = ⊤
 
 -- the input is no audit's, was read to its end, has no fault and so many lines

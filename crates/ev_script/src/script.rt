@@ -89,7 +89,8 @@ pub struct AuditedScript {
 /// with the journal's second line.
 ///
 /// # Errors
-/// As of `read_script`; a journal that is missing is one of kind 9.
+/// As of `read_script`; a journal that is missing is one of kind 9. No journal begins before the fault, nor in the bytes taken
+/// where a read failed.
 pub fn read_audited_script<S: Source>(
     alloc: Global,
     lines: &mut Lines,
