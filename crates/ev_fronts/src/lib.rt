@@ -1,0 +1,5 @@
+#![tactic(auto)]
+
+mod told;
+
+pub use told::entries_told;
