@@ -1,0 +1,39 @@
+-- What the dump of a journal is, by its script and its rows, and when there is none. This project's own.
+use Rattle.std.specs.Prelude.{ℕ, ◌≡◌, Bool, IsTrue, not, List, take}
+use Rattle.ev_types.specs.Scripts.{ScriptParts}
+use Rattle.ev_types.specs.declared.journals.Finding.TheVariants.{Legal}
+use Rattle.ev_types.specs.declared.journals.Format.{Format}
+use Rattle.ev_types.specs.declared.journals.Row.{Row}
+use Rattle.ev_model.specs.Finding.{finding_of, journal_told}
+use Rattle.ev_actors.specs.Journals.{JournalParts}
+use Rattle.ev_fronts.specs.Fronts.{ends_commit}
+use Rattle.ev_dump.specs.Texts.{dump_text}
+
+-- the first so many entries of a journal that rows tell, with its format, workers and node
+abbrev pub front_of : Format → ScriptParts → List Row → ℕ → JournalParts
+front_of format script rows entries =
+    record { format = format; workers = script.workers; node = script.node; journal = take entries (journal_told script rows) }
+
+-- the text is the dump of so many entries: the rows are found legal, and a commit ends there
+pub record IsDump (format : Format) (script : ScriptParts) (rows : List Row) (entries : ℕ) (text : List ℕ) : Type 0 where
+  pub legal : finding_of format script rows ≡ Legal
+  pub ends : IsTrue (ends_commit rows entries)
+  pub line : text ≡ dump_text (front_of format script rows entries)
+
+-- the rows are found legal, but there is no dump of so many entries: there aren't so many, or the last of them is an accept or a close
+pub record HasNoDump (format : Format) (script : ScriptParts) (rows : List Row) (entries : ℕ) : Type 0 where
+  pub legal : finding_of format script rows ≡ Legal
+  pub open_there : IsTrue (not (ends_commit rows entries))
+
+-- two journals of one format agree in their first entries, and are of so many workers and one node both
+pub record Agree (entries : ℕ) (script other : ScriptParts) (rows others : List Row) : Type 0 where
+  pub workers : script.workers ≡ other.workers
+  pub node : script.node ≡ other.node
+  pub journal : take entries (journal_told script rows) ≡ take entries (journal_told other others)
+
+-- the dumps of journals that agree so far are one, whatever stands behind in their scripts and rows
+abbrev pub DumpsByPrefix : Type 0
+DumpsByPrefix =
+    (format : Format) (script other : ScriptParts) (rows others : List Row) (entries : ℕ) (text another : List ℕ)
+    → Agree entries script other rows others
+    → IsDump format script rows entries text → IsDump format other others entries another → text ≡ another
