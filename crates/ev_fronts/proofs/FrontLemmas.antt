@@ -1,7 +1,7 @@
 -- Why the front of a legal journal is a run. Place by place: a row of which nothing is found makes the journal so far one entry
 -- longer.
 use Rattle.std.proofs.Common.{◌≡◌, ◌<◌, ◌≤◌, ◌+◌, ◌-◌, ◌==◌, ℕ, zero, suc, Bool, true, false, not, ◌&&◌, ◌||◌, if◌then◌else◌, List, [], ◌∷◌, ◌++◌, take, drop, length, Option, Some, None, IsSome, refl, ap, sym, ◌∙◌, subst, below_more, arith, add-one}
-use Rattle.std.specs.Prelude.{⊤, IsTrue, All, option_and_then, slice_get}
+use Rattle.std.specs.Prelude.{option_and_then, slice_get}
 use Rattle.std.specs.List.{last_or}
 use Rattle.std.proofs.Math.Seq.{take-append_seam}
 use Rattle.std.proofs.lemmas.Bool.{both_ways}
@@ -21,7 +21,7 @@ use Rattle.ev_types.specs.declared.journals.Format.{Format}
 use Rattle.ev_types.specs.declared.journals.Row.{Row}
 use Rattle.ev_model.specs.World.{World, opening}
 use Rattle.ev_model.specs.Step.{step}
-use Rattle.ev_model.specs.Runs.{GoesOnWith, IsRun, IsUnbroken, RunsFrom, is_batched, world_after}
+use Rattle.ev_model.specs.Runs.{IsUnbroken, RunsFrom, is_batched, world_after}
 use Rattle.ev_model.specs.Operations.{Operation, actor_same, actor_decides, entry_of}
 use Rattle.ev_model.specs.Finding.{breaks_batch, entry_told, finding_at, finding_of, is_illegal, is_stray, is_wrong, journal_told, row_finding, tells_of}
 use Rattle.ev_model.proofs.RunLemmas.{RunsFrom-more}

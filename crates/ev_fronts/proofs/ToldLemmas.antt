@@ -1,5 +1,5 @@
 -- The entry that a row tells of, by its word or its line.
-use Rattle.std.proofs.Common.{◌≡◌, ◌==◌, ◌⊎◌, inl, inr, ℕ, zero, suc, ◌+◌, Bool, true, false, ◌&&◌, if◌then◌else◌, List, [], ◌∷◌, ◌++◌, map, Option, Some, None, IsSome, refl, ap, sym, ◌∙◌, subst, arith}
+use Rattle.std.proofs.Common.{◌≡◌, ◌==◌, ◌⊎◌, inl, inr, ℕ, ◌+◌, Bool, true, false, ◌&&◌, if◌then◌else◌, List, [], ◌∷◌, ◌++◌, map, Option, Some, None, IsSome, refl, ap, sym, ◌∙◌, subst}
 use Rattle.std.specs.Prelude.{find, option_map, slice_get, take}
 use Rattle.std.specs.List.{cons_option, flat_map, range_with_len}
 use Rattle.std.specs.Cmp.{first_so, second_so}
@@ -7,14 +7,12 @@ use Rattle.std.proofs.lemmas.List.Elements.{filter_map-append}
 use Rattle.ev_types.specs.Events.{op_decides, op_of, op_same}
 use Rattle.ev_types.specs.Same.{numbers_decide}
 use Rattle.ev_types.specs.Scripts.{ScriptParts, IsScript}
-use Rattle.ev_types.specs.declared.events.Actor.{Actor}
 use Rattle.ev_types.specs.declared.events.Entry.{Entry}
 use Rattle.ev_types.specs.declared.events.Event.{Event}
 use Rattle.ev_types.specs.declared.events.Event.TheVariants.{Connect, Disconnect, Response, Health, FetchTimeout, DrainTimeout, TtlExpired, Publish, Reap, Accept, Close, Settle}
 use Rattle.ev_types.specs.declared.events.Line.{Line}
-use Rattle.ev_types.specs.declared.events.Op.{Op}
 use Rattle.ev_types.specs.declared.journals.Row.{Row}
-use Rattle.ev_model.specs.Operations.{Operation, actor_same, actor_decides, all_operations, operations_of, entry_of, followers, is_automatic, is_full_at, line_operation, line_operations, last_settle, step_behind}
+use Rattle.ev_model.specs.Operations.{Operation, actor_same, actor_decides, all_operations, operations_of, entry_of, is_automatic, is_full_at, line_operation, line_operations, last_settle, step_behind}
 use Rattle.ev_model.specs.Finding.{entry_told, journal_told, operation_told, tells_of}
 use Rattle.ev_model_laws.proofs.OperationLists.{IsIn, in_filter, in_parts}
 use Rattle.ev_model_laws.proofs.PlaceLemmas.{take_one}
@@ -81,8 +79,8 @@ of_lines : (script : ScriptParts) (lines : List Line) (o : Operation) → ((line
 of_lines script [] o all is = absurd is
 of_lines script (line ∷ lines) o all is =
     elim (in_parts o (line_operations script line) (flat_map (line_operations script) lines) is) [
-      inl here ↦ of_line script line o (all line (inl refl)) here
-    | inr later ↦ of_lines script lines o (λ l there. all l (inr there)) later
+      | inl here ↦ of_line script line o (all line (inl refl)) here
+      | inr later ↦ of_lines script lines o (λ l there. all l (inr there)) later
     ]
 
 of_settles : (script : ScriptParts) (workers : List ℕ) (o : Operation) → IsIn o (map (last_settle script) workers) → IsBehind o

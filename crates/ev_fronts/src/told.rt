@@ -7,11 +7,7 @@ use ev_types::{Entry, Event, Line, Op, Row, Script, TryCopy};
 use std::alloc::{AllocError, Global};
 
 /// The entries that rows tell of, in order, where the script has the operation of each.
-pub fn entries_told(
-    alloc: Global,
-    script: &Script,
-    rows: &[Row],
-) -> Result<Vec<Entry>, AllocError>
+pub fn entries_told(alloc: Global, script: &Script, rows: &[Row]) -> Result<Vec<Entry>, AllocError>
     requires told { AreTold script.now rows.now }
     ensures entries { IfOk result (λ entries. entries.items ≡ journal_told script.now rows.now) }
 {
@@ -40,7 +36,12 @@ fn entry_told(alloc: Global, script: &Script, row: &Row) -> Result<Entry, AllocE
 fn event_told(alloc: Global, script: &Script, row: &Row) -> Result<Event, AllocError>
     requires told { IsSome (entry_told script.now row.now) }
     ensures event { IfOk result (λ event. entry_told script.now row.now ≡ Some record {
-        actor = row.now.actor; at = row.now.at; step = row.now.step; event = event; answer = row.now.answer }) }
+      actor = row.now.actor;
+      at = row.now.at;
+      step = row.now.step;
+      event = event;
+      answer = row.now.answer;
+    }) }
 {
     if let Some(event) = event_behind(row.op) {
         return Ok(event);

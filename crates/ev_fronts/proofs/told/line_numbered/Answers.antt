@@ -1,7 +1,6 @@
 use Rattle.std.proofs.lemmas.List.Sorted.{answers_always}
-use Rattle.std.proofs.Common.{rules, ◌≡◌, Some, sym, ap, subst, ◌∙◌}
+use Rattle.std.proofs.Common.{rules, Some, ap, ◌∙◌}
 use Rattle.ev_types.specs.declared.events.Line.{Line}
-use Rattle.ev_fronts.specs.Told.{line_numbered}
 use Rattle.ev_fronts.proofs.LineLemmas.{found_nowhere, found_place}
 use Rattle.ev_fronts.proofs.told.line_numbered.Goals as goal
 
