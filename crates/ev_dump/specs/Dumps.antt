@@ -1,5 +1,5 @@
 -- What the dump of a journal is, by its script and its rows, and when there is none. This project's own.
-use Rattle.std.specs.Prelude.{ℕ, ◌≡◌, Bool, IsTrue, not, List, take}
+use Rattle.std.specs.Prelude.{ℕ, ◌≡◌, ◌+◌, IsTrue, not, List, length, take}
 use Rattle.ev_types.specs.Scripts.{ScriptParts}
 use Rattle.ev_types.specs.declared.journals.Finding.TheVariants.{Legal}
 use Rattle.ev_types.specs.declared.journals.Format.{Format}
@@ -20,10 +20,16 @@ pub record IsDump (format : Format) (script : ScriptParts) (rows : List Row) (en
   pub ends : IsTrue (ends_commit rows entries)
   pub line : text ≡ dump_text (front_of format script rows entries)
 
--- the rows are found legal, but there is no dump of so many entries: there aren't so many, or the last of them is an accept or a close
-pub record HasNoDump (format : Format) (script : ScriptParts) (rows : List Row) (entries : ℕ) : Type 0 where
+-- the number of the journal's end line: behind the lines of its script stand its first line and its rows
+abbrev pub end_line : ScriptParts → List Row → ℕ
+end_line script rows = script.count + length rows + 2
+
+-- the rows are found legal, but no commit ends with so many entries, which is told at the end line: there aren't so many, or the last
+-- of them is an accept or a close
+pub record IsNoCommit (format : Format) (script : ScriptParts) (rows : List Row) (entries line : ℕ) : Type 0 where
   pub legal : finding_of format script rows ≡ Legal
-  pub open_there : IsTrue (not (ends_commit rows entries))
+  pub goes_on : IsTrue (not (ends_commit rows entries))
+  pub told : line ≡ end_line script rows
 
 -- two journals of one format agree in their first entries, and are of so many workers and one node both
 pub record Agree (entries : ℕ) (script other : ScriptParts) (rows others : List Row) : Type 0 where

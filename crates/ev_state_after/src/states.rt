@@ -23,6 +23,7 @@ pub fn state_after(
         format = format; workers = script.now.workers; node = script.now.node;
         journal = take entries (journal_told script.now rows.now) }) }
 {
+    let workers = script.workers;
     let front = entries_told(alloc, script, &rows[..entries as usize])?;
-    Registry::of_journal(alloc, format, script.workers, &script.node, front)
+    Registry::of_journal(alloc, format, workers, &script.node, front)
 }
