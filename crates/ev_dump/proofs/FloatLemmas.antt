@@ -3,12 +3,11 @@ use Rattle.std.proofs.Common.{◌≡◌, Bool, false, ◌||◌, List, [], ◌∷
 use Rattle.serde_json.specs.Data.{Data}
 use Rattle.serde_json.specs.View.{items_of}
 use Rattle.serde_json.specs.Written.{has_float, items_have_float}
-use Rattle.ev_types.specs.declared.contents.Kind.{Kind}
 use Rattle.ev_types.specs.declared.contents.Kind.TheVariants.{Cds, Lds}
 use Rattle.ev_types.specs.declared.events.Entry.{Entry}
 use Rattle.ev_registry.specs.declared.views.View.{View}
 use Rattle.ev_registry.specs.declared.views.ViewRow.{ViewRow}
-use Rattle.ev_dump.specs.Texts.{dump_tree, of_kind, row_tree, rows_tree}
+use Rattle.ev_dump.specs.Texts.{dump_tree, of_kind, row_tree}
 
 neither : (a b : Bool) → a ≡ false → b ≡ false → (a || b) ≡ false
 neither a b h k = ap (λ c. c || b) h ∙ k

@@ -1,6 +1,5 @@
 -- Dumps of journals that agree so far.
-use Rattle.std.proofs.Common.{sym, ap, ◌∙◌}
-use Rattle.ev_actors.specs.Journals.{JournalParts}
+use Rattle.std.proofs.Common.{sym, ◌∙◌}
 use Rattle.ev_dump.specs.Texts.{dump_text}
 use Rattle.ev_dump.specs.Dumps.{DumpsByPrefix}
 

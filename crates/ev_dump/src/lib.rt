@@ -14,5 +14,5 @@ mod dumping;
 mod laws;
 mod values;
 
-pub use dumping::{dump, dump_front};
+pub use dumping::dump;
 pub use laws::dumps_by_prefix;

@@ -20,8 +20,11 @@ pub fn state_after(
     requires legal { finding_of format script.now rows.now ≡ Legal }
     requires ends { IsTrue (ends_commit rows.now entries) }
     ensures journal { IfOk result (λ made. made.journaled ≡ record {
-        format = format; workers = script.now.workers; node = script.now.node;
-        journal = take entries (journal_told script.now rows.now) }) }
+      format = format;
+      workers = script.now.workers;
+      node = script.now.node;
+      journal = take entries (journal_told script.now rows.now);
+    }) }
 {
     let workers = script.workers;
     let front = entries_told(alloc, script, &rows[..entries as usize])?;
