@@ -1,6 +1,6 @@
 -- What the dump of a journal is, by its script and its rows, and when there is none. This project's own.
 use Rattle.std.specs.Prelude.{ℕ, ◌≡◌, ◌+◌, IsTrue, not, List, length, take}
-use Rattle.ev_types.specs.Scripts.{ScriptParts}
+use Rattle.ev_types.specs.Scripts.{ScriptParts, IsScript}
 use Rattle.ev_types.specs.declared.journals.Finding.TheVariants.{Legal}
 use Rattle.ev_types.specs.declared.journals.Format.{Format}
 use Rattle.ev_types.specs.declared.journals.Row.{Row}
@@ -31,15 +31,9 @@ pub record IsNoCommit (format : Format) (script : ScriptParts) (rows : List Row)
   pub goes_on : IsTrue (not (ends_commit rows entries))
   pub told : line ≡ end_line script rows
 
--- two journals of one format agree in their first entries, and are of so many workers and one node both
-pub record Agree (entries : ℕ) (script other : ScriptParts) (rows others : List Row) : Type 0 where
-  pub workers : script.workers ≡ other.workers
-  pub node : script.node ≡ other.node
-  pub journal : take entries (journal_told script rows) ≡ take entries (journal_told other others)
-
--- the dumps of journals that agree so far are one, whatever stands behind in their scripts and rows
+-- dumps of journals that agree in their first entries are one, whatever stands behind, and whatever their workers and nodes
 abbrev pub DumpsByPrefix : Type 0
 DumpsByPrefix =
-    (format : Format) (script other : ScriptParts) (rows others : List Row) (entries : ℕ) (text another : List ℕ)
-    → Agree entries script other rows others
+    (format : Format) (script other : ScriptParts) (rows others : List Row) (entries : ℕ) (text another : List ℕ) → IsScript script → IsScript other
+    → take entries (journal_told script rows) ≡ take entries (journal_told other others)
     → IsDump format script rows entries text → IsDump format other others entries another → text ≡ another

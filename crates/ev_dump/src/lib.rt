@@ -4,9 +4,9 @@
 //!
 //! - The line is a function of the format, the workers, the node and the first entries alone (`dump_text`): the world that these lead
 //!   to, and what they count up to. So what stands behind them can't show in it.
-//! - That journals which agree so far have one dump (`dumps_by_prefix`) is said of equal workers and nodes. Where these differ, the
-//!   worlds behind equal entries differ in what idle workers hold and in the node, of which the line shows nothing; but that needs a
-//!   simulation over all steps, which the dump doesn't need otherwise.
+//! - Journals that agree so far have one dump, whatever their workers and nodes are (`dumps_by_prefix`): worlds behind equal entries
+//!   differ in what workers hold and in the node alone, of which the line shows nothing. That is a simulation over all steps. Only a
+//!   reaping and an accept look at what workers hold, and a worker that never settled holds the first picture, which shows nothing.
 //! - The generations stand by number, since the world has them so. Clusters and listeners are drawn from one counter of numbers.
 #![tactic(auto)]
 
