@@ -44,6 +44,18 @@ def content(path):
         return file.read()
 
 
+def program():
+    """The program that tools/check was given, or the one that is built; None where there is neither."""
+    path = os.environ.get('WARMGATE_PROGRAM', f'{TOP}/crates/warmgate/out/warmgate')
+    return path if os.access(path, os.X_OK) else None
+
+
+def commands_of(path):
+    """The commands that a program's usage names."""
+    usage = ran(path)[2].decode().partition('\n')[0]
+    return [form.split()[0] for form in usage.removeprefix('usage: warmgate ').split(' | ') if form]
+
+
 def written(path, text, mode=0o644):
     """A file with this text, and its path."""
     os.makedirs(os.path.dirname(path), exist_ok=True)

@@ -7,13 +7,18 @@ import tempfile
 from trials import TOP, called, content, loaded, ran, written
 from trials.links import blocks
 
-# Answers the scripts of the examples with their journals, and says of all others that they are none.
+# Answers the examples of each command as they stand, and says of every other input that it is none.
 PROGRAM = r'''#!/usr/bin/env python3
 import os, sys
-folder, script = os.path.dirname(os.path.realpath(__file__)) + '/../examples/', sys.stdin.buffer.read()
+command, folder = sys.argv[1], os.path.dirname(os.path.realpath(__file__)) + '/../examples/'
+read = lambda path: open(path, 'rb').read() if os.path.exists(path) else b''
+folder, ending = (folder, '.journal.jsonl') if command == 'replay' else (folder + command + '/', '.out')
+script = b'' if command == 'soak' else sys.stdin.buffer.read()
 for name in os.listdir(folder):
-    if name.endswith('.jsonl') and not name.endswith('.journal.jsonl') and open(folder + name, 'rb').read() == script:
-        sys.exit(sys.stdout.buffer.write(open(folder + name[:-6] + '.journal.jsonl', 'rb').read()) < 0)
+    place = folder + name[:-len(ending)]
+    words = read(place + '.words').decode().split() or [command]
+    if name.endswith(ending) and (words, read(place + '.jsonl')) == (sys.argv[1:], script):
+        sys.exit(sys.stdout.buffer.write(read(folder + name)) < 0)
 sys.exit(print('line 1: fault 6', file=sys.stderr) or 3)
 '''
 

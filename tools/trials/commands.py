@@ -1,0 +1,55 @@
+"""The examples of commands but replay: a folder of examples/ each, in which NAME.jsonl is an input, NAME.out what the program writes of
+it, NAME.txt what tools/explain prints of that, and NAME.words the words, where they aren't the folder's name alone."""
+import io
+import os
+import sys
+
+import trials
+from trials import TOP, content, ran
+
+EXPLAIN = trials.loaded('tools/explain').main
+
+
+# Each command with the arguments of tools/explain for an example, and the file of its standard input; None where it explains nothing.
+COMMANDS = {
+    'soak': None,
+}
+
+
+def run(check):
+    path = trials.program()
+    built = trials.commands_of(path) if path else []
+    for command, explained in COMMANDS.items():
+        folder = f'{TOP}/examples/{command}'
+        names = sorted({name.partition('.')[0] for name in os.listdir(folder)})
+        check(names, f'{folder} has no example')
+        for name in names:
+            place = f'{folder}/{name}'
+            if command in built:
+                told = ran(path, *words_of(place, command), data=content(f'{place}.jsonl') if os.path.exists(f'{place}.jsonl') else b'')
+                check(told[1] == content(f'{place}.out') and told[0] in (0, 1), f'{path} {command} < {place}.jsonl: {told}')
+            if explained:
+                is_explained(check, place, *explained(place))
+
+
+def words_of(place, command):
+    return content(f'{place}.words').decode().split() if os.path.exists(f'{place}.words') else [command]
+
+
+def is_explained(check, place, arguments, source):
+    status, out, errors = with_input(source, *arguments)
+    check(status == 0 and not errors and 'otherwise' not in out, f'explain {arguments}: status {status}: {out}{errors}')
+    if os.environ.get('WARMGATE_WRITE'):
+        trials.written(f'{place}.txt', out)
+    check(os.path.exists(f'{place}.txt') and content(f'{place}.txt').decode() == out, f'{place}.txt isn\'t what the tool prints')
+
+
+def with_input(path, *arguments):
+    """(status, standard output, standard error) of tools/explain with a file as standard input."""
+    before = sys.stdin
+    with open(path, 'rb') as file:
+        sys.stdin = io.TextIOWrapper(io.BytesIO(file.read()))
+    try:
+        return trials.called(EXPLAIN, *arguments)
+    finally:
+        sys.stdin = before
