@@ -1,0 +1,330 @@
+"""What the machine answers to each operation, reckoned from the script alone, for a person who looks at a journal that isn't legal.
+
+It adds to `machine` what a journal's answers leave unsaid there: versions, times to live, verdicts, requests, and what a picture
+chooses for a connection. Not proved: the definitions in docs/DEFINITIONS.md and the program decide.
+"""
+import bisect
+import collections
+
+from .machine import Machine
+from .resources import URLS
+
+NACK = 13
+
+
+class Answering(Machine):
+    """A machine that answers: `advance` applies one operation and gives its answer, as a journal writes it."""
+
+    def __init__(self, workers, format, node):
+        super().__init__(workers, format)
+        self.node, self.versions, self.lives = node, {kind: {} for kind in URLS}, set()
+        self.at_address, self.by_name, self.histories, self.expired = {}, {}, {}, set()
+        self.open_of, self.destroyed = collections.Counter(), {}
+
+    def advance(self, line, op, worker, at):
+        phase, is_open, self.destroyed = self.phase, self.open, {}
+        answer = DECIDE[op](self, line.members if line else {}, worker, line)
+        self.step(line, op, answer, worker, at)
+        if isinstance(answer, dict) and 'requests' in answer and (op != 'connect' or is_open):
+            answer['requests'] += self.requests_after(phase)
+        return answer
+
+    def has_open(self, worker):
+        """Whether a worker has a connection open."""
+        return self.open_of[worker] > 0
+
+    # What it answers
+
+    def decide_connect(self, members, worker, line):
+        if self.open:
+            return 'ignored'
+        requests = [request('cds', node={'id': self.node}, initialResourceVersions=dict(self.versions['cds']))]
+        for kind in ('eds', 'lds', 'rds'):
+            names = sorted(name for of, name in self.dependents if of == kind)
+            if names or (kind == 'lds' and self.phase != 'clusters'):
+                requests.append(request(kind, initialResourceVersions=dict(self.versions[kind]), resourceNamesSubscribe=names))
+        return {'requests': requests}
+
+    def decide_disconnect(self, members, worker, line):
+        return 'done' if self.open else 'ignored'
+
+    def decide_response(self, members, worker, line):
+        response = line.response
+        if not self.open or response.kind is None:
+            return 'ignored'
+        verdicts = self.verdicts(response)
+        refused = [f'{item.name}: {verdict}' for item, verdict in zip(response.items, verdicts) if verdict[0] == 'V']
+        error = {'code': NACK, 'message': '; '.join(refused)} if refused else None
+        return {'requests': [request(response.kind, errorDetail=error, responseNonce=response.nonce)], 'verdicts': verdicts}
+
+    def decide_health(self, members, worker, line):
+        host = members['address'], members['port']
+        checked = any(row.checked and host in row.usable for row in self.named.get(('cds', members['cluster']), {}).values())
+        return {'requests': []} if checked else 'ignored'
+
+    def decide_fetch_timeout(self, members, worker, line):
+        kind = members['type']
+        if 'name' not in members:
+            return 'ignored' if kind in self.first or (kind == 'lds' and self.phase == 'clusters') else {'requests': []}
+        key = kind, members['name']
+        waits = any(row.limited() for row in self.dependents.get(key, {}).values())
+        return {'requests': []} if waits and key not in self.told and key not in self.timed else 'ignored'
+
+    def decide_drain_timeout(self, members, worker, line):
+        return 'done' if self.drains.get(members['listener']) else 'ignored'
+
+    def decide_ttl_expired(self, members, worker, line):
+        return {'requests': []} if (members['type'], members['name']) in self.lives else 'ignored'
+
+    def decide_publish(self, members, worker, line):
+        return {'version': self.last + 1} if self.is_changed() else 'unchanged'
+
+    def decide_reap(self, members, worker, line):
+        return {'reaped': self.dead()}
+
+    def decide_accept(self, members, worker, line):
+        return 'inUse' if (worker, members['conn']) in self.connections else self.choose(members, self.held[worker])
+
+    def decide_close(self, members, worker, line):
+        return 'done' if (worker, members['conn']) in self.connections else 'notOpen'
+
+    def decide_settle(self, members, worker, line):
+        closed = [conn for number in self.expired for conn in connections_of(self.rows[number].users, worker)]
+        return {'closed': sorted(closed), 'version': self.last}
+
+    # Verdicts
+
+    def verdicts(self, response):
+        kind, removed = response.kind, set(response.removed)
+        counts = collections.Counter(item.name for item in response.items)
+        gone, made, places, found = removed - set(counts), set(), {}, []
+        for item in response.items:
+            found.append(self.verdict(kind, item, counts[item.name] > 1, removed, gone, made, places))
+            if found[-1] == 'new':
+                made.add(item.name)
+                places.setdefault(item.content.get('address'), set()).add(item.name)
+        return found
+
+    def verdict(self, kind, item, is_twice, removed, gone, made, places):
+        key, kept = (kind, item.name), self.versions[kind].get(item.name)
+        stale = item.beat and kept != item.version and (kind in ('cds', 'lds') or self.is_watched(key))
+        broken = [1] * stale + [4] * is_twice + [5] * (item.name in removed) + ([item.least[0]] if item.least else [])
+        if broken:
+            return f'V{min(broken)}'
+        if item.beat:
+            return 'renewed' if kept == item.version else 'unasked'
+        if kind in ('eds', 'rds'):
+            return 'kept' if self.is_watched(key) else 'unasked'
+        if kind == 'lds' and self.is_taken(item, gone, made, places):
+            return 'V15'
+        row = self.newest(kind, item.name)
+        return 'same' if row and item.name not in made and row.content == item.content else 'new'
+
+    def is_taken(self, item, gone, made, places):
+        """Whether a live listener of another name has the address, after removals and what was made earlier in the response."""
+        address = item.content['address']
+        if places.get(address, set()) - {item.name}:
+            return True
+        return any(row.live() and row.name != item.name and row.name not in gone and not (row.status == 'warming' and row.name in made)
+                   for row in self.at_address.get(address, {}).values())
+
+    # Requests
+
+    def requests_after(self, phase):
+        if not self.open:
+            return []
+        added, gone = self.watch_changes()
+        found = []
+        for kind in ('eds', 'lds', 'rds'):
+            names = [sorted(name for of, name in changed if of == kind) for changed in (added, gone)]
+            if any(names):
+                found.append(request(kind, resourceNamesSubscribe=names[0], resourceNamesUnsubscribe=names[1]))
+            elif kind == 'lds' and phase == 'clusters' and self.phase != 'clusters':
+                found.append(request(kind, initialResourceVersions=dict(self.versions[kind])))
+        return found
+
+    # What changes beside the machine's own
+
+    def make(self, kind, item):
+        super().make(kind, item)
+        row = self.rows[self.next - 1]
+        place = self.at_address.setdefault(row.content['address'], {}) if kind == 'lds' else self.by_name.setdefault(row.name, {})
+        place[row.number] = row
+        self.histories[row.number] = ([], [])
+
+    def destroy(self, number):
+        row = self.rows.get(number)
+        super().destroy(number)
+        if row:
+            self.destroyed[number] = row
+            (self.at_address[row.content['address']] if row.kind == 'lds' else self.by_name[row.name]).pop(number)
+            self.histories.pop(number)
+            self.expired.discard(number)
+
+    def use(self, worker, conn, numbers):
+        super().use(worker, conn, numbers)
+        self.open_of[worker] += 1
+
+    def leave(self, worker, conn):
+        self.open_of[worker] -= (worker, conn) in self.connections
+        super().leave(worker, conn)
+
+    def manager_step(self, line, op, answer):
+        if op == 'drainTimeout':
+            self.expired.update(row.number for row in self.drains.get(line.members['listener'], ()))
+        super().manager_step(line, op, answer)
+
+    def respond(self, response, verdicts):
+        super().respond(response, verdicts)
+        for item, verdict in zip(response.items, verdicts):
+            key = response.kind, item.name
+            if verdict in ('new', 'same', 'kept'):
+                self.versions[response.kind][item.name] = item.version
+                (self.lives.add if item.ttl else self.lives.discard)(key)
+            elif verdict == 'renewed':
+                self.lives.add(key)
+
+    def remove(self, kind, name):
+        if kind in ('cds', 'lds') or self.is_watched((kind, name)):
+            self.forget_version((kind, name))
+        super().remove(kind, name)
+
+    def expire(self, kind, name):
+        self.forget_version((kind, name))
+        super().expire(kind, name)
+
+    def tidy(self):
+        super().tidy()
+        for key in self.loose:
+            if key not in self.dependents:
+                self.forget_version(key)
+
+    def forget_version(self, key):
+        self.versions[key[0]].pop(key[1], None)
+        self.lives.discard(key)
+
+    def publish(self, at):
+        changed = [self.rows[number] for number in self.unpublished if number in self.rows]
+        super().publish(at)
+        for row in changed:
+            if row.is_shown():
+                versions, values = self.histories[row.number]
+                versions.append(self.last)
+                values.append(pictured(row))
+
+    # What a picture chooses
+
+    def choose(self, ask, version):
+        found = self.shown_in(self.at_address.get((ask['address'], ask['port']), {}), version)
+        if found is None:
+            return 'noListener'
+        listener, serves = found
+        target, answer = serves.get('target'), {'listener': listener.number}
+        if target is None:
+            actions, action = route_of(serves.get('routes', ()), ask['host'].encode(), ask['path'].encode()) or ((), None)
+            if actions == ('direct_response',):
+                return {**answer, 'result': 'local', 'status': action}
+            if actions != ('route',):
+                return {**answer, 'result': 'redirect' if actions else 'noRoute'}
+            target = action
+        name, weight = target_of(target, ask['pick'])
+        found = self.shown_in(self.by_name.get(name, {}), version)
+        if found is None:
+            return {**answer, 'result': 'noCluster'}
+        cluster, hosts = found
+        least = min((priority for _, _, priority, _ in hosts), default=None)
+        hosts = [(host, share) for host, share, priority, _ in hosts if priority == least]
+        if not hosts:
+            return {**answer, 'result': 'noEndpoint'}
+        address, port = by_weight(hosts, ask['pick'] // weight)
+        return {**answer, 'address': address, 'cluster': cluster.number, 'port': port, 'result': 'served'}
+
+    def shown_in(self, rows, version):
+        """The generation of these that the picture of a version shows, with what it shows of it, or None."""
+        for row in rows.values():
+            if row.in_picture(version, self.last):
+                versions, values = self.histories[row.number]
+                return row, values[bisect.bisect_right(versions, version) - 1]
+        return None
+
+
+DECIDE = {'connect': Answering.decide_connect, 'disconnect': Answering.decide_disconnect, 'response': Answering.decide_response,
+          'health': Answering.decide_health, 'fetchTimeout': Answering.decide_fetch_timeout,
+          'drainTimeout': Answering.decide_drain_timeout, 'ttlExpired': Answering.decide_ttl_expired,
+          'publish': Answering.decide_publish, 'reap': Answering.decide_reap, 'accept': Answering.decide_accept,
+          'close': Answering.decide_close, 'settle': Answering.decide_settle}
+
+
+def connections_of(users, worker):
+    """A worker's connections of a sorted list of workers and connections."""
+    return [conn for _, conn in users[bisect.bisect_left(users, (worker, 0)):bisect.bisect_left(users, (worker + 1, 0))]]
+
+
+def request(kind, **members):
+    """A request of a kind, without the members that are empty."""
+    return {**{name: value for name, value in members.items() if value}, 'typeUrl': URLS[kind]}
+
+
+def pictured(row):
+    """What a picture shows of a generation: the hosts that may be chosen, or what the listener serves."""
+    if row.kind == 'cds':
+        return [host for host in row.assigned if host[3] and (not row.checked or row.results.get(host[0]) is True)]
+    return {'routes': row.assigned} if row.depends() else row.content['serves']
+
+
+def folded(name):
+    """Bytes with ASCII letters as lower case."""
+    return name.lower()
+
+
+def route_of(hosts, host, path):
+    """(actions, action) of the first route that takes the path in the virtual host of a host, or None."""
+    routes = virtual_host(hosts, folded(host))
+    cut = path.partition(b'?')[0]
+    for match, actions, action in routes or ():
+        (way, text), = match
+        text = text.encode()
+        if (way == 'prefix' and path.startswith(text)) or (way == 'path' and cut == text) or (
+                way == 'path_separated_prefix' and (cut == text or cut.startswith(text + b'/'))):
+            return actions, action
+    return None
+
+
+def virtual_host(hosts, host):
+    """The routes of the virtual host that a host falls to: an equal domain, the longest *suffix, the longest prefix*, then *."""
+    best, found = (0, 0), None
+    for _, domains, routes in hosts:
+        for domain in domains:
+            fit = fit_of(folded(domain.encode()), host)
+            if fit and fit > best:
+                best, found = fit, routes
+    return found
+
+
+def fit_of(domain, host):
+    if domain == host:
+        return 4, 0
+    if domain == b'*':
+        return 1, 0
+    if domain[:1] == b'*':
+        return (3, len(domain)) if host.endswith(domain[1:]) and len(host) >= len(domain) else None
+    if domain[-1:] == b'*':
+        return (2, len(domain)) if host.startswith(domain[:-1]) and len(host) >= len(domain) else None
+    return None
+
+
+def target_of(target, pick):
+    """(name of the cluster that a pick falls on, sum of the weights)."""
+    if isinstance(target, str):
+        return target, 1
+    return by_weight(target, pick), sum(weight for _, weight in target)
+
+
+def by_weight(entries, pick):
+    """The first entry whose running sum of weights is above the pick, modulo their sum."""
+    rest = pick % sum(weight for _, weight in entries)
+    for entry, weight in entries:
+        if rest < weight:
+            return entry
+        rest -= weight
+    return None
