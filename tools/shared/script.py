@@ -287,7 +287,7 @@ def line_hints(tree):
         return []
     message = tree.get('message') if isinstance(tree.get('message'), dict) else tree
     if 'format' in tree or 'end' in tree or 'answer' in tree:
-        return ['this is a line of a journal: replay takes the script alone; --audit reads a script and its journal']
+        return ['this is a line of a journal: replay takes the script alone; audit takes a script and its journal (tools/why --audit)']
     if 'workers' in tree:
         return ['a second header: two scripts were joined, and a script has one, in line 1']
     if 'op' not in tree and ('typeUrl' in tree or 'type_url' in tree):

@@ -10,8 +10,14 @@ from trials import TOP, content, ran
 EXPLAIN = trials.loaded('tools/explain').main
 
 
+def explained_with_input(path):
+    """What explains a command's output where its input is an argument, and the output comes by standard input."""
+    return ['--finding', f'{path}.jsonl'], f'{path}.out'
+
+
 # Each command with the arguments of tools/explain for an example, and the file of its standard input; None where it explains nothing.
 COMMANDS = {
+    'audit': explained_with_input,
     'soak': None,
 }
 

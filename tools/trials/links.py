@@ -15,7 +15,7 @@ PATH = re.compile(r'(?:\./)?[\w.*-]+(?:/[\w.*-]+)*/?')
 COMMAND = re.compile(r'(?<![\w/.-])(?:warmgate/)?(\./warmgate|(?:tools|bench)/\w+)(?= |$|\))')
 TURNS = {'|', '||', '&&', ';', '&'}
 REDIRECTION = re.compile(r'\d*[<>]+&?\d*')
-PRINTS = re.compile(r'^\$ \./warmgate replay < examples/(\w+)\.jsonl \| tools/explain examples/\1\.jsonl$')
+PRINTS = re.compile(r'^\$ \./warmgate \w+ < examples/([\w/]+)\.jsonl \| tools/explain (?:--finding )?examples/\1\.jsonl$')
 SCREEN_LINES, SCREEN_COLUMNS, SCREENS = 52, 120, 2.5
 
 
@@ -172,7 +172,7 @@ def words_behind(text):
 
 def faults_of_printed(block):
     """Lines that a page shows behind a command stand in the example's page, in this order."""
-    shown = PRINTS.match(block[0])
+    shown = PRINTS.match(block[0].strip())
     if not shown:
         return
     lines = iter(read(f'examples/{shown[1]}.txt').splitlines())

@@ -24,7 +24,7 @@ read -r status || status=4
 exit "$status"
 '''
 HINT = b'warmgate: tools/why SCRIPT says'
-USAGE = b'usage: warmgate replay | run | soak SEED COUNT\n'
+USAGE = b'usage: warmgate replay | run | audit | soak SEED COUNT\n'
 
 # (words, status, what standard output begins with, what standard error has)
 WORDS = [
@@ -35,11 +35,12 @@ WORDS = [
     ([], 2, b'', USAGE + b'warmgate: a command is missing'),
     ([''], 2, b'', USAGE + b"warmgate: '' is no command"),
     (['reply'], 2, b'', USAGE + b"warmgate: 'reply' is no command"),
-    (['audit'], 2, b'', USAGE + b"warmgate: 'audit' is no command"),
+    (['sotw'], 2, b'', USAGE + b"warmgate: 'sotw' is no command"),
+    (['audit', 'x'], 2, b'', USAGE + b"warmgate: the input comes by standard input: ./warmgate audit < 'x'"),
     (['replay '], 2, b'', USAGE + b"warmgate: 'replay ' is no command"),
     (['*'], 2, b'', USAGE + b"warmgate: '*' is no command"),
-    (['replay', 'my script.jsonl'], 2, b'', USAGE + b"warmgate: a script comes by standard input: ./warmgate replay < 'my script.jsonl'"),
-    (['replay', 'a', 'b'], 2, b'', USAGE + b"warmgate: a script comes by standard input: ./warmgate replay < 'a'"),
+    (['replay', 'my script.jsonl'], 2, b'', USAGE + b"warmgate: the input comes by standard input: ./warmgate replay < 'my script.jsonl'"),
+    (['replay', 'a', 'b'], 2, b'', USAGE + b"warmgate: the input comes by standard input: ./warmgate replay < 'a'"),
     (['soak'], 2, b'', USAGE + b'warmgate: a soak has a seed and a count'),
     (['soak', '1', '1', '1'], 2, b'', USAGE + b'warmgate: a soak has a seed and a count'),
     (['soak', '01', '5'], 2, b'', USAGE + b"warmgate: '01' is no seed"),
@@ -95,7 +96,7 @@ def words(check, trial):
         good = found[0] == status and found[1].startswith(begin) and bool(found[1]) == bool(begin) and found[2].startswith(errors)
         check(good and (errors or not found[2]), f'warmgate {given}: {found}')
     told = trial.start('--help')[1]
-    check(all(f'\n    {status}  '.encode() in told for status in (0, 2, 3, 4, 5, 6, 125, 126)), 'warmgate --help tells each status')
+    check(all(f'\n    {status}  '.encode() in told for status in (0, 1, 2, 3, 4, 5, 6, 125, 126)), 'warmgate --help tells each status')
     check(b'warmgate replay < SCRIPT > JOURNAL' in told, 'warmgate --help tells the form')
     told = trial.start('--version', env=trial.with_rt)[1]
     check(b'kit: kit-of-the-trial\n' in told and b'program: not built yet\n' in told, f'warmgate --version: {told}')
@@ -123,6 +124,8 @@ def statuses(check, trial):
         status, out, errors = trial.start('replay', data=b'%d\n' % wanted)
         check((status, out) == (wanted, b'program replay\n'), f'warmgate of a program that ends with {wanted}: {status} {out}')
         check((HINT in errors) == (wanted == 3) and bool(errors) == (wanted == 3), f'warmgate of a status {wanted} says {errors}')
+    errors = trial.start('audit')[2]
+    check(errors.startswith(b'warmgate: tools/why --audit BOTH says'), f'warmgate audit of a status 3 says {errors}')
 
 
 def hear_signals():
