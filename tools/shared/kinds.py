@@ -1,4 +1,4 @@
-"""The nine kinds of fault in words, and likely causes where a line shows none of its own."""
+"""The kinds of fault in words, and likely causes where a line shows none of its own."""
 
 WORDS = {
     1: 'the line is too long',
@@ -10,6 +10,7 @@ WORDS = {
     7: 'there is no such worker',
     8: 'there is no input',
     9: 'the journal isn\'t one',
+    12: 'nothing can be dumped behind this entry',
 }
 
 HINTS = {
@@ -23,4 +24,5 @@ HINTS = {
     7: ['raise "workers" in line 1, or use a number below it'],
     8: ['the file is empty, or the command before the pipe wrote nothing'],
     9: ['write the journal behind its script as it is: cat SCRIPT JOURNAL'],
+    12: ['a batch of a worker is entered as a whole: dump behind the settle that ends it'],
 }

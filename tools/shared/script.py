@@ -19,7 +19,7 @@ MAX_PATH = 8192
 
 
 class Fault:
-    """The line, the kind (1 to 9), and complaints: (member or None, words). `hints` are likely causes."""
+    """The line, the kind, and complaints: (member or None, words). `hints` are likely causes."""
 
     def __init__(self, line, kind, complaints, hints=()):
         self.line, self.kind, self.complaints, self.hints = line, kind, complaints, list(hints)

@@ -15,10 +15,15 @@ def explained_with_input(path):
     return ['--finding', f'{path}.jsonl'], f'{path}.out'
 
 
+def explained_dump(path):
+    return ['--dump'], f'{path}.out'
+
+
 # Each command with the arguments of tools/explain for an example, and the file of its standard input; None where it explains nothing.
 COMMANDS = {
     'audit': explained_with_input,
     'soak': None,
+    'dump': explained_dump,
 }
 
 

@@ -15,7 +15,7 @@ PATH = re.compile(r'(?:\./)?[\w.*-]+(?:/[\w.*-]+)*/?')
 COMMAND = re.compile(r'(?<![\w/.-])(?:warmgate/)?(\./warmgate|(?:tools|bench)/\w+)(?= |$|\))')
 TURNS = {'|', '||', '&&', ';', '&'}
 REDIRECTION = re.compile(r'\d*[<>]+&?\d*')
-PRINTS = re.compile(r'^\$ \./warmgate \w+ < examples/([\w/]+)\.jsonl \| tools/explain (?:--finding )?examples/\1\.jsonl$')
+PRINTS = re.compile(r'^\$ \./warmgate \w+(?: \d+)? < examples/([\w/]+)\.jsonl \| tools/explain (?:--dump|(?:--finding )?examples/\1\.jsonl)$')
 SCREEN_LINES, SCREEN_COLUMNS, SCREENS = 52, 120, 2.5
 
 
@@ -142,8 +142,8 @@ def faults_of_command(line, commands):
 
 def is_form(words, commands):
     """The program takes these words."""
-    if words[:1] == ['soak']:
-        return len(words) == 3
+    if words[:1] in (['soak'], ['dump']):
+        return words[0] in commands and len(words) == {'soak': 3, 'dump': 2}[words[0]]
     return len(words) == 1 and words[0] in commands + ['--help', '--version']
 
 

@@ -24,7 +24,7 @@ read -r status || status=4
 exit "$status"
 '''
 HINT = b'warmgate: tools/why SCRIPT says'
-USAGE = b'usage: warmgate replay | run | audit | soak SEED COUNT\n'
+USAGE = b'usage: warmgate replay | run | audit | soak SEED COUNT | dump K\n'
 
 # (words, status, what standard output begins with, what standard error has)
 WORDS = [
@@ -49,6 +49,10 @@ WORDS = [
     (['soak', '18446744073709551616', '1'], 2, b'', USAGE + b"warmgate: '18446744073709551616' is no seed"),
     (['soak', '1', '0'], 2, b'', USAGE + b"warmgate: '0' is no count"),
     (['soak', '1', '100001'], 2, b'', USAGE + b"warmgate: '100001' is no count"),
+    (['dump'], 2, b'', USAGE + b'warmgate: a dump has the number of an entry'),
+    (['dump', '0', '0'], 2, b'', USAGE + b'warmgate: a dump has the number of an entry'),
+    (['dump', '01'], 2, b'', USAGE + b"warmgate: '01' is no number of an entry"),
+    (['dump', '4294967296'], 2, b'', USAGE + b"warmgate: '4294967296' is no number of an entry"),
     (['--no-such'], 2, b'', USAGE + b"warmgate: '--no-such' is no command"),
 ]
 
@@ -126,6 +130,8 @@ def statuses(check, trial):
         check((HINT in errors) == (wanted == 3) and bool(errors) == (wanted == 3), f'warmgate of a status {wanted} says {errors}')
     errors = trial.start('audit')[2]
     check(errors.startswith(b'warmgate: tools/why --audit BOTH says'), f'warmgate audit of a status 3 says {errors}')
+    status, out, errors = trial.start('dump', '4294967295')
+    check(out == b'program dump 4294967295\n' and errors.startswith(b'warmgate: tools/why --dump 4294967295 BOTH says'), f'warmgate dump of a status 3: {out} {errors}')
 
 
 def hear_signals():
