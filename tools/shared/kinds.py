@@ -10,6 +10,7 @@ WORDS = {
     7: 'there is no such worker',
     8: 'there is no input',
     9: 'the journal isn\'t one',
+    11: 'a name that is this command\'s own is used',
     12: 'nothing can be dumped behind this entry',
 }
 
@@ -24,5 +25,6 @@ HINTS = {
     7: ['raise "workers" in line 1, or use a number below it'],
     8: ['the file is empty, or the command before the pipe wrote nothing'],
     9: ['write the journal behind its script as it is: cat SCRIPT JOURNAL'],
+    11: ['give the endpoints another name'],
     12: ['a batch of a worker is entered as a whole: dump behind the settle that ends it'],
 }

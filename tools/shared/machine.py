@@ -111,6 +111,7 @@ class Machine:
         self.picture_lines = [0]
         self.active, self.ended = {'cds': [], 'lds': []}, []
         self.unpublished, self.kept, self.dead_ones = set(), {}, set()
+        self.guards = None  # what stands behind private names of endpoints, where it is told (guarded.Guards)
         self.forget_changes()
 
     def forget_changes(self):
@@ -140,7 +141,7 @@ class Machine:
         """What a warming generation still waits for, in words; empty where it is ready."""
         found, name = [], row.depends()
         if not self.is_answered(row):
-            found.append(f'{WORDS[name[0]]} {quoted(name[1])}')
+            found += self.guards.waits(name) if self.guards and name in self.guards.of else [f'{WORDS[name[0]]} {quoted(name[1])}']
         if row.missing:
             found += [f'a health result of {shown(address)}:{port}' for _, (address, port) in row.missing[:8]]
             if len(row.missing) > 8:
@@ -162,7 +163,8 @@ class Machine:
                      rules.UNKNOWN: 'and whether Envoy takes them is not known'}
             why = f'refused by {refusal[0]}, {whose[refusal[1]]}'
         else:
-            why = f'{WORDS[name[0]]} {quoted(name[1])} were removed' if name in self.told else 'their fetch timeout came'
+            removed = self.guards.endpoints_of(name) if self.guards and name in self.guards.of else f'{WORDS[name[0]]} {quoted(name[1])} were removed'
+            why = removed if name in self.told else 'their fetch timeout came'
         return f'WITHOUT {what}: {why}'
 
     def would_show(self, row):
@@ -241,6 +243,9 @@ class Machine:
     def step(self, line, op, answer, worker, at=0):
         """Applies one entry, of line `at`. The journal's answer says what came of it."""
         self.forget_changes()
+        if self.guards and op == 'response' and self.open:
+            for key in self.guards.take(line):
+                self.touched.update(self.dependents.get(key, ()))
         if op in ('accept', 'close', 'settle'):
             self.worker_step(line, op, answer, worker)
         elif op == 'publish':

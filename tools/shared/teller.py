@@ -7,6 +7,7 @@ import collections
 import itertools
 
 from . import rules
+from .guarded import SECRET, told_secrets
 from .resources import KINDS, WORD, WORDS
 from .shown import quoted, shown
 from .spelling import spelled
@@ -84,7 +85,7 @@ class Teller:
     def title(self, row, line):
         answer, members = row.answer, line.members if line else {}
         if row.op == 'response':
-            return self.response_title(line.response, answer)
+            return self.response_title(line, answer)
         ignored = ': ignored' if answer == 'ignored' else ''
         if row.op == 'connect':
             return 'a stream to the control plane opens' if not ignored else 'connect: ignored, a stream is open'
@@ -111,7 +112,10 @@ class Teller:
             return f'reap{auto}: ' + (f'{len(answer["reaped"])} destroyed' if answer['reaped'] else 'nothing to destroy')
         return self.worker_title(row, answer, members)
 
-    def response_title(self, response, answer):
+    def response_title(self, line, answer):
+        response = line.response
+        if response.url == SECRET and self.machine.guards and self.machine.open:
+            return f'response of secrets: tells {few(map(quoted, sorted(told_secrets(line))), MOST_NAMES) or "none"}'
         if answer == 'ignored':
             reason = 'its type isn\'t read' if response.kind is None else 'no stream is open'
             return f'response of {WORDS.get(response.kind, quoted(response.url or ""))}: ignored, {reason}'

@@ -5,6 +5,8 @@ import os
 import sys
 
 import trials
+from shared import script
+from shared.finding import walked
 from trials import TOP, content, ran
 
 EXPLAIN = trials.loaded('tools/explain').main
@@ -13,6 +15,10 @@ EXPLAIN = trials.loaded('tools/explain').main
 def explained_with_input(path):
     """What explains a command's output where its input is an argument, and the output comes by standard input."""
     return ['--finding', f'{path}.jsonl'], f'{path}.out'
+
+
+def explained_with_secrets(path):
+    return ['--secrets', f'{path}.jsonl', f'{path}.out', f'{path}.journal.jsonl'], os.devnull
 
 
 def explained_dump(path):
@@ -24,6 +30,7 @@ COMMANDS = {
     'audit': explained_with_input,
     'soak': None,
     'dump': explained_dump,
+    'tls': explained_with_secrets,
 }
 
 
@@ -39,12 +46,23 @@ def run(check):
             if command in built:
                 told = ran(path, *words_of(place, command), data=content(f'{place}.jsonl') if os.path.exists(f'{place}.jsonl') else b'')
                 check(told[1] == content(f'{place}.out') and told[0] in (0, 1), f'{path} {command} < {place}.jsonl: {told}')
+            if os.path.exists(f'{place}.journal.jsonl'):
+                is_replayed(check, place, path)
             if explained:
                 is_explained(check, place, *explained(place))
 
 
 def words_of(place, command):
     return content(f'{place}.words').decode().split() if os.path.exists(f'{place}.words') else [command]
+
+
+def is_replayed(check, place, path):
+    """The output is a script, and the journal beside it that of its replay."""
+    data, journal = content(f'{place}.out'), content(f'{place}.journal.jsonl')
+    walk = walked(script.read_script(data + journal, audit=True))
+    check((walk.finding, walk.passed) == ('legal', 0), f'{place}.journal.jsonl is found {walk.finding} at {walk.entry}')
+    told = ran(path, 'replay', data=data) if path else (0, journal)
+    check(told[:2] == (0, journal), f'{path} replay < {place}.out: {told}')
 
 
 def is_explained(check, place, arguments, source):

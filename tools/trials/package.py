@@ -9,17 +9,17 @@ from trials.links import blocks
 
 # Answers the examples of each command as they stand, and says of every other input that it is none.
 PROGRAM = r'''#!/usr/bin/env python3
-import os, sys
+import glob, os, sys
 command, folder = sys.argv[1], os.path.dirname(os.path.realpath(__file__)) + '/../examples/'
 read = lambda path: open(path, 'rb').read() if os.path.exists(path) else b''
-folder, ending = (folder, '.journal.jsonl') if command == 'replay' else (folder + command + '/', '.out')
 script = b'' if command == 'soak' else sys.stdin.buffer.read()
-for name in os.listdir(folder):
-    place = folder + name[:-len(ending)]
-    words = read(place + '.words').decode().split() or [command]
-    if name.endswith(ending) and (words, read(place + '.jsonl')) == (sys.argv[1:], script):
-        sys.exit(sys.stdout.buffer.write(read(folder + name)) < 0)
-sys.exit(print('line 1: fault 6', file=sys.stderr) or 3)
+if command == 'replay':
+    inputs = {place: read(place + '.out') or read(place + '.jsonl') for place in (path[:-14] for path in glob.glob(folder + '**/*.journal.jsonl', recursive=True))}
+    found = [place + '.journal.jsonl' for place in inputs if inputs[place] == script]
+else:
+    places = [path[:-4] for path in glob.glob(folder + command + '/*.out')]
+    found = [place + '.out' for place in places if (read(place + '.words').decode().split() or [command], read(place + '.jsonl')) == (sys.argv[1:], script)]
+sys.exit(sys.stdout.buffer.write(read(found[0])) < 0 if found else print('line 1: fault 6', file=sys.stderr) or 3)
 '''
 
 
