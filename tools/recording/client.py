@@ -7,27 +7,31 @@ import grpc
 
 from .decoding import encoded
 from .files import Recording
-from .program import rows_of
-from .protocols import DELTA, METHODS, REQUESTS
+from .program import answers_of
+from .protocols import COMMANDS, DELTA, METHODS, REQUESTS
 from .wires import channel_to
 
-METHOD = next(method for method, protocol in METHODS.items() if protocol == DELTA)
 POLL, AGAIN = 0.2, 0.5
 
 
 class Client:
-    """One client, stream after stream, until the time is over, nothing comes any more, or `stop` is set. Times are seconds."""
+    """One client, stream after stream, until the time is over, nothing comes any more, or `stop` is set. Times are seconds.
 
-    def __init__(self, address, tls, program, folder, node, seconds, quiet, stop):
+    `asked` is the file of which the program says what is sent: the script, or of the state of the world that of the responses as they
+    came. `told` counts its lines whose requests were sent.
+    """
+
+    def __init__(self, address, tls, program, protocol, folder, node, seconds, quiet, stop):
         self.address, self.program, self.node, self.quiet, self.stop = address, program, node, quiet, stop
-        self.channel = channel_to(address, tls)
-        self.recording = Recording(folder, 'client', DELTA)
+        self.channel, self.protocol = channel_to(address, tls), protocol
+        self.recording = Recording(folder, 'client', protocol)
+        self.asked = self.recording.script if protocol == DELTA else self.recording.whole
         self.until = None if seconds is None else time.monotonic() + seconds
         self.heard, self.told, self.streams = time.monotonic(), 1, 0
 
     def over(self):
         now = time.monotonic()
-        return (self.stop.is_set() or self.recording.script.file is None or (self.until is not None and now >= self.until)
+        return (self.stop.is_set() or self.asked.file is None or (self.until is not None and now >= self.until)
                 or (self.quiet is not None and now >= self.heard + self.quiet))
 
     def run(self):
@@ -58,12 +62,13 @@ class Client:
 
     def stream(self):
         outgoing, incoming = queue.SimpleQueue(), queue.SimpleQueue()
-        call = self.channel.stream_stream(METHOD)(iter(outgoing.get, None))
+        method = next(method for method, protocol in METHODS.items() if protocol == self.protocol)
+        call = self.channel.stream_stream(method)(iter(outgoing.get, None))
         threading.Thread(target=received, args=(call, incoming), daemon=True).start()
         self.recording.connect(self.node)
         self.streams += 1
         try:
-            self.send(outgoing, 1)
+            self.send(outgoing)
             self.heard = time.monotonic()
             while not self.over():
                 try:
@@ -73,29 +78,30 @@ class Client:
                 if data is None:
                     self.recording.notes.add(f'the control plane ended a stream: {call.code().name} {call.details() or ""}'.rstrip())
                     return
-                self.send(outgoing, len(self.recording.response(data)))
+                self.recording.response(data)
+                self.send(outgoing)
                 self.heard = time.monotonic()
         finally:
             outgoing.put(None)
             call.cancel()
             self.recording.disconnect()
-            self.told += 1
+            self.told = self.asked.lines
 
-    def send(self, outgoing, lines):
-        """Sends the requests of the last lines of the script, which are one event."""
-        for tree in self.requests(lines):
-            data = encoded(REQUESTS[DELTA], tree).SerializeToString()
+    def send(self, outgoing):
+        """Sends the requests of the lines that were written since, which are one event."""
+        for tree in self.requests():
+            data = encoded(REQUESTS[self.protocol], tree).SerializeToString()
             self.recording.request(data)
             outgoing.put(data)
 
-    def requests(self, lines):
-        if not lines:
+    def requests(self):
+        before, self.told = self.told, self.asked.lines
+        if self.told == before:
             return []
-        with open(self.recording.script.path, 'rb') as file:
-            rows = rows_of(self.program, file.read())
-        first, self.told = self.told + 1, self.told + lines
-        answers = [row.answer for row in rows if first <= row.at <= self.told and row.op in ('connect', 'response')]
-        return one_reply([request for answer in answers if answer != 'ignored' for request in answer['requests']], lines)
+        with open(self.asked.path, 'rb') as file:
+            found = answers_of(self.program, COMMANDS[self.protocol], file.read())
+        answers = [answer for at, op, answer in found if before < at <= self.told and op in ('connect', 'response')]
+        return one_reply([request for answer in answers if answer != 'ignored' for request in answer['requests']], self.told - before)
 
 
 def one_reply(requests, parts):

@@ -1,4 +1,5 @@
 """The built program, as the tools run it: a script in, the rows of its journal out."""
+import json
 import os
 import subprocess
 
@@ -21,13 +22,32 @@ def program_at(path):
     return os.path.abspath(found)
 
 
-def rows_of(program, data):
-    """The rows of the journal that `replay` writes of a script."""
-    done = subprocess.run([program, 'replay'], input=data, capture_output=True)
+def commands_of(program):
+    """The commands that the program's usage names."""
+    usage = subprocess.run([program], input=b'', capture_output=True).stderr.decode(errors='replace')
+    return {word for form in usage.partition('warmgate ')[2].split('|') for word in form.split()[:1]}
+
+
+def written_by(program, command, data):
+    """The lines of the entries of the journal that a command writes of an input."""
+    done = subprocess.run([program, command], input=data, capture_output=True)
     if done.returncode:
         said = done.stderr.decode(errors='replace').strip()
-        raise NoProgram(f'{program} replay ended with status {done.returncode}: {said}')
-    found = [journal.read_row(text) for text in done.stdout.split(b'\n')[1:-2]]
+        raise NoProgram(f'{program} {command} ended with status {done.returncode}: {said}')
+    return done.stdout.split(b'\n')[1:-2]
+
+
+def answers_of(program, command, data):
+    """(line, operation, answer) of each entry of the journal that `replay` or `sotw` writes of its input."""
+    try:
+        return [(row['at'], row['op'], row['answer']) for row in map(json.loads, written_by(program, command, data))]
+    except (ValueError, TypeError, KeyError):
+        raise NoProgram(f'{program} {command} wrote no journal') from None
+
+
+def rows_of(program, data):
+    """The rows of the journal that `replay` writes of a script."""
+    found = [journal.read_row(text) for text in written_by(program, 'replay', data)]
     if any(row is None for row, _ in found):
         raise NoProgram(f'{program} replay wrote no journal')
     return [row for row, _ in found]

@@ -4,4 +4,5 @@ DISCOVERY = 'envoy.service.discovery.v3.'
 SERVICE = f'/{DISCOVERY}AggregatedDiscoveryService/'
 METHODS = {f'{SERVICE}DeltaAggregatedResources': DELTA, f'{SERVICE}StreamAggregatedResources': STATE_OF_THE_WORLD}
 REQUESTS = {DELTA: f'{DISCOVERY}DeltaDiscoveryRequest', STATE_OF_THE_WORLD: f'{DISCOVERY}DiscoveryRequest'}
+COMMANDS = {DELTA: 'replay', STATE_OF_THE_WORLD: 'sotw'}
 RESPONSES = {DELTA: f'{DISCOVERY}DeltaDiscoveryResponse', STATE_OF_THE_WORLD: f'{DISCOVERY}DiscoveryResponse'}

@@ -32,8 +32,8 @@ def read_end(text):
     return tree['end'] if isinstance(tree, dict) and set(tree) == {'end'} and whole(tree['end'], 0, MAX_U64) else None
 
 
-def read_row(text):
-    """(row, None), or (None, why the line is the text of no entry)."""
+def read_row(text, of_sotw=False):
+    """(row, None), or (None, why the line is the text of no entry). With `of_sotw` requests are those of the state of the world."""
     try:
         tree = read_tree(text)
     except NotJson as refused:
@@ -46,7 +46,7 @@ def read_row(text):
     for name in ('at', 'step'):
         if not whole(tree[name], 0, MAX_U32):
             return None, f'{name} isn\'t a whole number below 4294967296'
-    words = ANSWERS.get(tree['op'] if isinstance(tree['op'], str) else None)
+    words = (WHOLE_ANSWERS if of_sotw else ANSWERS).get(tree['op'] if isinstance(tree['op'], str) else None)
     if words is None:
         return None, 'op isn\'t an operation'
     if not words(tree['answer']):
@@ -163,3 +163,8 @@ ANSWERS = {
     'close': lambda v: v in ('notOpen', 'done'),
     'settle': lambda v: has(v, closed=list_of(u64), version=u64),
 }
+WHOLE_REQUEST = {**{name: REQUEST[name] for name in ('errorDetail', 'node', 'responseNonce', 'typeUrl')},
+                 'resourceNames': names, 'versionInfo': lambda v: isinstance(v, str) and v != ''}
+whole_requests = list_of(lambda v: isinstance(v, dict) and 'typeUrl' in v and all(key in WHOLE_REQUEST and WHOLE_REQUEST[key](v[key]) for key in v))
+WHOLE_ANSWERS = {**ANSWERS, 'response': lambda v: v == 'ignored' or has(v, requests=whole_requests, verdicts=list_of(verdict)),
+                 **dict.fromkeys(('connect', 'health', 'fetchTimeout', 'ttlExpired'), lambda v: v == 'ignored' or has(v, requests=whole_requests))}

@@ -46,7 +46,7 @@ class Pair:
             ended = journal.read_end(text) if text[:1] == b'{' and b'"end"' in text[:8] else None
             if ended is not None:
                 continue
-            row, words = journal.read_row(text)
+            row, words = journal.read_row(text, self.reading.whole is not None)
             if row is None:
                 raise NotTheJournal(f'line {place} of the journal {words}' + (cause([text]) if text.endswith(b'\r') else ''))
             count += 1
@@ -63,9 +63,9 @@ def cause(texts):
     return '; is the first file the script?'
 
 
-def open_pair(tool, script_path, journal_path):
-    """(pair, 0), or (None, exit status) with the words on standard error."""
-    reading = script.read_script(read_file(script_path, script.MAX_INPUT + 1), progress=tool)
+def open_pair(tool, script_path, journal_path, command=None):
+    """(pair, 0), or (None, exit status) with the words on standard error. `command` is the one whose input the script is."""
+    reading = script.read_script(read_file(script_path, script.MAX_INPUT + 1), progress=tool, command=command)
     if reading.faults:
         fault = reading.faults[0]
         swapped = '. Is it the journal? SCRIPT comes first' if fault.kind == 5 and fault.hints[:1] == script.JOURNAL_HINT else ''

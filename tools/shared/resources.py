@@ -42,6 +42,7 @@ class Response:
 
     def __init__(self, kind, url, nonce, items, removed):
         self.kind, self.url, self.nonce, self.items, self.removed = kind, url, nonce, items, removed
+        self.version = ''  # of the state of the world
 
 
 def read_message(value, path='message'):

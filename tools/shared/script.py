@@ -10,6 +10,7 @@ from .json_text import NotJson, read_tree
 from .progress import Progress
 from .resources import KINDS, read_message
 from .shown import quoted, value_shown
+from .whole import Whole
 
 MAX_INPUT = 67108864
 MAX_LINES = 200000
@@ -36,15 +37,17 @@ class Reading:
     def __init__(self):
         self.workers, self.node, self.auto = None, 'warmgate', False
         self.lines, self.rows, self.format, self.faults, self.count = [], [], None, [], 0
+        self.whole = None  # reads the responses of the state of the world
 
     def line_at(self, at):
         return self.lines[at - 2] if 2 <= at <= len(self.lines) + 1 else None
 
 
-def read_script(data, audit=False, go_on=False, progress=None):
-    """Reads a script, or with `audit` a script and its journal. Stops at the first fault, or with `go_on` notes those of all lines.
-    `progress` is the tool that says how far it is."""
+def read_script(data, audit=False, go_on=False, progress=None, command=None):
+    """Reads a script, or with `audit` a script and its journal, or the input of a command whose lines have other forms too (`sotw`).
+    Stops at the first fault, or with `go_on` notes those of all lines. `progress` is the tool that says how far it is."""
     reading = Reading()
+    reading.whole = Whole() if command == 'sotw' else None
     if not data:
         reading.faults.append(Fault(1, 8, [(None, 'the input is empty')]))
         return reading
@@ -249,13 +252,15 @@ def read_operation(reading, number, tree):
         complaints.append(('name', f'is too much: a timeout of {tree["type"]} is that of the whole type'))
     response = None
     if op == 'response' and 'message' in tree:
-        response, found = read_message(tree['message'])
+        response, found = (reading.whole.read if reading.whole else read_message)(tree['message'])
         complaints += found
     if complaints:
         return Fault(number, 6, complaints, line_hints(tree))
     if 'worker' in tree and reading.workers is not None and tree['worker'] >= reading.workers:
         words = f'is {tree["worker"]}, and the header has {reading.workers}: they count from 0'
         return Fault(number, 7, [('worker', words)])
+    if reading.whole:
+        reading.whole.note(op)
     members = {'host': '', 'path': '/', 'pick': 0, **tree} if op == 'accept' else tree
     reading.lines.append(Line(number, op, members, response))
     return None

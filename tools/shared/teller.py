@@ -50,7 +50,7 @@ class Teller:
         if row.op == 'response' and isinstance(row.answer, dict):
             self.resources(line, row.answer['verdicts'], first, before)
         if isinstance(row.answer, dict):
-            self.requests(row.answer.get('requests', []))
+            (self.whole_requests if self.reading.whole else self.requests)(row.answer.get('requests', []), row.op)
         if row.op == 'reap':
             self.reaped(row.answer['reaped'], before)
         if row.op == 'publish' and isinstance(row.answer, dict):
@@ -206,7 +206,7 @@ class Teller:
                     else 'removed: ignored, nothing depends on it')
         return 'removed' if live.get(name) else 'removed: ignored, it isn\'t there'
 
-    def requests(self, requests):
+    def requests(self, requests, op):
         for request in requests:
             kind = KINDS[request['typeUrl']]
             if 'responseNonce' in request:
@@ -225,6 +225,19 @@ class Teller:
             held = request.get('initialResourceVersions', {})
             held = ', and tells which versions it holds: ' + self.names(list(held)) if held else ''
             self.page.line(f'{" and ".join(parts)}{node}{held}')
+
+    def whole_requests(self, requests, op):
+        """The same of the state of the world: each request has all names, and the first of a response's is the reply."""
+        for place, request in enumerate(requests):
+            kind, version = KINDS[request['typeUrl']], request.get('versionInfo')
+            held = f', and tells version {quoted(version)}' if version else ''
+            if op == 'response' and place == 0:
+                if 'errorDetail' in request:
+                    self.page.line(f'sends an error for nonce {quoted(request["responseNonce"])}: {quoted(request["errorDetail"]["message"], 200)}{held}')
+                continue
+            names = self.names(request['resourceNames']) if 'resourceNames' in request else 'none' if kind in ('eds', 'rds') else None
+            node = f', as node {quoted(request["node"]["id"])}' if 'node' in request else ''
+            self.page.line((f'asks for {WORDS[kind]} {names}' if names else f'asks for all {WORDS[kind]}') + node + held)
 
     def names(self, names):
         return few((quoted(name, 40) for name in names), MOST_NAMES)
@@ -290,9 +303,20 @@ class Teller:
             found = [request for request in row.answer.get('requests', [])
                      if KINDS[request['typeUrl']] == kind and 'responseNonce' not in request]
             wanted, unwanted = (sorted(name for of, name in names if of == kind) for names in (added, gone))
+            if self.reading.whole:
+                self.whole_doubts(kind, wanted or unwanted, row)
+                continue
             listed = found[0] if found else {}
             if (listed.get('resourceNamesSubscribe', []), listed.get('resourceNamesUnsubscribe', [])) != (wanted, unwanted):
                 self.doubt(f'a request for {WORDS[kind]} that adds {wanted} and drops {unwanted}')
+
+    def whole_doubts(self, kind, changed, row):
+        found = [request for request in row.answer.get('requests', [])[row.op == 'response':] if KINDS[request['typeUrl']] == kind]
+        if not found and not changed:
+            return
+        names = sorted(name for of, name in self.machine.dependents if of == kind)
+        if not changed or not found or found[0].get('resourceNames', []) != names:
+            self.doubt(f'a request for {WORDS[kind]} of {names}' if changed else f'no request for {WORDS[kind]}')
 
     def doubt(self, words):
         self.page.line(f'(this tool reckoned with {shown(words, 300)}; the journal says otherwise)', 'bad', news=True)

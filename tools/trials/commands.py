@@ -17,6 +17,10 @@ def explained_with_input(path):
     return ['--finding', f'{path}.jsonl'], f'{path}.out'
 
 
+def explained_whole(path):
+    return ['--sotw', f'{path}.jsonl', f'{path}.out'], os.devnull
+
+
 def explained_with_secrets(path):
     return ['--secrets', f'{path}.jsonl', f'{path}.out', f'{path}.journal.jsonl'], os.devnull
 
@@ -31,6 +35,7 @@ COMMANDS = {
     'soak': None,
     'dump': explained_dump,
     'tls': explained_with_secrets,
+    'sotw': explained_whole,
 }
 
 

@@ -15,7 +15,7 @@ PATH = re.compile(r'(?:\./)?[\w.*-]+(?:/[\w.*-]+)*/?')
 COMMAND = re.compile(r'(?<![\w/.-])(?:warmgate/)?(\./warmgate|(?:tools|bench)/\w+)(?= |$|\))')
 TURNS = {'|', '||', '&&', ';', '&'}
 REDIRECTION = re.compile(r'\d*[<>]+&?\d*')
-PRINTS = re.compile(r'^\$ \./warmgate \w+(?: \d+)? < examples/([\w/]+)\.jsonl \| tools/explain (?:--dump|(?:--finding )?examples/\1\.jsonl)$')
+PRINTS = re.compile(r'^\$ \./warmgate \w+(?: \d+)? < examples/([\w/]+)\.jsonl \| tools/explain (?:--dump|(?:--finding |--sotw )?examples/\1\.jsonl)$')
 SCREEN_LINES, SCREEN_COLUMNS, SCREENS = 52, 120, 2.5
 
 

@@ -5,7 +5,7 @@ from concurrent import futures
 
 import grpc
 from recording.messages import CLASSES
-from recording.protocols import DELTA, DISCOVERY, METHODS, STATE_OF_THE_WORLD
+from recording.protocols import DELTA, DISCOVERY, METHODS, REQUESTS, STATE_OF_THE_WORLD
 from recording.wires import Tls, server_at
 from shared.resources import URLS
 
@@ -24,17 +24,17 @@ class Server:
 
 
 class StepsPlane(grpc.GenericRpcHandler):
-    """An incremental control plane that plays steps: it sends a step once its type is asked for and the step before it is
+    """A control plane, incremental unless told otherwise, that plays steps: it sends a step once its type is asked for and the step before it is
     answered. A step is a response without its nonce, or None, which ends the stream. `requests` are those that came, by stream."""
 
-    def __init__(self, steps):
-        self.steps, self.next, self.requests, self.metadata = list(steps), 0, [], []
+    def __init__(self, steps, protocol=DELTA):
+        self.steps, self.protocol, self.next, self.requests, self.metadata = list(steps), protocol, 0, [], []
 
     def service(self, details):
-        if METHODS.get(details.method) != DELTA:
+        if METHODS.get(details.method) != self.protocol:
             return None
         return grpc.stream_stream_rpc_method_handler(
-            self.stream, CLASSES[DISCOVERY + 'DeltaDiscoveryRequest'].FromString, lambda message: message.SerializeToString())
+            self.stream, CLASSES[REQUESTS[self.protocol]].FromString, lambda message: message.SerializeToString())
 
     def stream(self, requests, context):
         came, seen, asked, waiting = queue.SimpleQueue(), [], set(), None

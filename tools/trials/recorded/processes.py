@@ -68,7 +68,7 @@ def started(words, errors, front=(), **how):
     finally:
         process.send_signal(signal.SIGINT)
         try:
-            process.wait(10)
+            process.wait(MOST)
         except subprocess.TimeoutExpired:
             process.kill()
             process.wait()

@@ -4,17 +4,21 @@ import os
 import re
 import shutil
 import subprocess
+import sys
 import tempfile
 import threading
 from concurrent import futures
 
 import grpc
 from recording.messages import CLASSES
-from recording.protocols import DELTA, DISCOVERY, METHODS
+from recording.program import commands_of
+from recording.protocols import DELTA, DISCOVERY, METHODS, RESPONSES, STATE_OF_THE_WORLD
 from recording.wires import OPTIONS
 from shared import script
 from shared.resources import URLS
 from shared.shown import read_file
+
+from trials import written
 
 from . import bodies, units
 from .grpc_session import GrpcSession, OtherwiseSession
@@ -32,10 +36,29 @@ def run(check, program):
 
     units.run(check)
     trials = [grpc_through_relay, grpc_otherwise, client_alone, raw_through_relay, relay_without_upstream, relay_on_full_disk, wrong_arguments]
-    trials += [client_with_steps, relay_with_tls] if program else []
+    trials += [client_with_steps, client_of_the_whole, relay_with_tls]
     with futures.ThreadPoolExecutor(len(trials)) as pool:
         for going in [pool.submit(in_folder, trial, told, program) for trial in trials]:
             going.result()
+
+
+STAND_IN = f'''#!{sys.executable}
+import sys
+sys.dont_write_bytecode = True
+sys.path.insert(0, {TOOLS!r})
+from shared.replayed import replayed, replayed_whole
+made = {{'replay': replayed, 'sotw': replayed_whole}}.get(''.join(sys.argv[1:]))
+if made is None:
+    sys.exit(print('usage: warmgate replay | sotw', file=sys.stderr) or 2)
+sys.stdout.buffer.write(made(sys.stdin.buffer.read()))
+'''
+
+
+def with_command(program, command, folder):
+    """The program where it has the command, or a stand-in that reckons by the tools."""
+    if program and command in commands_of(program):
+        return program
+    return written(f'{folder}/stand_in', STAND_IN, 0o755)
 
 
 def in_folder(trial, check, program):
@@ -123,6 +146,7 @@ def response(kind, resources, version, removed=()):
 
 def client_with_steps(check, program, folder):
     """The client through the relay: both record the same, and what the client sent is what the program says."""
+    program = with_command(program, 'replay', folder)
     plane = StepsPlane(steps())
     server = Server(plane)
     try:
@@ -144,6 +168,47 @@ def client_with_steps(check, program, folder):
     for pair in ((own, f'{folder}/client/client.requests.jsonl'), (script, requests)):
         status, out, errors = called('--compare', *pair, '--program', program)
         check(status == 0 and out.splitlines()[-1].endswith('alike'), f'the client beside the program: {status} {out}{errors}')
+
+
+def whole_steps():
+    """The same session of the state of the world."""
+    def step(kind, version, **resources):
+        return CLASSES[RESPONSES[STATE_OF_THE_WORLD]](type_url=URLS[kind], version_info=version, resources=[bodies.any_of(*body) for body in resources.values()])
+
+    d = bodies.static_cluster('d', 81)
+    return [
+        step('cds', 'v1', c=bodies.cluster('c', 's'), d=d),
+        step('eds', 'e1', s=bodies.assignment('s', 80)),
+        step('lds', 'l1', i=bodies.listener('in', 'r', 8080)),
+        step('rds', 'r1', r=bodies.routes('r', 'c')),
+        step('cds', 'v2', c=bodies.cluster_without_source('c'), d=d, e=bodies.static_cluster('e', 82)),
+        None,
+        step('cds', 'v3', c=bodies.cluster('c', 't')),
+        step('eds', 'e2', t=bodies.assignment('t', 83)),
+    ]
+
+
+def client_of_the_whole(check, program, folder):
+    """The client of the state of the world: it sends what the command sotw says."""
+    for_sotw, for_replay = with_command(program, 'sotw', folder), with_command(program, 'replay', folder)
+    plane = StepsPlane(whole_steps(), STATE_OF_THE_WORLD)
+    server = Server(plane)
+    try:
+        status, _, errors = recorded('--connect', f'127.0.0.1:{server.port}', '--sotw', '--node', 'edge-1', '--until-quiet', '3', '--seconds',
+                                     str(MOST - 5), '--out', f'{folder}/client', '--program', for_sotw)
+    finally:
+        server.stop()
+    check(status == 0 and '2 streams, 7 responses' in errors, f'the client of the state of the world: {status} {errors}')
+    check(plane.next == len(plane.steps) and len(plane.requests) == 2, f'the control plane of the state of the world sent {plane.next} steps')
+    sent = [[(request.type_url.rpartition('.')[2], request.version_info, request.response_nonce, list(request.resource_names), request.error_detail.message)
+             for request in seen] for seen in plane.requests]
+    check(sent[0][-1] == ('Cluster', 'v1', 'n5', [], 'c: V8'), f'a refusal has the version before: {sent[0]}')
+    check([entry[:4] for entry in sent[1][:4]] == [('Cluster', 'v1', '', []), ('ClusterLoadAssignment', 'e1', '', ['s']), ('Listener', 'l1', '', []),
+                                                   ('RouteConfiguration', 'r1', '', ['r'])], f'the second stream began with {sent[1]}')
+    own = f'{folder}/client/client'
+    is_script(check, f'{own}.jsonl', f'{own}.sotw.jsonl')
+    status, out, errors = called('--compare', f'{own}.jsonl', f'{own}.requests.jsonl', '--program', for_replay)
+    check(status == 0 and out.splitlines()[-1].endswith('alike'), f'the client of the state of the world beside the program: {status} {out}{errors}')
 
 
 def client_alone(check, program, folder):
@@ -240,8 +305,9 @@ def relay_on_full_disk(check, program, folder):
 
 def relay_with_tls(check, program, folder):
     """TLS on both sides, where openssl is there to make a certificate."""
-    if not shutil.which('openssl') or not program:
+    if not shutil.which('openssl'):
         return
+    program = with_command(program, 'replay', folder)
     certificate, key = f'{folder}/certificate.pem', f'{folder}/key.pem'
     subprocess.run(['openssl', 'req', '-x509', '-newkey', 'rsa:2048', '-nodes', '-days', '2', '-subj', '/CN=localhost', '-addext',
                     'subjectAltName=DNS:localhost,IP:127.0.0.1', '-keyout', key, '-out', certificate], check=True, capture_output=True)
@@ -259,6 +325,7 @@ def wrong_arguments(check, program, folder):
     for words in ([], ['--listen', '127.0.0.1:0'], ['--connect', 'x:1'], ['--connect', 'x:1', '--listen', 'y:1', '--upstream', 'z:1'],
                   ['--connect', 'x:1', '--out', folder, '--seconds', '-1'], ['--connect', 'x:1', '--out', folder, '--program', '/no/such'],
                   ['--compare', f'{TOOLS}/../examples/connect.jsonl', 'x', '--program', '/no/such'],
-                  ['--connect', 'x:1', '--out', folder, '--program', '/bin/true', '--node', 'n' * 513]):
+                  ['--connect', 'x:1', '--out', folder, '--program', '/bin/true', '--node', 'n' * 513], ['--compare', 'x', 'y', '--sotw'],
+                  ['--connect', 'x:1', '--out', folder, '--program', '/bin/true', '--sotw']):
         status, _, errors = called(*words)
         check(status == 2 and 'Traceback' not in errors, f'record {" ".join(words)}: {status} {errors}')
