@@ -38,16 +38,18 @@ class Reading:
         self.workers, self.node, self.auto = None, 'warmgate', False
         self.lines, self.rows, self.format, self.faults, self.count = [], [], None, [], 0
         self.whole = None  # reads the responses of the state of the world
+        self.operations = OPERATIONS
 
     def line_at(self, at):
         return self.lines[at - 2] if 2 <= at <= len(self.lines) + 1 else None
 
 
 def read_script(data, audit=False, go_on=False, progress=None, command=None):
-    """Reads a script, or with `audit` a script and its journal, or the input of a command whose lines have other forms too (`sotw`).
-    Stops at the first fault, or with `go_on` notes those of all lines. `progress` is the tool that says how far it is."""
+    """Reads a script, or with `audit` a script and its journal, or the input of a command whose lines have other forms too (`dns`,
+    `sotw`). Stops at the first fault, or with `go_on` notes those of all lines. `progress` is the tool that says how far it is."""
     reading = Reading()
     reading.whole = Whole() if command == 'sotw' else None
+    reading.operations = {**OPERATIONS, **RESOLVED} if command == 'dns' else OPERATIONS
     if not data:
         reading.faults.append(Fault(1, 8, [(None, 'the input is empty')]))
         return reading
@@ -210,6 +212,13 @@ def type_words(value):
     return [f'is {value_shown(value)} and not one of "cds", "eds", "lds", "rds"']
 
 
+def addresses_words(value):
+    if not isinstance(value, list):
+        return [f'is {value_shown(value)} and not an array of texts; a resolution that failed has none']
+    found = [words for address in value for words in name_words(address)]
+    return [f'has an element that {found[0]}'] if found else []
+
+
 WORKER = {'worker': whole_words(MAX_U32)}
 CONNECTION = {'worker': whole_words(MAX_U32), 'conn': whole_words(MAX_U64)}
 ADDRESS = {'address': name_words, 'port': whole_words(65535)}
@@ -233,13 +242,17 @@ OPERATIONS = {
 }
 
 
+# What the input of dns has besides: a resolution of a host name. Without addresses it failed.
+RESOLVED = {'resolved': ({'name': name_words}, {'addresses': addresses_words})}
+
+
 def read_operation(reading, number, tree):
     if not isinstance(tree, dict):
         return Fault(number, 6, [(None, f'the line is {value_shown(tree)} and not an object')], line_hints(tree))
     op = tree.get('op')
-    if not isinstance(op, str) or op not in OPERATIONS:
-        return Fault(number, 6, [('op', op_words(tree, op))], line_hints(tree))
-    wanted, optional = OPERATIONS[op]
+    if not isinstance(op, str) or op not in reading.operations:
+        return Fault(number, 6, [('op', op_words(tree, op, reading.operations))], line_hints(tree))
+    wanted, optional = reading.operations[op]
     complaints = [(name, unexpected(name, [*wanted, *optional], op)) for name in tree
                   if name != 'op' and name not in wanted and name not in optional]
     complaints += [(name, 'is missing') for name in wanted if name not in tree]
@@ -266,12 +279,14 @@ def read_operation(reading, number, tree):
     return None
 
 
-def op_words(tree, op):
+def op_words(tree, op, operations):
     if 'op' not in tree:
         return 'is missing'
     if not isinstance(op, str):
         return f'is {value_shown(op)} and not a text'
-    return f'is {quoted(op)}, which is no operation' + close_match(op, OPERATIONS)
+    if op in RESOLVED:
+        return f'is {quoted(op)}: warmgate dns takes it, and replay takes what dns writes'
+    return f'is {quoted(op)}, which is no operation' + close_match(op, operations)
 
 
 def unexpected(name, known, op=None):

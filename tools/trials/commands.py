@@ -17,6 +17,10 @@ def explained_with_input(path):
     return ['--finding', f'{path}.jsonl'], f'{path}.out'
 
 
+def explained_with_journal(path):
+    return [f'{path}.out', f'{path}.journal.jsonl'], os.devnull
+
+
 def explained_whole(path):
     return ['--sotw', f'{path}.jsonl', f'{path}.out'], os.devnull
 
@@ -35,6 +39,7 @@ COMMANDS = {
     'soak': None,
     'dump': explained_dump,
     'tls': explained_with_secrets,
+    'dns': explained_with_journal,
     'sotw': explained_whole,
 }
 
