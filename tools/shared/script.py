@@ -45,11 +45,11 @@ class Reading:
 
 
 def read_script(data, audit=False, go_on=False, progress=None, command=None):
-    """Reads a script, or with `audit` a script and its journal, or the input of a command whose lines have other forms too (`dns`,
-    `sotw`). Stops at the first fault, or with `go_on` notes those of all lines. `progress` is the tool that says how far it is."""
+    """Reads a script, or with `audit` a script and its journal, or the input of a command whose lines have other forms (`dns`,
+    `sotw`, `chains`). Stops at the first fault, or with `go_on` notes those of all lines. `progress` is the tool that says how far it is."""
     reading = Reading()
     reading.whole = Whole() if command == 'sotw' else None
-    reading.operations = {**OPERATIONS, **RESOLVED} if command == 'dns' else OPERATIONS
+    reading.operations = {'dns': {**OPERATIONS, **RESOLVED}, 'chains': CHAINS}.get(command, OPERATIONS)
     if not data:
         reading.faults.append(Fault(1, 8, [(None, 'the input is empty')]))
         return reading
@@ -122,6 +122,9 @@ def read_line(reading, number, text, audit):
 # The header
 
 def read_header(reading, tree):
+    if reading.operations is CHAINS:
+        good = isinstance(tree, dict) and set(tree) == {'chains'} and tree['chains'] is True
+        return None if good else Fault(1, 5, [(None, 'isn\'t {"chains":true}, the only first line of such an input')])
     if not isinstance(tree, dict):
         return Fault(1, 5, [(None, f'the header is {value_shown(tree)} and not an object')], header_hints(tree))
     complaints = [(name, unexpected(name, ('workers', 'auto', 'node'))) for name in tree
@@ -212,6 +215,10 @@ def type_words(value):
     return [f'is {value_shown(value)} and not one of "cds", "eds", "lds", "rds"']
 
 
+def object_words(value):
+    return [] if isinstance(value, dict) else [f'is {value_shown(value)} and not an object']
+
+
 def addresses_words(value):
     if not isinstance(value, list):
         return [f'is {value_shown(value)} and not an array of texts; a resolution that failed has none']
@@ -244,6 +251,14 @@ OPERATIONS = {
 
 # What the input of dns has besides: a resolution of a host name. Without addresses it failed.
 RESOLVED = {'resolved': ({'name': name_words}, {'addresses': addresses_words})}
+# The operations of the input of chains.
+CHAINS = {
+    'listener': ({'message': object_words}, {}),
+    'accept': ({'conn': whole_words(MAX_U64), 'port': whole_words(65535)}, {'serverName': text_words(MAX_NAME)}),
+    'close': ({'conn': whole_words(MAX_U64)}, {}),
+    'drainTimeout': ({}, {}),
+    'reap': ({}, {}),
+}
 
 
 def read_operation(reading, number, tree):
@@ -274,7 +289,7 @@ def read_operation(reading, number, tree):
         return Fault(number, 7, [('worker', words)])
     if reading.whole:
         reading.whole.note(op)
-    members = {'host': '', 'path': '/', 'pick': 0, **tree} if op == 'accept' else tree
+    members = {'host': '', 'path': '/', 'pick': 0, **tree} if op == 'accept' and 'worker' in tree else tree
     reading.lines.append(Line(number, op, members, response))
     return None
 

@@ -40,6 +40,7 @@ COMMANDS = {
     'dump': explained_dump,
     'tls': explained_with_secrets,
     'dns': explained_with_journal,
+    'chains': None,
     'sotw': explained_whole,
 }
 
