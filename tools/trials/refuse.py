@@ -4,7 +4,7 @@ import shutil
 import subprocess
 import tempfile
 
-from trials import TOP, content, written
+from trials import TOP, content, loaded, written
 
 TOOL = f'{TOP}/tools/refuse'
 SCRIPT = f'{TOP}/examples/run/publish_and_accept.jsonl'
@@ -65,6 +65,10 @@ def tries(check, program):
     for word, words in (('fails', 'allocation 3: status 1, 0 bytes written'), ('writes', 'allocation 3: status 6, 6 bytes written'), ('hangs', 'allocation 3: hangs, 0 bytes written')):
         status, row, other, errors = told('replay', word)
         check(status == 1 and row[5] == '1' and other == [f'replay {word}, {words}'], f'refuse of a program that {word}: {status} {row} {other}')
+    rows = told('--every', '50', '--all', FIRST=SCRIPT, SECOND=SCRIPT)
+    check(rows[0] in (0, 1) and rows[1][0] == '`replay` of `realistic.in`' and any('each 100th' in line for line in rows[2]), f'refuse --all: {rows}')
+    table = loaded('tools/refuse').TABLE
+    check(all(path is None or os.path.exists(f'{TOP}/{path}') for _, path, _ in table), 'refuse --all: an input is missing')
     journals(check, told)
     for words in ([], ['--all', 'replay'], ['--every', '-1', 'replay'], ['--numbers', '0', 'replay'], ['--repeat', '0', 'replay'], ['--program', '/no/such', 'replay']):
         status = told(*words)[0]
