@@ -15,7 +15,7 @@ read = lambda path: open(path, 'rb').read() if os.path.exists(path) else b''
 script = b'' if command == 'soak' else sys.stdin.buffer.read()
 if command == 'replay':
     inputs = {place: read(place + '.out') or read(place + '.jsonl') for place in (path[:-14] for path in glob.glob(folder + '**/*.journal.jsonl', recursive=True))}
-    found = [place + '.journal.jsonl' for place in inputs if inputs[place] == script]
+    found = [place + '.journal.jsonl' for place in inputs if script and inputs[place] == script]
 else:
     places = [path[:-4] for path in glob.glob(folder + command + '/*.out')]
     found = [place + '.out' for place in places if (read(place + '.words').decode().split() or [command], read(place + '.jsonl')) == (sys.argv[1:], script)]

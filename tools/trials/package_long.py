@@ -26,11 +26,11 @@ def in_a_root(check, module, folder, package):
     """The package with a few of its examples, and then with faults in it: all examples take longer than a trial may."""
     subprocess.run(['tar', 'xzf', package, '-C', folder], check=True)
     top = next(f'{folder}/{name}' for name in os.listdir(folder) if name.startswith('warmgate-') and not name.endswith('.gz'))
-    for path in glob.glob(f'{top}/examples/*.*l') + glob.glob(f'{top}/examples/broken/*.*l'):
-        if os.path.basename(path).partition('.')[0] not in ('connect', 'auto', 'empty'):
+    for path in glob.glob(f'{top}/examples/*.*l') + glob.glob(f'{top}/examples/broken/*.*l') + glob.glob(f'{top}/examples/*/*.out'):
+        if os.path.basename(path).partition('.')[0] not in ('connect', 'auto', 'empty', 'from_zero', 'legal'):
             os.remove(path)
     status, out, errors = tried(module, folder, top)
-    check(status == 0 and out.endswith(': 10 passed, 0 failed\n'), f'tools/package --try: {status} {out} {errors}')
+    check(status == 0 and out.endswith(': 14 passed, 0 failed\n'), f'tools/package --try: {status} {out} {errors}')
     for path in ('examples/connect.journal.jsonl', 'examples/broken/empty.txt', 'bin/warmgate'):
         with open(f'{top}/{path}', 'a') as file:
             file.write('# \n')
