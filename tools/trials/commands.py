@@ -17,16 +17,8 @@ def explained_with_input(path):
     return ['--finding', f'{path}.jsonl'], f'{path}.out'
 
 
-def explained_with_journal(path):
-    return [f'{path}.out', f'{path}.journal.jsonl'], os.devnull
-
-
 def explained_whole(path):
     return ['--sotw', f'{path}.jsonl', f'{path}.out'], os.devnull
-
-
-def explained_with_secrets(path):
-    return ['--secrets', f'{path}.jsonl', f'{path}.out', f'{path}.journal.jsonl'], os.devnull
 
 
 def explained_dump(path):
@@ -38,8 +30,6 @@ COMMANDS = {
     'audit': explained_with_input,
     'soak': None,
     'dump': explained_dump,
-    'tls': explained_with_secrets,
-    'dns': explained_with_journal,
     'chains': None,
     'sotw': explained_whole,
 }

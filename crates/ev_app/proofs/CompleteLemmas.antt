@@ -4,8 +4,10 @@ use Rattle.std.specs.Io.KnownBytes.{IsAtEnd, prepend_known}
 use Rattle.ev_script.specs.declared.fault_kinds.FaultKind.{FaultKind}
 use Rattle.ev_script.specs.Faults.{Input, plain_lines}
 use Rattle.ev_script.proofs.PrefixLemmas.{stands_more}
+use Rattle.ev_audit_input.proofs.GrowLemmas.{stands_more_with}
+use Rattle.ev_chain_lines.specs.Lines.{chain_lines}
 use Rattle.ev_app.specs.declared.commands.Command.{Command}
-use Rattle.ev_app.specs.declared.commands.Command.TheVariants.{Replay, Run, Soak}
+use Rattle.ev_app.specs.declared.commands.Command.TheVariants.{Replay, Run, Audit, Soak, Chains, Dump}
 use Rattle.ev_app.specs.Input.{has_journal, TakesInput, IsTakenFor}
 use Rattle.ev_io.specs.Outside.{Rose}
 use Rattle.ev_app.specs.Faults.{IsEarly, NoneEarly, IsLate, IsFirstEarly, IsFaultFor, HasNoneFor, IsCutOff}
@@ -19,7 +21,10 @@ told command bytes ended = record { bytes = bytes; ended = ended; audit = has_jo
 early_more : (command : Command) (xs ys : List ℕ) (place : ℕ) (kind : FaultKind) → IsEarly command (told command xs false) place kind → IsEarly command (told command (xs ++ ys) true) place kind
 early_more Replay xs ys place kind early = stands_more plain_lines xs ys true false place kind early
 early_more Run xs ys place kind early = stands_more plain_lines xs ys true false place kind early
+early_more Audit xs ys place kind early = stands_more_with xs ys true true place kind early
 early_more (Soak seed count) xs ys place kind early = early
+early_more Chains xs ys place kind early = stands_more chain_lines xs ys true false place kind early
+early_more (Dump entries) xs ys place kind early = stands_more_with xs ys true true place kind early
 
 -- the bytes taken are a front of those told, and all of them at the end
 front_of : (bytes taken : List ℕ) (after : Option (List ℕ)) → Some bytes ≡ prepend_known taken after → (rest : List ℕ) × (bytes ≡ taken ++ rest) × (IsAtEnd after → rest ≡ [])
@@ -66,10 +71,16 @@ not_refused_by command outside line number input taken fault tells =
 pub not_refused : (command : Command) (outside : Outside) (line number : ℕ) (input : Input) → IsTakenFor command outside.left_before outside.left_after input → IsFaultFor command input line number → IsHonest command outside → ⊥
 not_refused Replay outside line number input taken fault honest = not_refused_by Replay outside line number input taken fault honest.told
 not_refused Run outside line number input taken fault honest = not_refused_by Run outside line number input taken fault honest.told
+not_refused Audit outside line number input taken fault honest = not_refused_by Audit outside line number input taken fault honest.told
+not_refused Chains outside line number input taken fault honest = not_refused_by Chains outside line number input taken fault honest.told
+not_refused (Dump entries) outside line number input taken fault honest = not_refused_by (Dump entries) outside line number input taken fault honest.told
 not_refused (Soak seed count) outside line number input taken fault honest = no_fault_without_input seed count input line number fault
 
 -- nor does a read of them fail
 pub not_cut_off : (command : Command) (outside : Outside) (input : Input) → IsTakenFor command outside.left_before outside.left_after input → IsCutOff command input → Rose outside.reads_before outside.reads_after → IsHonest command outside → ⊥
 not_cut_off Replay outside input taken cut rose honest = honest.told.no_read_fault rose
 not_cut_off Run outside input taken cut rose honest = honest.told.no_read_fault rose
+not_cut_off Audit outside input taken cut rose honest = honest.told.no_read_fault rose
+not_cut_off Chains outside input taken cut rose honest = honest.told.no_read_fault rose
+not_cut_off (Dump entries) outside input taken cut rose honest = honest.told.no_read_fault rose
 not_cut_off (Soak seed count) outside input taken cut rose honest = cut.goes_on (ap (λ (i : Input). i.ended) taken.empty)

@@ -5,3 +5,7 @@ pub mod CompleteLemmas
 pub mod SoakLemmas
 pub mod AnswerLemmas
 pub mod CommandLemmas
+pub mod PartsLemmas
+pub mod AuditLemmas
+pub mod DumpLemmas
+pub mod ChainLemmas

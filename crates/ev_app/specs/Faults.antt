@@ -2,8 +2,11 @@
 use Rattle.std.specs.Prelude.{◌≡◌, ℕ, ◌<◌, ◌≤◌, ◌⊎◌, IsTrue, List}
 use Rattle.ev_script.specs.declared.fault_kinds.FaultKind.{FaultKind}
 use Rattle.ev_script.specs.Faults.{Input, Stands, fault_order, fault_line, fault_number, plain_lines}
+use Rattle.ev_audit_input.specs.Faults.{StandsWithJournal, IsToldWithJournal}
+use Rattle.ev_chain_lines.specs.Lines.{chain_lines}
 use Rattle.ev_app.specs.declared.commands.Command.{Command}
-use Rattle.ev_app.specs.declared.commands.Command.TheVariants.{Replay, Run, Soak}
+use Rattle.ev_app.specs.declared.commands.Command.TheVariants.{Replay, Run, Audit, Soak, Chains, Dump}
+use Rattle.ev_app.specs.Dumps.{EndsNoCommit}
 
 -- ---- early faults: of kinds 1 to 9, at a place
 
@@ -11,13 +14,19 @@ use Rattle.ev_app.specs.declared.commands.Command.TheVariants.{Replay, Run, Soak
 abbrev pub IsEarly : Command → Input → ℕ → FaultKind → Type 0
 IsEarly Replay input place kind = Stands plain_lines input place kind
 IsEarly Run input place kind = Stands plain_lines input place kind
+IsEarly Audit input place kind = StandsWithJournal input place kind
 IsEarly (Soak seed count) input place kind = ⊥
+IsEarly Chains input place kind = Stands chain_lines input place kind
+IsEarly (Dump entries) input place kind = StandsWithJournal input place kind
 
 -- the line with which it is told
 abbrev pub IsToldOn : Command → Input → ℕ → FaultKind → ℕ → Type 0
 IsToldOn Replay input place kind line = line ≡ fault_line input place kind
 IsToldOn Run input place kind line = line ≡ fault_line input place kind
+IsToldOn Audit input place kind line = IsToldWithJournal input place kind line
 IsToldOn (Soak seed count) input place kind line = ⊥
+IsToldOn Chains input place kind line = line ≡ fault_line input place kind
+IsToldOn (Dump entries) input place kind line = IsToldWithJournal input place kind line
 
 abbrev pub NoneEarly : Command → Input → Type 0
 NoneEarly command input = (place : ℕ) (kind : FaultKind) → ¬ (IsEarly command input place kind)
@@ -38,7 +47,10 @@ pub record IsFirstEarly (command : Command) (input : Input) (line number : ℕ) 
 abbrev pub IsLate : Command → List ℕ → ℕ → ℕ → Type 0
 IsLate Replay bytes line number = ⊥
 IsLate Run bytes line number = ⊥
+IsLate Audit bytes line number = ⊥
 IsLate (Soak seed count) bytes line number = ⊥
+IsLate Chains bytes line number = ⊥
+IsLate (Dump entries) bytes line number = EndsNoCommit entries bytes line number
 
 -- ---- the fault that is told
 

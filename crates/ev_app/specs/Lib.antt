@@ -4,6 +4,9 @@ pub mod Scripts
 pub mod Faults
 pub mod Replay
 pub mod Runs
+pub mod Audits
+pub mod Dumps
+pub mod Chains
 pub mod Texts
 pub mod Status
 pub mod Exit

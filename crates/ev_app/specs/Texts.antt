@@ -4,27 +4,36 @@ use Rattle.ev_io.specs.declared.faults.ScriptFault.{ScriptFault}
 use Rattle.ev_io.specs.declared.faults.ScriptFault.TheVariants.{Bad, Read, OutOfMemory as lacks_memory}
 use Rattle.ev_script.specs.Faults.{Input}
 use Rattle.ev_app.specs.declared.commands.Command.{Command}
-use Rattle.ev_app.specs.declared.commands.Command.TheVariants.{Replay, Run, Soak}
+use Rattle.ev_app.specs.declared.commands.Command.TheVariants.{Replay, Run, Audit, Soak, Chains, Dump}
 use Rattle.ev_app.specs.declared.status.Status.{Status}
-use Rattle.ev_app.specs.declared.status.Status.TheVariants.{Done, OutOfMemory}
+use Rattle.ev_app.specs.declared.status.Status.TheVariants.{Done, Illegal, OutOfMemory}
 use Rattle.ev_app.specs.declared.made.Made.{Made}
 use Rattle.ev_app.specs.Input.{IsTakenFor}
 use Rattle.ev_app.specs.Faults.{IsFaultFor, HasNoneFor, IsCutOff}
 use Rattle.ev_app.specs.Replay.{IsReplayOf}
 use Rattle.ev_app.specs.Runs.{IsTextOfRun}
+use Rattle.ev_app.specs.Audits.{IsAudited}
+use Rattle.ev_app.specs.Dumps.{IsDumped}
+use Rattle.ev_app.specs.Chains.{IsChained}
 use Rattle.ev_soak.specs.Lines.{IsSoakText}
 
 -- the text that answers a whole input without fault, and the status that goes with it
 abbrev pub Answers : Command → List ℕ → Status → List ℕ → Type 0
 Answers Replay bytes status text = (status ≡ Done) × IsReplayOf bytes text
 Answers Run bytes status text = (status ≡ Done) × IsTextOfRun bytes text
+Answers Audit bytes status text = IsAudited bytes status text
 Answers (Soak seed count) bytes status text = (status ≡ Done) × IsSoakText seed count text
+Answers Chains bytes status text = (status ≡ Done) × IsChained bytes text
+Answers (Dump entries) bytes status text = IsDumped entries bytes status text
 
 -- how a call ends where nothing fails and the input has no fault
 abbrev pub IsAnswered : Command → Status → Type 0
 IsAnswered Replay status = (status ≡ Done) ⊎ (status ≡ OutOfMemory)
 IsAnswered Run status = (status ≡ Done) ⊎ (status ≡ OutOfMemory)
+IsAnswered Audit status = (status ≡ Done) ⊎ ((status ≡ Illegal) ⊎ (status ≡ OutOfMemory))
 IsAnswered (Soak seed count) status = (status ≡ Done) ⊎ (status ≡ OutOfMemory)
+IsAnswered Chains status = (status ≡ Done) ⊎ (status ≡ OutOfMemory)
+IsAnswered (Dump entries) status = (status ≡ Done) ⊎ ((status ≡ Illegal) ⊎ (status ≡ OutOfMemory))
 
 -- the input is whole and without fault, and this text and this status answer it
 pub record IsAnswerTo (command : Command) (input : Input) (status : Status) (text : List ℕ) : Type 0 where

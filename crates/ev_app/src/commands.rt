@@ -1,6 +1,6 @@
-ghost use Rattle.std.specs.Prelude.{◌≡◌, ℕ, ◌↔◌, [], ◌∷◌, None, IsTrue, IfSome};
+ghost use Rattle.std.specs.Prelude.{◌≡◌, ℕ, ◌<◌, ◌^◌, ◌↔◌, [], ◌∷◌, None, IsTrue, IfSome};
 ghost use Rattle.ev_app.specs.declared.commands.Command.{Command};
-ghost use Rattle.ev_app.specs.declared.commands.Command.TheVariants.{Replay, Run, Soak};
+ghost use Rattle.ev_app.specs.declared.commands.Command.TheVariants.{Replay, Run, Audit, Soak, Chains, Dump};
 ghost use Rattle.ev_app.specs.Commands.{Asks, IsSoak, IsWithin};
 
 use ev_numbers::number_of;
@@ -14,9 +14,15 @@ pub enum Command {
     Replay,
     /// `run`: the journal of a script, as a thread for each actor makes it.
     Run,
+    /// `audit`: a line that tells what is found of the journal behind a script.
+    Audit,
     /// `soak SEED COUNT`: a line that tells what the replay of a seed's script came to. The script has so many lines behind
     /// its header, 1 to `MAX_SOAK`; nothing is read.
     Soak { seed: u64, count: u32 },
+    /// `chains`: the answers to versions of one listener with several filter chains, and to connections.
+    Chains,
+    /// `dump K`: the configuration behind the first K entries of the journal behind a script, as a line.
+    Dump { entries: u32 },
 }
 
 // The command that the arguments ask for, or none where they ask for no one that is built.
@@ -31,7 +37,16 @@ pub(crate) fn command_of(arguments: &[Text]) -> Option<Command>
     if is_word(arguments, "run") {
         return Some(Command::Run);
     }
-    soak_of(arguments)
+    if is_word(arguments, "audit") {
+        return Some(Command::Audit);
+    }
+    if is_word(arguments, "chains") {
+        return Some(Command::Chains);
+    }
+    if let Some(command) = soak_of(arguments) {
+        return Some(command);
+    }
+    dump_of(arguments)
 }
 
 // Whether the arguments are this one word.
@@ -71,5 +86,34 @@ fn soak_with(seed: u64, count: u64) -> Option<Command>
     Some(Command::Soak {
         seed,
         count: count as u32,
+    })
+}
+
+// The dump that the arguments ask for: `dump` and how many entries.
+fn dump_of(arguments: &[Text]) -> Option<Command>
+    ensures some { IfSome result (Asks arguments.now) }
+    ensures none { result ≡ None → (entries : ℕ) → ¬ (Asks arguments.now (Dump entries)) }
+{
+    match arguments {
+        [word, entries] => {
+            if word.as_str() != "dump" {
+                return None;
+            }
+            dump_with(number_of(entries.as_str())?)
+        }
+        _ => None,
+    }
+}
+
+// The dump of so many entries, where they are within their limit.
+fn dump_with(entries: u64) -> Option<Command>
+    ensures some { IfSome result (λ command. (command ≡ Dump entries) × IsWithin command) }
+    ensures none { result ≡ None → ¬ (entries < 2 ^ 32) }
+{
+    if entries > u64::from(u32::MAX) {
+        return None;
+    }
+    Some(Command::Dump {
+        entries: entries as u32,
     })
 }

@@ -7,7 +7,10 @@
 //!   take no fault away.
 #![tactic(auto)]
 
+mod audit;
+mod chains;
 mod commands;
+mod dump;
 mod input;
 mod made;
 mod program;

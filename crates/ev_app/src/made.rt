@@ -3,7 +3,10 @@ ghost use Rattle.ev_io.specs.Outside.{Rose};
 ghost use Rattle.ev_app.specs.Commands.{IsWithin};
 ghost use Rattle.ev_app.specs.Texts.{IsMadeBy};
 
+use crate::audit::make_audit;
+use crate::chains::make_of_chains;
 use crate::commands::Command;
+use crate::dump::make_dump;
 use crate::replay::make_replay;
 use crate::run::make_run;
 use crate::soak::soak_text;
@@ -39,6 +42,7 @@ pub(crate) fn make<R: Threads + Wait + Sync, S: Source, P: Pace + Sync>(
     match command {
         Command::Replay => make_replay(alloc, source),
         Command::Run => make_run(rt, alloc, source, pace),
+        Command::Audit => make_audit(alloc, source),
         Command::Soak { seed, count } => match soak_text(alloc, seed, count) {
             Ok(text) => Ok(Made {
                 text,
@@ -46,5 +50,7 @@ pub(crate) fn make<R: Threads + Wait + Sync, S: Source, P: Pace + Sync>(
             }),
             Err(_) => Err(ScriptFault::OutOfMemory),
         },
+        Command::Chains => make_of_chains(alloc, source),
+        Command::Dump { entries } => make_dump(alloc, entries, source),
     }
 }

@@ -63,7 +63,7 @@ fn run_text<R: Threads + Wait + Sync, P: Pace + Sync>(
 }
 
 // How many workers a script has, and what it keeps.
-fn workers_of(script: &Script) -> u32
+pub(crate) fn workers_of(script: &Script) -> u32
     ensures workers { result ≡ script.now.workers }
     ensures kept { IsScript script.now }
 {

@@ -108,7 +108,7 @@ others [] = []
 others (first ∷ texts) = texts
 
 -- lists with one element more each
-without_last : (xs ys : List (List ℕ)) (x y : List ℕ) → xs ++ x ∷ [] ≡ ys ++ y ∷ [] → xs ≡ ys
+pub without_last : (xs ys : List (List ℕ)) (x y : List ℕ) → xs ++ x ∷ [] ≡ ys ++ y ∷ [] → xs ≡ ys
 without_last [] [] x y e = refl
 without_last [] (b ∷ ys) x y e = absurd (omega (arith, ap length e, length-append ys (y ∷ [])))
 without_last (a ∷ xs) [] x y e = absurd (omega (arith, ap length e, length-append xs (x ∷ [])))
@@ -138,7 +138,7 @@ number_in None = 0
 number_in (Some n) = n
 
 -- a first line tells its format
-same_format : (format another : Format) (workers : ℕ) → workers < 2 ^ 64 → first_text format workers ≡ first_text another workers → format ≡ another
+pub same_format : (format another : Format) (workers : ℕ) → workers < 2 ^ 64 → first_text format workers ≡ first_text another workers → format ≡ another
 same_format format another workers small e =
     let one : read (first_text format workers) ≡ Some (first_tree format workers) =
     read-compact_text (first_tree format workers) (IsCanonical-first format workers small) (omega arith) in

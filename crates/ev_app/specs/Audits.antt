@@ -1,0 +1,33 @@
+-- The text that answers an audit: what is found of the journal behind a script, as a line.
+use Rattle.std.specs.Prelude.{◌≡◌, ℕ, List}
+use Rattle.ev_types.specs.Scripts.{ScriptParts}
+use Rattle.ev_types.specs.declared.journals.Finding.{Finding}
+use Rattle.ev_types.specs.declared.journals.Finding.TheVariants.{Legal, IllegalAt, NotTheScript}
+use Rattle.ev_types.specs.declared.journals.Format.{Format}
+use Rattle.ev_types.specs.declared.journals.Row.{Row}
+use Rattle.ev_model.specs.Finding.{finding_of}
+use Rattle.ev_audit.specs.Audits.{HasLegalJournal}
+use Rattle.ev_audit.specs.Texts.{finding_text}
+use Rattle.ev_audit_input.specs.Parts.{IsParts}
+use Rattle.ev_app.specs.declared.status.Status.{Status}
+use Rattle.ev_app.specs.declared.status.Status.TheVariants.{Done, Illegal}
+
+-- the status that goes with what is found
+abbrev pub status_found : Finding → Status
+status_found Legal = Done
+status_found (IllegalAt entry) = Illegal
+status_found (NotTheScript entry) = Illegal
+
+-- the text tells what is found of the rows, with its status; where they are legal, they are those of a run that has all laws
+pub record IsAuditText (format : Format) (script : ScriptParts) (rows : List Row) (status : Status) (text : List ℕ) : Type 0 where
+  pub told : text ≡ finding_text (finding_of format script rows)
+  pub goes : status ≡ status_found (finding_of format script rows)
+  pub legal : finding_of format script rows ≡ Legal → HasLegalJournal format script rows
+
+-- the bytes are a script with a journal behind it, and the text tells what is found of that
+pub record IsAudited (bytes : List ℕ) (status : Status) (text : List ℕ) : Type 0 where
+  pub format : Format
+  pub script : ScriptParts
+  pub rows : List Row
+  pub parts : IsParts bytes format script rows
+  pub audited : IsAuditText format script rows status text

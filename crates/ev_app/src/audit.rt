@@ -1,0 +1,57 @@
+ghost use Rattle.std.specs.Prelude.{◌≡◌, ◌<◌, ◌≤◌, ◌⊎◌, length, Err, IfOk};
+ghost use Rattle.ev_io.specs.Outside.{Rose};
+ghost use Rattle.ev_app.specs.declared.commands.Command.TheVariants.{Audit};
+ghost use Rattle.ev_app.specs.Audits.{IsAuditText, status_found};
+ghost use Rattle.ev_app.specs.Texts.{IsMadeBy};
+
+use crate::made::Made;
+use crate::status::Status;
+use ev_audit::{audit, write_finding};
+use ev_audit_input::{Audited, read_audited};
+use ev_io::{MAX_LINES, ScriptFault, Source};
+use ev_types::Finding;
+use std::alloc::{AllocError, Global};
+
+// Makes the line that tells what is found of the journal behind the script that the source's bytes are.
+#[tactic(auto, using(crate::proofs::AuditLemmas::audited, crate::proofs::AuditLemmas::audit_lacks, crate::proofs::AuditLemmas::not_audited))]
+pub(crate) fn make_audit<S: Source>(alloc: Global, source: &mut S) -> Result<Made, ScriptFault>
+    ensures made { IsMadeBy Audit (S.left source.old) (S.left source.new) result }
+    ensures failed { result ≡ Err ScriptFault.Read → Rose (S.faults source.old) (S.faults source.new) }
+    ensures same_count { (S.faults source.new ≡ S.faults source.old) ⊎ (result ≡ Err ScriptFault.Read) }
+    ensures count { S.faults source.old ≤ S.faults source.new }
+{
+    let audited = read_audited(alloc, source)?;
+    match audit_made(alloc, &audited) {
+        Ok(made) => Ok(made),
+        Err(_) => Err(ScriptFault::OutOfMemory),
+    }
+}
+
+// What is found of a journal, as a line, with its status.
+fn audit_made(alloc: Global, audited: &Audited) -> Result<Made, AllocError>
+    requires few { length audited.now.rows.items < MAX_LINES }
+    ensures { IfOk result (λ made. IsAuditText audited.now.format audited.now.script audited.now.rows.items
+        made.status made.text.items) }
+{
+    let finding = audit(
+        alloc,
+        audited.format,
+        &audited.script,
+        audited.rows.as_slice(),
+    )?;
+    Ok(Made {
+        text: write_finding(alloc, finding)?,
+        status: status_of(finding),
+    })
+}
+
+// The status that goes with what is found.
+fn status_of(finding: Finding) -> Status
+    ensures { result ≡ status_found finding }
+{
+    match finding {
+        Finding::Legal => Status::Done,
+        Finding::IllegalAt(_) => Status::Illegal,
+        Finding::NotTheScript(_) => Status::Illegal,
+    }
+}

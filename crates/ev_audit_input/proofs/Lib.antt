@@ -1,0 +1,6 @@
+pub mod GrowLemmas
+pub mod InPlace
+pub mod ScriptFaults
+pub mod UpTo
+pub mod Joined
+pub mod AnswerLemmas

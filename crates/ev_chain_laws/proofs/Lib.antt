@@ -1,0 +1,4 @@
+pub mod PlaceLemmas
+pub mod PairLemmas
+pub mod RowLemmas
+pub mod ChainLemmas

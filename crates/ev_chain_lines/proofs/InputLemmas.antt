@@ -1,0 +1,116 @@
+-- What an input of filter chains is, by what the reader of lines answers.
+use Rattle.std.proofs.Common.{◌≡◌, ℕ, suc, ◌+◌, ◌<◌, true, false, List, [], ◌∷◌, Vec, map, length, get_or, IsTrue, Option, None, Some, Result, Ok, Err, option_map, option_and_then, refl, sym, ap, ◌∙◌, arith}
+use Rattle.std.specs.declared.alloc.Global.{Global}
+use Rattle.std.specs.Io.KnownBytes.{IsAtEnd}
+use Rattle.serde_json.specs.Data.{Data}
+use Rattle.ev_io.specs.declared.faults.ScriptFault.{ScriptFault}
+use Rattle.ev_io.specs.declared.faults.ScriptFault.TheVariants.{Bad, Read, OutOfMemory}
+use Rattle.ev_io.specs.Lines.{lines_of}
+use Rattle.ev_io.specs.Outside.{Takes}
+use Rattle.ev_io.specs.LinesState.{LinesState, HasTaken, IsWithin}
+use Rattle.ev_script.specs.declared.read_input.ReadLines.{ReadLines}
+use Rattle.ev_script.specs.Faults.{Input}
+use Rattle.ev_script.specs.Members.{tree_of}
+use Rattle.ev_script.specs.Content.{IsKeptOf}
+use Rattle.ev_script.specs.ReadLines.{AreKept}
+use Rattle.ev_script.specs.ReadInput.{input_of, IsReadOf, IsAnswer, IsWhole, IsTold, EndsBefore}
+use Rattle.ev_chains.specs.declared.events.ChainEvent.{ChainEvent}
+use Rattle.ev_chains.specs.Events.{seen}
+use Rattle.ev_chains.specs.Steps.{Event}
+use Rattle.ev_chain_lines.specs.Lines.{event_of, chain_lines, events_from, events_behind}
+use Rattle.ev_chain_lines.specs.Texts.{chains_text}
+use Rattle.ev_chain_lines.specs.Inputs.{TakesInput, IsMadeOf, MakesChains}
+
+-- an event is kept
+abbrev pub IsEvent : ℕ → Data → ChainEvent → Type 0
+IsEvent at tree event = event_of tree ≡ Some (seen event)
+
+-- the events of lines that were kept
+events_by : (at : ℕ) (texts : List (List ℕ)) (kept : List ChainEvent) → length texts ≡ length kept
+    → ((i : ℕ) (other : ChainEvent) → i < length kept → IsKeptOf IsEvent (at + i) (tree_of (get_or texts i [])) (get_or kept i other))
+    → events_from texts ≡ Some (map seen kept)
+events_by at [] [] e h = refl
+events_by at [] (event ∷ kept) e h = absurd (omega (arith, e))
+events_by at (text ∷ texts) [] e h = absurd (omega (arith, e))
+events_by at (text ∷ texts) (event ∷ kept) e h =
+    let k : IsKeptOf IsEvent (at + 0) (tree_of text) event = h 0 event (omega arith) in
+    let here : option_and_then event_of (tree_of text) ≡ Some (seen event) = ap (option_and_then event_of) k.is ∙ k.holds in
+    let others : events_from texts ≡ Some (map seen kept) = events_by (at + 1) texts kept (omega (arith, e)) (λ i other within.
+    let r = h (suc i) other (omega arith) in record { tree = r.tree; is = r.is; holds = r.holds }) in
+    ap (λ (found : Option Event). option_and_then (λ (l : Event). option_map (λ (ls : List Event). l ∷ ls) (events_from texts)) found) here
+    ∙ ap (option_map (λ (ls : List Event). seen event ∷ ls)) others
+
+behind_first : (texts : List (List ℕ)) (kept : List ChainEvent) → length texts ≡ length kept + 1 → AreKept IsEvent texts kept → events_behind texts ≡ Some (map seen kept)
+behind_first [] kept long are = absurd (omega (arith, long))
+behind_first (first ∷ texts) kept long are =
+    events_by 2 texts kept (omega (arith, long)) (λ i other h.
+    let k : IsKeptOf IsEvent (i + 2) (tree_of (get_or (first ∷ texts) (i + 1) [])) (get_or kept i other) = are i other h in
+    let next : get_or (first ∷ texts) (i + 1) [] ≡ get_or texts i [] = ap (λ (n : ℕ). get_or (first ∷ texts) n []) (next_is i) in
+    record { tree = k.tree; is = ap tree_of (sym next) ∙ k.is; holds = k.holds })
+  where
+    next_is : (i : ℕ) → i + 1 ≡ suc i
+    next_is i = omega arith
+
+-- an input that no journal may follow is whole where its lines were read
+whole : (input : Input) (read : ReadLines ChainEvent) → input.audit ≡ false → IsReadOf chain_lines IsEvent input read → IsWhole chain_lines input (length read.kept.items + 1)
+whole input read no_audit of = by_end read.journal of.ends
+  where
+    by_end : (journal : Option (Vec ℕ Global)) → EndsBefore chain_lines input (length read.kept.items + 1) journal → IsWhole chain_lines input (length read.kept.items + 1)
+    by_end None ends = ends
+    by_end (Some text) ends = let no : false ≡ true = sym no_audit ∙ ends.begins.audit in cc
+
+-- the bytes taken
+taken_input : (before after : Option (List ℕ)) (state : LinesState) (bytes : List ℕ) → Takes before after bytes → HasTaken state bytes → IsWithin state → (IsTrue state.ended → IsAtEnd after) → TakesInput before after (input_of false state bytes)
+taken_input before after state bytes takes taken within ended = record {
+  asked = refl;
+  taken = takes;
+  at_most = omega (arith, taken.count, within.taken);
+  ended = ended;
+}
+
+-- what the reader of lines ensures
+abbrev pub Reads : Option (List ℕ) → Option (List ℕ) → LinesState → Result (ReadLines ChainEvent) ScriptFault → Type 0
+Reads before after state result = (bytes : List ℕ) × Takes before after bytes × HasTaken state bytes × IsAnswer chain_lines IsEvent (input_of false state bytes) result
+
+pub makes_text : (before after : Option (List ℕ)) (state : LinesState) (read : ReadLines ChainEvent) (text : Vec ℕ Global) → IsWithin state → (IsTrue state.ended → IsAtEnd after)
+    → Reads before after state (Ok read) → text.items ≡ chains_text (map seen read.kept.items) → MakesChains before after (Ok text)
+makes_text before after state read text within ended r answers =
+    let input = input_of false state r.0 in
+    let ends = whole input read refl r.3 in
+    record {
+      input = input;
+      takes = taken_input before after state r.0 r.1 r.2 within ended;
+      is = record {
+        ended = ends.ended;
+        sound = ends.sound;
+        text_of = record { events = map seen read.kept.items; reads = behind_first (lines_of r.0) read.kept.items ends.lines r.3.kept; answers = answers };
+      };
+    }
+
+told : (input : Input) (fault : ScriptFault) → IsTold chain_lines input fault → IsMadeOf input (Err fault)
+told input (Bad line kind) is = is
+told input Read is = (is.0, is.1)
+told input OutOfMemory is = tt
+
+pub makes_fault : (before after : Option (List ℕ)) (state : LinesState) (fault : ScriptFault) → IsWithin state → (IsTrue state.ended → IsAtEnd after)
+    → Reads before after state (Err fault) → MakesChains before after (Err fault)
+makes_fault before after state fault within ended r =
+    record { input = input_of false state r.0; takes = taken_input before after state r.0 r.1 r.2 within ended; is = told (input_of false state r.0) fault r.3 }
+
+-- there was no memory for the text
+pub makes_none : (before after : Option (List ℕ)) (state : LinesState) (read : ReadLines ChainEvent) → IsWithin state → (IsTrue state.ended → IsAtEnd after)
+    → Reads before after state (Ok read) → MakesChains before after (Err OutOfMemory)
+makes_none before after state read within ended r =
+    record { input = input_of false state r.0; takes = taken_input before after state r.0 r.1 r.2 within ended; is = tt }
+
+no_byte : (left : Option (List ℕ)) → Takes left left []
+no_byte None = refl
+no_byte (Some xs) = refl
+
+-- nothing was taken
+pub makes_nothing : (left : Option (List ℕ)) → MakesChains left left (Err OutOfMemory)
+makes_nothing left = record {
+  input = record { bytes = []; ended = false; audit = false };
+  takes = record { asked = refl; taken = no_byte left; at_most = omega arith; ended = λ no. let f : false ≡ true = no in cc };
+  is = tt;
+}

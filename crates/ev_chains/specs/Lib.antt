@@ -1,0 +1,10 @@
+pub mod Names
+pub mod Keys
+pub mod Rows
+pub mod Matches
+pub mod Listed
+pub mod Listeners
+pub mod State
+pub mod Steps
+pub mod Closing
+pub mod Events

@@ -1,0 +1,125 @@
+ghost use Rattle.std.specs.Prelude.{◌≡◌, ◌==◌, ◌&&◌, ◌||◌, ℕ, not, filter, IfOk, OnOk};
+ghost use Rattle.std.specs.List.{list_any};
+ghost use Rattle.std.specs.BTreeSet.{contains, IsOrdered};
+ghost use Rattle.std.specs.Ordering.{nat_cmp};
+ghost use Rattle.ev_model.specs.Connections.{closed_by, left_open};
+ghost use Rattle.ev_ledger.specs.Members.{has_place, is_open_at};
+ghost use Rattle.ev_chains.specs.State.{has_open};
+ghost use Rattle.ev_chains.specs.Closing.{closed_all};
+
+use ev_ledger::Ledger;
+use ev_types::Gen;
+use std::alloc::{AllocError, Global};
+use std::collections::BTreeSet;
+
+// The numbers of chains that drain, by whether a connection is open on them.
+#[derive(Drop)]
+pub(crate) struct PartedDraining {
+    pub idle: Vec<u32>,
+    pub busy: Vec<Gen>,
+}
+
+// Parts the chains that drain.
+pub(crate) fn part_draining(
+    alloc: Global,
+    ledger: &Ledger,
+    draining: &[Gen],
+) -> Result<PartedDraining, AllocError>
+    ensures idle { IfOk result (λ parted. parted.idle.items ≡ filter (λ number. not (has_open ledger.now number)) draining.now) }
+    ensures busy { IfOk result (λ parted. parted.busy.items ≡ filter (has_open ledger.now) draining.now) }
+{
+    let mut idle = Vec::new(alloc);
+    let mut busy = Vec::new(alloc);
+    for number in draining {
+        if has_open(ledger, *number) {
+            busy.push(*number)?;
+        } else {
+            idle.push(number.number())?;
+        }
+    }
+    Ok(PartedDraining { idle, busy })
+}
+
+// Whether a connection is open on a chain.
+fn has_open(ledger: &Ledger, number: Gen) -> bool
+    ensures { result ≡ has_open ledger.now number }
+{
+    ledger.count(number) != 0
+}
+
+// Closes connections, one after another. It takes no memory.
+pub(crate) fn close_all(ledger: &mut Ledger, conns: &[u64])
+    ensures { ledger.new ≡ closed_all conns.now ledger.old }
+{
+    for conn in conns {
+        ledger.close(0, *conn);
+    }
+}
+
+// The numbers of the connections on these chains, from the least. No other connection is looked at.
+pub(crate) fn closing_conns(
+    alloc: Global,
+    ledger: &Ledger,
+    draining: &[Gen],
+) -> Result<Vec<u64>, AllocError>
+    ensures conns { IfOk result (λ conns. conns.items ≡ closed_by draining.now 0 ledger.now) }
+    ensures left { IfOk result (λ conns. closed_all conns.items ledger.now ≡ left_open draining.now 0 ledger.now) }
+{
+    // No two connections are of one worker and number.
+    let _ = ledger.on(0, 0);
+    let conns = conns_on(alloc, ledger, draining)?;
+    let closing = keys_of(alloc, &conns)?;
+    Ok(closing)
+}
+
+// The numbers of the connections on these chains.
+fn conns_on(alloc: Global, ledger: &Ledger, draining: &[Gen]) -> Result<BTreeSet<u64>, AllocError>
+    ensures { IfOk result (λ conns. (conn : ℕ) → contains nat_cmp conns conn ≡ list_any (λ number. is_open_at number 0 conn ledger.now) draining.now) }
+{
+    let mut conns = BTreeSet::new(alloc);
+    for number in draining {
+        let places = ledger.places_on(alloc, *number)?;
+        put_places(&mut conns, places.as_slice())?;
+    }
+    Ok(conns)
+}
+
+// Puts the numbers of the first worker's connections at these places among others.
+fn put_places(conns: &mut BTreeSet<u64>, places: &[(u64, u64)]) -> Result<(), AllocError>
+    ensures { OnOk result ((conn : ℕ) → contains nat_cmp conns.new conn ≡ (contains nat_cmp conns.old conn || has_place 0 conn places.now)) }
+{
+    for place in places {
+        put_place(conns, *place)?;
+    }
+    Ok(())
+}
+
+// Puts the number of a connection at a place, where it is one of the first worker, among others.
+fn put_place(conns: &mut BTreeSet<u64>, place: (u64, u64)) -> Result<(), AllocError>
+    ensures { OnOk result ((conn : ℕ) → contains nat_cmp conns.new conn ≡ (contains nat_cmp conns.old conn || ((place.0 == 0) && (place.1 == conn)))) }
+{
+    if place.0 != 0 {
+        return Ok(());
+    }
+    insert(conns, place.1)
+}
+
+// Puts a number among others.
+fn insert(conns: &mut BTreeSet<u64>, conn: u64) -> Result<(), AllocError>
+    ensures { OnOk result ((other : ℕ) → contains nat_cmp conns.new other ≡ (contains nat_cmp conns.old other || (conn == other))) }
+{
+    let Ok(_) = conns.insert(conn) else {
+        return Err(AllocError);
+    };
+    Ok(())
+}
+
+// The numbers of a set from the least.
+fn keys_of(alloc: Global, conns: &BTreeSet<u64>) -> Result<Vec<u64>, AllocError>
+    ensures keys { IfOk result (λ keys. keys.items ≡ conns.now.keys) }
+    ensures ordered { IsOrdered nat_cmp conns.now }
+{
+    // They stand in their order.
+    let _ = conns.len();
+    conns.iter().copied().collect(alloc)
+}
