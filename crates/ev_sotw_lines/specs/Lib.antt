@@ -1,0 +1,3 @@
+pub mod Lines
+pub mod Deltas
+pub mod Follows
