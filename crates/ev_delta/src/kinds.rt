@@ -5,8 +5,8 @@ ghost use Rattle.ev_wire.specs.Responses.{kind_with};
 
 use ev_types::Kind;
 
-// The type URL of a kind of resource.
-fn type_url(kind: Kind) -> &'static str
+/// The type URL of a kind of resource.
+pub fn type_url(kind: Kind) -> &'static str
     ensures { result.now ≡ type_url kind }
 {
     match kind {

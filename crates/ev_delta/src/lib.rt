@@ -17,5 +17,6 @@ mod message;
 
 pub use depth::nests_within;
 pub use discovery::{Discovery, read_discovery};
+pub use kinds::type_url;
 pub use laws::deltas_are_read;
 pub use message::delta_message;

@@ -1,5 +1,5 @@
 -- Two lists of names in order with the same names are one, and what stands among them.
-use Rattle.std.proofs.Common.{◌≡◌, ◌∙◌, ℕ, Bool, true, false, cond, not, ◌&&◌, ◌||◌, List, [], ◌∷◌, ◌++◌, map, filter, refl, sym, ap, subst}
+use Rattle.std.proofs.Common.{◌≡◌, ◌∙◌, ℕ, ◌+◌, ◌<◌, length, take, get_or, Bool, true, false, cond, not, ◌&&◌, ◌||◌, List, [], ◌∷◌, ◌++◌, map, filter, refl, sym, ap, subst}
 use Rattle.std.proofs.Math.Bool.{or-false}
 use Rattle.std.specs.declared.alloc.Global.{Global}
 use Rattle.std.specs.BTreeMap.{is_at}
@@ -15,6 +15,8 @@ use Rattle.std.specs.String.{string_cmp}
 use Rattle.std.specs.declared.cmp.Ordering.TheVariants.{Less}
 use Rattle.std.proofs.lemmas.Bool.{false≢true, cond_both}
 use Rattle.std.proofs.lemmas.Cmp.{nat_list_cmp_total}
+use Rattle.std.proofs.lemmas.List.{take_more}
+use Rattle.std.proofs.lemmas.List.Folds.{list_any-append}
 use Rattle.std.proofs.lemmas.List.Kept.{IsStrictlySortedBy-filter}
 use Rattle.std.proofs.lemmas.Map.Text.{is_eq-slice_cmp, btree_set_updates_text}
 use Rattle.ev_types.specs.Same.{bytes_decide}
@@ -24,7 +26,7 @@ use Rattle.ev_model.specs.Verdicts.{is_among}
 use Rattle.ev_model.specs.Versions.{is_before}
 use Rattle.ev_model.specs.Watching.{sorted_names}
 use Rattle.ev_indexes.proofs.SortLemmas.{sorted-unique, sorted_by-dedup}
-use Rattle.ev_names.specs.Names.{IsInOrder, with_name, without_name}
+use Rattle.ev_names.specs.Names.{IsInOrder, with_name, with_names, without_name}
 
 -- ---- what stands among sorted names
 
@@ -172,3 +174,69 @@ removed name old new updates ordered before =
     same-names (map string_bytes new.keys) (without_name name (map string_bytes old.keys)) (keys-in_order new.keys ordered) (other-in_order (name ∷ []) (map string_bytes old.keys) before)
     (λ n. sym (in_set new n) ∙ btree_set_updates_text name old new false updates n ∙ cond_not (bytes_eq name n) (contains_text old n) ∙ ap (λ b. b && not (bytes_eq name n || false)) (in_set old n)
     ∙ sym (among_other (name ∷ []) (map string_bytes old.keys) n))
+
+-- ---- several names
+
+-- names in order stay as they are
+pub sorted_same : (names : List (List ℕ)) → IsInOrder names → sorted_names names ≡ names
+sorted_same names ordered = same-names (sorted_names names) names (sorted-in_order names) ordered (among_sorted names)
+
+among_append : (xs ys : List (List ℕ)) (name : List ℕ) → is_among name (xs ++ ys) ≡ (is_among name xs || is_among name ys)
+among_append xs ys name = list_any-append (λ n. bytes_eq n name) xs ys
+
+pub among_with : (new names : List (List ℕ)) (name : List ℕ) → is_among name (with_names new names) ≡ (is_among name new || is_among name names)
+among_with new names name = among_sorted (new ++ names) name ∙ among_append new names name
+
+push_turn : (a b c : Bool) → (a || (b || c)) ≡ ((b || (a || false)) || c)
+push_turn true true c = refl
+push_turn true false c = refl
+push_turn false true c = refl
+push_turn false false c = refl
+
+-- a name more
+pub with_push : (name : List ℕ) (new names : List (List ℕ)) → with_name name (with_names new names) ≡ with_names (new ++ name ∷ []) names
+with_push name new names =
+    same-names (with_name name (with_names new names)) (with_names (new ++ name ∷ []) names) (sorted-in_order (name ∷ with_names new names)) (sorted-in_order ((new ++ name ∷ []) ++ names))
+    (λ n. among_sorted (name ∷ with_names new names) n ∙ ap (λ b. bytes_eq name n || b) (among_with new names n) ∙ push_turn (bytes_eq name n) (is_among n new) (is_among n names)
+    ∙ sym (among_with (new ++ name ∷ []) names n ∙ ap (λ b. b || is_among n names) (among_append new (name ∷ []) n)))
+
+-- several more
+or_third : (a b c : Bool) → (a || (b || c)) ≡ ((b || a) || c)
+or_third true true c = refl
+or_third true false c = refl
+or_third false true c = refl
+or_third false false c = refl
+
+pub with_more : (more new names : List (List ℕ)) → with_names more (with_names new names) ≡ with_names (new ++ more) names
+with_more more new names =
+    same-names (with_names more (with_names new names)) (with_names (new ++ more) names) (sorted-in_order (more ++ with_names new names)) (sorted-in_order ((new ++ more) ++ names))
+    (λ n. among_with more (with_names new names) n ∙ ap (λ b. is_among n more || b) (among_with new names n) ∙ or_third (is_among n more) (is_among n new) (is_among n names)
+    ∙ sym (among_with (new ++ more) names n ∙ ap (λ b. b || is_among n names) (among_append new more n)))
+
+-- no name less
+pub other_none : (names : List (List ℕ)) → other_than [] names ≡ names
+other_none [] = refl
+other_none (name ∷ names) = ap (λ ns. name ∷ ns) (other_none names)
+
+-- several less
+pub other_more : (more gone names : List (List ℕ)) → other_than more (other_than gone names) ≡ other_than (gone ++ more) names
+other_more more gone [] = refl
+other_more more gone (name ∷ names) =
+    by (is_among name gone) refl (is_among name more) refl (other_more more gone names) ∙ sym (ap (λ b. cond (not b) (name ∷ other_than (gone ++ more) names) (other_than (gone ++ more) names)) (among_append gone more name))
+  where
+    by : (g : Bool) → is_among name gone ≡ g → (m : Bool) → is_among name more ≡ m → other_than more (other_than gone names) ≡ other_than (gone ++ more) names
+        → other_than more (cond (not g) (name ∷ other_than gone names) (other_than gone names)) ≡ cond (not (g || m)) (name ∷ other_than (gone ++ more) names) (other_than (gone ++ more) names)
+    by true e m f rest = rest
+    by false e true f rest = ap (λ b. cond (not b) (name ∷ other_than more (other_than gone names)) (other_than more (other_than gone names))) f ∙ rest
+    by false e false f rest = ap (λ b. cond (not b) (name ∷ other_than more (other_than gone names)) (other_than more (other_than gone names))) f ∙ ap (λ ns. name ∷ ns) rest
+
+-- one more in a loop
+pub with_next : (names old : List (List ℕ)) (i : ℕ) (name : List ℕ) → i < length names → name ≡ get_or names i name
+    → with_name name (with_names (take i names) old) ≡ with_names (take (i + 1) names) old
+with_next names old i name within is =
+    with_push name (take i names) old ∙ ap (λ n. with_names (take i names ++ n ∷ []) old) is ∙ ap (λ ns. with_names ns old) (sym (take_more names i name within))
+
+pub without_next : (names old : List (List ℕ)) (i : ℕ) (name : List ℕ) → i < length names → name ≡ get_or names i name
+    → without_name name (other_than (take i names) old) ≡ other_than (take (i + 1) names) old
+without_next names old i name within is =
+    other_more (name ∷ []) (take i names) old ∙ ap (λ n. other_than (take i names ++ n ∷ []) old) is ∙ ap (λ ns. other_than ns old) (sym (take_more names i name within))

@@ -1,5 +1,5 @@
 -- Names in order.
-use Rattle.std.specs.Prelude.{ℕ, List, [], ◌∷◌}
+use Rattle.std.specs.Prelude.{ℕ, List, [], ◌∷◌, ◌++◌}
 use Rattle.std.specs.List.Sorted.{IsStrictlySortedBy}
 use Rattle.std.specs.Ordering.{nat_cmp}
 use Rattle.std.specs.Cmp.Lexicographic.{slice_cmp}
@@ -13,6 +13,10 @@ IsInOrder names = IsStrictlySortedBy (slice_cmp nat_cmp) names
 -- the names with this one among them
 abbrev pub with_name : List ℕ → List (List ℕ) → List (List ℕ)
 with_name name names = sorted_names (name ∷ names)
+
+-- the names with these among them
+abbrev pub with_names : List (List ℕ) → List (List ℕ) → List (List ℕ)
+with_names new names = sorted_names (new ++ names)
 
 -- the names without this one
 abbrev pub without_name : List ℕ → List (List ℕ) → List (List ℕ)

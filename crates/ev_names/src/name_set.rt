@@ -3,8 +3,9 @@ ghost use Rattle.serde_json.specs.Data.{string};
 ghost use Rattle.serde_json.specs.View.{view};
 ghost use Rattle.ev_model.specs.Verdicts.{is_among};
 ghost use Rattle.ev_model.specs.Requests.{other_than};
-ghost use Rattle.ev_names.specs.Names.{with_name, without_name};
+ghost use Rattle.ev_names.specs.Names.{IsInOrder, with_name, with_names, without_name};
 
+use ev_types::Name;
 use serde_json::{Value, json};
 use std::alloc::{AllocError, Global};
 use std::collections::BTreeSet;
@@ -49,11 +50,41 @@ impl NameSet {
         Ok(())
     }
 
+    /// Puts names among the others.
+    ///
+    /// # Errors
+    /// `AllocError` where there is no memory for them all; some may be there then.
+    pub fn insert_all(&mut self, alloc: Global, names: &[Name]) -> Result<(), AllocError>
+        ensures { OnOk result (self.new ≡ with_names names.now self.old) }
+    {
+        self.keeps_order();
+        for name in names {
+            self.insert(alloc, name.as_str())?;
+        }
+        Ok(())
+    }
+
     /// Takes a name away, where it is there.
     pub fn remove(&mut self, name: &str)
         ensures { self.new ≡ without_name name.now self.old }
     {
         self.names.remove(name);
+    }
+
+    /// Takes names away, those that are there.
+    pub fn remove_all(&mut self, names: &[Name])
+        ensures { self.new ≡ other_than names.now self.old }
+    {
+        for name in names {
+            self.remove(name.as_str());
+        }
+    }
+
+    /// What every set keeps: its names are in order. It does nothing.
+    pub fn keeps_order(&self)
+        ensures { IsInOrder self.now }
+    {
+        let _ = &self.names;
     }
 
     /// Whether a name is there.

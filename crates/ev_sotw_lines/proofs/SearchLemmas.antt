@@ -6,8 +6,8 @@ use Rattle.std.proofs.lemmas.List.{append-nil}
 use Rattle.std.proofs.lemmas.List.Elements.{filter_map-append}
 use Rattle.serde_json.specs.Data.{Data}
 use Rattle.ev_types.specs.declared.contents.Kind.{Kind}
-use Rattle.ev_sotw_lines.specs.Lines.{response_in}
-use Rattle.ev_sotw_lines.specs.Deltas.{stream_said, is_open_after, with_before, names_for, names_brought, last_names, delta_of, deltas_of}
+use Rattle.ev_sotw_lines.specs.Searches.{with_before}
+use Rattle.ev_sotw_lines.specs.Deltas.{stream_said, is_open_after, names_brought, last_names}
 
 -- the last of a search, where one element more may be found
 abbrev pub or_last : {A : Type 0} → Option A → A → A
@@ -38,12 +38,12 @@ search_more f xs x default =
     ∙ last_found (filter_map f xs) (f x) default
 
 -- a line more, with all before it
-pub with_before_more : (before lines : List Data) (line : Data) → with_before before (lines ++ line ∷ []) ≡ with_before before lines ++ (before ++ lines, line) ∷ []
-with_before_more before [] line = ap (λ (ls : List Data). (ls, line) ∷ []) (sym (append-nil before))
+pub with_before_more : {A : Type 0} (before lines : List A) (line : A) → with_before before (lines ++ line ∷ []) ≡ with_before before lines ++ (before ++ lines, line) ∷ []
+with_before_more before [] line = ap (λ (ls : List _). (ls, line) ∷ []) (sym (append-nil before))
 with_before_more before (first ∷ lines) line =
     ap (λ ps. (before, first) ∷ ps)
     (with_before_more (before ++ first ∷ []) lines line
-    ∙ ap (λ (ls : List Data). with_before (before ++ first ∷ []) lines ++ (ls, line) ∷ []) (append_assoc before (first ∷ []) lines))
+    ∙ ap (λ (ls : List _). with_before (before ++ first ∷ []) lines ++ (ls, line) ∷ []) (append_assoc before (first ∷ []) lines))
 
 pub open_more : (lines : List Data) (line : Data) → is_open_after (lines ++ line ∷ []) ≡ or_last (stream_said line) (is_open_after lines)
 open_more lines line = search_more stream_said lines line false

@@ -1,6 +1,6 @@
 -- The lines of the incremental script that say what the lines of the state of the world say. What is removed is found by a
 -- search of the lines before.
-use Rattle.std.specs.Prelude.{ℕ, List, [], ◌∷◌, ◌++◌, map, filter_map, Bool, true, false, if◌then◌else◌, codes, Option, None, Some, option_map, option_and_then, unwrap_or}
+use Rattle.std.specs.Prelude.{ℕ, List, [], map, filter_map, Bool, true, false, if◌then◌else◌, codes, Option, None, Some, option_map, option_and_then, unwrap_or}
 use Rattle.std.specs.List.{last_or}
 use Rattle.serde_json.specs.Data.{Data, string, object, member, no_members}
 use Rattle.ev_types.specs.declared.contents.Kind.{Kind}
@@ -9,6 +9,7 @@ use Rattle.ev_model.specs.Watching.{is_by_name, sorted_names}
 use Rattle.ev_model.specs.Requests.{other_than}
 use Rattle.ev_delta.specs.Discovery.{DiscoveryParts, resource_name}
 use Rattle.ev_delta.specs.Delta.{delta_message}
+use Rattle.ev_sotw_lines.specs.Searches.{with_before}
 use Rattle.ev_sotw_lines.specs.Lines.{is_op, response_in}
 
 -- ---- searches of the lines so far
@@ -20,11 +21,6 @@ stream_said line = if is_op (codes "connect") line then Some true else if is_op 
 -- a stream is open behind these lines, by the last connect or disconnect among them
 abbrev pub is_open_after : List Data → Bool
 is_open_after lines = unwrap_or (last_or None (filter_map stream_said lines)) false
-
--- each line with those before it
-abbrev pub with_before : List Data → List Data → List (List Data × Data)
-with_before before [] = []
-with_before before (line ∷ lines) = (before, line) ∷ with_before (before ++ line ∷ []) lines
 
 -- the names of the resources of a response of this kind, in the order of their bytes, each once
 abbrev pub names_in : Kind → DiscoveryParts → List (List ℕ)
