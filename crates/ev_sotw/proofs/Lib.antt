@@ -1,0 +1,3 @@
+pub mod MemberLemmas
+pub mod KnownLemmas
+pub mod FollowLemmas
