@@ -15,9 +15,11 @@
 mod answers;
 mod entries;
 mod known;
+mod rendering;
 mod requests;
 mod state;
 mod words;
 
 pub use known::TypeSoFar;
+pub use rendering::render_sotw;
 pub use state::SotwState;
