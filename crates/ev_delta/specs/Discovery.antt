@@ -4,6 +4,7 @@ use Rattle.std.specs.Prelude.{ℕ, ◌&&◌, List, [], map, Bool, true, not, Opt
 use Rattle.serde_json.specs.Data.{Data}
 use Rattle.serde_json.specs.View.{view}
 use Rattle.ev_types.specs.declared.contents.Kind.{Kind}
+use Rattle.ev_model.specs.Watching.{sorted_names}
 use Rattle.ev_tree.specs.Forms.{is_wrong, given_or, listed, text_of, list_of}
 use Rattle.ev_wire.specs.Bodies.{name_field}
 use Rattle.ev_wire.specs.Responses.{response_kind, nonce_of, has_head, given_if}
@@ -46,6 +47,10 @@ discovery_of tree = given_if (is_discovery tree) (parts_in tree)
 -- a resource's own name: the empty one where it has none
 abbrev pub resource_name : Kind → Data → List ℕ
 resource_name kind resource = given_or [] (text_of (name_field kind) resource)
+
+-- the names of the resources of a response of this kind, in the order of their bytes, each once
+abbrev pub names_in : Kind → DiscoveryParts → List (List ℕ)
+names_in kind response = sorted_names (map (resource_name kind) response.resources)
 
 -- what the program's type of responses stands for
 abbrev pub seen : Discovery → DiscoveryParts

@@ -1,8 +1,7 @@
-ghost use Rattle.std.specs.Prelude.{◌≡◌, [], map, option_map, IfOk};
+ghost use Rattle.std.specs.Prelude.{◌≡◌, [], option_map, IfOk};
 ghost use Rattle.serde_json.specs.View.{view};
 ghost use Rattle.ev_tree.specs.Forms.{given_or, text_of};
-ghost use Rattle.ev_model.specs.Watching.{sorted_names};
-ghost use Rattle.ev_delta.specs.Discovery.{seen, has_parts, has_parts_of, is_discovery, discovery_of, resource_name};
+ghost use Rattle.ev_delta.specs.Discovery.{seen, has_parts, has_parts_of, is_discovery, discovery_of, resource_name, names_in};
 
 use crate::kinds::{kind_with, name_field};
 use ev_names::NameSet;
@@ -110,7 +109,7 @@ impl<'a> Discovery<'a> {
     /// `AllocError` where there is no memory for them.
     #[tactic(auto, using(crate::proofs::NameLemmas::sorted_push))]
     pub fn names(&self, alloc: Global, kind: Kind) -> Result<NameSet, AllocError>
-        ensures { IfOk result (λ names. names ≡ sorted_names (map (resource_name kind) (map view self.now.resources.now))) }
+        ensures { IfOk result (λ names. names ≡ names_in kind (seen self.now)) }
     {
         let mut names = NameSet::new(alloc);
         for resource in self.resources {

@@ -1,5 +1,5 @@
 -- What is kept of the entries so far.
-use Rattle.std.specs.Prelude.{◌≡◌, ℕ, List, [], map, if◌then◌else◌, codes, option_and_then, unwrap_or}
+use Rattle.std.specs.Prelude.{◌≡◌, ℕ, List, [], ◌∷◌, ◌++◌, map, if◌then◌else◌, codes, option_and_then, unwrap_or}
 use Rattle.std.specs.List.{flat_map}
 use Rattle.serde_json.specs.Data.{Data, array, object, member, no_members}
 use Rattle.serde_json.specs.View.{items_of}
@@ -14,7 +14,7 @@ use Rattle.ev_types.specs.declared.events.Verdict.{Verdict}
 use Rattle.ev_model.specs.Requests.{other_than}
 use Rattle.ev_names.specs.Names.{with_names}
 use Rattle.ev_journal.specs.Rendering.{verdict_tree, answer_tree, row_object}
-use Rattle.ev_sotw.specs.Stated.{Stated, Known, opens, requests_in, reply_in, nonce_by, version_by, asked_by, given_up_by, known_of, sotw_request}
+use Rattle.ev_sotw.specs.Stated.{Stated, Known, opens, requests_in, reply_in, nonce_by, version_by, asked_by, given_up_by, known_of, sotw_request, sotw_line}
 use Rattle.ev_sotw.specs.declared.state.SotwState.{SotwState}
 
 -- ---- what an entry says of a type
@@ -77,6 +77,14 @@ pub record FollowsEntries (entries : List Stated) (state : SotwState) : Type 0 w
   pub endpoints : state.endpoints ≡ known_of Eds entries
   pub listeners : state.listeners ≡ known_of Lds entries
   pub routes : state.routes ≡ known_of Rds entries
+
+-- it goes on by an entry
+abbrev pub GoesOnBy : Stated → SotwState → SotwState → Type 0
+GoesOnBy stated before after = (entries : List Stated) → FollowsEntries entries before → FollowsEntries (entries ++ stated ∷ []) after
+
+-- the bytes are the line of an entry behind those that were
+abbrev pub IsLineBy : SotwState → Stated → List ℕ → Type 0
+IsLineBy state stated line = (entries : List Stated) → FollowsEntries entries state → line ≡ sotw_line entries stated
 
 -- ---- what is written of an entry
 

@@ -40,7 +40,8 @@ pub(crate) fn replied_value(
 
 // The tree of an entry with this answer.
 pub(crate) fn row_value(alloc: Global, entry: &Entry, answer: Value) -> Result<Value, AllocError>
-    ensures { IfOk result (λ made. view made ≡ row_object entry.now.actor entry.now.at entry.now.step (op_of entry.now.event) (view answer)) }
+    ensures { let entry = entry.now in
+        IfOk result (λ made. view made ≡ row_object entry.actor entry.at entry.step (op_of entry.event) (view answer)) }
 {
     let actor = actor_word(alloc, entry.actor)?;
     let op = op_word(entry.event.op());

@@ -1,6 +1,6 @@
 ghost use Rattle.std.specs.Prelude.{◌≡◌, List, [], ◌∷◌, ◌++◌, map, IfOk, OnOk};
 ghost use Rattle.serde_json.specs.View.{view};
-ghost use Rattle.ev_sotw.specs.Follows.{FollowsEntries};
+ghost use Rattle.ev_sotw.specs.Follows.{FollowsEntries, GoesOnBy};
 ghost use Rattle.ev_sotw.specs.Stated.{Stated, sotw_line};
 ghost use Rattle.ev_sotw.specs.Text.{is_response, version_at, stated_in, sotw_text};
 
@@ -42,8 +42,7 @@ fn push_entry(
     lines: &[Value],
     entry: &Entry,
 ) -> Result<(), AllocError>
-    ensures follows { OnOk result ((entries : List Stated) → FollowsEntries entries state.old
-        → FollowsEntries (entries ++ stated_in (map view lines.now) entry.now ∷ []) state.new) }
+    ensures follows { OnOk result (GoesOnBy (stated_in (map view lines.now) entry.now) state.old state.new) }
     ensures line { OnOk result ((entries : List Stated) → FollowsEntries entries state.old
         → text.new.items ≡ text.old.items ++ sotw_line entries (stated_in (map view lines.now) entry.now)) }
 {

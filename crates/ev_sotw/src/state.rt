@@ -1,9 +1,9 @@
-ghost use Rattle.std.specs.Prelude.{◌≡◌, List, [], ◌∷◌, ◌++◌, false, IfOk, OnOk};
+ghost use Rattle.std.specs.Prelude.{◌≡◌, [], false, IfOk, OnOk};
 ghost use Rattle.serde_json.specs.View.{view};
 ghost use Rattle.serde_json.specs.Written.{has_float};
 ghost use Rattle.ev_journal.specs.Rendering.{line_text};
-ghost use Rattle.ev_sotw.specs.Stated.{Stated, stated_with, sotw_line};
-ghost use Rattle.ev_sotw.specs.Follows.{FollowsEntries, type_by, entry_by, after_all};
+ghost use Rattle.ev_sotw.specs.Stated.{stated_with};
+ghost use Rattle.ev_sotw.specs.Follows.{FollowsEntries, GoesOnBy, IsLineBy, type_by, entry_by, after_all};
 
 use crate::answers::{moved_value, replied_value, row_value};
 use crate::known::TypeSoFar;
@@ -46,10 +46,8 @@ impl SotwState {
         entry: &Entry,
         version: &Text,
     ) -> Result<Vec<u8>, AllocError>
-        ensures follows { let stated = stated_with entry.now version.now in
-            OnOk result ((entries : List Stated) → FollowsEntries entries self.old → FollowsEntries (entries ++ stated ∷ []) self.new) }
-        ensures line { let stated = stated_with entry.now version.now in
-            IfOk result (λ line. (entries : List Stated) → FollowsEntries entries self.old → line.items ≡ sotw_line entries stated) }
+        ensures follows { OnOk result (GoesOnBy (stated_with entry.now version.now) self.old self.new) }
+        ensures line { IfOk result (λ line. IsLineBy self.old (stated_with entry.now version.now) line.items) }
     {
         self.note(alloc, entry, version)?;
         self.write(alloc, entry)

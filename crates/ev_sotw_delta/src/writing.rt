@@ -8,8 +8,8 @@ ghost use Rattle.ev_trees.specs.Floats.{whole};
 ghost use Rattle.ev_trees.specs.Trees.{text_of_trees};
 ghost use Rattle.ev_sotw_lines.specs.Lines.{sotw_lines};
 ghost use Rattle.ev_sotw_lines.specs.Deltas.{delta_of};
-ghost use Rattle.ev_sotw_lines.specs.Follows.{FollowsLines};
-ghost use Rattle.ev_sotw_delta.specs.DeltaText.{FitsInput, IsWritten, IsTooLarge, IsRefusal, written_of, delta_script, input_of_text};
+ghost use Rattle.ev_sotw_lines.specs.Follows.{FollowsLines, GoesOnBy};
+ghost use Rattle.ev_sotw_delta.specs.DeltaText.{FitsInput, IsWritten, WritesOn, IsTooLargeFor, IsRefusal, written_of, delta_script, input_of_text};
 
 use crate::outcome::DeltaError;
 use ev_delta::nests_within;
@@ -52,11 +52,11 @@ fn push_delta(
     names: &mut NamesSoFar,
     line: &Value,
 ) -> Result<(), DeltaError>
-    ensures follows { OnOk result ((lines : List Data) → FollowsLines lines names.old → FollowsLines (lines ++ view line.now ∷ []) names.new) }
-    ensures pushed { OnOk result ((lines trees : List Data) → FollowsLines lines names.old → IsWritten trees text.old
-        → IsWritten (trees ++ whole (delta_of lines (view line.now)) ∷ []) text.new) }
-    ensures large { IfErr result (λ error. (lines trees : List Data) → FollowsLines lines names.old → IsWritten trees text.old
-        → IsTooLarge trees (whole (delta_of lines (view line.now))) error) }
+    ensures follows { OnOk result (GoesOnBy (view line.now) names.old names.new) }
+    ensures pushed { OnOk result ((lines : List Data) → FollowsLines lines names.old
+        → WritesOn (whole (delta_of lines (view line.now))) text.old text.new) }
+    ensures large { IfErr result (λ error. (lines : List Data) → FollowsLines lines names.old
+        → IsTooLargeFor text.old (whole (delta_of lines (view line.now))) error) }
 {
     match names.line(alloc, line)? {
         Some(delta) => push_tree(alloc, text, &delta),
@@ -66,8 +66,8 @@ fn push_delta(
 
 // Puts the line of a tree behind the text.
 fn push_tree(alloc: Global, text: &mut TextSoFar, tree: &Value) -> Result<(), DeltaError>
-    ensures pushed { OnOk result ((trees : List Data) → IsWritten trees text.old → IsWritten (trees ++ whole (view tree.now) ∷ []) text.new) }
-    ensures large { IfErr result (λ error. (trees : List Data) → IsWritten trees text.old → IsTooLarge trees (whole (view tree.now)) error) }
+    ensures pushed { OnOk result (WritesOn (whole (view tree.now)) text.old text.new) }
+    ensures large { IfErr result (IsTooLargeFor text.old (whole (view tree.now))) }
 {
     if !push_readable(alloc, text, tree)? {
         return Err(DeltaError::Large {
@@ -79,8 +79,9 @@ fn push_tree(alloc: Global, text: &mut TextSoFar, tree: &Value) -> Result<(), De
 
 // Puts the line of a tree behind the text, where a reader takes it and there is room for it, and answers whether it is so.
 fn push_readable(alloc: Global, text: &mut TextSoFar, tree: &Value) -> Result<bool, AllocError>
-    ensures pushed { (trees : List Data) → IsWritten trees text.old → result ≡ Ok true → IsWritten (trees ++ whole (view tree.now) ∷ []) text.new }
-    ensures full { (trees : List Data) → IsWritten trees text.old → result ≡ Ok false → ¬ (FitsInput (trees ++ whole (view tree.now) ∷ [])) }
+    ensures pushed { result ≡ Ok true → WritesOn (whole (view tree.now)) text.old text.new }
+    ensures full { result ≡ Ok false → (trees : List Data) → IsWritten trees text.old
+        → ¬ (FitsInput (trees ++ whole (view tree.now) ∷ [])) }
     ensures same { result ≡ Ok false → text.new ≡ text.old }
 {
     if !nests_within(tree, MAX_DEPTH) {

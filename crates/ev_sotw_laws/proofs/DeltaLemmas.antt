@@ -17,14 +17,14 @@ use Rattle.ev_script.specs.Lines.{line_of}
 use Rattle.ev_script.specs.Faults.{plain_lines}
 use Rattle.ev_script.proofs.KeptLemmas.{kept_line}
 use Rattle.ev_stream_laws.specs.Watches.{has_item}
-use Rattle.ev_delta.specs.Discovery.{DiscoveryParts, resource_name}
+use Rattle.ev_delta.specs.Discovery.{DiscoveryParts, resource_name, names_in}
 use Rattle.ev_delta.specs.Delta.{delta_message}
 use Rattle.ev_delta.specs.Told.{item_told, told_with, response_told, IsDiscovery}
 use Rattle.ev_delta.proofs.ReadLemmas.{read_so}
 use Rattle.ev_sotw_lines.specs.declared.names_so_far.NamesSoFar.{NamesSoFar}
 use Rattle.ev_sotw_lines.specs.Searches.{with_before}
 use Rattle.ev_sotw_lines.specs.Lines.{is_op, response_in}
-use Rattle.ev_sotw_lines.specs.Deltas.{stream_said, names_in, removed_at, delta_line, delta_of}
+use Rattle.ev_sotw_lines.specs.Deltas.{stream_said, removed_at, delta_line, delta_of}
 use Rattle.ev_sotw_lines.specs.Follows.{FollowsLines, removed_by_kind, after_kind, after_response, after_other}
 use Rattle.ev_sotw_lines.proofs.FollowLemmas.{follows_response, follows_other, removed_follows}
 use Rattle.ev_sotw_delta.specs.DeltaText.{lines_said}

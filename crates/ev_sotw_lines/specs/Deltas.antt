@@ -5,9 +5,9 @@ use Rattle.std.specs.List.{last_or}
 use Rattle.serde_json.specs.Data.{Data, string, object, member, no_members}
 use Rattle.ev_types.specs.declared.contents.Kind.{Kind}
 use Rattle.ev_types.specs.Kinds.{kind_same}
-use Rattle.ev_model.specs.Watching.{is_by_name, sorted_names}
+use Rattle.ev_model.specs.Watching.{is_by_name}
 use Rattle.ev_model.specs.Requests.{other_than}
-use Rattle.ev_delta.specs.Discovery.{DiscoveryParts, resource_name}
+use Rattle.ev_delta.specs.Discovery.{DiscoveryParts, names_in}
 use Rattle.ev_delta.specs.Delta.{delta_message}
 use Rattle.ev_sotw_lines.specs.Searches.{with_before}
 use Rattle.ev_sotw_lines.specs.Lines.{is_op, response_in}
@@ -21,10 +21,6 @@ stream_said line = if is_op (codes "connect") line then Some true else if is_op 
 -- a stream is open behind these lines, by the last connect or disconnect among them
 abbrev pub is_open_after : List Data → Bool
 is_open_after lines = unwrap_or (last_or None (filter_map stream_said lines)) false
-
--- the names of the resources of a response of this kind, in the order of their bytes, each once
-abbrev pub names_in : Kind → DiscoveryParts → List (List ℕ)
-names_in kind response = sorted_names (map (resource_name kind) response.resources)
 
 abbrev pub is_of_kind : Kind → Option Kind → Bool
 is_of_kind kind None = false

@@ -1,19 +1,27 @@
 -- What is kept of the lines so far.
-use Rattle.std.specs.Prelude.{◌≡◌, ℕ, List, [], Bool, true, false, if◌then◌else◌, codes, Option, None, Some}
+use Rattle.std.specs.Prelude.{◌≡◌, ℕ, List, [], ◌∷◌, ◌++◌, Bool, true, false, if◌then◌else◌, codes, Option, None, Some}
 use Rattle.serde_json.specs.Data.{Data}
 use Rattle.ev_types.specs.declared.contents.Kind.{Kind}
 use Rattle.ev_types.specs.declared.contents.Kind.TheVariants.{Cds, Eds, Lds, Rds}
 use Rattle.ev_model.specs.Requests.{other_than}
-use Rattle.ev_delta.specs.Discovery.{DiscoveryParts}
+use Rattle.ev_delta.specs.Discovery.{DiscoveryParts, names_in}
 use Rattle.ev_sotw_lines.specs.declared.names_so_far.NamesSoFar.{NamesSoFar}
 use Rattle.ev_sotw_lines.specs.Lines.{is_op}
-use Rattle.ev_sotw_lines.specs.Deltas.{is_open_after, last_names, names_in}
+use Rattle.ev_sotw_lines.specs.Deltas.{is_open_after, last_names, delta_in}
 
 -- it is what the searches find
 pub record FollowsLines (lines : List Data) (names : NamesSoFar) : Type 0 where
   pub connected : names.connected ≡ is_open_after lines
   pub clusters : names.clusters ≡ last_names Cds lines
   pub listeners : names.listeners ≡ last_names Lds lines
+
+-- it goes on by a line
+abbrev pub GoesOnBy : Data → NamesSoFar → NamesSoFar → Type 0
+GoesOnBy line before after = (lines : List Data) → FollowsLines lines before → FollowsLines (lines ++ line ∷ []) after
+
+-- what was made of a line
+abbrev pub IsDeltaBy : NamesSoFar → Data → Option Data → Type 0
+IsDeltaBy names line made = (lines : List Data) → FollowsLines lines names → made ≡ delta_in lines line
 
 -- the names that a response removes
 abbrev pub removed_by_kind : Option Kind → NamesSoFar → DiscoveryParts → List (List ℕ)

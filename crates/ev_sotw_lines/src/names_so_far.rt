@@ -1,11 +1,11 @@
-ghost use Rattle.std.specs.Prelude.{◌≡◌, List, [], ◌∷◌, ◌++◌, map, option_map, if◌then◌else◌, IfOk, OnOk};
-ghost use Rattle.serde_json.specs.Data.{Data, string};
+ghost use Rattle.std.specs.Prelude.{◌≡◌, [], map, option_map, if◌then◌else◌, IfOk, OnOk};
+ghost use Rattle.serde_json.specs.Data.{string};
 ghost use Rattle.serde_json.specs.View.{view};
 ghost use Rattle.ev_model.specs.Requests.{other_than};
 ghost use Rattle.ev_delta.specs.Discovery.{seen};
 ghost use Rattle.ev_delta.specs.Delta.{delta_message};
-ghost use Rattle.ev_sotw_lines.specs.Deltas.{delta_line, delta_in};
-ghost use Rattle.ev_sotw_lines.specs.Follows.{FollowsLines, removed_by, after_response, after_other};
+ghost use Rattle.ev_sotw_lines.specs.Deltas.{delta_line};
+ghost use Rattle.ev_sotw_lines.specs.Follows.{FollowsLines, GoesOnBy, IsDeltaBy, removed_by, after_response, after_other};
 
 use crate::forms::response_in;
 use crate::members::is_op;
@@ -42,8 +42,8 @@ impl NamesSoFar {
     /// # Errors
     /// `AllocError` where there is no memory for it; nothing is promised of the names then.
     pub fn line(&mut self, alloc: Global, line: &Value) -> Result<Option<Value>, AllocError>
-        ensures follows { OnOk result ((lines : List Data) → FollowsLines lines self.old → FollowsLines (lines ++ view line.now ∷ []) self.new) }
-        ensures delta { IfOk result (λ made. (lines : List Data) → FollowsLines lines self.old → option_map view made ≡ delta_in lines (view line.now)) }
+        ensures follows { OnOk result (GoesOnBy (view line.now) self.old self.new) }
+        ensures delta { IfOk result (λ made. IsDeltaBy self.old (view line.now) (option_map view made)) }
     {
         match response_in(alloc, line)? {
             Some(response) => Ok(Some(self.respond(alloc, &response)?)),
@@ -83,7 +83,7 @@ impl NamesSoFar {
         response: &Discovery<'_>,
     ) -> Result<Vec<Value>, AllocError>
         ensures follows { OnOk result (self.new ≡ after_response (seen response.now) self.old) }
-        ensures removed { IfOk result (λ removed. map view removed.items ≡ map string (removed_by self.old (seen response.now))) }
+        ensures removed { let names = removed_by self.old (seen response.now) in IfOk result (λ removed. map view removed.items ≡ map string names) }
     {
         match response.kind {
             Some(Kind::Cds) => {

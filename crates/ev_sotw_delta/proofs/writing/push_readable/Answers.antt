@@ -12,7 +12,7 @@ use Rattle.ev_sotw_delta.proofs.LimitLemmas.{all_last}
 use Rattle.ev_sotw_delta.proofs.writing.push_readable.Goals as goal
 
 pub returns-then-not-nests_within-clause-full : goal.returns-then-not-nests_within-clause-full
-returns-then-not-nests_within-clause-full c = λ trees written _ fits.
+returns-then-not-nests_within-clause-full c = λ _ trees written fits.
     let tree : Data = view c.args.tree.now in
     let deep : depth (whole tree) ≡ depth tree = (made_whole tree).deep in
     let here : IsReadable (whole tree) = all_last IsReadable trees (whole tree) fits.readable in
@@ -21,7 +21,7 @@ returns-then-not-nests_within-clause-full c = λ trees written _ fits.
     omega (arith, deep, here, beyond)
 
 pub returns-clause-pushed : goal.returns-clause-pushed
-returns-clause-pushed c = λ trees written is.
+returns-clause-pushed c = λ is trees written.
     let tree : Data = view c.args.tree.now in
     let deep : depth (whole tree) ≡ depth tree = (made_whole tree).deep in
     let near : nat_le (depth tree) 127 ≡ true = grind (arith, c.nests_within.ensures) in

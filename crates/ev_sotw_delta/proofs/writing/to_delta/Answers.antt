@@ -49,7 +49,7 @@ returns-in_err-push_delta-clause-large c =
     subst (λ r. IfErr r (IsRefusal (written_of trees))) (sym (p.1 ∙ ap Err p.2))
     (refused c.in_err-push_delta.field-0.0 (written_of trees) (written_lines head lines) (whole (delta_of lines line))
     (map whole (map placed_delta (with_before (lines ++ line ∷ []) more))) all c.loop-line.invariant.written.fits
-    (c.in_err-push_delta.ensures.large lines (written_lines head lines) c.loop-line.invariant.follows c.loop-line.invariant.written))
+    (c.in_err-push_delta.ensures.large lines c.loop-line.invariant.follows (written_lines head lines) c.loop-line.invariant.written))
 
 pub loop-line-preserved : goal.loop-line-preserved
 loop-line-preserved c =
@@ -62,7 +62,7 @@ loop-line-preserved c =
     record {
       follows = subst (λ ls. FollowsLines ls c.push_delta.new.names) (sym next) (c.in_ok-push_delta.ensures.follows lines c.loop-line.invariant.follows);
       written = subst (λ ts. IsWritten ts c.push_delta.new.text) (sym (ap (written_lines head) next ∙ written_more head lines line))
-          (c.in_ok-push_delta.ensures.pushed lines (written_lines head lines) c.loop-line.invariant.follows c.loop-line.invariant.written);
+          (c.in_ok-push_delta.ensures.pushed lines c.loop-line.invariant.follows (written_lines head lines) c.loop-line.invariant.written);
     }
 
 pub returns-clause-sound : goal.returns-clause-sound
