@@ -1,18 +1,18 @@
 -- The message that is made is read as the response that says the same.
-use Rattle.std.proofs.Common.{◌≡◌, ◌∙◌, ℕ, ◌≤◌, suc, Bool, true, false, not, cond, ◌&&◌, ◌==◌, List, [], ◌∷◌, map, length, Option, Some, None, option_and_then, option_map, codes, refl, sym, ap, ap₂, arith, ne_eqb}
+use Rattle.std.proofs.Common.{◌≡◌, ◌∙◌, ℕ, ◌≤◌, Bool, true, false, not, cond, ◌&&◌, ◌==◌, List, [], ◌∷◌, map, length, Option, Some, None, codes, refl, ap, arith, ne_eqb}
 use Rattle.std.specs.List.{list_all}
 use Rattle.serde_json.specs.Data.{Data, string, array}
 use Rattle.serde_json.specs.View.{items_of}
 use Rattle.ev_types.specs.declared.contents.Kind.{Kind}
 use Rattle.ev_tree.specs.declared.outcome.Found.{Found}
-use Rattle.ev_tree.specs.declared.outcome.Found.TheVariants.{Absent, Wrong, Given}
+use Rattle.ev_tree.specs.declared.outcome.Found.TheVariants.{Absent, Given}
 use Rattle.ev_tree.specs.Forms.{is_object, is_text, field_of, text_of, objects_of, texts_of, objects_in, texts_in, in_form, value_or_wrong, listed, text_in, is_wrong, given_or}
 use Rattle.ev_tree.specs.Scalars.{list_in, elements_of}
 use Rattle.ev_tree.specs.Spelling.{camel_of}
-use Rattle.ev_wire.specs.Responses.{kind_with, item_of, entry_name, is_entry, response_kind, nonce_of, entries_of, removed_of, has_head, has_lists, has_lists_of, is_response, parts_of, given_if, response_of}
-use Rattle.ev_delta.specs.Discovery.{DiscoveryParts, resource_name}
-use Rattle.ev_delta.specs.Delta.{item_tree, items_of_kind, items_for, message_tree, delta_message}
-use Rattle.ev_delta.specs.Told.{item_told, response_told, told_with, IsDiscovery, IsReadAs, DeltasAreRead}
+use Rattle.ev_wire.specs.Responses.{kind_with, item_of, is_entry, response_kind, nonce_of, entries_of, removed_of, has_head, has_lists, has_lists_of, parts_of, given_if, response_of}
+use Rattle.ev_delta.specs.Discovery.{resource_name}
+use Rattle.ev_delta.specs.Delta.{item_tree, items_of_kind, message_tree}
+use Rattle.ev_delta.specs.Told.{item_told, told_with, DeltasAreRead}
 
 -- ---- fields of a message
 

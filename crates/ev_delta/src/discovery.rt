@@ -92,11 +92,7 @@ fn has_parts_of(alloc: Global, kind: Option<Kind>, message: &Value) -> Result<bo
 ///
 /// # Errors
 /// `AllocError` where there is no memory for it.
-pub(crate) fn resource_name(
-    alloc: Global,
-    kind: Kind,
-    resource: &Value,
-) -> Result<&str, AllocError>
+pub(crate) fn resource_name(alloc: Global, kind: Kind, resource: &Value) -> Result<&str, AllocError>
     ensures { IfOk result (λ name. name.now ≡ resource_name kind (view resource.now)) }
 {
     text_at(alloc, resource, name_field(kind))

@@ -1,11 +1,11 @@
 -- What is known follows the entries.
-use Rattle.std.proofs.Common.{◌≡◌, ◌∙◌, ℕ, Bool, true, false, not, cond, ◌&&◌, ◌||◌, ◌⊎◌, inl, inr, List, [], ◌∷◌, ◌++◌, map, filter, codes, Option, Some, None, option_and_then, refl, sym, ap, subst}
+use Rattle.std.proofs.Common.{◌≡◌, ◌∙◌, ℕ, Bool, true, false, not, cond, ◌&&◌, ◌||◌, ◌⊎◌, inl, inr, List, [], ◌∷◌, ◌++◌, map, filter, codes, Option, Some, None, option_and_then, refl, sym, ap}
 use Rattle.std.specs.Prelude.{filter_map, unwrap_or}
-use Rattle.std.specs.List.{last_or, flat_map, list_any, cons_option}
+use Rattle.std.specs.List.{last_or, flat_map, cons_option}
 use Rattle.std.specs.Str.{bytes_eq}
 use Rattle.std.proofs.lemmas.Bool.{false≢true}
 use Rattle.std.proofs.lemmas.List.Folds.{list_any-append}
-use Rattle.serde_json.specs.Data.{Data, array, object, member, no_members}
+use Rattle.serde_json.specs.Data.{array, object, member, no_members}
 use Rattle.serde_json.specs.View.{items_of}
 use Rattle.ev_journal.specs.Rendering.{verdict_tree, row_object}
 use Rattle.ev_types.specs.Events.{op_of}
@@ -18,12 +18,11 @@ use Rattle.ev_types.specs.declared.events.Answer.TheVariants.{Ignored, Done, Mov
 use Rattle.ev_types.specs.declared.events.Entry.{Entry}
 use Rattle.ev_model.specs.Requests.{other_than}
 use Rattle.ev_model.specs.Verdicts.{is_among}
-use Rattle.ev_model.specs.Watching.{sorted_names}
 use Rattle.ev_names.specs.Names.{with_names}
 use Rattle.ev_names.proofs.NameLemmas.{among_sorted, among_with, among_other, sorted-in_order, same-names}
 use Rattle.ev_sotw_lines.proofs.SearchLemmas.{or_last, search_more}
-use Rattle.ev_sotw.specs.Stated.{Stated, Known, is_connect, is_moved, opens, reply_in, requests_in, nonce_by, nonce_said, last_nonce, version_said, last_version, asked, given_up, asked_said, is_asked, names_asked, known_of, sotw_request, request_told, answer_told, entry_told}
-use Rattle.ev_sotw.specs.Follows.{after_opening, after_reply, after_entry, type_by, after_all, FollowsEntries, request_by, answer_by, entry_by}
+use Rattle.ev_sotw.specs.Stated.{Stated, is_connect, is_moved, opens, reply_in, nonce_by, nonce_said, last_nonce, version_said, last_version, asked, given_up, asked_said, is_asked, names_asked, known_of, sotw_request, request_told, answer_told, entry_told}
+use Rattle.ev_sotw.specs.Follows.{after_entry, type_by, after_all, FollowsEntries, request_by, answer_by, entry_by}
 use Rattle.ev_sotw.specs.declared.state.SotwState.{SotwState}
 
 found_last : {A : Type 0} (found : Option A) (before : A) → or_last found before ≡ unwrap_or found before

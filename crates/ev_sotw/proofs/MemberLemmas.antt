@@ -1,10 +1,8 @@
 -- Members that are given, and no floats among them.
-use Rattle.std.proofs.Common.{◌≡◌, ◌∙◌, ◌≢◌, ℕ, List, [], ◌∷◌, Bool, false, ◌||◌, length, map, codes, Option, Some, None, refl, sym, ap}
-use Rattle.std.proofs.lemmas.List.{length-map}
-use Rattle.serde_json.specs.Data.{Data, number, unsigned, string, array, object, Members, member, no_members, put}
-use Rattle.serde_json.specs.View.{view, items_of}
+use Rattle.std.proofs.Common.{◌≡◌, ◌∙◌, ◌≢◌, ℕ, List, [], ◌∷◌, Bool, false, ◌||◌, length, map, codes, Option, Some, None, refl, ap}
+use Rattle.serde_json.specs.Data.{number, unsigned, string, array, object, Members, member, no_members, put}
+use Rattle.serde_json.specs.View.{items_of}
 use Rattle.serde_json.specs.Written.{has_float, members_have_float}
-use Rattle.serde_json.specs.declared.value.Value.{Value}
 use Rattle.ev_types.specs.declared.contents.Request.{Request}
 use Rattle.ev_types.specs.declared.events.Actor.{Actor}
 use Rattle.ev_types.specs.declared.events.Op.{Op}

@@ -64,11 +64,7 @@ fn request_values(
 }
 
 // The tree of a request.
-fn request_value(
-    alloc: Global,
-    state: &SotwState,
-    request: &Request,
-) -> Result<Value, AllocError>
+fn request_value(alloc: Global, state: &SotwState, request: &Request) -> Result<Value, AllocError>
     ensures { IfOk result (λ made. view made ≡ request_by state.now request.now) }
 {
     sotw_request(alloc, state.of(request.kind), request)

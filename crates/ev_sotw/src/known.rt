@@ -146,18 +146,12 @@ impl TypeSoFar {
     }
 
     // The names that a request asks for come, where it is of this type.
-    fn put_asked(
-        &mut self,
-        alloc: Global,
-        kind: Kind,
-        request: &Request,
-    ) -> Result<(), AllocError>
+    fn put_asked(&mut self, alloc: Global, kind: Kind, request: &Request) -> Result<(), AllocError>
         ensures { OnOk result (self.new ≡ with_asked_by kind request.now self.old) }
     {
         self.names.keeps_order();
         if request.kind.is(kind) {
-            self.names
-                .insert_all(alloc, request.subscribe.as_slice())?;
+            self.names.insert_all(alloc, request.subscribe.as_slice())?;
         }
         Ok(())
     }

@@ -35,12 +35,7 @@ pub(crate) fn sotw_request(
 
 // Puts a text, where it isn't empty.
 #[tactic(auto, using(crate::proofs::MemberLemmas::text_given))]
-fn put_text(
-    alloc: Global,
-    members: &mut Members,
-    key: &str,
-    text: &str,
-) -> Result<(), AllocError>
+fn put_text(alloc: Global, members: &mut Members, key: &str, text: &str) -> Result<(), AllocError>
     ensures { OnOk result (members_view members.new.entries ≡ with_text key.now text.now (members_view members.old.entries)) }
 {
     if text.len() != 0 {

@@ -11,10 +11,9 @@ use Rattle.ev_script.specs.declared.header.Header.{Header}
 use Rattle.ev_script.specs.declared.trees.ScriptTrees.{ScriptTrees}
 use Rattle.ev_script.specs.declared.fault_kinds.FaultKind.TheVariants.{NotLine, NoSuchWorker}
 use Rattle.ev_script.specs.Members.{tree_of}
-use Rattle.ev_script.specs.Header.{header_of}
 use Rattle.ev_script.specs.Content.{is_above}
-use Rattle.ev_script.specs.Faults.{Input, plain_lines, index_at, EndsLine, BeginsJournal, EndsScriptLine, tree_at, workers_in, HasNoFault, IsUnknownWorker}
-use Rattle.ev_script.specs.ReadTrees.{AreTrees, IsTreesAnswer}
+use Rattle.ev_script.specs.Faults.{Input, plain_lines, index_at, EndsLine, EndsScriptLine, tree_at, workers_in, HasNoFault}
+use Rattle.ev_script.specs.ReadTrees.{IsTreesAnswer}
 use Rattle.ev_script.specs.Lines.{line_of}
 use Rattle.ev_script.specs.Script.{script_of}
 use Rattle.ev_trees.specs.Floats.{whole}

@@ -1,5 +1,5 @@
 -- Trees that make an input, and the first line with which they make none.
-use Rattle.std.proofs.Common.{◌≡◌, ◌∙◌, ℕ, zero, suc, ◌+◌, ◌<◌, ◌≤◌, List, [], ◌∷◌, ◌++◌, length, take, drop, refl, sym, ap, subst, arith, length-append}
+use Rattle.std.proofs.Common.{◌≡◌, ◌∙◌, ℕ, suc, ◌+◌, ◌≤◌, List, [], ◌∷◌, ◌++◌, length, take, drop, sym, ap, subst, arith, length-append}
 use Rattle.std.specs.Prelude.{All}
 use Rattle.std.proofs.Math.Seq.{take-append_seam}
 use Rattle.std.proofs.lemmas.List.{length-take, take-append-drop, take-append-le}
@@ -7,14 +7,14 @@ use Rattle.std.proofs.lemmas.List.Elements.{All-take}
 use Rattle.std.proofs.lemmas.Grind.{flat_map-append}
 use Rattle.serde_json.specs.Data.{Data}
 use Rattle.serde_json.specs.Written.{compact_text}
-use Rattle.ev_io.specs.declared.limits.TheConstants.{MAX_LINE_BYTES, MAX_LINES, MAX_INPUT_BYTES}
+use Rattle.ev_io.specs.declared.limits.TheConstants.{MAX_LINE_BYTES}
 use Rattle.ev_journal.specs.Rendering.{line_text}
-use Rattle.ev_trees.specs.Trees.{text_of_trees, IsReadable, AreWithinLimits}
+use Rattle.ev_trees.specs.Trees.{text_of_trees, IsReadable}
 use Rattle.ev_expand.specs.Room.{IsTextSoFar}
 use Rattle.ev_expand.specs.declared.text_so_far.TextSoFar.{TextSoFar}
 use Rattle.ev_sotw_delta.specs.declared.outcome.DeltaError.{DeltaError}
 use Rattle.ev_sotw_delta.specs.declared.outcome.DeltaError.TheVariants.{Large, OutOfMemory}
-use Rattle.ev_sotw_delta.specs.DeltaText.{FitsInput, IsFirstTooLarge, IsRefusal, IsWritten, IsTooLarge}
+use Rattle.ev_sotw_delta.specs.DeltaText.{FitsInput, IsRefusal, IsWritten, IsTooLarge}
 
 -- what holds of each holds of the last
 pub all_last : {X : Type 0} (P : X → Type 0) (xs : List X) (x : X) → All P (xs ++ x ∷ []) → P x

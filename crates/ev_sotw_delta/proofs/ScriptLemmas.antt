@@ -1,11 +1,9 @@
 -- What the lines become is a script.
-use Rattle.std.proofs.Common.{◌≡◌, ◌∙◌, ℕ, zero, suc, ◌+◌, ◌<◌, ◌≤◌, ◌&&◌, ◌==◌, not, Bool, true, false, cond, List, [], ◌∷◌, ◌++◌, length, map, take, get_or, codes, Option, None, Some, option_map, option_and_then, unwrap_or, option_to_list, refl, sym, ap, subst, arith, eq-eqb}
+use Rattle.std.proofs.Common.{◌≡◌, ◌∙◌, ℕ, zero, suc, ◌+◌, ◌<◌, ◌≤◌, ◌&&◌, ◌==◌, not, Bool, true, false, cond, List, [], ◌∷◌, ◌++◌, length, map, get_or, codes, Option, None, Some, option_map, option_and_then, unwrap_or, option_to_list, refl, sym, ap, subst, arith}
 use Rattle.std.specs.Prelude.{All, ⊤}
 use Rattle.std.proofs.lemmas.Bool.{false≢true}
-use Rattle.std.proofs.lemmas.List.{length-map, get_or-map}
 use Rattle.serde_json.specs.Data.{Data, string}
 use Rattle.serde_json.specs.Find.{get}
-use Rattle.ev_types.specs.declared.contents.Kind.{Kind}
 use Rattle.ev_types.specs.declared.events.Actor.TheVariants.{Stream}
 use Rattle.ev_types.specs.declared.events.Event.TheVariants.{Response}
 use Rattle.ev_types.specs.declared.events.Line.{Line}
@@ -22,7 +20,7 @@ use Rattle.ev_delta.specs.Told.{IsDiscovery, response_told}
 use Rattle.ev_delta.proofs.ReadLemmas.{read_so}
 use Rattle.ev_sotw_lines.specs.Searches.{with_before}
 use Rattle.ev_sotw_lines.specs.Lines.{is_op, response_in, sotw_line}
-use Rattle.ev_sotw_lines.specs.Deltas.{removed_at, delta_line, delta_in, delta_of, deltas_of}
+use Rattle.ev_sotw_lines.specs.Deltas.{removed_at, delta_line, delta_of}
 use Rattle.ev_sotw_delta.specs.DeltaText.{lines_said}
 use Rattle.ev_sotw_delta.proofs.DeltaLemmas.{placed_delta}
 

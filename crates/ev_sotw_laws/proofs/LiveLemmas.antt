@@ -1,9 +1,9 @@
 -- A generation that lives behind an event which isn't an answered response of its kind lived before it.
-use Rattle.std.proofs.Common.{◌≡◌, ◌∙◌, ℕ, Bool, true, false, ◌&&◌, List, [], ◌∷◌, ◌++◌, Option, Some, refl, sym, ap}
+use Rattle.std.proofs.Common.{◌≡◌, ◌∙◌, ℕ, Bool, true, false, List, [], ◌∷◌, ◌++◌, Some, sym}
 use Rattle.std.specs.Cmp.{first_so}
 use Rattle.std.proofs.lemmas.Bool.{false≢true}
 use Rattle.std.specs.Str.{bytes_eq}
-use Rattle.ev_types.specs.Items.{ItemParts, ResponseParts}
+use Rattle.ev_types.specs.Items.{ResponseParts}
 use Rattle.ev_types.specs.Kinds.{kind_same}
 use Rattle.ev_types.specs.declared.contents.Kind.{Kind}
 use Rattle.ev_types.specs.declared.events.Actor.{Actor}
@@ -18,9 +18,6 @@ use Rattle.ev_model.specs.Verdicts.{verdicts_for}
 use Rattle.ev_model.specs.Rows.{arrived, is_row_of}
 use Rattle.ev_model.specs.Tidy.{tidy}
 use Rattle.ev_model.specs.Signals.{with_results, with_end, forget_version}
-use Rattle.ev_model.specs.Picture.{shown_of}
-use Rattle.ev_model.specs.Publishing.{reap}
-use Rattle.ev_model.specs.Connections.{accept, close, settle}
 use Rattle.ev_model.specs.Step.{step, answered}
 use Rattle.ev_model_laws.proofs.AnyLemmas.{any_left}
 use Rattle.ev_model_laws.proofs.EventLemmas.{step-leads}

@@ -1,12 +1,11 @@
 -- What a line without a response says of the stream is what its event says.
-use Rattle.std.proofs.Common.{◌≡◌, ◌∙◌, ℕ, Bool, true, false, cond, List, [], ◌∷◌, codes, Option, None, Some, option_map, option_and_then, refl, sym, ap, subst}
+use Rattle.std.proofs.Common.{◌≡◌, ◌∙◌, ℕ, Bool, true, false, cond, List, [], ◌∷◌, codes, Option, None, Some, option_and_then, refl, sym, ap, subst}
 use Rattle.std.specs.Str.{bytes_eq}
 use Rattle.std.proofs.lemmas.Bool.{false≢true}
 use Rattle.serde_json.specs.Data.{Data}
 use Rattle.serde_json.specs.Find.{as_str}
 use Rattle.ev_types.specs.Same.{bytes_decide}
 use Rattle.ev_types.specs.Events.{MayMake}
-use Rattle.ev_types.specs.Items.{ResponseParts}
 use Rattle.ev_types.specs.declared.events.Actor.{Actor}
 use Rattle.ev_types.specs.declared.events.Actor.TheVariants.{Stream, Health as health, Timer, Main, Worker}
 use Rattle.ev_types.specs.declared.events.Event.{Event}
@@ -19,7 +18,7 @@ use Rattle.ev_script.specs.StreamLines.{connect_line, disconnect_line, response_
 use Rattle.ev_script.specs.HealthLines.{health_line, health_in}
 use Rattle.ev_script.specs.TimerLines.{timeout_line, drain_line, expired_line}
 use Rattle.ev_script.specs.MainLines.{publish_line, reap_line}
-use Rattle.ev_script.specs.WorkerLines.{worker_in, worker_line, accept_line, close_line, settle_line}
+use Rattle.ev_script.specs.WorkerLines.{worker_in, accept_line, close_line, settle_line}
 use Rattle.ev_script.specs.Lines.{main_side_line, line_by, line_of}
 use Rattle.ev_stream_laws.specs.MainSide.{stream_told}
 use Rattle.ev_sotw_lines.specs.Lines.{is_word, is_op}

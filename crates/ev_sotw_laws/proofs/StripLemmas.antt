@@ -1,5 +1,5 @@
 -- The events of a script's lines that say something are those of its runs, in order.
-use Rattle.std.proofs.Common.{◌≡◌, ◌∙◌, ℕ, ◌+◌, ◌<◌, suc, zero, Bool, true, false, cond, ◌&&◌, List, [], ◌∷◌, ◌++◌, length, map, filter, refl, sym, ap, subst, arith}
+use Rattle.std.proofs.Common.{◌≡◌, ◌∙◌, ℕ, suc, Bool, true, false, cond, ◌&&◌, List, [], ◌∷◌, ◌++◌, map, filter, refl, sym, ap, arith}
 use Rattle.std.specs.Prelude.{All}
 use Rattle.std.specs.List.{range_with_len, flat_map}
 use Rattle.std.proofs.lemmas.Bool.{false≢true}
@@ -14,10 +14,10 @@ use Rattle.ev_types.specs.declared.events.Event.{Event}
 use Rattle.ev_types.specs.declared.events.Event.TheVariants.{Connect, Disconnect, Response, Health, FetchTimeout, DrainTimeout, TtlExpired, Publish, Reap, Accept, Close, Settle}
 use Rattle.ev_types.specs.declared.events.Line.{Line}
 use Rattle.ev_types.specs.declared.journals.Format.{Format}
-use Rattle.ev_model.specs.World.{World, opening}
+use Rattle.ev_model.specs.World.{World}
 use Rattle.ev_model.specs.Runs.{RunsFrom}
 use Rattle.ev_model.specs.Step.{step}
-use Rattle.ev_model.specs.Operations.{Operation, actor_same, is_automatic, is_full_at, line_operation, step_behind, last_settle, followers, line_operations, all_operations, operations_of, operation_of, entries_of}
+use Rattle.ev_model.specs.Operations.{Operation, actor_same, is_automatic, is_full_at, line_operation, step_behind, last_settle, followers, line_operations, operations_of, operation_of, entries_of}
 use Rattle.ev_sotw_laws.proofs.EventLemmas.{is_told}
 
 -- ---- who says something

@@ -1,8 +1,6 @@
 -- A replay of the state of the world is the same world.
-use Rattle.std.proofs.Common.{◌≡◌, ◌∙◌, ℕ, ◌+◌, Bool, true, false, cond, List, [], ◌∷◌, map, filter, take, Option, None, Some, Ok, refl, sym, ap, subst}
-use Rattle.std.specs.Prelude.{slice_get}
+use Rattle.std.proofs.Common.{◌≡◌, ◌∙◌, ℕ, ◌+◌, Bool, true, false, cond, List, [], map, filter, Some, Ok, refl, sym, ap, subst}
 use Rattle.std.proofs.lemmas.Bool.{false≢true}
-use Rattle.serde_json.specs.Data.{Data}
 use Rattle.ev_types.specs.Items.{ResponseParts}
 use Rattle.ev_types.specs.Scripts.{IsScript, ScriptParts}
 use Rattle.ev_types.specs.declared.contents.Kind.{Kind}
@@ -18,7 +16,7 @@ use Rattle.ev_model.specs.World.{World, opening}
 use Rattle.ev_model.specs.Laws.{Told}
 use Rattle.ev_model.specs.Live.{lives_of}
 use Rattle.ev_model.specs.Operations.{Operation, IsRunOf, entries_of, operations_of}
-use Rattle.ev_model.specs.Runs.{world_at, RunsFrom}
+use Rattle.ev_model.specs.Runs.{world_at}
 use Rattle.ev_model.specs.Step.{step, respond_by}
 use Rattle.ev_model.specs.Warming.{value_of}
 use Rattle.ev_model.specs.Watching.{is_by_name, is_watched}
@@ -31,15 +29,14 @@ use Rattle.ev_stream_laws.proofs.HoldLemmas.{side_holds}
 use Rattle.ev_stream_laws.proofs.ToldLemmas.{told_stay}
 use Rattle.ev_sotw_lines.specs.declared.names_so_far.NamesSoFar.{NamesSoFar}
 use Rattle.ev_sotw_lines.specs.Lines.{sotw_lines}
-use Rattle.ev_sotw_lines.specs.Follows.{FollowsLines}
 use Rattle.ev_sotw_delta.specs.DeltaText.{lines_in, delta_script}
 use Rattle.ev_sotw_delta.proofs.FormLemmas.{trees_have_forms}
-use Rattle.ev_sotw_laws.specs.SameWorld.{is_replied, AnswersAt, IsSameWorld, SameWorld}
-use Rattle.ev_sotw_laws.proofs.EventLemmas.{Heard, nothing_heard, FitsKind, FitsAt, AllFit, is_told, told_fit, all_fit}
+use Rattle.ev_sotw_laws.specs.SameWorld.{is_replied, AnswersAt, SameWorld}
+use Rattle.ev_sotw_laws.proofs.EventLemmas.{Heard, nothing_heard, FitsKind, AllFit, is_told, told_fit, all_fit}
 use Rattle.ev_sotw_laws.proofs.StripLemmas.{line_events, entry_events, told_script, told_entries}
 use Rattle.ev_sotw_laws.proofs.RunLemmas.{nothing_lives, named_by, FitsHere, fits_here}
 use Rattle.ev_sotw_laws.proofs.StayLemmas.{tells_nothing}
-use Rattle.ev_sotw_laws.proofs.DeltaLemmas.{Agrees, lines_fit}
+use Rattle.ev_sotw_laws.proofs.DeltaLemmas.{lines_fit}
 
 -- ---- the events of a run
 

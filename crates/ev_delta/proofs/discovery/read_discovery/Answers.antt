@@ -1,6 +1,6 @@
-use Rattle.std.proofs.Common.{◌≡◌, ◌∙◌, true, Some, codes, sym, ap, arith}
+use Rattle.std.proofs.Common.{◌≡◌, ◌∙◌, true, Some, sym, ap, arith}
 use Rattle.serde_json.specs.View.{view}
-use Rattle.ev_tree.specs.Forms.{listed, list_of}
+use Rattle.ev_tree.specs.Forms.{listed}
 use Rattle.ev_wire.specs.Responses.{given_if, kind_with, response_kind, nonce_of}
 use Rattle.ev_delta.specs.Discovery.{is_discovery, parts_in}
 use Rattle.ev_delta.proofs.discovery.read_discovery.Goals as goal

@@ -1,4 +1,4 @@
-use Rattle.std.proofs.Common.{◌∙◌, codes, map, length, sym, ap, arith}
+use Rattle.std.proofs.Common.{◌∙◌, codes, length, ap, arith}
 use Rattle.std.proofs.lemmas.List.{length-map}
 use Rattle.serde_json.specs.Data.{string, array, put}
 use Rattle.serde_json.specs.View.{view, items_of, members_view}

@@ -1,4 +1,4 @@
-use Rattle.std.proofs.Common.{◌≡◌, ◌<◌, true, false, List, ◌++◌, ◌∷◌, [], sym, arith}
+use Rattle.std.proofs.Common.{◌≡◌, ◌<◌, true, false, arith}
 use Rattle.std.specs.Prelude.{nat_le}
 use Rattle.std.proofs.lemmas.Bool.{leb-true, leb-false}
 use Rattle.std.proofs.lemmas.List.Elements.{All-push}
@@ -7,7 +7,6 @@ use Rattle.serde_json.specs.View.{view}
 use Rattle.ev_trees.specs.Floats.{whole}
 use Rattle.ev_trees.specs.Trees.{ReadsBack, IsReadable}
 use Rattle.ev_trees.proofs.FloatLemmas.{made_whole}
-use Rattle.ev_sotw_delta.specs.DeltaText.{FitsInput, IsWritten}
 use Rattle.ev_sotw_delta.proofs.LimitLemmas.{all_last}
 use Rattle.ev_sotw_delta.proofs.writing.push_readable.Goals as goal
 

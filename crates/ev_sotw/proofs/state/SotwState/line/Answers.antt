@@ -1,4 +1,4 @@
-use Rattle.std.proofs.Common.{◌≡◌, ◌∙◌, ◌++◌, ◌∷◌, [], Result, Ok, Err, IfOk, List, sym, ap, subst}
+use Rattle.std.proofs.Common.{◌∙◌, ◌++◌, ◌∷◌, [], Result, Ok, Err, IfOk, sym, ap, subst}
 use Rattle.ev_trees.proofs.BackLemmas.{on_ok}
 use Rattle.ev_journal.specs.Rendering.{line_text}
 use Rattle.ev_sotw.specs.Stated.{Stated, stated_with}

@@ -3,10 +3,9 @@ use Rattle.serde_json.specs.Data.{Data, string}
 use Rattle.serde_json.specs.View.{view}
 use Rattle.ev_delta.specs.Discovery.{DiscoveryParts, seen}
 use Rattle.ev_delta.specs.Delta.{delta_message}
-use Rattle.ev_sotw_lines.specs.declared.names_so_far.NamesSoFar.{NamesSoFar}
 use Rattle.ev_sotw_lines.specs.Lines.{response_in}
-use Rattle.ev_sotw_lines.specs.Deltas.{delta_line, delta_in, removed_at}
-use Rattle.ev_sotw_lines.specs.Follows.{FollowsLines, removed_by, after_response, after_other}
+use Rattle.ev_sotw_lines.specs.Deltas.{delta_line, removed_at}
+use Rattle.ev_sotw_lines.specs.Follows.{FollowsLines}
 use Rattle.ev_sotw_lines.proofs.FollowLemmas.{follows_response, follows_other, removed_follows}
 use Rattle.ev_sotw_lines.proofs.names_so_far.NamesSoFar.line.Goals as goal
 
