@@ -72,10 +72,10 @@ promoted_before succeeded ready Dropped h = h
 
 module _ (test : GenRow → Bool) (blind : (row : GenRow) (status : RowStatus) → test (record row { status = status }) ≡ test row) where
   -- one of them lives
-  abbrev lives : GenRow → Bool
+  abbrev pub lives : GenRow → Bool
   lives row = is_live row.status && test row
 
-  abbrev has_one : List GenRow → Bool
+  abbrev pub has_one : List GenRow → Bool
   has_one rows = list_any lives rows
 
   before : (f : GenRow → RowStatus) (row : GenRow) → (is_live (f row) ≡ true → is_live row.status ≡ true)
@@ -90,7 +90,7 @@ module _ (test : GenRow → Bool) (blind : (row : GenRow) (status : RowStatus) �
       any_so (λ (row : GenRow). lives (record row { status = f row })) lives rows (λ row here. before f row (so row) here)
       (sym (any_mapped lives (λ (row : GenRow). record row { status = f row }) rows) ∙ h)
 
-  tidied : (world : World) → has_one (tidy world).rows ≡ true → has_one world.rows ≡ true
+  pub tidied : (world : World) → has_one (tidy world).rows ≡ true → has_one world.rows ≡ true
   tidied world h =
       fewer (promoted_status world.arrivals world.results world.rows)
       (λ row. promoted_before (has_successor world.arrivals world.results world.rows row) (is_ready_by world.arrivals world.results row) row.status)
@@ -101,13 +101,13 @@ module _ (test : GenRow → Bool) (blind : (row : GenRow) (status : RowStatus) �
       fewer (status_left kind response)
       (λ row here. (removed_not (kind_same row.kind kind && is_removed response row.name) row.status here).1) rows h
 
-  left_by : (kind : Kind) (response : ResponseParts) (world : World) → has_one (with_removals kind response world).rows ≡ true → has_one world.rows ≡ true
+  pub left_by : (kind : Kind) (response : ResponseParts) (world : World) → has_one (with_removals kind response world).rows ≡ true → has_one world.rows ≡ true
   left_by Cds response world h = removed Cds response world.rows h
   left_by Eds response world h = h
   left_by Lds response world h = removed Lds response world.rows h
   left_by Rds response world h = h
 
-  ended_by : (kind : Kind) (name : List ℕ) (world : World) → has_one (with_end kind name world).rows ≡ true → has_one world.rows ≡ true
+  pub ended_by : (kind : Kind) (name : List ℕ) (world : World) → has_one (with_end kind name world).rows ≡ true → has_one world.rows ≡ true
   ended_by Cds name world h = fewer (ended_status Cds name) (λ row here. (removed_not (is_row_of Cds name row) row.status here).1) world.rows h
   ended_by Eds name world h = h
   ended_by Lds name world h = fewer (ended_status Lds name) (λ row here. (removed_not (is_row_of Lds name row) row.status here).1) world.rows h
@@ -173,7 +173,7 @@ module _ (test : GenRow → Bool) (blind : (row : GenRow) (status : RowStatus) �
     first_follows Rds names world follows = follows
 
     -- a response
-    responded_follows : (response : ResponseParts) (verdicts : List Verdict) (world : World)
+    pub responded_follows : (response : ResponseParts) (verdicts : List Verdict) (world : World)
         → ((one : Verdict × ItemParts) → Contains (zip verdicts response.items) one → Says one)
         → Follows (with_removals kind response world) → Follows (responded kind response verdicts world)
     responded_follows response verdicts world says follows =
@@ -259,10 +259,10 @@ zipped p (v ∷ vs) (item ∷ items) h =
     (λ more. or_right (p item) (list_any p items) (zipped p vs items more)) h
 
 module _ (kind : Kind) (name : List ℕ) where
-  named_blind : (row : GenRow) (status : RowStatus) → is_row_of kind name (record row { status = status }) ≡ is_row_of kind name row
+  pub named_blind : (row : GenRow) (status : RowStatus) → is_row_of kind name (record row { status = status }) ≡ is_row_of kind name row
   named_blind row status = refl
 
-  live_is : (world : World) → list_any (is_named kind name) (lives_of world) ≡ has_one (is_row_of kind name) named_blind world.rows
+  pub live_is : (world : World) → list_any (is_named kind name) (lives_of world) ≡ has_one (is_row_of kind name) named_blind world.rows
   live_is world = any_of_map (is_named kind name) live_of (λ (r : GenRow). is_live r.status) world.rows
 
   -- what lives behind the removals lived before, and isn't removed

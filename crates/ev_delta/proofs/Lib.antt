@@ -1,0 +1,3 @@
+pub mod DepthLemmas
+pub mod NameLemmas
+pub mod ReadLemmas

@@ -1,0 +1,3 @@
+pub mod Discovery
+pub mod Delta
+pub mod Told

@@ -1,0 +1,4 @@
+pub mod MemberLemmas
+pub mod KnownLemmas
+pub mod FollowLemmas
+pub mod TextLemmas

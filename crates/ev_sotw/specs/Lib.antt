@@ -1,0 +1,3 @@
+pub mod Stated
+pub mod Text
+pub mod Follows

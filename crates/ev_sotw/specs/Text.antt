@@ -1,0 +1,40 @@
+-- The whole journal of a replay of a state-of-the-world script.
+use Rattle.std.specs.Prelude.{ℕ, ◌-◌, List, [], ◌++◌, length, slice_get, Bool, true, false, if◌then◌else◌, Option, None, Some}
+use Rattle.std.specs.List.{flat_map}
+use Rattle.serde_json.specs.Data.{Data}
+use Rattle.ev_types.specs.declared.events.Entry.{Entry}
+use Rattle.ev_types.specs.declared.events.Event.{Event}
+use Rattle.ev_types.specs.declared.events.Event.TheVariants.{Response}
+use Rattle.ev_types.specs.declared.journals.Format.TheVariants.{Two}
+use Rattle.ev_journal.specs.Rendering.{first_tree, end_tree, line_text}
+use Rattle.ev_sotw_lines.specs.Searches.{with_before}
+use Rattle.ev_sotw_lines.specs.Lines.{version_in}
+use Rattle.ev_sotw.specs.Stated.{Stated, stated_with, sotw_line}
+
+-- ---- versions, by the lines behind the header
+
+abbrev pub is_response : Event → Bool
+is_response (Response response) = true
+is_response event = false
+
+abbrev pub version_on : Option Data → List ℕ
+version_on None = []
+version_on (Some line) = version_in line
+
+-- the version of the response that an entry answers, which its line brings: the header's line is 1
+abbrev pub version_at : List Data → Entry → List ℕ
+version_at lines entry = if is_response entry.event then version_on (slice_get lines (entry.at - 2)) else []
+
+-- an entry with the version of the response that it answers
+abbrev pub stated_in : List Data → Entry → Stated
+stated_in lines entry = stated_with entry (version_at lines entry)
+
+-- ---- the text
+
+-- the lines of entries, each behind those before it
+abbrev pub lines_told : List Stated → List ℕ
+lines_told entries = flat_map (λ (placed : List Stated × Stated). sotw_line placed.0 placed.1) (with_before [] entries)
+
+-- the rendering of these entries, in format 2, with requests of the state of the world
+abbrev pub sotw_text : ℕ → List Stated → List ℕ
+sotw_text workers entries = line_text (first_tree Two workers) ++ lines_told entries ++ line_text (end_tree (length entries))

@@ -1,0 +1,4 @@
+pub mod LimitLemmas
+pub mod DeltaLemmas
+pub mod ScriptLemmas
+pub mod FormLemmas

@@ -1,0 +1,91 @@
+ghost use Rattle.std.specs.Prelude.{◌≡◌, List, [], ◌∷◌, ◌++◌, true, false, Some, Ok, IfOk, IfErr, OnOk};
+ghost use Rattle.serde_json.specs.Data.{Data};
+ghost use Rattle.serde_json.specs.View.{view};
+ghost use Rattle.ev_script.specs.Faults.{Input, plain_lines, HasNoFault};
+ghost use Rattle.ev_script.specs.Script.{script_of};
+ghost use Rattle.ev_script.specs.ReadTrees.{IsTreesAnswer};
+ghost use Rattle.ev_trees.specs.Floats.{whole};
+ghost use Rattle.ev_trees.specs.Trees.{text_of_trees};
+ghost use Rattle.ev_sotw_lines.specs.Lines.{sotw_lines};
+ghost use Rattle.ev_sotw_lines.specs.Deltas.{delta_of};
+ghost use Rattle.ev_sotw_lines.specs.Follows.{FollowsLines, GoesOnBy};
+ghost use Rattle.ev_sotw_delta.specs.DeltaText.{FitsInput, IsWritten, WritesOn, IsTooLargeFor, IsRefusal, written_of, delta_script, input_of_text};
+
+use crate::outcome::DeltaError;
+use ev_delta::nests_within;
+use ev_expand::TextSoFar;
+use ev_script::ScriptTrees;
+use ev_sotw_lines::NamesSoFar;
+use serde_json::Value;
+use std::alloc::{AllocError, Global};
+
+// How deep arrays and objects of a line may nest.
+const MAX_DEPTH: u32 = 127;
+
+/// The text of the script of the incremental protocol that says what a script of the state of the world says, whose trees
+/// were read without a fault: a line for each of its lines, with -1 for each float.
+///
+/// # Errors
+/// `Large` where the text goes beyond the limits of inputs, or a line nests deeper than 127, with the first line with which
+/// it does so.
+pub fn to_delta(alloc: Global, trees: &ScriptTrees) -> Result<Vec<u8>, DeltaError>
+    requires read { (input : Input) × IsTreesAnswer sotw_lines input (Ok trees.now) }
+    ensures text { IfOk result (λ text. text.items ≡ text_of_trees (written_of trees.now)) }
+    ensures fits { OnOk result (FitsInput (written_of trees.now)) }
+    ensures large { IfErr result (IsRefusal (written_of trees.now)) }
+    ensures sound { IfOk result (λ text. HasNoFault plain_lines (input_of_text text.items)) }
+    ensures script { IfOk result (λ text. script_of false text.items ≡ Some (delta_script trees.now)) }
+{
+    let mut text = TextSoFar::new(alloc);
+    let mut names = NamesSoFar::new(alloc);
+    push_tree(alloc, &mut text, &trees.head)?;
+    for line in &trees.lines {
+        push_delta(alloc, &mut text, &mut names, line)?;
+    }
+    Ok(text.bytes)
+}
+
+// Puts the line that says the same as a line behind the text.
+fn push_delta(
+    alloc: Global,
+    text: &mut TextSoFar,
+    names: &mut NamesSoFar,
+    line: &Value,
+) -> Result<(), DeltaError>
+    ensures follows { OnOk result (GoesOnBy (view line.now) names.old names.new) }
+    ensures pushed { OnOk result ((lines : List Data) → FollowsLines lines names.old
+        → WritesOn (whole (delta_of lines (view line.now))) text.old text.new) }
+    ensures large { IfErr result (λ error. (lines : List Data) → FollowsLines lines names.old
+        → IsTooLargeFor text.old (whole (delta_of lines (view line.now))) error) }
+{
+    match names.line(alloc, line)? {
+        Some(delta) => push_tree(alloc, text, &delta),
+        None => push_tree(alloc, text, line),
+    }
+}
+
+// Puts the line of a tree behind the text.
+fn push_tree(alloc: Global, text: &mut TextSoFar, tree: &Value) -> Result<(), DeltaError>
+    ensures pushed { OnOk result (WritesOn (whole (view tree.now)) text.old text.new) }
+    ensures large { IfErr result (IsTooLargeFor text.old (whole (view tree.now))) }
+{
+    if !push_readable(alloc, text, tree)? {
+        return Err(DeltaError::Large {
+            line: text.lines.saturating_add(1),
+        });
+    }
+    Ok(())
+}
+
+// Puts the line of a tree behind the text, where a reader takes it and there is room for it, and answers whether it is so.
+fn push_readable(alloc: Global, text: &mut TextSoFar, tree: &Value) -> Result<bool, AllocError>
+    ensures pushed { result ≡ Ok true → WritesOn (whole (view tree.now)) text.old text.new }
+    ensures full { result ≡ Ok false → (trees : List Data) → IsWritten trees text.old
+        → ¬ (FitsInput (trees ++ whole (view tree.now) ∷ [])) }
+    ensures same { result ≡ Ok false → text.new ≡ text.old }
+{
+    if !nests_within(tree, MAX_DEPTH) {
+        return Ok(false);
+    }
+    text.push(alloc, tree)
+}

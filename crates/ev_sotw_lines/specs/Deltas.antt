@@ -1,0 +1,66 @@
+-- The lines of the incremental script that say what the lines of the state of the world say. What is removed is found by a
+-- search of the lines before.
+use Rattle.std.specs.Prelude.{ℕ, List, [], map, filter_map, Bool, true, false, if◌then◌else◌, codes, Option, None, Some, option_map, option_and_then, unwrap_or}
+use Rattle.std.specs.List.{last_or}
+use Rattle.serde_json.specs.Data.{Data, string, object, member, no_members}
+use Rattle.ev_types.specs.declared.contents.Kind.{Kind}
+use Rattle.ev_types.specs.Kinds.{kind_same}
+use Rattle.ev_model.specs.Watching.{is_by_name}
+use Rattle.ev_model.specs.Requests.{other_than}
+use Rattle.ev_delta.specs.Discovery.{DiscoveryParts, names_in}
+use Rattle.ev_delta.specs.Delta.{delta_message}
+use Rattle.ev_sotw_lines.specs.Searches.{with_before}
+use Rattle.ev_sotw_lines.specs.Lines.{is_op, response_in}
+
+-- ---- searches of the lines so far
+
+-- whether a stream is open behind a line, where the line says so
+abbrev pub stream_said : Data → Option Bool
+stream_said line = if is_op (codes "connect") line then Some true else if is_op (codes "disconnect") line then Some false else None
+
+-- a stream is open behind these lines, by the last connect or disconnect among them
+abbrev pub is_open_after : List Data → Bool
+is_open_after lines = unwrap_or (last_or None (filter_map stream_said lines)) false
+
+abbrev pub is_of_kind : Kind → Option Kind → Bool
+is_of_kind kind None = false
+is_of_kind kind (Some other) = kind_same other kind
+
+-- the names of a response, where it is of this kind
+abbrev pub names_for : Kind → DiscoveryParts → Option (List (List ℕ))
+names_for kind response = if is_of_kind kind response.kind then Some (names_in kind response) else None
+
+-- the names that a line brings behind those before it: of a response of this kind on an open stream
+abbrev pub names_brought : Kind → List Data × Data → Option (List (List ℕ))
+names_brought kind placed = if is_open_after placed.0 then option_and_then (names_for kind) (response_in placed.1) else None
+
+-- the names of the last response of this kind that came on an open stream
+abbrev pub last_names : Kind → List Data → List (List ℕ)
+last_names kind lines = unwrap_or (last_or None (filter_map (names_brought kind) (with_before [] lines))) []
+
+-- ---- the lines
+
+-- the names that a response of this kind removes, behind these lines: of clusters and listeners those of the last response that
+-- it hasn't itself
+abbrev pub removed_of_kind : Option Kind → List Data → DiscoveryParts → List (List ℕ)
+removed_of_kind None lines response = []
+removed_of_kind (Some kind) lines response = if is_by_name kind then [] else other_than (names_in kind response) (last_names kind lines)
+
+abbrev pub removed_at : List Data → DiscoveryParts → List (List ℕ)
+removed_at lines response = removed_of_kind response.kind lines response
+
+-- a line with a message of the incremental protocol
+abbrev pub delta_line : Data → Data
+delta_line message = object (member (codes "message") message (member (codes "op") (string (codes "response")) no_members))
+
+-- the line with the message that says the same, where a line brings a response of the state of the world
+abbrev pub delta_in : List Data → Data → Option Data
+delta_in lines line = option_map (λ response. delta_line (delta_message response (map string (removed_at lines response)))) (response_in line)
+
+-- what a line becomes, behind those before it: all other lines stay
+abbrev pub delta_of : List Data → Data → Data
+delta_of lines line = unwrap_or (delta_in lines line) line
+
+-- what the lines become
+abbrev pub deltas_of : List Data → List Data
+deltas_of lines = map (λ (placed : List Data × Data). delta_of placed.0 placed.1) (with_before [] lines)

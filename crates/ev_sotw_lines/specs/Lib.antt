@@ -1,0 +1,4 @@
+pub mod Searches
+pub mod Lines
+pub mod Deltas
+pub mod Follows

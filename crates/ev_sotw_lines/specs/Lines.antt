@@ -1,0 +1,40 @@
+-- The lines of a script whose responses are those of the state of the world. All other lines are as in a script.
+use Rattle.std.specs.Prelude.{ℕ, List, [], ◌∷◌, Bool, false, if◌then◌else◌, codes, Option, None, Some, option_map}
+use Rattle.std.specs.Str.{bytes_eq}
+use Rattle.serde_json.specs.Data.{Data}
+use Rattle.serde_json.specs.Find.{as_str}
+use Rattle.ev_script.specs.Members.{member_of}
+use Rattle.ev_script.specs.LineForms.{with_only}
+use Rattle.ev_script.specs.Faults.{LineForms, plain_lines}
+use Rattle.ev_delta.specs.Discovery.{DiscoveryParts, discovery_of}
+
+abbrev pub is_word : List ℕ → Option (List ℕ) → Bool
+is_word word None = false
+is_word word (Some op) = bytes_eq op word
+
+-- the operation of a line has this word
+abbrev pub is_op : List ℕ → Data → Bool
+is_op word tree = is_word word (member_of as_str (codes "op") tree)
+
+-- the response of the state of the world that a line brings, or none where it isn't such a line: `message` is its only member
+-- beside `op`
+abbrev pub response_in : Data → Option DiscoveryParts
+response_in tree =
+    if is_op (codes "response") tree then with_only (codes "message" ∷ []) tree (member_of discovery_of (codes "message") tree) else None
+
+-- a line: a response names no worker, and all else is as in a script
+abbrev pub sotw_line : ℕ → Data → Option (Option ℕ)
+sotw_line at tree = if is_op (codes "response") tree then option_map (λ response. None) (response_in tree) else plain_lines.lines at tree
+
+-- the forms of the lines
+abbrev pub sotw_lines : LineForms
+sotw_lines = record { heads = plain_lines.heads; lines = sotw_line }
+
+-- the version of a response, where there is one
+abbrev pub version_of : Option DiscoveryParts → List ℕ
+version_of None = []
+version_of (Some response) = response.version
+
+-- the version of the response that a line brings, and the empty text where it brings none
+abbrev pub version_in : Data → List ℕ
+version_in tree = version_of (response_in tree)

@@ -1,0 +1,79 @@
+ghost use Rattle.std.specs.Prelude.{◌≡◌, ◌∷◌, option_map, IfOk};
+ghost use Rattle.serde_json.specs.View.{view};
+ghost use Rattle.ev_delta.specs.Discovery.{seen};
+ghost use Rattle.ev_sotw_lines.specs.Lines.{response_in, version_in};
+
+use crate::members::{has_only, is_op};
+use ev_delta::{Discovery, read_discovery};
+use ev_script::{FormedLine, Forms, LineTrees};
+use serde_json::Value;
+use std::alloc::{AllocError, Global};
+
+/// The lines of a script of the state of the world, each kept as its tree: the message of a response is a response of the
+/// state of the world, and all else is as in a script.
+#[derive(Clone, Copy, Debug)]
+pub struct SotwLines;
+
+impl Forms for SotwLines {
+    ghost use Rattle.ev_sotw_lines.specs.Lines.{sotw_lines};
+
+    type Kept = Value;
+
+    ghost forms = { sotw_lines };
+
+    ghost keeps = { λ at tree kept. view kept ≡ tree };
+
+    fn read_head(&self, alloc: Global, tree: &Value) -> Result<Option<u32>, AllocError> {
+        LineTrees.read_head(alloc, tree)
+    }
+
+    fn read(
+        &self,
+        alloc: Global,
+        at: u32,
+        tree: Value,
+    ) -> Result<Option<FormedLine<Value>>, AllocError> {
+        if !is_op("response", &tree) {
+            return LineTrees.read(alloc, at, tree);
+        }
+        if response_in(alloc, &tree)?.is_none() {
+            return Ok(None);
+        }
+        Ok(Some(FormedLine {
+            kept: tree,
+            worker: None,
+        }))
+    }
+}
+
+/// The response of the state of the world that a line brings, or none where it isn't such a line.
+///
+/// # Errors
+/// `AllocError` where there is no memory for it.
+pub fn response_in(alloc: Global, tree: &Value) -> Result<Option<Discovery<'_>>, AllocError>
+    ensures { IfOk result (λ found. option_map seen found ≡ response_in (view tree.now)) }
+{
+    if !is_op("response", tree) {
+        return Ok(None);
+    }
+    if !has_only(tree, &["op", "message"]) {
+        return Ok(None);
+    }
+    match tree.get("message") {
+        Some(message) => read_discovery(alloc, message),
+        None => Ok(None),
+    }
+}
+
+/// The version of the response that a line brings, and the empty text where it brings none.
+///
+/// # Errors
+/// `AllocError` where there is no memory for it.
+pub fn version_in(alloc: Global, tree: &Value) -> Result<&str, AllocError>
+    ensures { IfOk result (λ version. version.now ≡ version_in (view tree.now)) }
+{
+    match response_in(alloc, tree)? {
+        Some(response) => Ok(response.version),
+        None => Ok(""),
+    }
+}

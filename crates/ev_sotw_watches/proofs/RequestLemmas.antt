@@ -1,0 +1,133 @@
+-- What requests ask for and give up of a kind.
+use Rattle.std.proofs.Common.{◌≡◌, ◌∙◌, ℕ, Bool, true, false, cond, ◌&&◌, ◌||◌, List, [], ◌∷◌, ◌++◌, Option, None, Some, refl, ap}
+use Rattle.std.specs.List.{flat_map}
+use Rattle.std.specs.Str.{bytes_eq}
+use Rattle.std.proofs.Math.Bool.{or-false}
+use Rattle.std.proofs.lemmas.Bool.{false≢true}
+use Rattle.std.proofs.lemmas.List.{append-nil}
+use Rattle.std.proofs.lemmas.List.Folds.{list_any-append}
+use Rattle.std.proofs.lemmas.Grind.{flat_map-append}
+use Rattle.ev_types.specs.Kinds.{kind_same}
+use Rattle.ev_types.specs.declared.contents.Kind.{Kind}
+use Rattle.ev_types.specs.declared.contents.Kind.TheVariants.{Cds, Eds, Lds, Rds}
+use Rattle.ev_types.specs.declared.contents.Request.{Request}
+use Rattle.ev_types.specs.declared.rows.KeptVersion.{KeptVersion}
+use Rattle.ev_types.specs.declared.rows.Live.{Live}
+use Rattle.ev_model.specs.Live.{lives_of}
+use Rattle.ev_model.specs.Requests.{Watched, names_request, whole_request, listeners_asked, clusters_request, connect_requests_by, other_than, watch_change, changes_asked}
+use Rattle.ev_model.specs.Verdicts.{is_among}
+use Rattle.ev_model.specs.Watching.{Dependency, dependency_of, is_dependency, is_by_name, is_watched, name_awaited, watched_of}
+use Rattle.ev_model.specs.Versions.{versions_of}
+use Rattle.ev_model.specs.World.{World}
+use Rattle.ev_names.proofs.NameLemmas.{among_sorted}
+
+-- what a request asks for, or gives up, of a kind
+abbrev pub part_by : Bool → Kind → Request → List (List ℕ)
+part_by new kind request = cond (kind_same request.kind kind) (cond new request.subscribe request.unsubscribe) []
+
+abbrev pub parts_by : Bool → Kind → List Request → List (List ℕ)
+parts_by new kind requests = flat_map (part_by new kind) requests
+
+pub nothing_by : (mine new : Bool) → [] ≡ cond {A = List (List ℕ)} mine (cond new [] []) []
+nothing_by true true = refl
+nothing_by true false = refl
+nothing_by false new = refl
+
+names_parts : (new : Bool) (kind of : Kind) (subscribe unsubscribe : List (List ℕ)) (versions : List (List ℕ × List ℕ))
+    → parts_by new kind (names_request of subscribe unsubscribe versions) ≡ cond (kind_same of kind) (cond new subscribe unsubscribe) []
+names_parts new kind of [] [] versions = nothing_by (kind_same of kind) new
+names_parts new kind of [] (name ∷ names) versions = append-nil (cond (kind_same of kind) (cond new [] (name ∷ names)) [])
+names_parts new kind of (name ∷ names) unsubscribe versions = append-nil (cond (kind_same of kind) (cond new (name ∷ names) unsubscribe) [])
+
+-- a kind's names
+abbrev pub names_of : Kind → Watched → List (List ℕ)
+names_of Cds watched = []
+names_of Eds watched = watched.endpoints
+names_of Lds watched = []
+names_of Rds watched = watched.routes
+
+listeners_none : (new : Bool) (kind : Kind) → is_by_name kind ≡ true → (asked : Bool) (versions : List KeptVersion) → parts_by new kind (listeners_asked asked versions) ≡ []
+listeners_none new Cds by_name asked versions = absurd (false≢true by_name)
+listeners_none new Lds by_name asked versions = absurd (false≢true by_name)
+listeners_none new Eds by_name true versions = refl
+listeners_none new Eds by_name false versions = refl
+listeners_none new Rds by_name true versions = refl
+listeners_none new Rds by_name false versions = refl
+
+three : (new : Bool) (kind : Kind) → is_by_name kind ≡ true → (endpoints asked routes : List Request) → parts_by new kind asked ≡ []
+    → parts_by new kind (endpoints ++ (asked ++ routes)) ≡ parts_by new kind endpoints ++ parts_by new kind routes
+three new kind by_name endpoints asked routes none =
+    flat_map-append (part_by new kind) endpoints (asked ++ routes)
+    ∙ ap (λ ns. parts_by new kind endpoints ++ ns) (flat_map-append (part_by new kind) asked routes ∙ ap (λ ns. ns ++ parts_by new kind routes) none)
+
+-- what a change of the watched names asks for, and gives up
+abbrev pub changed : Bool → List (List ℕ) → List (List ℕ) → List (List ℕ)
+changed new before after = cond new (other_than before after) (other_than after before)
+
+by_kind : (new : Bool) (kind : Kind) → is_by_name kind ≡ true → (endpoints routes : List (List ℕ))
+    → cond (kind_same Eds kind) endpoints [] ++ cond (kind_same Rds kind) routes [] ≡ names_of kind (record { endpoints = endpoints; routes = routes })
+by_kind new Cds by_name endpoints routes = absurd (false≢true by_name)
+by_kind new Lds by_name endpoints routes = absurd (false≢true by_name)
+by_kind new Eds by_name endpoints routes = append-nil endpoints
+by_kind new Rds by_name endpoints routes = refl
+
+changed_of : (new : Bool) (kind : Kind) (before after : Watched)
+    → names_of kind (record { endpoints = changed new before.endpoints after.endpoints; routes = changed new before.routes after.routes }) ≡ changed new (names_of kind before) (names_of kind after)
+changed_of true Cds before after = refl
+changed_of false Cds before after = refl
+changed_of new Eds before after = refl
+changed_of true Lds before after = refl
+changed_of false Lds before after = refl
+changed_of new Rds before after = refl
+
+pub change_parts : (new : Bool) (kind : Kind) → is_by_name kind ≡ true → (before after : Watched) (asked : Bool) (versions : List KeptVersion)
+    → parts_by new kind (changes_asked before after asked versions) ≡ changed new (names_of kind before) (names_of kind after)
+change_parts new kind by_name before after asked versions =
+    three new kind by_name (watch_change Eds before.endpoints after.endpoints) (listeners_asked asked versions) (watch_change Rds before.routes after.routes)
+    (listeners_none new kind by_name asked versions)
+    ∙ (λ i. names_parts new kind Eds (other_than before.endpoints after.endpoints) (other_than after.endpoints before.endpoints) [] i
+    ++ names_parts new kind Rds (other_than before.routes after.routes) (other_than after.routes before.routes) [] i)
+    ∙ by_kind new kind by_name (changed new before.endpoints after.endpoints) (changed new before.routes after.routes)
+    ∙ changed_of new kind before after
+
+clusters_none : (kind : Kind) → is_by_name kind ≡ true → (node : List ℕ) (versions : List KeptVersion) → part_by true kind (clusters_request node versions) ≡ []
+clusters_none Cds by_name node versions = absurd (false≢true by_name)
+clusters_none Eds by_name node versions = refl
+clusters_none Lds by_name node versions = absurd (false≢true by_name)
+clusters_none Rds by_name node versions = refl
+
+-- what a stream that opens asks for
+pub connect_parts : (kind : Kind) → is_by_name kind ≡ true → (node : List ℕ) (watched : Watched) (asked : Bool) (versions : List KeptVersion)
+    → parts_by true kind (connect_requests_by node watched asked versions) ≡ names_of kind watched
+connect_parts kind by_name node watched asked versions =
+    ap (λ ns. ns ++ parts_by true kind (whole_request Eds watched.endpoints versions ++ (listeners_asked asked versions ++ whole_request Rds watched.routes versions)))
+    (clusters_none kind by_name node versions)
+    ∙ three true kind by_name (whole_request Eds watched.endpoints versions) (listeners_asked asked versions) (whole_request Rds watched.routes versions)
+    (listeners_none true kind by_name asked versions)
+    ∙ (λ i. names_parts true kind Eds watched.endpoints [] (versions_of Eds versions) i ++ names_parts true kind Rds watched.routes [] (versions_of Rds versions) i)
+    ∙ by_kind true kind by_name watched.endpoints watched.routes
+
+-- ---- names that are watched
+
+or_same : (a b c d : Bool) → a ≡ b → c ≡ d → (a || c) ≡ (b || d)
+or_same a b c d p q = λ i. p i || q i
+
+awaited_is : (kind : Kind) (name : List ℕ) (dependency : Option Dependency) → is_among name (name_awaited kind dependency) ≡ is_dependency kind name dependency
+awaited_is kind name None = refl
+awaited_is kind name (Some dependency) = by (kind_same dependency.kind kind)
+  where
+    by : (b : Bool) → is_among name (cond b (dependency.name ∷ []) []) ≡ (b && bytes_eq dependency.name name)
+    by true = or-false (bytes_eq dependency.name name)
+    by false = refl
+
+any_awaited : (kind : Kind) (name : List ℕ) (lives : List Live)
+    → is_among name (flat_map (λ (live : Live). name_awaited kind (dependency_of live.content)) lives) ≡ is_watched lives kind name
+any_awaited kind name [] = refl
+any_awaited kind name (live ∷ lives) =
+    list_any-append (λ n. bytes_eq n name) (name_awaited kind (dependency_of live.content)) (flat_map (λ (live : Live). name_awaited kind (dependency_of live.content)) lives)
+    ∙ or_same _ _ _ _ (awaited_is kind name (dependency_of live.content)) (any_awaited kind name lives)
+
+-- a name stands among those that are watched where it is watched
+pub among_watched : (world : World) (kind : Kind) (name : List ℕ) → is_among name (watched_of world kind) ≡ is_watched (lives_of world) kind name
+among_watched world kind name =
+    among_sorted (flat_map (λ (live : Live). name_awaited kind (dependency_of live.content)) (lives_of world)) name ∙ any_awaited kind name (lives_of world)
