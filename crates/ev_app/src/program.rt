@@ -14,13 +14,22 @@ use std::alloc::Global;
 use std::sync::Wait;
 use std::thread::Threads;
 
-/// Runs the program on the arguments of its command line. The one argument `replay` reads a script, replays it on one
-/// thread and writes its journal, in format 2. The one argument `run` does so with a thread for each actor, which it takes of
-/// `rt`; `pace` is called before each turn of an actor. Which of the journals that the script has is written, the threads
-/// decide; each is a run that holds every actor's operations in order, but for settles that are left out while a worker
-/// rests. The three arguments `soak SEED COUNT` read nothing, replay the script of the
-/// seed with so many lines behind its header, 1 to 100,000, and write one line that tells what it came to. Other arguments
-/// are `Usage`.
+/// Runs the program on the arguments of its command line; other arguments than these are `Usage`:
+///
+/// - `replay` reads a script, replays it on one thread and writes its journal, in format 2.
+/// - `run` does so with a thread for each actor, which it takes of `rt`; `pace` is called before each turn of an actor. Which of
+///   the script's journals is written, the threads decide; each is a run that holds every actor's operations in order, but for
+///   settles that are left out while a worker rests.
+/// - `audit` reads a script with a journal behind it, and writes a line that tells what is found of the journal. It ends as
+///   `Illegal` where that isn't legal.
+/// - `soak SEED COUNT` reads nothing, replays the script of the seed with so many lines behind its header, 1 to 100,000, and
+///   writes one line that tells what it came to.
+/// - `chains` reads versions of one listener with several filter chains, and connections, and writes the answer to each.
+/// - `sotw` reads a script whose responses are those of the state of the world, replays the incremental script that says the
+///   same, and writes its journal with the requests of the state of the world. Where that script is too large for an input, it is
+///   a `BadScript` of kind 10.
+/// - `dump K` reads as `audit` does, and writes one line of what is known behind the first K entries of a legal journal, or what
+///   `audit` writes of another one. Where no commit ends with so many entries it is a `BadScript` of kind 12.
 ///
 /// `BadScript` tells the first fault of the bytes taken, those at the end of the input only where the source gave its
 /// end. A read that failed is told only where the bytes taken have no fault. Out of memory, nothing is written. An answer
