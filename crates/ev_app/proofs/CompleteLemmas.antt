@@ -6,8 +6,9 @@ use Rattle.ev_script.specs.Faults.{Input, plain_lines}
 use Rattle.ev_script.proofs.PrefixLemmas.{stands_more}
 use Rattle.ev_audit_input.proofs.GrowLemmas.{stands_more_with}
 use Rattle.ev_chain_lines.specs.Lines.{chain_lines}
+use Rattle.ev_sotw_lines.specs.Lines.{sotw_lines}
 use Rattle.ev_app.specs.declared.commands.Command.{Command}
-use Rattle.ev_app.specs.declared.commands.Command.TheVariants.{Replay, Run, Audit, Soak, Chains, Dump}
+use Rattle.ev_app.specs.declared.commands.Command.TheVariants.{Replay, Run, Audit, Soak, Chains, Sotw, Dump}
 use Rattle.ev_app.specs.Input.{has_journal, TakesInput, IsTakenFor}
 use Rattle.ev_io.specs.Outside.{Rose}
 use Rattle.ev_app.specs.Faults.{IsEarly, NoneEarly, IsLate, IsFirstEarly, IsFaultFor, HasNoneFor, IsCutOff}
@@ -24,10 +25,11 @@ early_more Run xs ys place kind early = stands_more plain_lines xs ys true false
 early_more Audit xs ys place kind early = stands_more_with xs ys true true place kind early
 early_more (Soak seed count) xs ys place kind early = early
 early_more Chains xs ys place kind early = stands_more chain_lines xs ys true false place kind early
+early_more Sotw xs ys place kind early = stands_more sotw_lines xs ys true false place kind early
 early_more (Dump entries) xs ys place kind early = stands_more_with xs ys true true place kind early
 
 -- the bytes taken are a front of those told, and all of them at the end
-front_of : (bytes taken : List ℕ) (after : Option (List ℕ)) → Some bytes ≡ prepend_known taken after → (rest : List ℕ) × (bytes ≡ taken ++ rest) × (IsAtEnd after → rest ≡ [])
+pub front_of : (bytes taken : List ℕ) (after : Option (List ℕ)) → Some bytes ≡ prepend_known taken after → (rest : List ℕ) × (bytes ≡ taken ++ rest) × (IsAtEnd after → rest ≡ [])
 front_of bytes taken None e = cc
 front_of bytes taken (Some rest) e = let same : bytes ≡ taken ++ rest = cc in (rest, same, λ h. h)
 
@@ -73,6 +75,7 @@ not_refused Replay outside line number input taken fault honest = not_refused_by
 not_refused Run outside line number input taken fault honest = not_refused_by Run outside line number input taken fault honest.told
 not_refused Audit outside line number input taken fault honest = not_refused_by Audit outside line number input taken fault honest.told
 not_refused Chains outside line number input taken fault honest = not_refused_by Chains outside line number input taken fault honest.told
+not_refused Sotw outside line number input taken fault honest = not_refused_by Sotw outside line number input taken fault honest.told
 not_refused (Dump entries) outside line number input taken fault honest = not_refused_by (Dump entries) outside line number input taken fault honest.told
 not_refused (Soak seed count) outside line number input taken fault honest = no_fault_without_input seed count input line number fault
 
@@ -82,5 +85,6 @@ not_cut_off Replay outside input taken cut rose honest = honest.told.no_read_fau
 not_cut_off Run outside input taken cut rose honest = honest.told.no_read_fault rose
 not_cut_off Audit outside input taken cut rose honest = honest.told.no_read_fault rose
 not_cut_off Chains outside input taken cut rose honest = honest.told.no_read_fault rose
+not_cut_off Sotw outside input taken cut rose honest = honest.told.no_read_fault rose
 not_cut_off (Dump entries) outside input taken cut rose honest = honest.told.no_read_fault rose
 not_cut_off (Soak seed count) outside input taken cut rose honest = cut.goes_on (ap (λ (i : Input). i.ended) taken.empty)

@@ -13,7 +13,7 @@ use Rattle.ev_app.specs.Input.{TakesInput}
 use Rattle.ev_app.specs.Scripts.{ReadsScript}
 
 -- the bytes taken
-taken_input : (before after : Option (List ℕ)) (state : LinesState) (bytes : List ℕ) → Takes before after bytes → HasTaken state bytes → IsWithin state → (IsTrue state.ended → IsAtEnd after) → TakesInput false before after (input_of false state bytes)
+pub taken_input : (before after : Option (List ℕ)) (state : LinesState) (bytes : List ℕ) → Takes before after bytes → HasTaken state bytes → IsWithin state → (IsTrue state.ended → IsAtEnd after) → TakesInput false before after (input_of false state bytes)
 taken_input before after state bytes takes taken within ended = record {
   asked = refl;
   taken = takes;
@@ -35,7 +35,7 @@ reads_script before after state (Err (Bad line kind)) within ended read = record
 reads_script before after state (Err Read) within ended read = record { input = input_of false state read.0; takes = taken_input before after state read.0 read.1 read.2 within ended; is = (read.3.0, read.3.1) }
 reads_script before after state (Err OutOfMemory) within ended read = record { input = input_of false state read.0; takes = taken_input before after state read.0 read.1 read.2 within ended; is = tt }
 
-no_byte : (left : Option (List ℕ)) → Takes left left []
+pub no_byte : (left : Option (List ℕ)) → Takes left left []
 no_byte None = refl
 no_byte (Some xs) = refl
 

@@ -9,3 +9,4 @@ pub mod PartsLemmas
 pub mod AuditLemmas
 pub mod DumpLemmas
 pub mod ChainLemmas
+pub mod SotwLemmas

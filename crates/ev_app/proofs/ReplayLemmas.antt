@@ -8,7 +8,7 @@ use Rattle.ev_journal.specs.Rendering.{rendering_of}
 use Rattle.ev_actors.specs.Journals.{HasReplayed, JournalParts}
 use Rattle.ev_app.specs.Replay.{IsReplayText}
 
-has_laws : (script : ScriptParts) (parts : JournalParts) → RunsHaveLaws → HasReplayed script parts → IsRun parts.format parts.workers parts.node parts.journal
+pub has_laws : (script : ScriptParts) (parts : JournalParts) → RunsHaveLaws → HasReplayed script parts → IsRun parts.format parts.workers parts.node parts.journal
     → Laws record { format = Two; workers = script.workers; node = script.node; journal = parts.journal }
 has_laws script parts laws done run =
     let run_told : Told = record { format = parts.format; workers = parts.workers; node = parts.node; journal = parts.journal } in

@@ -4,8 +4,10 @@ use Rattle.ev_script.specs.declared.fault_kinds.FaultKind.{FaultKind}
 use Rattle.ev_script.specs.Faults.{Input, Stands, fault_order, fault_line, fault_number, plain_lines}
 use Rattle.ev_audit_input.specs.Faults.{StandsWithJournal, IsToldWithJournal}
 use Rattle.ev_chain_lines.specs.Lines.{chain_lines}
+use Rattle.ev_sotw_lines.specs.Lines.{sotw_lines}
 use Rattle.ev_app.specs.declared.commands.Command.{Command}
-use Rattle.ev_app.specs.declared.commands.Command.TheVariants.{Replay, Run, Audit, Soak, Chains, Dump}
+use Rattle.ev_app.specs.declared.commands.Command.TheVariants.{Replay, Run, Audit, Soak, Chains, Sotw, Dump}
+use Rattle.ev_app.specs.Sotw.{GrowsTooLarge}
 use Rattle.ev_app.specs.Dumps.{EndsNoCommit}
 
 -- ---- early faults: of kinds 1 to 9, at a place
@@ -17,6 +19,7 @@ IsEarly Run input place kind = Stands plain_lines input place kind
 IsEarly Audit input place kind = StandsWithJournal input place kind
 IsEarly (Soak seed count) input place kind = ⊥
 IsEarly Chains input place kind = Stands chain_lines input place kind
+IsEarly Sotw input place kind = Stands sotw_lines input place kind
 IsEarly (Dump entries) input place kind = StandsWithJournal input place kind
 
 -- the line with which it is told
@@ -26,6 +29,7 @@ IsToldOn Run input place kind line = line ≡ fault_line input place kind
 IsToldOn Audit input place kind line = IsToldWithJournal input place kind line
 IsToldOn (Soak seed count) input place kind line = ⊥
 IsToldOn Chains input place kind line = line ≡ fault_line input place kind
+IsToldOn Sotw input place kind line = line ≡ fault_line input place kind
 IsToldOn (Dump entries) input place kind line = IsToldWithJournal input place kind line
 
 abbrev pub NoneEarly : Command → Input → Type 0
@@ -50,6 +54,7 @@ IsLate Run bytes line number = ⊥
 IsLate Audit bytes line number = ⊥
 IsLate (Soak seed count) bytes line number = ⊥
 IsLate Chains bytes line number = ⊥
+IsLate Sotw bytes line number = GrowsTooLarge bytes line number
 IsLate (Dump entries) bytes line number = EndsNoCommit entries bytes line number
 
 -- ---- the fault that is told

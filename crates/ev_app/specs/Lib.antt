@@ -5,6 +5,7 @@ pub mod Faults
 pub mod Replay
 pub mod Runs
 pub mod Audits
+pub mod Sotw
 pub mod Dumps
 pub mod Chains
 pub mod Texts

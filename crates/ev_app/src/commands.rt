@@ -1,6 +1,6 @@
 ghost use Rattle.std.specs.Prelude.{◌≡◌, ℕ, ◌<◌, ◌^◌, ◌↔◌, [], ◌∷◌, None, IsTrue, IfSome};
 ghost use Rattle.ev_app.specs.declared.commands.Command.{Command};
-ghost use Rattle.ev_app.specs.declared.commands.Command.TheVariants.{Replay, Run, Audit, Soak, Chains, Dump};
+ghost use Rattle.ev_app.specs.declared.commands.Command.TheVariants.{Replay, Run, Audit, Soak, Chains, Sotw, Dump};
 ghost use Rattle.ev_app.specs.Commands.{Asks, IsSoak, IsWithin};
 
 use ev_numbers::number_of;
@@ -21,6 +21,8 @@ pub enum Command {
     Soak { seed: u64, count: u32 },
     /// `chains`: the answers to versions of one listener with several filter chains, and to connections.
     Chains,
+    /// `sotw`: the journal of a script whose responses are those of the state of the world, as one thread makes it.
+    Sotw,
     /// `dump K`: the configuration behind the first K entries of the journal behind a script, as a line.
     Dump { entries: u32 },
 }
@@ -42,6 +44,9 @@ pub(crate) fn command_of(arguments: &[Text]) -> Option<Command>
     }
     if is_word(arguments, "chains") {
         return Some(Command::Chains);
+    }
+    if is_word(arguments, "sotw") {
+        return Some(Command::Sotw);
     }
     if let Some(command) = soak_of(arguments) {
         return Some(command);

@@ -17,6 +17,7 @@ mod program;
 mod replay;
 mod run;
 mod soak;
+mod sotw;
 mod status;
 
 pub use commands::Command;

@@ -10,6 +10,7 @@ use crate::dump::make_dump;
 use crate::replay::make_replay;
 use crate::run::make_run;
 use crate::soak::soak_text;
+use crate::sotw::make_sotw;
 use crate::status::Status;
 use ev_io::{ScriptFault, Source};
 use ev_pace::Pace;
@@ -51,6 +52,7 @@ pub(crate) fn make<R: Threads + Wait + Sync, S: Source, P: Pace + Sync>(
             Err(_) => Err(ScriptFault::OutOfMemory),
         },
         Command::Chains => make_of_chains(alloc, source),
+        Command::Sotw => make_sotw(alloc, source),
         Command::Dump { entries } => make_dump(alloc, entries, source),
     }
 }

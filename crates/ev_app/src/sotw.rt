@@ -1,0 +1,123 @@
+ghost use Rattle.std.specs.Prelude.{◌≡◌, ◌≢◌, ◌≤◌, ◌⊎◌, false, Some, Ok, Err, IfOk, IfErr};
+ghost use Rattle.ev_io.specs.Outside.{Rose};
+ghost use Rattle.ev_io.specs.declared.faults.ScriptFault.TheVariants.{OutOfMemory};
+ghost use Rattle.ev_script.specs.Faults.{Input};
+ghost use Rattle.ev_script.specs.ReadTrees.{IsTreesAnswer};
+ghost use Rattle.ev_script.specs.Script.{script_of};
+ghost use Rattle.ev_sotw_lines.specs.Lines.{sotw_lines};
+ghost use Rattle.ev_sotw_delta.specs.DeltaText.{delta_script};
+ghost use Rattle.ev_app.specs.declared.commands.Command.TheVariants.{Sotw};
+ghost use Rattle.ev_app.specs.Sotw.{IsSotwText, ReadsSotw, IsDeltaAnswer, IsSotwAnswer};
+ghost use Rattle.ev_app.specs.Texts.{IsMadeBy};
+
+use crate::input::read_input;
+use crate::made::Made;
+use crate::replay::replay;
+use crate::run::workers_of;
+use crate::status::Status;
+use ev_actors::Journaled;
+use ev_io::{Lines, MemSource, ScriptFault, Source};
+use ev_model_laws::{replay_is_a_run_of_its_script, runs_have_the_laws};
+use ev_script::{ScriptTrees, read_trees_with};
+use ev_sotw::render_sotw;
+use ev_sotw_delta::{DeltaError, to_delta};
+use ev_sotw_laws::same_world;
+use ev_sotw_lines::SotwLines;
+use ev_types::Script;
+use std::alloc::{AllocError, Global};
+use std::mem::drop;
+
+/// The kind of the fault that the incremental script grows beyond the limits of inputs.
+const GROWS_TOO_LARGE: u8 = 10;
+
+/// How many bytes of a text are read at once.
+const PIECE: usize = 65_536;
+
+// Makes the journal of the script of the state of the world that the source's bytes are.
+#[tactic(auto, using(crate::proofs::SotwLemmas::answered, crate::proofs::SotwLemmas::not_read))]
+pub(crate) fn make_sotw<S: Source>(alloc: Global, source: &mut S) -> Result<Made, ScriptFault>
+    ensures made { IsMadeBy Sotw (S.left source.old) (S.left source.new) result }
+    ensures failed { result ≡ Err ScriptFault.Read → Rose (S.faults source.old) (S.faults source.new) }
+    ensures same_count { (S.faults source.new ≡ S.faults source.old) ⊎ (result ≡ Err ScriptFault.Read) }
+    ensures count { S.faults source.old ≤ S.faults source.new }
+{
+    let trees = read_sotw(alloc, source)?;
+    sotw_made(alloc, &trees)
+}
+
+// Reads the trees of the script of the state of the world that the source's bytes are.
+fn read_sotw<S: Source>(alloc: Global, source: &mut S) -> Result<ScriptTrees, ScriptFault>
+    ensures reads { ReadsSotw (S.left source.old) (S.left source.new) result }
+    ensures failed { result ≡ Err ScriptFault.Read → Rose (S.faults source.old) (S.faults source.new) }
+    ensures same_count { (S.faults source.new ≡ S.faults source.old) ⊎ (result ≡ Err ScriptFault.Read) }
+    ensures count { S.faults source.old ≤ S.faults source.new }
+{
+    let Ok(mut lines) = Lines::new(alloc) else {
+        return Err(ScriptFault::OutOfMemory);
+    };
+    read_trees_with(alloc, &SotwLines, &mut lines, source)
+}
+
+// What answers the trees of a script of the state of the world, or why nothing does.
+fn sotw_made(alloc: Global, trees: &ScriptTrees) -> Result<Made, ScriptFault>
+    requires trees { (input : Input) × IsTreesAnswer sotw_lines input (Ok trees.now) }
+    ensures answer { IsSotwAnswer trees.now result }
+    ensures read { result ≢ Err ScriptFault.Read }
+{
+    let script = delta_of(alloc, trees)?;
+    match sotw_text(alloc, trees, &script) {
+        Ok(text) => Ok(Made {
+            text,
+            status: Status::Done,
+        }),
+        Err(_) => Err(ScriptFault::OutOfMemory),
+    }
+}
+
+// The incremental script that says what the trees say, or why there is none.
+fn delta_of(alloc: Global, trees: &ScriptTrees) -> Result<Script, ScriptFault>
+    requires trees { (input : Input) × IsTreesAnswer sotw_lines input (Ok trees.now) }
+    ensures answer { IsDeltaAnswer trees.now result }
+    ensures read { result ≢ Err ScriptFault.Read }
+{
+    match to_delta(alloc, trees) {
+        Ok(text) => read_text(alloc, text),
+        Err(DeltaError::Large { line }) => Err(ScriptFault::Bad {
+            line,
+            kind: GROWS_TOO_LARGE,
+        }),
+        Err(DeltaError::OutOfMemory) => Err(ScriptFault::OutOfMemory),
+    }
+}
+
+// The script that a text without a fault is.
+#[tactic(auto, using(crate::proofs::SotwLemmas::read_again))]
+fn read_text(alloc: Global, text: Vec<u8>) -> Result<Script, ScriptFault>
+    ensures script { IfOk result (λ script. script_of false text.items ≡ Some script) }
+    ensures memory { IfErr result (λ fault. fault ≡ OutOfMemory) }
+{
+    let mut source = MemSource::new(text, PIECE, Vec::new(alloc));
+    match read_input(alloc, &mut source) {
+        Ok(script) => Ok(script),
+        // the text has no fault, and memory gives all of it: it was memory that ran out
+        Err(_) => Err(ScriptFault::OutOfMemory),
+    }
+}
+
+// The text of the journal of the replay of a script of the state of the world, by the incremental script that says the same.
+#[tactic(auto, using(crate::proofs::SotwLemmas::sotw_told))]
+fn sotw_text(alloc: Global, trees: &ScriptTrees, script: &Script) -> Result<Vec<u8>, AllocError>
+    requires trees { (input : Input) × IsTreesAnswer sotw_lines input (Ok trees.now) }
+    requires script { script.now ≡ delta_script trees.now }
+    ensures { IfOk result (λ text. IsSotwText trees.now text.items) }
+{
+    // the journal is a run of its script; each run has the laws, and one of such a script is the same world
+    runs_have_the_laws();
+    replay_is_a_run_of_its_script();
+    same_world();
+    let workers = workers_of(script);
+    let registry = replay(alloc, script)?;
+    let text = render_sotw(alloc, trees.lines.as_slice(), workers, registry.journal());
+    drop(registry);
+    Ok(text?)
+}
