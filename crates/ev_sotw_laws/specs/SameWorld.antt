@@ -20,6 +20,7 @@ use Rattle.ev_stream_laws.specs.Watches.{has_live, has_item}
 use Rattle.ev_sotw_lines.specs.Lines.{sotw_lines}
 use Rattle.ev_sotw_delta.specs.DeltaText.{delta_script}
 
+-- it is the answer to a response that was replied to
 abbrev pub is_replied : Answer → Bool
 is_replied (Replied requests verdicts) = true
 is_replied answer = false

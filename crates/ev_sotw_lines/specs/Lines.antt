@@ -8,6 +8,7 @@ use Rattle.ev_script.specs.LineForms.{with_only}
 use Rattle.ev_script.specs.Faults.{LineForms, plain_lines}
 use Rattle.ev_delta.specs.Discovery.{DiscoveryParts, discovery_of}
 
+-- there is a text, and it is this word
 abbrev pub is_word : List ℕ → Option (List ℕ) → Bool
 is_word word None = false
 is_word word (Some op) = bytes_eq op word
