@@ -1,0 +1,4 @@
+pub mod Awaited
+pub mod References
+pub mod Told
+pub mod Sealing

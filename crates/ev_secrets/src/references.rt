@@ -1,0 +1,140 @@
+ghost use Rattle.std.specs.Prelude.{◌≡◌, ◌++◌, List, ℕ, map, filter_map, option_map, IfOk, OnOk};
+ghost use Rattle.serde_json.specs.View.{view};
+ghost use Rattle.ev_tree.specs.Forms.{tree_of};
+ghost use Rattle.ev_types.specs.declared.contents.Kind.TheVariants.{Cds};
+ghost use Rattle.ev_expand.specs.Guarding.{body_in};
+ghost use Rattle.ev_secrets.specs.References.{socket_config, tls_context, own_name, secret_named, secret_configs, references_of, endpoints_in, content_key, body_key};
+
+use crate::names::make_name;
+use ev_expand::Key;
+use ev_tree::member;
+use ev_types::{Body, Cluster, Content, Name, Seq, TryCopy};
+use serde_json::{Value, json};
+use std::alloc::{AllocError, Global};
+
+/// The type of the context of TLS towards upstream hosts.
+const UPSTREAM_TLS: &str =
+    "type.googleapis.com/envoy.extensions.transport_sockets.tls.v3.UpstreamTlsContext";
+
+// The body of a resource of a response.
+pub(crate) fn body_in(entry: &Value) -> Option<&Value>
+    ensures { tree_of result ≡ body_in (view entry.now) }
+{
+    entry.get("resource")
+}
+
+// The configuration of a cluster's transport socket.
+fn socket_config<'a>(
+    alloc: Global,
+    body: Option<&'a Value>,
+) -> Result<Option<&'a Value>, AllocError>
+    ensures { IfOk result (λ config. tree_of config ≡ socket_config (tree_of body.entry)) }
+{
+    let socket = member::object(alloc, body, "transport_socket")?;
+    let config = member::object(alloc, member::inner(socket), "typed_config")?;
+    Ok(member::inner(config))
+}
+
+// The part of it that names secrets, where it is that of TLS.
+fn tls_context<'a>(alloc: Global, body: Option<&'a Value>) -> Result<Option<&'a Value>, AllocError>
+    ensures { IfOk result (λ context. tree_of context ≡ tls_context (tree_of body.entry)) }
+{
+    let config = socket_config(alloc, body)?;
+    let named = member::text(alloc, config, "@type")?;
+    if member::text_or_empty(named) != UPSTREAM_TLS {
+        return Ok(None);
+    }
+    let context = member::object(alloc, config, "common_tls_context")?;
+    Ok(member::inner(context))
+}
+
+// The name in the member `name`: a text of 1 to 512 bytes.
+pub(crate) fn own_name(alloc: Global, tree: &Value) -> Result<Option<Name>, AllocError>
+    ensures { IfOk result (λ name. name ≡ own_name (view tree.now)) }
+{
+    let name = member::text(alloc, Some(tree), "name")?;
+    make_name(alloc, member::text_or_empty(name))
+}
+
+// The secret that an entry names, where its values come by a config source.
+fn secret_named(alloc: Global, config: &Value) -> Result<Option<Name>, AllocError>
+    ensures { IfOk result (λ name. name ≡ secret_named (view config.now)) }
+{
+    let source = member::field(alloc, Some(config), "sds_config")?;
+    if !source.is_given() {
+        return Ok(None);
+    }
+    own_name(alloc, config)
+}
+
+// The secrets that a cluster names, by its body.
+pub(crate) fn references_of(
+    alloc: Global,
+    body: Option<&Value>,
+) -> Result<Vec<Name>, AllocError>
+    ensures { IfOk result (λ names. names.items ≡ references_of (tree_of body.entry)) }
+{
+    let context = tls_context(alloc, body)?;
+    let certificates =
+        member::list(alloc, context, "tls_certificate_sds_secret_configs")?;
+    let validation = member::field(alloc, context, "validation_context_sds_secret_config")?;
+    let mut names = Vec::new(alloc);
+    for config in member::elements(certificates) {
+        push_named(alloc, &mut names, config)?;
+    }
+    if let Some(config) = member::inner(validation) {
+        push_named(alloc, &mut names, config)?;
+    }
+    Ok(names)
+}
+
+// Puts the secret that an entry names behind these, where it names one.
+fn push_named(alloc: Global, names: &mut Vec<Name>, config: &Value) -> Result<(), AllocError> {
+    if let Some(name) = secret_named(alloc, config)? {
+        names.push(name)?;
+    }
+    Ok(())
+}
+
+// The endpoints of an assignment, as they stand there.
+pub(crate) fn endpoints_in(alloc: Global, assignment: Option<&Value>) -> Result<Value, AllocError>
+    ensures { IfOk result (λ endpoints. view endpoints ≡ endpoints_in (tree_of assignment.entry)) }
+{
+    let endpoints = member::field(alloc, assignment, "endpoints")?;
+    match member::inner(endpoints) {
+        Some(endpoints) => endpoints.clone(),
+        None => json!(in alloc; []),
+    }
+}
+
+// The key of a good cluster that names secrets.
+pub(crate) fn body_key(alloc: Global, body: &Body, names: Vec<Name>) -> Result<Option<Key>, AllocError>
+    ensures { IfOk result (λ key. key ≡ body_key body.now names.items) }
+{
+    match body {
+        Body::Good(content) => content_key(alloc, content, names),
+        Body::Bad(_) => Ok(None),
+        Body::Beat => Ok(None),
+    }
+}
+
+fn content_key(alloc: Global, content: &Content, names: Vec<Name>) -> Result<Option<Key>, AllocError>
+    ensures { IfOk result (λ key. key ≡ content_key content.now names.items) }
+{
+    match content {
+        Content::Cluster(cluster) => cluster_key(alloc, cluster.get(), names),
+        Content::Assignment(_) => Ok(None),
+        Content::Listener(_) => Ok(None),
+        Content::Routes(_) => Ok(None),
+    }
+}
+
+fn cluster_key(alloc: Global, cluster: &Cluster, names: Vec<Name>) -> Result<Option<Key>, AllocError> {
+    if names.len() == 0 {
+        return Ok(None);
+    }
+    Ok(Some(Key {
+        cluster: cluster.copy(alloc)?,
+        names: Seq::from_vec(names),
+    }))
+}
