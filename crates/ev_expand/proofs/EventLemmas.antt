@@ -1,5 +1,5 @@
 -- What the event of a line says of the line.
-use Rattle.std.proofs.Common.{◌≡◌, ℕ, Bool, true, false, cond, List, [], ◌∷◌, codes, IfSome, Option, None, Some, option_map, option_and_then, unwrap_or, refl, ap, ◌∙◌, subst}
+use Rattle.std.proofs.Common.{◌≡◌, ℕ, Bool, true, false, cond, List, [], ◌∷◌, codes, IfSome, Option, None, Some, option_map, option_and_then, unwrap_or, map, refl, sym, ap, ◌∙◌, subst}
 use Rattle.std.specs.Str.{bytes_eq}
 use Rattle.serde_json.specs.Data.{Data, null}
 use Rattle.serde_json.specs.Find.{get, as_str, as_bool}
@@ -11,7 +11,7 @@ use Rattle.ev_types.specs.declared.events.Actor.TheVariants.{Stream, Health as h
 use Rattle.ev_types.specs.declared.events.Event.{Event}
 use Rattle.ev_types.specs.declared.events.Event.TheVariants.{Connect, Disconnect, Response, Health, FetchTimeout, DrainTimeout, TtlExpired, Publish, Reap, Accept, Close, Settle}
 use Rattle.ev_types.specs.declared.events.Line.{Line}
-use Rattle.ev_wire.specs.Responses.{response_of}
+use Rattle.ev_wire.specs.Responses.{response_of, parts_of, item_of, entries_of, response_kind, nonce_of, is_response}
 use Rattle.ev_script.specs.Members.{has_only, name_of, member_of}
 use Rattle.ev_script.specs.LineForms.{line_at, host_in, kind_in}
 use Rattle.ev_script.specs.StreamLines.{connect_line, disconnect_line, response_line}
@@ -21,6 +21,7 @@ use Rattle.ev_script.specs.MainLines.{publish_line, reap_line}
 use Rattle.ev_script.specs.WorkerLines.{worker_in, conn_in, ask_in, worker_line, accept_line, close_line, settle_line}
 use Rattle.ev_script.specs.Lines.{line_of, line_by, main_side_line}
 use Rattle.ev_expand.specs.Fronts.{event_of, message_of}
+use Rattle.ev_expand.specs.Guarding.{kind_of, listed_as, clusters_in}
 
 -- a response is what its line's message is read as
 abbrev pub AsSaid : Data → Event → Type 0
@@ -77,13 +78,13 @@ main_side_said op at tree =
     (either P (bytes_eq op (codes "disconnect")) (disconnect_line at tree) _ (tested P (has_only (codes "op" ∷ []) tree) _ (said_at at tree Stream (Some Disconnect) tt))
     (either P (bytes_eq op (codes "response")) (response_line at tree) _ (tested P _ _ (said_at at tree Stream _ (message_said tree (get (codes "message") tree) refl)))
     (either P (bytes_eq op (codes "health")) (health_line at tree) _
-        (tested P _ _ (said_at at tree health _
-        (chained Q _ (member_of name_of (codes "cluster") tree) (λ cluster. chained Q _ (host_in tree) (λ host. mapped Q (λ healthy. Health cluster host healthy) (member_of as_bool (codes "healthy") tree) (λ healthy. tt))))))
+    (tested P _ _ (said_at at tree health _
+    (chained Q _ (member_of name_of (codes "cluster") tree) (λ cluster. chained Q _ (host_in tree) (λ host. mapped Q (λ healthy. Health cluster host healthy) (member_of as_bool (codes "healthy") tree) (λ healthy. tt))))))
     (either P (bytes_eq op (codes "fetchTimeout")) (timeout_line at tree) _ (said_at at tree Timer _ (chained Q (λ kind. timeout_of kind tree) (kind_in tree) (λ kind. timeout_said kind tree)))
     (either P (bytes_eq op (codes "drainTimeout")) (drain_line at tree) _
-        (tested P _ _ (said_at at tree Timer _ (mapped Q (λ name. DrainTimeout name) (member_of name_of (codes "listener") tree) (λ name. tt))))
+    (tested P _ _ (said_at at tree Timer _ (mapped Q (λ name. DrainTimeout name) (member_of name_of (codes "listener") tree) (λ name. tt))))
     (either P (bytes_eq op (codes "ttlExpired")) (expired_line at tree) _
-        (tested P _ _ (said_at at tree Timer _ (chained Q _ (kind_in tree) (λ kind. mapped Q (λ name. TtlExpired kind name) (member_of name_of (codes "name") tree) (λ name. tt)))))
+    (tested P _ _ (said_at at tree Timer _ (chained Q _ (kind_in tree) (λ kind. mapped Q (λ name. TtlExpired kind name) (member_of name_of (codes "name") tree) (λ name. tt)))))
     (either P (bytes_eq op (codes "publish")) (publish_line at tree) _ (tested P (has_only (codes "op" ∷ []) tree) _ (said_at at tree Main (Some Publish) tt))
     (either P (bytes_eq op (codes "reap")) (reap_line at tree) None (tested P (has_only (codes "op" ∷ []) tree) _ (said_at at tree Main (Some Reap) tt)) tt))))))))
 
@@ -113,3 +114,32 @@ when_some tree response (Some other) e h = subst (λ (o : Option Event). IfSome 
 -- the response of a line is what its message is read as
 pub response_read : (tree : Data) (response : ResponseParts) → event_of tree ≡ Some (Response response) → response_of (message_of tree) ≡ Some response
 response_read tree response e = when_some tree response (event_of tree) e (event_said tree)
+
+-- ---- the resources of a response
+
+given : {A : Type 0} (b : Bool) (v r : A) → cond b (Some v) None ≡ Some r → r ≡ v
+given true v r h = cc
+given false v r h = absurd (cc)
+
+parts_items : (o : Option Kind) (nonce : List ℕ) (message : Data) (response : ResponseParts) (kind : Kind) → response ≡ parts_of o nonce message → response.kind ≡ Some kind
+    → response.items ≡ map (item_of kind) (entries_of message)
+parts_items None nonce message response kind e h = absurd (cc (ap (λ (r : ResponseParts). r.kind) e))
+parts_items (Some other) nonce message response kind e h =
+    let same : Some other ≡ Some kind = sym (ap (λ (r : ResponseParts). r.kind) e) ∙ h in
+    let kinds : other ≡ kind = cc in
+    ap (λ (r : ResponseParts). r.items) e ∙ ap (λ (k : Kind). map (item_of k) (entries_of message)) kinds
+
+read_items : (message : Data) (response : ResponseParts) (kind : Kind) → response_of message ≡ Some response → response.kind ≡ Some kind → response.items ≡ map (item_of kind) (entries_of message)
+unfolding response_of
+read_items message response kind e h = parts_items (response_kind message) (nonce_of message) message response kind (given (is_response message) _ response e) h
+
+-- the items of a response are what its resources are read as
+pub items_read : (line : Data) (response : ResponseParts) (kind : Kind) → event_of line ≡ Some (Response response) → response.kind ≡ Some kind
+    → response.items ≡ map (item_of kind) (entries_of (message_of line))
+items_read line response kind e h = read_items (message_of line) response kind (response_read line response e) h
+
+-- those of a response of clusters
+pub cluster_items_read : (line : Data) (response : ResponseParts) → event_of line ≡ Some (Response response) → response.kind ≡ Some Cds
+    → response.items ≡ map (item_of Cds) (clusters_in line)
+cluster_items_read line response e h =
+    items_read line response Cds e h ∙ ap (λ (k : Option Kind). map (item_of Cds) (listed_as k (message_of line))) (sym (ap kind_of e ∙ h))

@@ -143,9 +143,30 @@ fn push_line<E: Expansion>(
         → OnOk result (E.is_behind expansion.new (before ++ view line.now ∷ [])) }
 {
     let event = read_event(alloc, line)?;
-    let places = places_in(alloc, expansion, numbers, line, &event)?;
-    let due = expansion.due(alloc, line, &event, numbers, places.as_slice())?;
-    if !push_written(alloc, expansion, text, line, &event, places.as_slice())? {
+    push_read(alloc, expansion, numbers, text, at, line, &event)
+}
+
+// The same, of a line that is read as this event.
+fn push_read<E: Expansion>(
+    alloc: Global,
+    expansion: &mut E,
+    numbers: &mut Numbers,
+    text: &mut TextSoFar,
+    at: u32,
+    line: &Value,
+    event: &Option<Event>,
+) -> Result<bool, AllocError>
+    requires { event.now ≡ event_of (view line.now) }
+    ensures text { (before : List Data) → E.is_behind expansion.old before → guarded_so_far numbers.old ≡ guarded_by E.rules.guard before
+        → at ≡ length before + 2 → Pushes text.old text.new result (gives E.rules (front_of before (view line.now))) }
+    ensures numbers { (before : List Data) → guarded_so_far numbers.old ≡ guarded_by E.rules.guard before
+        → OnOk result (guarded_so_far numbers.new ≡ guarded_by E.rules.guard (before ++ view line.now ∷ [])) }
+    ensures behind { (before : List Data) → E.is_behind expansion.old before → guarded_so_far numbers.old ≡ guarded_by E.rules.guard before
+        → OnOk result (E.is_behind expansion.new (before ++ view line.now ∷ [])) }
+{
+    let places = places_in(alloc, expansion, numbers, line, event)?;
+    let due = expansion.due(alloc, line, event, numbers, places.as_slice())?;
+    if !push_written(alloc, expansion, text, line, event, places.as_slice())? {
         return Ok(false);
     }
     push_due(alloc, expansion.prefix(), expansion.nonce(), text, at, due)

@@ -20,11 +20,7 @@ pub struct Due {
 }
 
 // The name by which the endpoints of a place are asked for.
-pub(crate) fn private_name(
-    alloc: Global,
-    prefix: &str,
-    place: usize,
-) -> Result<String, AllocError>
+pub(crate) fn private_name(alloc: Global, prefix: &str, place: usize) -> Result<String, AllocError>
     ensures { IfOk result (λ name. string_bytes name ≡ private_name prefix.now place) }
 {
     let Some(number) = place.checked_add(1) else {
@@ -64,12 +60,7 @@ pub(crate) fn following_value(
     let mut members = Map::new(alloc);
     let nonce = format!(in alloc; "{nonce}{at}")?;
     put(&mut members, alloc, "nonce", Value::String(nonce))?;
-    put(
-        &mut members,
-        alloc,
-        "typeUrl",
-        json!(in alloc; ENDPOINTS)?,
-    )?;
+    put(&mut members, alloc, "typeUrl", json!(in alloc; ENDPOINTS)?)?;
     put_list(alloc, &mut members, "removedResources", removed)?;
     put_list(alloc, &mut members, "resources", resources)?;
     response_value(alloc, Value::Object(members))

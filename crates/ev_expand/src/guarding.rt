@@ -1,4 +1,4 @@
-ghost use Rattle.std.specs.Prelude.{◌≡◌, ◌<◌, ◌++◌, ◌∷◌, [], List, map, length, is_some, option_map, unwrap_or, codes, IfOk, IfSome, OnOk};
+ghost use Rattle.std.specs.Prelude.{◌≡◌, ◌<◌, ◌++◌, ◌∷◌, [], List, map, length, is_some, option_map, unwrap_or, codes, Some, IfOk, IfSome, OnOk};
 ghost use Rattle.std.specs.List.{list_any};
 ghost use Rattle.serde_json.specs.Data.{Data, array, string};
 ghost use Rattle.serde_json.specs.View.{view, items_of};
@@ -18,7 +18,7 @@ use crate::fronts::message_of;
 use crate::keys::Key;
 use crate::numbers::Numbers;
 use ev_tree::member;
-use ev_types::{Event, Item, Kind};
+use ev_types::{Event, Item, Kind, Response};
 use serde_json::{Value, json};
 use std::alloc::{AllocError, Global};
 
@@ -37,7 +37,12 @@ fn waiting_body(alloc: Global, name: &str, body: &Value) -> Result<Value, AllocE
     ensures { IfOk result (λ made. view made ≡ waiting_body name.now (view body.now)) }
 {
     let body = eds_body(alloc, stripped_body(body)?)?;
-    with_value(alloc, body, "edsClusterConfig", waiting_config(alloc, name)?)
+    with_value(
+        alloc,
+        body,
+        "edsClusterConfig",
+        waiting_config(alloc, name)?,
+    )
 }
 
 // The same cluster with the type EDS.
@@ -162,11 +167,7 @@ fn listed_as<'a>(
     ensures { IfOk result (λ entries. map view entries.now ≡ listed_as kind (tree_of message.entry)) }
 {
     match kind {
-        Some(Kind::Cds) => Ok(member::elements(member::objects(
-            alloc,
-            message,
-            "resources",
-        )?)),
+        Some(Kind::Cds) => Ok(member::elements(member::objects(alloc, message, "resources")?)),
         Some(Kind::Eds) => Ok(&[]),
         Some(Kind::Lds) => Ok(&[]),
         Some(Kind::Rds) => Ok(&[]),
@@ -184,17 +185,47 @@ fn kind_of(event: &Option<Event>) -> Option<Kind>
     }
 }
 
-// The resources of clusters of an event, as they are read.
+// The resources of clusters of a line, as they are read.
 fn cluster_items<'a>(line: &Value, event: &'a Option<Event>) -> &'a [Item]
     requires { event.now ≡ event_of (view line.now) }
     ensures { result.now ≡ map (item_of Cds) (clusters_in (view line.now)) }
 {
     match event {
-        Some(Event::Response(response)) => match response.kind {
-            Some(Kind::Cds) => response.items.as_slice(),
-            _ => &[],
-        },
+        Some(event) => event_items(line, event),
+        None => &[],
+    }
+}
+
+fn event_items<'a>(line: &Value, event: &'a Event) -> &'a [Item]
+    requires { event_of (view line.now) ≡ Some event.now }
+    ensures { result.now ≡ map (item_of Cds) (clusters_in (view line.now)) }
+{
+    match event {
+        Event::Response(response) => response_items(line, response),
         _ => &[],
+    }
+}
+
+fn response_items<'a>(line: &Value, response: &'a Response) -> &'a [Item]
+    requires { event_of (view line.now) ≡ Some (Event.Response response.now) }
+    ensures { result.now ≡ map (item_of Cds) (clusters_in (view line.now)) }
+{
+    match response.kind {
+        Some(kind) => kind_items(line, response, kind),
+        None => &[],
+    }
+}
+
+fn kind_items<'a>(line: &Value, response: &'a Response, kind: Kind) -> &'a [Item]
+    requires event { event_of (view line.now) ≡ Some (Event.Response response.now) }
+    requires kind { response.now.kind ≡ Some kind }
+    ensures { result.now ≡ map (item_of Cds) (clusters_in (view line.now)) }
+{
+    match kind {
+        Kind::Cds => response.items.as_slice(),
+        Kind::Eds => &[],
+        Kind::Lds => &[],
+        Kind::Rds => &[],
     }
 }
 

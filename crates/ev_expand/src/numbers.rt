@@ -1,4 +1,4 @@
-ghost use Rattle.std.specs.Prelude.{◌≡◌, ◌<◌, ◌++◌, ◌∷◌, [], length, slice_get, option_map, false, OnOk, IfSome, IfNone};
+ghost use Rattle.std.specs.Prelude.{◌≡◌, ◌<◌, ◌++◌, ◌∷◌, [], length, slice_get, option_map, true, false, OnOk, IfSome, IfNone};
 ghost use Rattle.std.specs.List.{list_any};
 ghost use Rattle.serde_json.specs.View.{view};
 ghost use Rattle.ev_expand.specs.Keys.{key_same};
@@ -46,6 +46,7 @@ impl Numbers {
     pub(crate) fn find(&self, key: &Key) -> Option<usize>
         ensures some { IfSome result (λ place. place ≡ place_in (guarded_so_far self.now) key.now) }
         ensures within { IfSome result (λ place. place < length (guarded_so_far self.now)) }
+        ensures found { IfSome result (λ _. list_any (λ g. key_same key.now g.key) (guarded_so_far self.now) ≡ true) }
         ensures none { IfNone result (list_any (λ g. key_same key.now g.key) (guarded_so_far self.now) ≡ false) }
     {
         self.firsts.get_index_of(key)

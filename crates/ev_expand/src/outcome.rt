@@ -9,13 +9,9 @@ use std::fmt;
 #[derive(Clone, Copy, Debug, PartialEq, Eq)]
 pub enum ExpandError {
     /// The first line that uses a private name. It is looked for before all else.
-    Private {
-        line: u32,
-    },
+    Private { line: u32 },
     /// The first line with whose output the text goes above a limit of inputs.
-    Large {
-        line: u32,
-    },
+    Large { line: u32 },
     /// Memory ran out. It says nothing of the lines.
     OutOfMemory,
 }

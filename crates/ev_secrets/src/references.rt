@@ -1,13 +1,13 @@
-ghost use Rattle.std.specs.Prelude.{◌≡◌, ◌++◌, List, ℕ, map, filter_map, option_map, IfOk, OnOk};
+ghost use Rattle.std.specs.Prelude.{◌≡◌, ◌++◌, map, option_to_list, IfOk, OnOk};
+ghost use Rattle.std.specs.List.{filter_map};
 ghost use Rattle.serde_json.specs.View.{view};
-ghost use Rattle.ev_tree.specs.Forms.{tree_of};
-ghost use Rattle.ev_types.specs.declared.contents.Kind.TheVariants.{Cds};
+ghost use Rattle.ev_tree.specs.Forms.{tree_of, found_map};
 ghost use Rattle.ev_expand.specs.Guarding.{body_in};
-ghost use Rattle.ev_secrets.specs.References.{socket_config, tls_context, own_name, secret_named, secret_configs, references_of, endpoints_in, content_key, body_key};
+ghost use Rattle.ev_secrets.specs.References.{socket_config, tls_context, own_name, secret_named, given_list, references_of, endpoints_in, cluster_key, content_key, body_key};
 
 use crate::names::make_name;
 use ev_expand::Key;
-use ev_tree::member;
+use ev_tree::{Found, member};
 use ev_types::{Body, Cluster, Content, Name, Seq, TryCopy};
 use serde_json::{Value, json};
 use std::alloc::{AllocError, Global};
@@ -75,21 +75,39 @@ pub(crate) fn references_of(
     ensures { IfOk result (λ names. names.items ≡ references_of (tree_of body.entry)) }
 {
     let context = tls_context(alloc, body)?;
-    let certificates =
-        member::list(alloc, context, "tls_certificate_sds_secret_configs")?;
-    let validation = member::field(alloc, context, "validation_context_sds_secret_config")?;
     let mut names = Vec::new(alloc);
-    for config in member::elements(certificates) {
-        push_named(alloc, &mut names, config)?;
-    }
-    if let Some(config) = member::inner(validation) {
-        push_named(alloc, &mut names, config)?;
-    }
+    let certificates = member::list(alloc, context, "tls_certificate_sds_secret_configs")?;
+    push_all(alloc, &mut names, member::elements(certificates))?;
+    let validation = member::field(alloc, context, "validation_context_sds_secret_config")?;
+    push_given(alloc, &mut names, validation)?;
     Ok(names)
 }
 
+// Puts the secrets that these entries name behind these.
+fn push_all(alloc: Global, names: &mut Vec<Name>, configs: &[Value]) -> Result<(), AllocError>
+    ensures { OnOk result (names.new.items ≡ names.old.items ++ filter_map secret_named (map view configs.now)) }
+{
+    for config in configs {
+        push_named(alloc, names, config)?;
+    }
+    Ok(())
+}
+
+// Puts the secret that an entry names behind these, where an entry is given.
+fn push_given(alloc: Global, names: &mut Vec<Name>, config: Found<&Value>) -> Result<(), AllocError>
+    ensures { OnOk result (names.new.items
+        ≡ names.old.items ++ filter_map secret_named (given_list (found_map (λ v. view v.now) config.entry))) }
+{
+    match config {
+        Found::Given(config) => push_named(alloc, names, config),
+        Found::Absent | Found::Wrong => Ok(()),
+    }
+}
+
 // Puts the secret that an entry names behind these, where it names one.
-fn push_named(alloc: Global, names: &mut Vec<Name>, config: &Value) -> Result<(), AllocError> {
+fn push_named(alloc: Global, names: &mut Vec<Name>, config: &Value) -> Result<(), AllocError>
+    ensures { OnOk result (names.new.items ≡ names.old.items ++ option_to_list (secret_named (view config.now))) }
+{
     if let Some(name) = secret_named(alloc, config)? {
         names.push(name)?;
     }
@@ -129,7 +147,9 @@ fn content_key(alloc: Global, content: &Content, names: Vec<Name>) -> Result<Opt
     }
 }
 
-fn cluster_key(alloc: Global, cluster: &Cluster, names: Vec<Name>) -> Result<Option<Key>, AllocError> {
+fn cluster_key(alloc: Global, cluster: &Cluster, names: Vec<Name>) -> Result<Option<Key>, AllocError>
+    ensures { IfOk result (λ key. key ≡ cluster_key cluster.now names.items) }
+{
     if names.len() == 0 {
         return Ok(None);
     }

@@ -16,7 +16,7 @@ pub loop-place-preserved-in_ok-push-in-Some-endpoints : goal.loop-place-preserve
 loop-place-preserved-in_ok-push-in-Some-endpoints c =
     let given : c.in-Some.field-0.endpoints ≡ Some c.in-Some-endpoints.endpoints = c.in-Some-endpoints.is in (
       grown _ (filter_map (entry_due c.args.prefix.now c.args.version.now) (map due_shown c.loop-place.yielded)) _ _ _ _ c.in_ok-push-in-Some-endpoints.ensures.items c.loop-place.invariant.0
-      (entry_more c.args.prefix.now c.args.version.now c.loop-place.yielded c.in-Some.field-0 c.in-Some.field-0.place c.in-Some-endpoints.endpoints _ _ refl given c.in_ok-name.ensures c.in_ok-endpoints_entry-in-Some-endpoints.ensures),
+          (entry_more c.args.prefix.now c.args.version.now c.loop-place.yielded c.in-Some.field-0 c.in-Some.field-0.place c.in-Some-endpoints.endpoints _ _ refl given c.in_ok-name.ensures c.in_ok-endpoints_entry-in-Some-endpoints.ensures),
       c.loop-place.invariant.1 ∙ ap (λ (xs : List Data). map view c.args.removed.now.items ++ xs) (sym (name_same c.args.prefix.now c.loop-place.yielded c.in-Some.field-0 c.in-Some-endpoints.endpoints given)),
     )
 
@@ -25,5 +25,5 @@ loop-place-preserved c =
     let given : c.in-Some.field-0.endpoints ≡ None = c.in-None-endpoints.is in (
       c.loop-place.invariant.0 ∙ ap (λ (xs : List Data). map view c.args.resources.now.items ++ xs) (sym (entry_same c.args.prefix.now c.args.version.now c.loop-place.yielded c.in-Some.field-0 given)),
       grown _ (filter_map (name_due c.args.prefix.now) (map due_shown c.loop-place.yielded)) _ _ _ _ c.in_ok-push-in-None-endpoints.ensures.items c.loop-place.invariant.1
-      (name_more c.args.prefix.now c.loop-place.yielded c.in-Some.field-0 c.in-Some.field-0.place _ _ refl given c.in_ok-name.ensures c.name_value.ensures),
+          (name_more c.args.prefix.now c.loop-place.yielded c.in-Some.field-0 c.in-Some.field-0.place _ _ refl given c.in_ok-name.ensures c.name_value.ensures),
     )
