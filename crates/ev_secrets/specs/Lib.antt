@@ -1,4 +1,5 @@
 pub mod Awaited
+pub mod Places
 pub mod References
 pub mod Told
 pub mod Sealing

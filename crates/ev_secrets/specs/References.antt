@@ -1,6 +1,6 @@
 -- The secrets that a cluster names: by `transport_socket` of Envoy's cluster, with the context of TLS towards upstream hosts, where
 -- their values come by the secret discovery service.
-use Rattle.std.specs.Prelude.{ℕ, ◌&&◌, ◌==◌, List, [], ◌∷◌, ◌++◌, length, filter_map, Option, Some, None, if◌then◌else◌, option_and_then, codes}
+use Rattle.std.specs.Prelude.{ℕ, Bool, ◌==◌, List, [], ◌∷◌, ◌++◌, length, filter_map, Option, Some, None, if◌then◌else◌, option_and_then, codes}
 use Rattle.std.specs.Str.{bytes_eq}
 use Rattle.serde_json.specs.Data.{Data, null, array, no_items}
 use Rattle.ev_types.specs.declared.contents.Kind.TheVariants.{Cds}
@@ -26,12 +26,17 @@ upstream_tls = codes "type.googleapis.com/envoy.extensions.transport_sockets.tls
 abbrev pub socket_config : Data → Data
 socket_config body = inside (object_of (codes "typed_config") (inside (object_of (codes "transport_socket") body)))
 
+-- it is that of TLS
+abbrev pub is_tls : Data → Bool
+is_tls config = bytes_eq (given_or [] (text_of (codes "@type") config)) upstream_tls
+
 -- the part of it that names secrets, where it is that of TLS
+abbrev pub context_in : Data → Data
+context_in config = if is_tls config then inside (object_of (codes "common_tls_context") config) else null
+
+-- the part of a cluster that names secrets
 abbrev pub tls_context : Data → Data
-tls_context body =
-    if bytes_eq (given_or [] (text_of (codes "@type") (socket_config body))) upstream_tls
-    then inside (object_of (codes "common_tls_context") (socket_config body))
-    else null
+tls_context body = context_in (socket_config body)
 
 -- the value that is given, as a list
 abbrev pub given_list : Found Data → List Data

@@ -4,6 +4,8 @@ use Rattle.std.specs.List.{list_any, list_all, last_or}
 use Rattle.std.specs.Str.{bytes_eq}
 use Rattle.serde_json.specs.Data.{Data}
 use Rattle.serde_json.specs.Find.{as_str}
+use Rattle.serde_json.specs.View.{view}
+use Rattle.serde_json.specs.declared.value.Value.{Value}
 use Rattle.ev_types.specs.Items.{ItemParts, ResponseParts}
 use Rattle.ev_types.specs.declared.contents.Kind.{Kind}
 use Rattle.ev_types.specs.declared.contents.Kind.TheVariants.{Cds, Eds, Lds, Rds}
@@ -27,11 +29,15 @@ use Rattle.ev_secrets.specs.References.{own_name, endpoints_in}
 abbrev pub secret_type : List ℕ
 secret_type = codes "type.googleapis.com/envoy.extensions.transport_sockets.tls.v3.Secret"
 
+-- the name that an element of a list of removed names is
+abbrev pub removed_name : Data → Option (List ℕ)
+removed_name name = option_and_then name_in (as_str name)
+
 -- the secrets that a message of secrets tells of: those of its resources, and the removed ones
 abbrev pub secrets_in : Data → List (List ℕ)
 secrets_in message =
     filter_map own_name (listed (list_of (codes "resources") message))
-    ++ filter_map (λ name. option_and_then name_in (as_str name)) (listed (list_of (codes "removed_resources") message))
+    ++ filter_map removed_name (listed (list_of (codes "removed_resources") message))
 
 -- a message of a type that isn't read may be one of secrets
 abbrev pub secrets_told : Data → List (List ℕ)
@@ -94,6 +100,10 @@ given_as kind response message = []
 abbrev pub given_with : Option Event → Data → List (List ℕ × Data)
 given_with (Some (Response response)) message = given_as response.kind response message
 given_with event message = []
+
+-- what a value with its name shows
+abbrev pub value_shown : List ℕ × Value → List ℕ × Data
+value_shown value = (value.0, view value.1)
 
 -- the values that a line gives, by name
 abbrev pub values_in : Data → List (List ℕ × Data)

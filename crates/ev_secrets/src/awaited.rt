@@ -1,7 +1,8 @@
-ghost use Rattle.std.specs.Prelude.{◌≡◌, IfOk};
-ghost use Rattle.ev_secrets.specs.declared.awaited.Awaited.{Awaited};
+ghost use Rattle.std.specs.Prelude.{◌≡◌, map, IfOk};
+ghost use Rattle.ev_secrets.specs.Awaited.{awaited_by};
 
-use ev_types::{Name, TryCopy};
+use ev_expand::Key;
+use ev_types::{Discovery, Name, TryCopy};
 use std::alloc::{AllocError, Global};
 use std::hash::{Hash, Hasher};
 
@@ -67,4 +68,37 @@ impl Hash for Awaited {
             }
         }
     }
+}
+
+// What the clusters of a key wait for: each secret that they name, and then their endpoints.
+pub(crate) fn awaited_by(alloc: Global, key: &Key) -> Result<Vec<Awaited>, AllocError>
+    ensures { IfOk result (λ awaited. awaited.items ≡ awaited_by key.now) }
+{
+    let mut awaited = secrets(alloc, key.names.as_slice())?;
+    if let Discovery::Eds { service, .. } = &key.cluster.discovery {
+        awaited.push(Awaited::Endpoints(service.copy(alloc)?))?;
+    }
+    Ok(awaited)
+}
+
+// The secrets of these names.
+pub(crate) fn secrets(alloc: Global, names: &[Name]) -> Result<Vec<Awaited>, AllocError>
+    ensures { IfOk result (λ awaited. awaited.items ≡ map (λ name. Awaited.Secret name) names.now) }
+{
+    let mut awaited = Vec::with_capacity(alloc, names.len())?;
+    for name in names {
+        awaited.push(Awaited::Secret(name.copy(alloc)?))?;
+    }
+    Ok(awaited)
+}
+
+// The endpoints of these names.
+pub(crate) fn endpoints(alloc: Global, names: &[Name]) -> Result<Vec<Awaited>, AllocError>
+    ensures { IfOk result (λ awaited. awaited.items ≡ map (λ name. Awaited.Endpoints name) names.now) }
+{
+    let mut awaited = Vec::with_capacity(alloc, names.len())?;
+    for name in names {
+        awaited.push(Awaited::Endpoints(name.copy(alloc)?))?;
+    }
+    Ok(awaited)
 }

@@ -1,4 +1,4 @@
-ghost use Rattle.std.specs.Prelude.{◌≡◌, IfOk};
+ghost use Rattle.std.specs.Prelude.{◌≡◌, ◌++◌, option_to_list, IfOk, OnOk};
 ghost use Rattle.ev_cluster_json.specs.Made.{name_in};
 
 use ev_types::{Name, NameError};
@@ -12,5 +12,15 @@ pub(crate) fn make_name(alloc: Global, text: &str) -> Result<Option<Name>, Alloc
         Ok(name) => Ok(Some(name)),
         Err(NameError::Length) => Ok(None),
         Err(NameError::OutOfMemory) => Err(AllocError),
+    }
+}
+
+// Puts a name behind these, where there is one.
+pub(crate) fn push_name(names: &mut Vec<Name>, name: Option<Name>) -> Result<(), AllocError>
+    ensures { OnOk result (names.new.items ≡ names.old.items ++ option_to_list name) }
+{
+    match name {
+        Some(name) => Ok(names.push(name)?),
+        None => Ok(()),
     }
 }

@@ -1,15 +1,16 @@
 ghost use Rattle.std.specs.Prelude.{◌≡◌, ◌++◌, map, option_to_list, IfOk, OnOk};
 ghost use Rattle.std.specs.List.{filter_map};
+ghost use Rattle.serde_json.specs.Data.{array, no_items};
 ghost use Rattle.serde_json.specs.View.{view};
-ghost use Rattle.ev_tree.specs.Forms.{tree_of, found_map};
+ghost use Rattle.ev_tree.specs.Forms.{tree_of, found_map, given_or, inside, object_of};
 ghost use Rattle.ev_expand.specs.Guarding.{body_in};
-ghost use Rattle.ev_secrets.specs.References.{socket_config, tls_context, own_name, secret_named, given_list, references_of, endpoints_in, cluster_key, content_key, body_key};
+ghost use Rattle.ev_secrets.specs.References.{socket_config, is_tls, context_in, tls_context, own_name, secret_named, given_list, references_of, endpoints_in, cluster_key, content_key, body_key};
 
 use crate::names::make_name;
 use ev_expand::Key;
 use ev_tree::{Found, member};
 use ev_types::{Body, Cluster, Content, Name, Seq, TryCopy};
-use serde_json::{Value, json};
+use serde_json::Value;
 use std::alloc::{AllocError, Global};
 
 /// The type of the context of TLS towards upstream hosts.
@@ -30,22 +31,44 @@ fn socket_config<'a>(
 ) -> Result<Option<&'a Value>, AllocError>
     ensures { IfOk result (λ config. tree_of config ≡ socket_config (tree_of body.entry)) }
 {
-    let socket = member::object(alloc, body, "transport_socket")?;
-    let config = member::object(alloc, member::inner(socket), "typed_config")?;
-    Ok(member::inner(config))
+    let socket = inner_object(alloc, body, "transport_socket")?;
+    inner_object(alloc, socket, "typed_config")
+}
+
+// The object in a field, to look into.
+fn inner_object<'a>(
+    alloc: Global,
+    holder: Option<&'a Value>,
+    name: &str,
+) -> Result<Option<&'a Value>, AllocError>
+    ensures { IfOk result (λ inner. tree_of inner ≡ inside (object_of name.now (tree_of holder.entry))) }
+{
+    Ok(member::inner(member::object(alloc, holder, name)?))
 }
 
 // The part of it that names secrets, where it is that of TLS.
 fn tls_context<'a>(alloc: Global, body: Option<&'a Value>) -> Result<Option<&'a Value>, AllocError>
     ensures { IfOk result (λ context. tree_of context ≡ tls_context (tree_of body.entry)) }
 {
-    let config = socket_config(alloc, body)?;
-    let named = member::text(alloc, config, "@type")?;
-    if member::text_or_empty(named) != UPSTREAM_TLS {
+    context_in(alloc, socket_config(alloc, body)?)
+}
+
+// The part of a transport socket's configuration that names secrets, where it is that of TLS.
+fn context_in<'a>(alloc: Global, config: Option<&'a Value>) -> Result<Option<&'a Value>, AllocError>
+    ensures { IfOk result (λ context. tree_of context ≡ context_in (tree_of config.entry)) }
+{
+    if !is_tls(alloc, config)? {
         return Ok(None);
     }
-    let context = member::object(alloc, config, "common_tls_context")?;
-    Ok(member::inner(context))
+    inner_object(alloc, config, "common_tls_context")
+}
+
+// Whether it is that of TLS.
+fn is_tls(alloc: Global, config: Option<&Value>) -> Result<bool, AllocError>
+    ensures { IfOk result (λ is. is ≡ is_tls (tree_of config.entry)) }
+{
+    let named = member::text(alloc, config, "@type")?;
+    Ok(member::text_or_empty(named) == UPSTREAM_TLS)
 }
 
 // The name in the member `name`: a text of 1 to 512 bytes.
@@ -118,10 +141,16 @@ fn push_named(alloc: Global, names: &mut Vec<Name>, config: &Value) -> Result<()
 pub(crate) fn endpoints_in(alloc: Global, assignment: Option<&Value>) -> Result<Value, AllocError>
     ensures { IfOk result (λ endpoints. view endpoints ≡ endpoints_in (tree_of assignment.entry)) }
 {
-    let endpoints = member::field(alloc, assignment, "endpoints")?;
-    match member::inner(endpoints) {
-        Some(endpoints) => endpoints.clone(),
-        None => json!(in alloc; []),
+    value_or_none(alloc, member::field(alloc, assignment, "endpoints")?)
+}
+
+// A copy of the list that is given, or an empty list.
+fn value_or_none(alloc: Global, found: Found<&Value>) -> Result<Value, AllocError>
+    ensures { IfOk result (λ value. view value ≡ given_or (array no_items) (found_map (λ v. view v.now) found.entry)) }
+{
+    match found {
+        Found::Given(value) => value.clone(),
+        Found::Absent | Found::Wrong => Ok(Value::Array(Vec::new(alloc))),
     }
 }
 
