@@ -2,8 +2,9 @@ mod RoomLemmas
 mod EditLemmas
 mod FollowLemmas
 pub mod EventLemmas
-mod FrontLemmas
+pub mod FrontLemmas
 mod SeenLemmas
-mod NumberLemmas
+pub mod NumberLemmas
+pub mod DistinctLemmas
 mod PlaceLemmas
 mod GrowthLemmas

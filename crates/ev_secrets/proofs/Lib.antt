@@ -1,1 +1,4 @@
 mod PushLemmas
+mod KnownLemmas
+mod LookLemmas
+mod StateLemmas

@@ -20,7 +20,7 @@ has_guarded line key = list_any (λ (g : Guarded). key_same key g.key) (guarded_
 
 -- the line gives a value to this name
 abbrev pub gives_name : Data → List ℕ → Bool
-gives_name line name = list_any (λ (v : List ℕ × Data). bytes_eq name v.0) (values_in line)
+gives_name line name = list_any (λ (v : List ℕ × Data). bytes_eq v.0 name) (values_in line)
 
 -- the line gives the endpoints of the key's clusters a value
 abbrev pub gives_endpoints : Data → Key → Bool

@@ -11,13 +11,13 @@
 #![tactic(auto)]
 
 mod awaited;
+mod hearing;
+mod known;
+mod looking;
 mod names;
-mod progress;
 mod references;
-mod rows;
 mod secrets;
 mod told;
-mod under;
 mod values;
 
 pub use awaited::Awaited;

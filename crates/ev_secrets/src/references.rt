@@ -3,6 +3,7 @@ ghost use Rattle.std.specs.List.{filter_map};
 ghost use Rattle.serde_json.specs.Data.{array, no_items};
 ghost use Rattle.serde_json.specs.View.{view};
 ghost use Rattle.ev_tree.specs.Forms.{tree_of, found_map, given_or, inside, object_of};
+ghost use Rattle.ev_cluster_json.specs.Clusters.{load_assignment_of};
 ghost use Rattle.ev_expand.specs.Guarding.{body_in};
 ghost use Rattle.ev_secrets.specs.References.{socket_config, is_tls, context_in, tls_context, own_name, secret_named, given_list, references_of, endpoints_in, cluster_key, content_key, body_key};
 
@@ -91,10 +92,7 @@ fn secret_named(alloc: Global, config: &Value) -> Result<Option<Name>, AllocErro
 }
 
 // The secrets that a cluster names, by its body.
-pub(crate) fn references_of(
-    alloc: Global,
-    body: Option<&Value>,
-) -> Result<Vec<Name>, AllocError>
+pub(crate) fn references_of(alloc: Global, body: Option<&Value>) -> Result<Vec<Name>, AllocError>
     ensures { IfOk result (λ names. names.items ≡ references_of (tree_of body.entry)) }
 {
     let context = tls_context(alloc, body)?;
@@ -137,6 +135,24 @@ fn push_named(alloc: Global, names: &mut Vec<Name>, config: &Value) -> Result<()
     Ok(())
 }
 
+// The endpoints that stand in a cluster itself.
+pub(crate) fn own_endpoints(alloc: Global, body: Option<&Value>) -> Result<Value, AllocError>
+    ensures { IfOk result (λ endpoints. view endpoints ≡ endpoints_in (load_assignment_of (tree_of body.entry))) }
+{
+    endpoints_in(alloc, load_assignment(alloc, body)?)
+}
+
+// The assignment that stands in a cluster itself.
+#[tactic(auto, unfolding(ev_cluster_json::specs::Clusters::load_assignment_of))]
+fn load_assignment<'a>(
+    alloc: Global,
+    body: Option<&'a Value>,
+) -> Result<Option<&'a Value>, AllocError>
+    ensures { IfOk result (λ assignment. tree_of assignment ≡ load_assignment_of (tree_of body.entry)) }
+{
+    inner_object(alloc, body, "load_assignment")
+}
+
 // The endpoints of an assignment, as they stand there.
 pub(crate) fn endpoints_in(alloc: Global, assignment: Option<&Value>) -> Result<Value, AllocError>
     ensures { IfOk result (λ endpoints. view endpoints ≡ endpoints_in (tree_of assignment.entry)) }
@@ -155,7 +171,11 @@ fn value_or_none(alloc: Global, found: Found<&Value>) -> Result<Value, AllocErro
 }
 
 // The key of a good cluster that names secrets.
-pub(crate) fn body_key(alloc: Global, body: &Body, names: Vec<Name>) -> Result<Option<Key>, AllocError>
+pub(crate) fn body_key(
+    alloc: Global,
+    body: &Body,
+    names: Vec<Name>,
+) -> Result<Option<Key>, AllocError>
     ensures { IfOk result (λ key. key ≡ body_key body.now names.items) }
 {
     match body {
@@ -165,7 +185,11 @@ pub(crate) fn body_key(alloc: Global, body: &Body, names: Vec<Name>) -> Result<O
     }
 }
 
-fn content_key(alloc: Global, content: &Content, names: Vec<Name>) -> Result<Option<Key>, AllocError>
+fn content_key(
+    alloc: Global,
+    content: &Content,
+    names: Vec<Name>,
+) -> Result<Option<Key>, AllocError>
     ensures { IfOk result (λ key. key ≡ content_key content.now names.items) }
 {
     match content {
@@ -176,7 +200,11 @@ fn content_key(alloc: Global, content: &Content, names: Vec<Name>) -> Result<Opt
     }
 }
 
-fn cluster_key(alloc: Global, cluster: &Cluster, names: Vec<Name>) -> Result<Option<Key>, AllocError>
+fn cluster_key(
+    alloc: Global,
+    cluster: &Cluster,
+    names: Vec<Name>,
+) -> Result<Option<Key>, AllocError>
     ensures { IfOk result (λ key. key ≡ cluster_key cluster.now names.items) }
 {
     if names.len() == 0 {

@@ -1,143 +1,58 @@
-use crate::awaited::{Awaited, awaited_by};
-use crate::progress::Progress;
-use crate::references::{body_in, body_key, endpoints_in, references_of};
-use crate::rows::Row;
-use crate::told::told_by;
-use crate::values::values_in;
+ghost use Rattle.std.specs.Prelude.{◌≡◌, ◌&&◌, ◌||◌, ℕ, [], not, nat_eq, map, IfOk, OnOk};
+ghost use Rattle.std.specs.Str.{bytes_eq};
+ghost use Rattle.serde_json.specs.View.{view};
+ghost use Rattle.ev_expand.specs.Expanding.{IsExpanded};
+ghost use Rattle.indexmap.specs.IndexSet.{contains};
+ghost use Rattle.ev_secrets.specs.Looking.{AreMarks, marks_of};
+ghost use Rattle.ev_secrets.specs.Marking.{is_marked, is_place};
+ghost use Rattle.ev_secrets.specs.Sealing.{tls_rules};
+ghost use Rattle.ev_secrets.specs.State.{IsBehind};
+
+use crate::hearing::{hear, open_after};
+use crate::known::{Told, Values};
+use crate::looking::{Found, Marked, look};
+use crate::references::{body_in, body_key, own_endpoints, references_of};
 use ev_expand::{Due, ExpandError, Expansion, Key, Numbers, expand_with};
-use ev_tree::member;
-use ev_types::{Discovery, Event, Item, Name, TryCopy};
-use indexmap::{IndexMap, IndexSet};
+use ev_types::{Event, Item, Name};
+use indexmap::IndexSet;
 use serde_json::Value;
 use std::alloc::{AllocError, Global};
+use std::mem;
 
 // What is known behind the lines so far.
 #[derive(Drop)]
 pub(crate) struct Secrets {
     // Whether a stream is open.
-    open: bool,
+    pub connected: bool,
     // What was told of.
-    told: IndexSet<Awaited>,
+    pub told: Told,
     // The last value of each name of endpoints.
-    values: IndexMap<Name, Value>,
-    // How far each place is.
-    progress: Progress,
+    pub values: Values,
+    // What is complete, by place.
+    pub complete: Vec<bool>,
 }
 
 impl Secrets {
-    pub(crate) fn new(alloc: Global) -> Secrets {
+    // Nothing is known. It takes no memory.
+    pub(crate) fn new(alloc: Global) -> Secrets
+        ensures { IsBehind result [] }
+    {
         Secrets {
-            open: false,
-            told: IndexSet::new(alloc),
-            values: IndexMap::new(alloc),
-            progress: Progress::new(alloc),
+            connected: false,
+            told: Told::new(alloc),
+            values: Values::new(alloc),
+            complete: Vec::new(alloc),
         }
     }
-
-    // Takes new places, and what the line tells of, and gives the places that may go on.
-    fn wake(
-        &mut self,
-        alloc: Global,
-        line: &Value,
-        event: &Option<Event>,
-        numbers: &Numbers,
-    ) -> Result<Vec<usize>, AllocError> {
-        let mut woken = Vec::new(alloc);
-        for place in self.progress.rows.len()..numbers.len() {
-            if let Some((key, _)) = numbers.get(place) {
-                woken.push(place)?;
-                self.progress.rows.push(Row {
-                    names: awaited_by(alloc, key)?,
-                    passed: 0,
-                })?;
-            }
-        }
-        if self.open {
-            for awaited in told_by(alloc, line, event)? {
-                tell(&mut self.told, &self.progress, awaited, &mut woken)?;
-            }
-        }
-        Ok(woken)
-    }
-
-    // Takes the values that the line gives, and puts the complete places whose endpoints they are behind these.
-    fn take_values(
-        &mut self,
-        alloc: Global,
-        line: &Value,
-        event: &Option<Event>,
-        candidates: &mut Vec<usize>,
-    ) -> Result<(), AllocError> {
-        for (name, value) in values_in(alloc, line, event)? {
-            let awaited = Awaited::Endpoints(name.copy(alloc)?);
-            candidates.extend_from_slice(self.progress.served.under(&awaited))?;
-            let Ok(_) = self.values.insert(name, value) else {
-                return Err(AllocError);
-            };
-        }
-        Ok(())
-    }
-
-    // The endpoints of a place.
-    fn endpoints(&self, key: &Key, own: &Value) -> Result<Option<Value>, AllocError> {
-        match &key.cluster.discovery {
-            Discovery::Static(_) => Ok(Some(own.clone()?)),
-            Discovery::Eds { service, .. } => match self.values.get(service) {
-                Some(value) => Ok(Some(value.clone()?)),
-                None => Ok(None),
-            },
-        }
-    }
-
-    // Those of these places that are complete, in order and each once, with their endpoints.
-    fn due_among(
-        &self,
-        alloc: Global,
-        numbers: &Numbers,
-        candidates: Vec<usize>,
-    ) -> Result<Vec<Due>, AllocError> {
-        let mut places = candidates;
-        places.sort()?;
-        places.dedup();
-        let mut due = Vec::new(alloc);
-        for place in places.as_slice() {
-            if self.progress.is_complete(*place) {
-                if let Some((key, own)) = numbers.get(*place) {
-                    due.push(Due {
-                        place: *place,
-                        endpoints: self.endpoints(key, own)?,
-                    })?;
-                }
-            }
-        }
-        Ok(due)
-    }
-}
-
-// Notes that something was told of, and wakes the places that wait for it, where it is new.
-fn tell(
-    told: &mut IndexSet<Awaited>,
-    progress: &Progress,
-    awaited: Awaited,
-    woken: &mut Vec<usize>,
-) -> Result<(), AllocError> {
-    if told.contains(&awaited) {
-        return Ok(());
-    }
-    woken.extend_from_slice(progress.waiting.under(&awaited))?;
-    let Ok(_) = told.insert(awaited) else {
-        return Err(AllocError);
-    };
-    Ok(())
 }
 
 impl Expansion for Secrets {
-    ghost use Rattle.std.specs.Prelude.{⊤};
     ghost use Rattle.ev_secrets.specs.Sealing.{tls_rules};
+    ghost use Rattle.ev_secrets.specs.State.{IsBehind};
 
     ghost rules = { tls_rules };
 
-    ghost is_behind = { λ s lines. ⊤ };
+    ghost is_behind = { IsBehind };
 
     fn prefix(&self) -> &'static str {
         "tls/"
@@ -156,8 +71,7 @@ impl Expansion for Secrets {
     }
 
     fn own(&self, alloc: Global, entry: &Value) -> Result<Value, AllocError> {
-        let assignment = member::object(alloc, body_in(entry), "load_assignment")?;
-        endpoints_in(alloc, member::inner(assignment))
+        own_endpoints(alloc, body_in(entry))
     }
 
     fn due(
@@ -168,43 +82,84 @@ impl Expansion for Secrets {
         numbers: &Numbers,
         items: &[Option<usize>],
     ) -> Result<Vec<Due>, AllocError> {
-        let was_open = self.open;
-        self.open = is_open_after(was_open, event);
-        let mut candidates = self.wake(alloc, line, event, numbers)?;
-        self.progress
-            .advance_all(alloc, &self.told, candidates.as_slice())?;
-        if !self.open {
-            return Ok(Vec::new(alloc));
-        }
-        push_places(&mut candidates, items)?;
-        self.take_values(alloc, line, event, &mut candidates)?;
-        if !was_open {
-            candidates.extend_from_slice(self.progress.complete.as_slice())?;
-        }
-        self.due_among(alloc, numbers, candidates)
+        let was_open = self.connected;
+        self.connected = open_after(was_open, event);
+        let given = hear(
+            alloc,
+            &mut self.told,
+            &mut self.values,
+            self.connected,
+            line,
+            event,
+        )?;
+        let was = mem::replace(&mut self.complete, Vec::new(alloc));
+        let marks = marks(alloc, was_open, self.connected, was, items, given)?;
+        let found = look(alloc, numbers, &self.told, &self.values, &marks)?;
+        let Found { due, complete } = found;
+        self.complete = complete;
+        Ok(due)
     }
 }
 
-// Puts the places of guarded resources behind these.
-fn push_places(places: &mut Vec<usize>, items: &[Option<usize>]) -> Result<(), AllocError> {
+// What a look has to know.
+fn marks(
+    alloc: Global,
+    was_open: bool,
+    connected: bool,
+    was: Vec<bool>,
+    items: &[Option<usize>],
+    given: IndexSet<Name>,
+) -> Result<Marked, AllocError>
+    ensures { IfOk result (λ marks. AreMarks was_open connected was.items items.now (contains bytes_eq given) (marks_of marks)) }
+{
+    Ok(Marked {
+        connected,
+        opened: opens(was_open, connected),
+        was,
+        items: places_of(alloc, items)?,
+        given,
+    })
+}
+
+// Whether a stream is open that was not.
+fn opens(was_open: bool, connected: bool) -> bool
+    ensures { result ≡ (connected && not was_open) }
+{
+    connected && !was_open
+}
+
+// The set of the places that are given.
+fn places_of(alloc: Global, items: &[Option<usize>]) -> Result<IndexSet<usize>, AllocError>
+    ensures { IfOk result (λ set. (place : ℕ) → contains nat_eq set place ≡ is_marked items.now place) }
+{
+    let mut set = IndexSet::new(alloc);
     for item in items {
-        if let Some(place) = item {
-            places.push(*place)?;
-        }
+        put_place(&mut set, *item)?;
     }
+    Ok(set)
+}
+
+// Puts a place into the set, where one is given.
+fn put_place(set: &mut IndexSet<usize>, item: Option<usize>) -> Result<(), AllocError>
+    ensures { OnOk result ((place : ℕ) → contains nat_eq set.new place ≡ (is_place item place || contains nat_eq set.old place)) }
+{
+    let Some(item) = item else {
+        return Ok(());
+    };
+    let Ok(_) = set.insert(item) else {
+        return Err(AllocError);
+    };
     Ok(())
 }
 
-// Whether a stream is open behind an event.
-fn is_open_after(open: bool, event: &Option<Event>) -> bool {
-    match event {
-        Some(Event::Connect) => true,
-        Some(Event::Disconnect) => false,
-        _ => open,
-    }
-}
-
 /// The text of a script whose clusters wait for their secrets, by its header and its lines.
-pub fn expand(alloc: Global, head: &Value, lines: &[Value]) -> Result<Vec<u8>, ExpandError> {
+///
+/// # Errors
+/// `Private` exactly for the first line that uses a name that begins with `tls/` for endpoints. `Large` where there is none,
+/// exactly for the line with whose output the text goes above a limit of inputs. `OutOfMemory` without memory, and for 2^32
+/// lines and more.
+pub fn expand(alloc: Global, head: &Value, lines: &[Value]) -> Result<Vec<u8>, ExpandError>
+    ensures { IsExpanded tls_rules (view head.now) (map view lines.now) result }
+{
     expand_with(alloc, Secrets::new(alloc), head, lines)
 }
