@@ -1,13 +1,11 @@
 -- Each key stands once among what is guarded, so it is found at its place.
-use Rattle.std.proofs.Common.{◌≡◌, ℕ, zero, suc, ◌+◌, ◌<◌, ◌≤◌, Bool, true, false, not, cond, ◌||◌, List, [], ◌∷◌, ◌++◌, length, map, filter, filter_map, Option, Some, None, option_map, nat_eq, refl, sym, ap, ap₂, ◌∙◌, subst, append_assoc, arith}
+use Rattle.std.proofs.Common.{◌≡◌, ℕ, zero, suc, ◌+◌, ◌<◌, ◌≤◌, Bool, true, false, not, cond, ◌||◌, List, [], ◌∷◌, ◌++◌, length, filter, Some, refl, sym, ap, ◌∙◌, append_assoc, arith}
 use Rattle.std.specs.Prelude.{slice_get}
-use Rattle.std.specs.List.{list_any, enumerate_from}
+use Rattle.std.specs.List.{list_any}
 use Rattle.std.proofs.lemmas.List.{append-nil}
-use Rattle.std.proofs.lemmas.Option.{slice_get_within}
 use Rattle.ev_expand.specs.declared.keys.Key.{Key}
 use Rattle.ev_expand.specs.Keys.{key_same, key_decides}
-use Rattle.ev_expand.specs.Guarding.{Guard, Guarded, guarded_same, each_once, place_in, place_at, guarded_of}
-use Rattle.ev_expand.specs.Numbers.{added}
+use Rattle.ev_expand.specs.Guarding.{Guarded, guarded_same, each_once, place_in}
 use Rattle.ev_expand.proofs.NumberLemmas.{once-push}
 
 -- no key stands twice
@@ -103,7 +101,6 @@ only y (suc i) g h = absurd (cc)
 new_at : (b : Bool) (gs : List Guarded) (y : Guarded) → (more : List Guarded) × (cond b gs (gs ++ y ∷ []) ≡ gs ++ more) × ((i : ℕ) (g : Guarded) → slice_get more i ≡ Some g → g ≡ y)
 new_at true gs y = ([], sym (append-nil gs), λ i g h. absurd (cc))
 new_at false gs y = (y ∷ [], refl, only y)
-
 
 split_get : (P : Type 0) (xs ys : List Guarded) (i : ℕ) (g : Guarded) → slice_get (xs ++ ys) i ≡ Some g → ((j : ℕ) → slice_get xs j ≡ Some g → P) → ((j : ℕ) → slice_get ys j ≡ Some g → P) → P
 split_get P [] ys i g h first second = second i h

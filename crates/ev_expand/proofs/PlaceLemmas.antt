@@ -1,12 +1,12 @@
 -- A line by the places of its keys.
-use Rattle.std.proofs.Common.{◌≡◌, ℕ, Bool, true, false, cond, ◌||◌, List, [], ◌∷◌, map, Option, Some, None, option_map, is_some, codes, refl, sym, ap, ap₂, ◌∙◌}
+use Rattle.std.proofs.Common.{◌≡◌, ℕ, Bool, cond, ◌||◌, List, [], ◌∷◌, map, Option, Some, None, option_map, is_some, codes, refl, ap, ap₂, ◌∙◌}
 use Rattle.std.specs.List.{list_any}
 use Rattle.serde_json.specs.Data.{Data, array}
 use Rattle.serde_json.specs.View.{items_of}
 use Rattle.ev_expand.specs.declared.keys.Key.{Key}
 use Rattle.ev_expand.specs.Editing.{with_value}
 use Rattle.ev_expand.specs.Fronts.{message_of}
-use Rattle.ev_expand.specs.Guarding.{Guard, Guarded, clusters_in, place_in, place_at, waiting_entry, waiting_entries, waiting_line, response_tree}
+use Rattle.ev_expand.specs.Guarding.{Guard, Guarded, clusters_in, place_in, place_at, waiting_entry, waiting_line, response_tree}
 use Rattle.ev_expand.specs.Expanding.{Rules, written_line}
 use Rattle.ev_expand.specs.Placing.{placed_entries, placed_line, placed_lines}
 

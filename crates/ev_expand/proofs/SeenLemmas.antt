@@ -1,5 +1,5 @@
 -- The table of keys, and what it shows.
-use Rattle.std.proofs.Common.{◌≡◌, ℕ, ◌+◌, ◌<◌, Bool, true, false, not, cond, ◌||◌, nat_lt, List, [], ◌∷◌, ◌++◌, length, map, Option, Some, None, IfSome, is_some, refl, sym, ap, ◌∙◌, subst}
+use Rattle.std.proofs.Common.{◌≡◌, ℕ, ◌+◌, ◌<◌, Bool, true, false, not, cond, ◌||◌, List, [], ◌∷◌, length, Option, Some, None, IfSome, is_some, refl, sym, ap, ◌∙◌, subst}
 use Rattle.std.specs.Prelude.{IfNone}
 use Rattle.std.specs.List.{list_any, position_or_len}
 use Rattle.std.specs.Map.{lookup, keys_of}

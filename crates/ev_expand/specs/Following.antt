@@ -1,5 +1,5 @@
 -- The line that follows a line: a response of endpoints, with those of the numbers that are due.
-use Rattle.std.specs.Prelude.{ℕ, ◌==◌, List, [], ◌∷◌, ◌++◌, length, filter_map, Option, Some, None, option_map, if◌then◌else◌, codes, decimal}
+use Rattle.std.specs.Prelude.{ℕ, ◌==◌, List, ◌++◌, length, filter_map, Option, Some, None, option_map, if◌then◌else◌, codes}
 use Rattle.serde_json.specs.Data.{Data, string, array, object, Members, no_members, put}
 use Rattle.serde_json.specs.View.{view, items_of}
 use Rattle.ev_types.specs.declared.contents.Kind.TheVariants.{Eds}

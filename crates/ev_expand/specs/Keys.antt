@@ -1,5 +1,5 @@
 -- Keys: what is guarded. Guarded items of equal keys have one number.
-use Rattle.std.specs.Prelude.{◌≡◌, ℕ, Bool, ◌&&◌, ◌++◌, List}
+use Rattle.std.specs.Prelude.{◌≡◌, Bool, ◌&&◌, ◌++◌}
 use Rattle.std.specs.Bool.{Decides}
 use Rattle.std.specs.List.{flat_map}
 use Rattle.std.specs.Hash as fed
@@ -10,7 +10,6 @@ use Rattle.ev_types.specs.Hosts.{HostRowParts}
 use Rattle.ev_types.specs.Same.{both_decide, decides_as, bytes_decide}
 use Rattle.ev_types.specs.SameHosts.{host_hash_input}
 use Rattle.ev_types.specs.SameClusters.{cluster_same, cluster_decides}
-use Rattle.ev_types.specs.declared.clusters.Cluster.{Cluster}
 use Rattle.ev_types.specs.declared.clusters.Discovery.{Discovery}
 use Rattle.ev_types.specs.declared.clusters.Discovery.TheVariants.{Static, Eds}
 use Rattle.ev_expand.specs.declared.keys.Key.{Key}

@@ -1,20 +1,12 @@
 -- What is guarded so far, as a map by key, and the places of a line's keys in it.
-use Rattle.std.specs.Prelude.{◌≡◌, ℕ, ◌<◌, Bool, false, List, ◌∷◌, ◌++◌, [], map, length, All, Option, None, Some, IfSome, is_some, option_map, unwrap_or, codes, if◌then◌else◌}
+use Rattle.std.specs.Prelude.{◌≡◌, ℕ, ◌<◌, List, ◌∷◌, ◌++◌, [], map, length, All, Option, None, Some, IfSome, option_map, if◌then◌else◌}
 use Rattle.std.specs.List.{list_any}
-use Rattle.serde_json.specs.Data.{Data, array}
-use Rattle.serde_json.specs.View.{view, items_of}
+use Rattle.serde_json.specs.Data.{Data}
+use Rattle.serde_json.specs.View.{view}
 use Rattle.serde_json.specs.declared.value.Value.{Value}
-use Rattle.ev_types.specs.Items.{ItemParts}
-use Rattle.ev_types.specs.Kinds.{kind_same}
-use Rattle.ev_types.specs.declared.contents.Kind.{Kind}
-use Rattle.ev_types.specs.declared.contents.Kind.TheVariants.{Cds, Eds, Lds, Rds}
-use Rattle.ev_types.specs.declared.events.Event.{Event}
-use Rattle.ev_types.specs.declared.events.Event.TheVariants.{Response}
 use Rattle.ev_expand.specs.declared.keys.Key.{Key}
 use Rattle.ev_expand.specs.declared.numbers.Numbers.{Numbers}
-use Rattle.ev_expand.specs.Editing.{with_value}
-use Rattle.ev_expand.specs.Fronts.{message_of}
-use Rattle.ev_expand.specs.Guarding.{Guard, Guarded, guarded_same, kind_of, clusters_in, place_at, waiting_entry, response_tree}
+use Rattle.ev_expand.specs.Guarding.{Guard, Guarded, guarded_same, clusters_in, place_at}
 
 -- what the entries of the map show
 abbrev pub seen_in : List (Key × Value) → List Guarded

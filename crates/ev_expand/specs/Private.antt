@@ -1,5 +1,5 @@
 -- Names that a command keeps to itself: no line of its input may use one.
-use Rattle.std.specs.Prelude.{ℕ, ◌+◌, Bool, true, false, ◌||◌, ◌&&◌, List, Option, Some, None, option_map, unwrap_or, nat_eq}
+use Rattle.std.specs.Prelude.{ℕ, ◌+◌, Bool, false, ◌||◌, ◌&&◌, List, Option, Some, None, option_map, unwrap_or, nat_eq}
 use Rattle.std.specs.List.{list_any, starts_with, position}
 use Rattle.serde_json.specs.Data.{Data}
 use Rattle.ev_types.specs.Items.{ItemParts, ResponseParts}

@@ -2,3 +2,4 @@ mod PushLemmas
 mod KnownLemmas
 mod LookLemmas
 mod StateLemmas
+mod QuietLemmas

@@ -1,8 +1,8 @@
 -- A look at all that is guarded, one after another.
-use Rattle.std.proofs.Common.{◌≡◌, ℕ, ◌+◌, ◌<◌, Bool, true, false, cond, List, [], ◌∷◌, ◌++◌, length, get_or, take, map, filter, Some, refl, sym, ap, ◌∙◌, subst, arith}
+use Rattle.std.proofs.Common.{◌≡◌, ℕ, ◌+◌, ◌<◌, Bool, true, false, cond, List, [], ◌∷◌, ◌++◌, length, get_or, take, map, filter, Some, refl, ap, ◌∙◌, arith}
 use Rattle.std.specs.Prelude.{slice_get}
 use Rattle.std.specs.List.{enumerate_from}
-use Rattle.std.proofs.lemmas.List.{map-append, take_more, take_all}
+use Rattle.std.proofs.lemmas.List.{map-append, take_more}
 use Rattle.std.proofs.lemmas.List.Elements.{filter-append}
 use Rattle.std.proofs.lemmas.List.FromFn.{length-enumerate_from, get_or-enumerate_from}
 use Rattle.std.proofs.lemmas.Option.{slice_get_within, get_or_from_slice_get}
@@ -10,7 +10,7 @@ use Rattle.ev_expand.specs.Following.{DueParts}
 use Rattle.ev_expand.specs.Guarding.{Guarded}
 use Rattle.ev_secrets.specs.declared.known.Told.{Told}
 use Rattle.ev_secrets.specs.declared.known.Values.{Values}
-use Rattle.ev_secrets.specs.Looking.{Marks, due_by, due_among, endpoints_with, completed}
+use Rattle.ev_secrets.specs.Looking.{Marks, due_by, due_among, endpoints_with}
 
 one_due : {A B : Type 0} (b : Bool) (f : A → B) (x : A) → map f (cond b (x ∷ []) []) ≡ cond b (f x ∷ []) []
 one_due true f x = refl

@@ -1,17 +1,17 @@
 -- What is found by a look at all that is guarded.
-use Rattle.std.specs.Prelude.{◌≡◌, ℕ, Bool, false, not, ◌&&◌, ◌||◌, nat_eq, List, [], ◌∷◌, map, filter, Option, Some, None, if◌then◌else◌, unwrap_or, option_and_then, slice_get}
-use Rattle.std.specs.List.{list_any, list_all, enumerate_from}
+use Rattle.std.specs.Prelude.{◌≡◌, ℕ, Bool, true, false, not, ◌&&◌, ◌||◌, nat_eq, List, [], ◌∷◌, map, filter, Option, Some, None, if◌then◌else◌, unwrap_or, option_and_then, slice_get}
+use Rattle.std.specs.List.{list_any, list_all}
 use Rattle.std.specs.Str.{bytes_eq}
 use Rattle.indexmap.specs.IndexSet.{contains}
 use Rattle.serde_json.specs.Data.{Data}
 use Rattle.ev_types.specs.declared.clusters.Discovery.{Discovery}
 use Rattle.ev_types.specs.declared.clusters.Discovery.TheVariants.{Static, Eds}
 use Rattle.ev_types.specs.declared.events.Event.{Event}
+use Rattle.ev_types.specs.declared.events.Event.TheVariants.{Connect, Disconnect, Response}
 use Rattle.ev_expand.specs.declared.keys.Key.{Key}
 use Rattle.ev_expand.specs.Following.{DueParts}
 use Rattle.ev_expand.specs.Fronts.{stream_said}
 use Rattle.ev_expand.specs.Guarding.{Guarded}
-use Rattle.ev_secrets.specs.declared.awaited.Awaited.{Awaited}
 use Rattle.ev_secrets.specs.declared.known.Told.{Told}
 use Rattle.ev_secrets.specs.declared.known.Values.{Values}
 use Rattle.ev_secrets.specs.declared.looking.Marked.{Marked}
@@ -26,6 +26,14 @@ heard_now connected line = if connected then line ∷ [] else []
 -- whether a stream is open behind an event
 abbrev pub open_after : Bool → Option Event → Bool
 open_after connected event = unwrap_or (option_and_then stream_said event) connected
+
+-- the event says nothing of the stream, of secrets or of endpoints: it is no connect, disconnect or response
+abbrev pub is_quiet : Option Event → Bool
+is_quiet None = true
+is_quiet (Some Connect) = false
+is_quiet (Some Disconnect) = false
+is_quiet (Some (Response response)) = false
+is_quiet (Some event) = true
 
 -- the endpoints of something guarded, by these values
 abbrev pub endpoints_with : Values → Discovery → Data → Option Data

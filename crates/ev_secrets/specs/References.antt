@@ -1,6 +1,6 @@
 -- The secrets that a cluster names: by `transport_socket` of Envoy's cluster, with the context of TLS towards upstream hosts, where
 -- their values come by the secret discovery service.
-use Rattle.std.specs.Prelude.{ℕ, Bool, ◌==◌, List, [], ◌∷◌, ◌++◌, length, filter_map, Option, Some, None, if◌then◌else◌, option_and_then, codes}
+use Rattle.std.specs.Prelude.{ℕ, Bool, ◌==◌, List, [], ◌∷◌, ◌++◌, length, filter_map, Option, Some, None, if◌then◌else◌, codes}
 use Rattle.std.specs.Str.{bytes_eq}
 use Rattle.serde_json.specs.Data.{Data, null, array, no_items}
 use Rattle.ev_types.specs.declared.contents.Kind.TheVariants.{Cds}

@@ -7,7 +7,7 @@ ghost use Rattle.ev_expand.specs.Fronts.{event_of};
 ghost use Rattle.ev_secrets.specs.declared.awaited.Awaited.{Awaited};
 ghost use Rattle.ev_secrets.specs.Awaited.{awaited_same};
 ghost use Rattle.ev_secrets.specs.Known.{has_told, shown_value, later_value, gives_to};
-ghost use Rattle.ev_secrets.specs.Looking.{heard_now, open_after};
+ghost use Rattle.ev_secrets.specs.Looking.{heard_now, is_quiet, open_after};
 ghost use Rattle.ev_secrets.specs.Told.{told_by, values_in};
 
 use crate::known::{Told, Values};
@@ -40,6 +40,18 @@ pub(crate) fn hear(
     }
     told.add_all(told_by(alloc, line, event)?)?;
     values.take_all(alloc, values_in(alloc, line, event)?)
+}
+
+// Whether an event says nothing of the stream, of secrets or of endpoints.
+pub(crate) fn is_quiet(event: &Option<Event>) -> bool
+    ensures { result ≡ is_quiet event.now }
+{
+    match event {
+        Some(Event::Connect) => false,
+        Some(Event::Disconnect) => false,
+        Some(Event::Response(_)) => false,
+        _ => true,
+    }
 }
 
 // Whether a stream is open behind an event.

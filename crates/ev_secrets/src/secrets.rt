@@ -8,7 +8,7 @@ ghost use Rattle.ev_secrets.specs.Marking.{is_marked, is_place};
 ghost use Rattle.ev_secrets.specs.Sealing.{tls_rules};
 ghost use Rattle.ev_secrets.specs.State.{IsBehind};
 
-use crate::hearing::{hear, open_after};
+use crate::hearing::{hear, is_quiet, open_after};
 use crate::known::{Told, Values};
 use crate::looking::{Found, Marked, look};
 use crate::references::{body_in, body_key, own_endpoints, references_of};
@@ -82,6 +82,9 @@ impl Expansion for Secrets {
         numbers: &Numbers,
         items: &[Option<usize>],
     ) -> Result<Vec<Due>, AllocError> {
+        if is_quiet(event) {
+            return Ok(Vec::new(alloc));
+        }
         let was_open = self.connected;
         self.connected = open_after(was_open, event);
         let given = hear(

@@ -1,11 +1,11 @@
-use Rattle.std.proofs.Common.{◌≡◌, ℕ, Bool, List, None, String, Global, string_bytes, is_eq, nat_cmp, refl, sym, ap, ◌∙◌}
+use Rattle.std.proofs.Common.{◌≡◌, ℕ, Bool, List, None, String, Global, string_bytes, is_eq, nat_cmp, sym, ap, ◌∙◌}
 use Rattle.std.proofs.lemmas.Map.Text.{is_eq-slice_cmp}
 use Rattle.std.specs.Cmp.Lexicographic.{slice_cmp}
 use Rattle.std.specs.Map.{lookup, remove_entry}
 use Rattle.serde_json.specs.Data.{object}
 use Rattle.serde_json.specs.View.{view, members_view}
 use Rattle.serde_json.proofs.Views.{Entry, view-Object}
-use Rattle.ev_expand.specs.Editing.{without, members_without}
+use Rattle.ev_expand.specs.Editing.{without}
 use Rattle.ev_expand.proofs.EditLemmas.{left_out}
 use Rattle.ev_expand.proofs.editing.without.Goals as goal
 

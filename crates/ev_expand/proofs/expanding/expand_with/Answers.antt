@@ -3,7 +3,7 @@ use Rattle.std.proofs.lemmas.List.{length-map, take_all}
 use Rattle.serde_json.specs.Data.{Data}
 use Rattle.serde_json.specs.View.{view}
 use Rattle.serde_json.specs.declared.value.Value.{Value}
-use Rattle.ev_expand.specs.Expanding.{Rules, IsExpanded, gives}
+use Rattle.ev_expand.specs.Expanding.{Rules, gives}
 use Rattle.ev_expand.specs.Growing.{IsGrown, Pushes, front_of}
 use Rattle.ev_expand.specs.Guarding.{guarded_by}
 use Rattle.ev_expand.specs.Numbers.{guarded_so_far}

@@ -1,8 +1,8 @@
-use Rattle.std.proofs.Common.{◌≡◌, ℕ, List, [], ◌∷◌, map, length, decimal, sym, ap, ◌∙◌, subst, arith}
+use Rattle.std.proofs.Common.{◌≡◌, List, [], ◌∷◌, map, length, sym, subst, arith}
 use Rattle.std.proofs.lemmas.List.{length-map}
 use Rattle.serde_json.specs.Data.{Data}
 use Rattle.serde_json.specs.View.{view}
-use Rattle.ev_expand.specs.Following.{DueParts, due_shown, following_line}
+use Rattle.ev_expand.specs.Following.{DueParts, due_shown}
 use Rattle.ev_expand.specs.Growing.{Pushes}
 use Rattle.ev_expand.proofs.GrowthLemmas.{some_due, read_one}
 use Rattle.ev_expand.proofs.expanding.push_due.Goals as goal

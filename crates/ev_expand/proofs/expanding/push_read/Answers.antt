@@ -1,7 +1,7 @@
-use Rattle.std.proofs.Common.{◌≡◌, ℕ, List, [], ◌∷◌, ◌++◌, map, length, ◌+◌, Bool, true, false, Ok, sym, ap, ap₂, ◌∙◌, subst}
+use Rattle.std.proofs.Common.{◌≡◌, List, ◌++◌, map, Bool, false, Ok, ap, ◌∙◌, subst}
 use Rattle.serde_json.specs.Data.{Data}
 use Rattle.serde_json.specs.View.{view}
-use Rattle.ev_expand.specs.Following.{DueParts, due_shown}
+use Rattle.ev_expand.specs.Following.{due_shown}
 use Rattle.ev_expand.specs.Growing.{Pushes, front_of}
 use Rattle.ev_expand.specs.Guarding.{Guarded}
 use Rattle.ev_expand.specs.Numbers.{guarded_so_far}

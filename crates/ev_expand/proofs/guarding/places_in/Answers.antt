@@ -1,11 +1,10 @@
-use Rattle.std.proofs.Common.{◌≡◌, ℕ, List, ◌++◌, map, filter_map, take, Option, IfSome, Some, option_map, sym, ap, ◌∙◌}
+use Rattle.std.proofs.Common.{◌≡◌, List, ◌++◌, map, filter_map, take, Option, option_map, sym, ap, ◌∙◌}
 use Rattle.serde_json.specs.Data.{Data}
 use Rattle.serde_json.specs.View.{view}
-use Rattle.ev_types.specs.Items.{ItemParts}
 use Rattle.ev_types.specs.declared.contents.Kind.TheVariants.{Cds}
 use Rattle.ev_wire.specs.Responses.{item_of}
 use Rattle.ev_expand.specs.declared.keys.Key.{Key}
-use Rattle.ev_expand.specs.Guarding.{Guard, Guarded, guarded_of, each_once, place_in}
+use Rattle.ev_expand.specs.Guarding.{Guard, guarded_of, each_once, place_in}
 use Rattle.ev_expand.specs.Numbers.{guarded_so_far, guarded_with}
 use Rattle.ev_expand.proofs.NumberLemmas.{entry_item, views_more, placed_next, numbers-push}
 use Rattle.ev_expand.proofs.guarding.places_in.Goals as goal

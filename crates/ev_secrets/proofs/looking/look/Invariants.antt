@@ -1,4 +1,4 @@
-use Rattle.std.proofs.Common.{◌≡◌, ℕ, map, take}
+use Rattle.std.proofs.Common.{◌≡◌, map, take}
 use Rattle.std.specs.List.{enumerate_from}
 use Rattle.ev_expand.specs.Following.{due_shown}
 use Rattle.ev_expand.specs.Numbers.{guarded_so_far}

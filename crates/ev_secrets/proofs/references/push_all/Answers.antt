@@ -1,4 +1,3 @@
-use Rattle.std.proofs.Common.{ℕ, ap, ◌∙◌, option_to_list, ◌++◌, List, Option}
 use Rattle.serde_json.specs.View.{view}
 use Rattle.ev_secrets.specs.References.{secret_named}
 use Rattle.ev_secrets.proofs.PushLemmas.{given_more}

@@ -1,10 +1,9 @@
-use Rattle.std.proofs.Common.{◌≡◌, ℕ, List, [], ◌++◌, map, filter_map, codes, sym, ap, ◌∙◌}
+use Rattle.std.proofs.Common.{◌≡◌, ℕ, List, ◌++◌, map, filter_map, codes, sym, ap, ◌∙◌}
 use Rattle.std.proofs.lemmas.List.Elements.{filter_map-append}
 use Rattle.serde_json.specs.Data.{Data}
 use Rattle.serde_json.specs.View.{view}
-use Rattle.ev_tree.specs.declared.outcome.Found.{Found}
-use Rattle.ev_tree.specs.Forms.{tree_of, listed, list_of, field_of, found_map}
-use Rattle.ev_secrets.specs.References.{tls_context, secret_named, given_list, references_of}
+use Rattle.ev_tree.specs.Forms.{tree_of, listed, list_of, field_of}
+use Rattle.ev_secrets.specs.References.{tls_context, secret_named, given_list}
 use Rattle.ev_secrets.proofs.references.references_of.Goals as goal
 
 pub returns : goal.returns

@@ -1,4 +1,4 @@
-use Rattle.std.proofs.Common.{◌≡◌, List, [], map}
+use Rattle.std.proofs.Common.{[], map}
 use Rattle.serde_json.specs.View.{view}
 use Rattle.ev_types.specs.declared.contents.Kind.TheVariants.{Eds}
 use Rattle.ev_wire.specs.Responses.{item_of}

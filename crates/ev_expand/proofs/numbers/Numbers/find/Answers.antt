@@ -1,5 +1,4 @@
-use Rattle.std.proofs.Common.{◌≡◌, sym, ◌∙◌}
-use Rattle.ev_expand.specs.declared.keys.Key.{Key}
+use Rattle.std.proofs.Common.{sym, ◌∙◌}
 use Rattle.ev_expand.specs.Keys.{key_same}
 use Rattle.ev_expand.proofs.SeenLemmas.{seen_place, seen_any, length-seen, found_place, found_within, found_none, found_some}
 use Rattle.ev_expand.proofs.numbers.Numbers.find.Goals as goal

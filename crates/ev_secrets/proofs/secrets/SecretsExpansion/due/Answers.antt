@@ -1,22 +1,20 @@
-use Rattle.std.proofs.Common.{◌≡◌, ℕ, Bool, List, [], ◌∷◌, ◌++◌, ◌||◌, ◌&&◌, not, map, flat_map, Vec, Global, sym, ap, ap₂, ◌∙◌}
+use Rattle.std.proofs.Common.{◌≡◌, ℕ, Bool, List, [], ◌∷◌, ◌++◌, ◌||◌, ◌&&◌, not, map, flat_map, Vec, Global, sym, ap, ◌∙◌}
 use Rattle.std.specs.List.{list_any}
 use Rattle.serde_json.specs.Data.{Data}
 use Rattle.serde_json.specs.View.{view}
-use Rattle.ev_expand.specs.Expanding.{guarded_at}
+use Rattle.ev_expand.specs.Following.{due_shown}
 use Rattle.ev_expand.specs.Fronts.{stream_at}
-use Rattle.ev_expand.specs.Growing.{front_of}
-use Rattle.ev_expand.specs.Guarding.{Guarded, clusters_in, guarded_by, place_at}
+use Rattle.ev_expand.specs.Guarding.{Guarded, clusters_in, place_at}
 use Rattle.ev_expand.specs.Numbers.{guarded_so_far}
 use Rattle.ev_secrets.specs.declared.awaited.Awaited.{Awaited}
 use Rattle.ev_secrets.specs.Awaited.{awaited_same}
 use Rattle.ev_secrets.specs.Known.{has_told, shown_value, later_value, gives_to}
-use Rattle.ev_secrets.specs.Looking.{AreMarks, heard_now, marks_of, open_after, was_complete}
+use Rattle.ev_secrets.specs.Looking.{heard_now, marks_of, open_after, was_complete}
 use Rattle.ev_secrets.specs.Marking.{is_marked}
 use Rattle.ev_secrets.specs.References.{by_secrets}
-use Rattle.ev_secrets.specs.Sealing.{tls_rules}
-use Rattle.ev_secrets.specs.State.{IsBehind}
 use Rattle.ev_secrets.specs.Told.{told_by, is_told, is_complete, values_in, value_of}
 use Rattle.ev_secrets.proofs.StateLemmas.{AreMarksOf, stream_now, told_now, value_now, complete_now, due_found}
+use Rattle.ev_secrets.proofs.QuietLemmas.{quiet_behind, quiet_due}
 use Rattle.ev_secrets.proofs.secrets.SecretsExpansion.due.Goals as goal
 
 pub returns-clause-due : goal.returns-clause-due
@@ -51,3 +49,11 @@ returns-clause-behind c = λ before behind kept.
       complete = c.in_ok-found.ensures.complete ∙ complete_now (before ++ line ∷ []) c.hear.new.told (guarded_so_far c.args.numbers.now) told
           ∙ ap (map (λ (g : Guarded). is_complete (before ++ line ∷ []) g.key)) kept;
     }
+
+pub returns-then-is_quiet-clause-due : goal.returns-then-is_quiet-clause-due
+returns-then-is_quiet-clause-due c = λ before behind kept.
+    ap (map due_shown) c.new.ensures.items ∙ sym (quiet_due before (view c.args.line.now) c.args.event.now c.requires.event (sym c.is_quiet.ensures ∙ c.if-is_quiet.true))
+
+pub returns-then-is_quiet-clause-behind : goal.returns-then-is_quiet-clause-behind
+returns-then-is_quiet-clause-behind c = λ before behind kept.
+    quiet_behind before (view c.args.line.now) c.args.self.now c.args.event.now c.requires.event (sym c.is_quiet.ensures ∙ c.if-is_quiet.true) behind
