@@ -67,7 +67,7 @@ pub trait Expansion {
     fn own(&self, alloc: Global, entry: &Value) -> Result<Value, AllocError>
         ensures { IfOk result (λ own. view own ≡ rules.guard.own_of (view entry.now)) };
 
-    /// Takes the next line, and tells which numbers are due behind it, with their endpoints. The event is what the line is read
+    /// Takes the next line, and tells which places are due behind it, with their endpoints. The event is what the line is read
     /// as, the numbers are those behind the line, and `items` are the places of the keys of its guarded resources.
     ///
     /// # Errors
