@@ -1,1 +1,10 @@
 mod RoomLemmas
+mod EditLemmas
+mod FollowLemmas
+pub mod EventLemmas
+pub mod FrontLemmas
+mod SeenLemmas
+pub mod NumberLemmas
+pub mod DistinctLemmas
+mod PlaceLemmas
+mod GrowthLemmas

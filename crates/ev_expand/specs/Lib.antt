@@ -1,1 +1,11 @@
 pub mod Room
+pub mod Keys
+pub mod Fronts
+pub mod Editing
+pub mod Guarding
+pub mod Following
+pub mod Private
+pub mod Numbers
+pub mod Expanding
+pub mod Growing
+pub mod Placing

@@ -1,0 +1,30 @@
+use Rattle.std.proofs.Common.{◌≡◌, List, ◌++◌, map, filter_map, take, Option, option_map, sym, ap, ◌∙◌}
+use Rattle.serde_json.specs.Data.{Data}
+use Rattle.serde_json.specs.View.{view}
+use Rattle.ev_types.specs.declared.contents.Kind.TheVariants.{Cds}
+use Rattle.ev_wire.specs.Responses.{item_of}
+use Rattle.ev_expand.specs.declared.keys.Key.{Key}
+use Rattle.ev_expand.specs.Guarding.{Guard, guarded_of, each_once, place_in}
+use Rattle.ev_expand.specs.Numbers.{guarded_so_far, guarded_with}
+use Rattle.ev_expand.proofs.NumberLemmas.{entry_item, views_more, placed_next, numbers-push}
+use Rattle.ev_expand.proofs.guarding.places_in.Goals as goal
+
+pub key-requires : goal.key-requires
+key-requires g c =
+    entry_item c.cluster_items-items.result.now c.in_ok-entries.entries.now c.loop-index.index _ _
+    (c.cluster_items-items.ensures ∙ ap (map (item_of Cds)) (sym c.in_ok-entries.ensures)) c.loop-index-test.true c.index-items-index.is c.index-entries-index.is
+
+pub loop-index-preserved : goal.loop-index-preserved
+loop-index-preserved g c =
+    let guard : Guard = g.E.Expansion.rules.guard in
+    let entry : Data = view c.index-entries-index.result in
+    let own : Data = guard.own_of entry in
+    let after = views_more c.in_ok-entries.entries.now c.loop-index.index c.index-entries-index.result c.index-entries-index.is c.loop-index-test.true in
+    let one : guarded_with c.in_ok-key.key own ≡ guarded_of guard entry = ap (λ (k : Option Key). guarded_with k own) c.in_ok-key.ensures in
+    record {
+      numbers = λ gs h.
+          numbers-push guard gs _ _ (map view (take c.loop-index.index c.in_ok-entries.entries.now)) entry _ (c.loop-index.invariant.numbers gs h) c.in_ok-place_entry.ensures.numbers one
+          ∙ ap (λ (xs : List Data). each_once (gs ++ filter_map (guarded_of guard) xs)) (sym after);
+      placed = placed_next guard _ _ entry _ _ (guarded_with c.in_ok-key.key own) _ _ _ c.loop-index.invariant.placed after c.in_ok-place_entry.ensures.numbers c.in_ok-push.ensures.items
+          (c.in_ok-place_entry.ensures.place ∙ ap (option_map (place_in (guarded_so_far c.place_entry.new.numbers))) c.in_ok-key.ensures) c.in_ok-place_entry.ensures.within;
+    }

@@ -1,0 +1,26 @@
+-- A line whose guarded resources have these places.
+use Rattle.std.specs.Prelude.{ℕ, List, [], ◌∷◌, Option, is_some, codes, if◌then◌else◌}
+use Rattle.std.specs.List.{list_any}
+use Rattle.serde_json.specs.Data.{Data, array}
+use Rattle.serde_json.specs.View.{items_of}
+use Rattle.ev_expand.specs.Editing.{with_value}
+use Rattle.ev_expand.specs.Fronts.{message_of}
+use Rattle.ev_expand.specs.Guarding.{clusters_in, waiting_entry, response_tree}
+use Rattle.ev_expand.specs.Expanding.{Rules}
+
+-- resources with these places
+abbrev pub placed_entries : List ℕ → List Data → List (Option ℕ) → List Data
+placed_entries prefix [] places = []
+placed_entries prefix (entry ∷ entries) [] = []
+placed_entries prefix (entry ∷ entries) (place ∷ places) = waiting_entry prefix place entry ∷ placed_entries prefix entries places
+
+-- a line whose resources have these places
+abbrev pub placed_line : List ℕ → Data → List (Option ℕ) → Data
+placed_line prefix line places =
+    if list_any is_some places
+    then response_tree (with_value (codes "resources") (array (items_of (placed_entries prefix (clusters_in line) places))) (message_of line))
+    else line
+
+-- the line itself, where it is written
+abbrev pub placed_lines : Rules → Data → List (Option ℕ) → List Data
+placed_lines rules line places = if rules.is_written line then placed_line rules.prefix line places ∷ [] else []

@@ -1,0 +1,213 @@
+ghost use Rattle.std.specs.Prelude.{◌≡◌, ◌+◌, ◌++◌, ◌∷◌, [], List, map, length, OnOk};
+ghost use Rattle.serde_json.specs.Data.{Data};
+ghost use Rattle.serde_json.specs.View.{view};
+ghost use Rattle.ev_expand.specs.Expanding.{IsExpanded, gives, lines_due};
+ghost use Rattle.ev_expand.specs.Following.{due_shown};
+ghost use Rattle.ev_expand.specs.Fronts.{event_of};
+ghost use Rattle.ev_expand.specs.Growing.{Pushes, front_of};
+ghost use Rattle.ev_expand.specs.Guarding.{clusters_in, guarded_by};
+ghost use Rattle.ev_expand.specs.Numbers.{guarded_so_far};
+ghost use Rattle.ev_expand.specs.Placing.{placed_lines};
+
+use crate::following::{Due, following_value};
+use crate::fronts::read_event;
+use crate::guarding::{places_in, waiting_value};
+use crate::keys::Key;
+use crate::numbers::Numbers;
+use crate::outcome::ExpandError;
+use crate::private::first_use;
+use crate::text_so_far::TextSoFar;
+use ev_types::{Event, Item};
+use serde_json::Value;
+use std::alloc::{AllocError, Global};
+
+/// What a command makes of the lines of a script, one after another.
+pub trait Expansion {
+    ghost use Rattle.std.specs.Prelude.{◌≡◌, ◌++◌, ◌∷◌, [], List, map, IfOk};
+    ghost use Rattle.serde_json.specs.Data.{Data};
+    ghost use Rattle.serde_json.specs.View.{view};
+    ghost use Rattle.ev_types.specs.declared.contents.Kind.TheVariants.{Cds};
+    ghost use Rattle.ev_wire.specs.Responses.{item_of};
+    ghost use Rattle.ev_expand.specs.Expanding.{Rules, guarded_at, due_at};
+    ghost use Rattle.ev_expand.specs.Fronts.{event_of};
+    ghost use Rattle.ev_expand.specs.Growing.{front_of};
+    ghost use Rattle.ev_expand.specs.Numbers.{ArePlaces, guarded_so_far};
+    ghost use Rattle.ev_expand.specs.Following.{due_shown};
+
+    // What the command does.
+    ghost rules: { Rules };
+
+    // The value is as it is behind these lines.
+    ghost is_behind: { Self → List Data → Type 0 };
+
+    /// What begins a private name.
+    fn prefix(&self) -> &'static str
+        ensures { result.now ≡ rules.prefix };
+
+    /// What begins the nonce of a line that is added.
+    fn nonce(&self) -> &'static str
+        ensures { result.now ≡ rules.nonce };
+
+    /// Whether a line itself is written.
+    fn is_written(&self, line: &Value) -> bool
+        ensures { result ≡ rules.is_written (view line.now) };
+
+    /// The key of a resource of a response of clusters, where it is guarded. The item is what the resource is read as.
+    ///
+    /// # Errors
+    /// `AllocError` where there is no memory for it.
+    fn key(&self, alloc: Global, item: &Item, entry: &Value) -> Result<Option<Key>, AllocError>
+        requires { item.now ≡ item_of Cds (view entry.now) }
+        ensures { IfOk result (λ key. key ≡ rules.guard.key_of (view entry.now)) };
+
+    /// What is kept of the first resource of a key.
+    ///
+    /// # Errors
+    /// `AllocError` where there is no memory for it.
+    fn own(&self, alloc: Global, entry: &Value) -> Result<Value, AllocError>
+        ensures { IfOk result (λ own. view own ≡ rules.guard.own_of (view entry.now)) };
+
+    /// Takes the next line, and tells which places are due behind it, with their endpoints. The event is what the line is read
+    /// as, the numbers are those behind the line, and `items` are the places of the keys of its guarded resources.
+    ///
+    /// # Errors
+    /// `AllocError` where there is no memory for it.
+    fn due(
+        &mut self,
+        alloc: Global,
+        line: &Value,
+        event: &Option<Event>,
+        numbers: &Numbers,
+        items: &[Option<usize>],
+    ) -> Result<Vec<Due>, AllocError>
+        requires event { event.now ≡ event_of (view line.now) }
+        requires places { ArePlaces rules.guard (view line.now) (guarded_so_far numbers.now) items.now }
+        ensures due { (before : List Data) → is_behind self.old before → guarded_so_far numbers.now ≡ guarded_at rules (front_of before (view line.now))
+            → IfOk result (λ due. map due_shown due.items ≡ due_at rules (front_of before (view line.now))) }
+        ensures behind { (before : List Data) → is_behind self.old before → guarded_so_far numbers.now ≡ guarded_at rules (front_of before (view line.now))
+            → IfOk result (λ due. is_behind self.new (before ++ view line.now ∷ [])) };
+}
+
+// The lines of an input behind the first are fewer.
+const MOST_LINES: usize = 4_294_967_290;
+
+/// The text that a command makes of the header and the lines of a script.
+///
+/// # Errors
+/// `Private` exactly for the first line that uses a private name. `Large` where there is none, exactly for the line with whose
+/// output the text goes above a limit of inputs. `OutOfMemory` without memory, and for 2^32 lines and more.
+pub fn expand_with<E: Expansion + Drop>(
+    alloc: Global,
+    expansion: E,
+    head: &Value,
+    lines: &[Value],
+) -> Result<Vec<u8>, ExpandError>
+    requires { E.is_behind expansion [] }
+    ensures { IsExpanded E.rules (view head.now) (map view lines.now) result }
+{
+    let mut expansion = expansion;
+    if lines.len() >= MOST_LINES {
+        return Err(ExpandError::OutOfMemory);
+    }
+    if let Some(line) = first_use(alloc, expansion.prefix(), lines)? {
+        return Err(ExpandError::Private { line });
+    }
+    let mut text = TextSoFar::new(alloc);
+    if !text.push(alloc, head)? {
+        return Err(ExpandError::Large { line: 1 });
+    }
+    let mut numbers = Numbers::new(alloc);
+    for (index, line) in lines.iter().enumerate() {
+        let at = index as u32 + 2;
+        if !push_line(alloc, &mut expansion, &mut numbers, &mut text, at, line)? {
+            return Err(ExpandError::Large { line: at });
+        }
+    }
+    Ok(text.bytes)
+}
+
+// Puts what the next line gives behind the text, and answers whether it had room there.
+fn push_line<E: Expansion>(
+    alloc: Global,
+    expansion: &mut E,
+    numbers: &mut Numbers,
+    text: &mut TextSoFar,
+    at: u32,
+    line: &Value,
+) -> Result<bool, AllocError>
+    ensures text { (before : List Data) → E.is_behind expansion.old before → guarded_so_far numbers.old ≡ guarded_by E.rules.guard before
+        → at ≡ length before + 2 → Pushes text.old text.new result (gives E.rules (front_of before (view line.now))) }
+    ensures numbers { (before : List Data) → guarded_so_far numbers.old ≡ guarded_by E.rules.guard before
+        → OnOk result (guarded_so_far numbers.new ≡ guarded_by E.rules.guard (before ++ view line.now ∷ [])) }
+    ensures behind { (before : List Data) → E.is_behind expansion.old before → guarded_so_far numbers.old ≡ guarded_by E.rules.guard before
+        → OnOk result (E.is_behind expansion.new (before ++ view line.now ∷ [])) }
+{
+    let event = read_event(alloc, line)?;
+    push_read(alloc, expansion, numbers, text, at, line, &event)
+}
+
+// The same, of a line that is read as this event.
+fn push_read<E: Expansion>(
+    alloc: Global,
+    expansion: &mut E,
+    numbers: &mut Numbers,
+    text: &mut TextSoFar,
+    at: u32,
+    line: &Value,
+    event: &Option<Event>,
+) -> Result<bool, AllocError>
+    requires { event.now ≡ event_of (view line.now) }
+    ensures text { (before : List Data) → E.is_behind expansion.old before → guarded_so_far numbers.old ≡ guarded_by E.rules.guard before
+        → at ≡ length before + 2 → Pushes text.old text.new result (gives E.rules (front_of before (view line.now))) }
+    ensures numbers { (before : List Data) → guarded_so_far numbers.old ≡ guarded_by E.rules.guard before
+        → OnOk result (guarded_so_far numbers.new ≡ guarded_by E.rules.guard (before ++ view line.now ∷ [])) }
+    ensures behind { (before : List Data) → E.is_behind expansion.old before → guarded_so_far numbers.old ≡ guarded_by E.rules.guard before
+        → OnOk result (E.is_behind expansion.new (before ++ view line.now ∷ [])) }
+{
+    let places = places_in(alloc, expansion, numbers, line, event)?;
+    let due = expansion.due(alloc, line, event, numbers, places.as_slice())?;
+    if !push_written(alloc, expansion, text, line, event, places.as_slice())? {
+        return Ok(false);
+    }
+    push_due(alloc, expansion.prefix(), expansion.nonce(), text, at, due)
+}
+
+// Puts a line itself behind the text, where it is written, by the places of its keys.
+fn push_written<E: Expansion>(
+    alloc: Global,
+    expansion: &E,
+    text: &mut TextSoFar,
+    line: &Value,
+    event: &Option<Event>,
+    places: &[Option<usize>],
+) -> Result<bool, AllocError>
+    requires event { event.now ≡ event_of (view line.now) }
+    requires places { length places.now ≡ length (clusters_in (view line.now)) }
+    ensures { Pushes text.old text.new result (placed_lines E.rules (view line.now) places.now) }
+{
+    if !expansion.is_written(line) {
+        return Ok(true);
+    }
+    match waiting_value(alloc, expansion.prefix(), line, event, places)? {
+        Some(waiting) => text.push(alloc, &waiting),
+        None => text.push(alloc, line),
+    }
+}
+
+// Puts the line that follows line `at` behind the text, where some are due.
+fn push_due(
+    alloc: Global,
+    prefix: &str,
+    nonce: &str,
+    text: &mut TextSoFar,
+    at: u32,
+    due: Vec<Due>,
+) -> Result<bool, AllocError>
+    ensures { Pushes text.old text.new result (lines_due prefix.now nonce.now at (map due_shown due.items)) }
+{
+    if due.len() == 0 {
+        return Ok(true);
+    }
+    let following = following_value(alloc, prefix, nonce, at, due)?;
+    text.push(alloc, &following)
+}

@@ -1,0 +1,65 @@
+ghost use Rattle.std.specs.Prelude.{◌≡◌, ◌<◌, ◌++◌, ◌∷◌, [], length, slice_get, option_map, true, false, OnOk, IfSome, IfNone};
+ghost use Rattle.std.specs.List.{list_any};
+ghost use Rattle.serde_json.specs.View.{view};
+ghost use Rattle.ev_expand.specs.Keys.{key_same};
+ghost use Rattle.ev_expand.specs.Guarding.{Guarded, place_in};
+ghost use Rattle.ev_expand.specs.Numbers.{guarded_so_far};
+
+use crate::keys::Key;
+use indexmap::IndexMap;
+use serde_json::Value;
+use std::alloc::{AllocError, Global};
+
+/// What is guarded so far: each key once, in the order of first appearance, and what is kept of its first item. A key is found by
+/// a look-up; its place, from 0, is one below its number.
+#[derive(Drop)]
+pub struct Numbers {
+    /// By key what is kept of its first item.
+    pub firsts: IndexMap<Key, Value>,
+}
+
+impl Numbers {
+    /// Nothing is guarded. It takes no memory.
+    pub fn new(alloc: Global) -> Numbers
+        ensures { guarded_so_far result ≡ [] }
+    {
+        Numbers {
+            firsts: IndexMap::new(alloc),
+        }
+    }
+
+    /// How many keys there are.
+    pub fn len(&self) -> usize
+        ensures { result ≡ length (guarded_so_far self.now) }
+    {
+        self.firsts.len()
+    }
+
+    /// The key at a place, and what is kept of its first item.
+    pub fn get(&self, place: usize) -> Option<(&Key, &Value)>
+        ensures { option_map (λ p. record { key = p.0.now; own = view p.1.now }) result ≡ slice_get (guarded_so_far self.now) place }
+    {
+        self.firsts.get_index(place)
+    }
+
+    /// The place of a key, where it has one.
+    pub(crate) fn find(&self, key: &Key) -> Option<usize>
+        ensures some { IfSome result (λ place. place ≡ place_in (guarded_so_far self.now) key.now) }
+        ensures within { IfSome result (λ place. place < length (guarded_so_far self.now)) }
+        ensures found { IfSome result (λ _. list_any (λ g. key_same key.now g.key) (guarded_so_far self.now) ≡ true) }
+        ensures none { IfNone result (list_any (λ g. key_same key.now g.key) (guarded_so_far self.now) ≡ false) }
+    {
+        self.firsts.get_index_of(key)
+    }
+
+    /// Puts a key that has no place behind the others, with what is kept of its first item.
+    pub(crate) fn push(&mut self, key: Key, own: Value) -> Result<(), AllocError>
+        requires { list_any (λ g. key_same key g.key) (guarded_so_far self.old) ≡ false }
+        ensures { OnOk result (guarded_so_far self.new ≡ guarded_so_far self.old ++ record { key = key; own = view own } ∷ []) }
+    {
+        let Ok(_) = self.firsts.insert(key, own) else {
+            return Err(AllocError);
+        };
+        Ok(())
+    }
+}

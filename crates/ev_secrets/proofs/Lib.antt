@@ -1,0 +1,5 @@
+mod PushLemmas
+mod KnownLemmas
+mod LookLemmas
+mod StateLemmas
+mod QuietLemmas

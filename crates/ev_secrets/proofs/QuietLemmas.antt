@@ -1,0 +1,110 @@
+-- A line that is no connect, disconnect or response changes nothing, and nothing is due at it.
+use Rattle.std.proofs.Common.{◌≡◌, ℕ, Bool, true, false, not, ◌&&◌, ◌||◌, List, [], ◌∷◌, ◌++◌, map, filter, filter_map, flat_map, Option, Some, None, option_and_then, unwrap_or, refl, sym, ap, ◌∙◌}
+use Rattle.std.specs.List.{list_any, enumerate_from}
+use Rattle.std.specs.Str.{bytes_eq}
+use Rattle.std.proofs.lemmas.List.{append-nil}
+use Rattle.serde_json.specs.Data.{Data}
+use Rattle.ev_types.specs.declared.events.Event.{Event}
+use Rattle.ev_types.specs.declared.events.Event.TheVariants.{Connect, Disconnect, Response, Health, FetchTimeout, DrainTimeout, TtlExpired, Publish, Reap, Accept, Close, Settle}
+use Rattle.ev_expand.specs.Expanding.{due_at}
+use Rattle.ev_expand.specs.Fronts.{event_of, message_of, stream_said, stream_at}
+use Rattle.ev_expand.specs.Growing.{front_of}
+use Rattle.ev_expand.specs.Guarding.{Guarded, guarded_in, guarded_by, guarded_of, guarded_same, listed_as, kind_of, each_once}
+use Rattle.ev_expand.proofs.NumberLemmas.{guarded-push}
+use Rattle.ev_secrets.specs.declared.awaited.Awaited.{Awaited}
+use Rattle.ev_secrets.specs.declared.secrets.Secrets.{Secrets}
+use Rattle.ev_secrets.specs.Awaited.{awaited_same, awaited_by, services_of}
+use Rattle.ev_secrets.specs.Known.{later_value}
+use Rattle.ev_secrets.specs.Looking.{heard_now, is_quiet}
+use Rattle.ev_secrets.specs.References.{by_secrets}
+use Rattle.ev_secrets.specs.Sealing.{tls_rules, is_due, endpoints_by, has_guarded, gives_name, gives_endpoints}
+use Rattle.ev_secrets.specs.State.{IsBehind}
+use Rattle.ev_secrets.specs.Told.{told_by, told_with, is_told, is_complete, values_in, given_with, value_of}
+use Rattle.ev_secrets.proofs.StateLemmas.{stream_now, told_now, value_now, all_same, map_same}
+
+-- what a quiet event says
+record SaysNothing (event : Option Event) (message : Data) : Type 0 where
+  tells : told_with event message ≡ []
+  gives : given_with event message ≡ []
+  lists : listed_as (kind_of event) message ≡ []
+  stream : option_and_then stream_said event ≡ None
+
+nothing_said : (event : Option Event) (message : Data) → is_quiet event ≡ true → SaysNothing event message
+nothing_said None message h = record { tells = refl; gives = refl; lists = refl; stream = refl }
+nothing_said (Some Connect) message h = absurd (cc)
+nothing_said (Some Disconnect) message h = absurd (cc)
+nothing_said (Some (Response response)) message h = absurd (cc)
+nothing_said (Some (Health cluster host healthy)) message h = record { tells = refl; gives = refl; lists = refl; stream = refl }
+nothing_said (Some (FetchTimeout timeout)) message h = record { tells = refl; gives = refl; lists = refl; stream = refl }
+nothing_said (Some (DrainTimeout listener)) message h = record { tells = refl; gives = refl; lists = refl; stream = refl }
+nothing_said (Some (TtlExpired kind name)) message h = record { tells = refl; gives = refl; lists = refl; stream = refl }
+nothing_said (Some Publish) message h = record { tells = refl; gives = refl; lists = refl; stream = refl }
+nothing_said (Some Reap) message h = record { tells = refl; gives = refl; lists = refl; stream = refl }
+nothing_said (Some (Accept ask)) message h = record { tells = refl; gives = refl; lists = refl; stream = refl }
+nothing_said (Some (Close connection)) message h = record { tells = refl; gives = refl; lists = refl; stream = refl }
+nothing_said (Some Settle) message h = record { tells = refl; gives = refl; lists = refl; stream = refl }
+
+nothing_of : {A : Type 0} (f : Data → List A) (b : Bool) (line : Data) → f line ≡ [] → flat_map f (heard_now b line) ≡ []
+nothing_of f true line h = append-nil (f line) ∙ h
+nothing_of f false line h = refl
+
+or_false : (b : Bool) → (b || false) ≡ b
+or_false true = refl
+or_false false = refl
+
+dead : (s c : Bool) → (s && c && ((s && not s) || false || not c || false)) ≡ false
+dead true true = refl
+dead true false = refl
+dead false true = refl
+dead false false = refl
+
+none_left : {A : Type 0} (p : A → Bool) (xs : List A) → ((x : A) → p x ≡ false) → filter p xs ≡ []
+none_left p [] h = refl
+none_left p (x ∷ xs) h = rw (h x) (none_left p xs h)
+
+none_any : {A : Type 0} (p : A → Bool) (xs : List A) → ((x : A) → p x ≡ false) → list_any p xs ≡ false
+none_any p [] h = refl
+none_any p (x ∷ xs) h = rw (h x) (none_any p xs h)
+
+stays_told : (before : List Data) (line : Data) (a : Awaited) → told_by line ≡ [] → is_told (before ++ line ∷ []) a ≡ is_told before a
+stays_told before line a h =
+    told_now before line a ∙ ap (λ (xs : List Awaited). is_told before a || list_any (awaited_same a) xs) (nothing_of told_by (stream_at (before ++ line ∷ [])) line h) ∙ or_false (is_told before a)
+
+stays_guarded : (before : List Data) (line : Data) → guarded_in by_secrets line ≡ [] → guarded_by by_secrets (before ++ line ∷ []) ≡ guarded_by by_secrets before
+stays_guarded before line h = guarded-push by_secrets before line ∙ ap (λ (xs : List Guarded). each_once (flat_map (guarded_in by_secrets) before ++ xs)) h ∙ ap each_once (append-nil (flat_map (guarded_in by_secrets) before))
+
+stays_open : (before : List Data) (line : Data) → option_and_then stream_said (event_of line) ≡ None → stream_at (before ++ line ∷ []) ≡ stream_at before
+stays_open before line h = sym (stream_now before line) ∙ ap (λ (o : Option Bool). unwrap_or o (stream_at before)) h
+
+-- what is known stays
+pub quiet_behind : (before : List Data) (line : Data) (s : Secrets) (event : Option Event) → event ≡ event_of line → is_quiet event ≡ true → IsBehind s before → IsBehind s (before ++ line ∷ [])
+quiet_behind before line s event is quiet behind =
+    let says : SaysNothing (event_of line) (message_of line) = nothing_said (event_of line) (message_of line) (ap is_quiet (sym is) ∙ quiet) in
+    let guarded : guarded_in by_secrets line ≡ [] = ap (filter_map (guarded_of by_secrets)) says.lists in
+    record {
+      stream = behind.stream ∙ sym (stays_open before line says.stream);
+      told = λ a. behind.told a ∙ sym (stays_told before line a says.tells);
+      values = λ name. behind.values name ∙ sym (value_now before line name ∙ ap (later_value name (value_of before name)) (nothing_of values_in (stream_at (before ++ line ∷ [])) line says.gives));
+      complete = behind.complete
+          ∙ map_same (λ (g : Guarded). is_complete before g.key) (λ (g : Guarded). is_complete (before ++ line ∷ []) g.key) (guarded_by by_secrets before)
+          (λ g. all_same (is_told before) (is_told (before ++ line ∷ [])) (awaited_by g.key) (λ a. sym (stays_told before line a says.tells)))
+          ∙ ap (map (λ (g : Guarded). is_complete (before ++ line ∷ []) g.key)) (sym (stays_guarded before line guarded));
+    }
+
+not_due : (before : List Data) (line : Data) (g : Guarded) → SaysNothing (event_of line) (message_of line) → is_due (front_of before line) g ≡ false
+not_due before line g says =
+    let s : stream_at (before ++ line ∷ []) ≡ stream_at before = stays_open before line says.stream in
+    let c : is_complete before g.key ≡ is_complete (before ++ line ∷ []) g.key =
+    all_same (is_told before) (is_told (before ++ line ∷ [])) (awaited_by g.key) (λ a. sym (stays_told before line a says.tells)) in
+    let h : has_guarded line g.key ≡ false = ap (λ (xs : List Data). list_any (guarded_same g) (filter_map (guarded_of by_secrets) xs)) says.lists in
+    let e : gives_endpoints line g.key ≡ false =
+    none_any (gives_name line) (services_of g.key.cluster.discovery) (λ name. ap (λ (xs : List (List ℕ × Data)). list_any (λ (v : List ℕ × Data). bytes_eq v.0 name) xs) says.gives) in
+    (λ i. stream_at (before ++ line ∷ []) && is_complete (before ++ line ∷ []) g.key
+    && ((stream_at (before ++ line ∷ []) && not (sym s i)) || h i || not (c i) || e i))
+    ∙ dead (stream_at (before ++ line ∷ [])) (is_complete (before ++ line ∷ []) g.key)
+
+-- nothing is due
+pub quiet_due : (before : List Data) (line : Data) (event : Option Event) → event ≡ event_of line → is_quiet event ≡ true → due_at tls_rules (front_of before line) ≡ []
+quiet_due before line event is quiet =
+    let says : SaysNothing (event_of line) (message_of line) = nothing_said (event_of line) (message_of line) (ap is_quiet (sym is) ∙ quiet) in
+    ap (map (λ (p : ℕ × Guarded). record { place = p.0; endpoints = endpoints_by p.1.key.cluster.discovery (before ++ line ∷ []) p.1 })) (none_left (λ (p : ℕ × Guarded). is_due (front_of before line) p.1) (enumerate_from 0 (guarded_by by_secrets (before ++ line ∷ []))) (λ p. not_due before line p.1 says))

@@ -1,0 +1,197 @@
+-- What is known behind one line more.
+use Rattle.std.proofs.Common.{◌≡◌, ℕ, suc, ◌+◌, ◌<◌, ◌≤◌, ◌⊎◌, inl, inr, Bool, true, false, not, cond, ◌&&◌, ◌||◌, List, [], ◌∷◌, ◌++◌, length, map, filter, filter_map, flat_map, Option, Some, None, option_map, option_and_then, unwrap_or, nat_eq, refl, sym, ap, ap₂, ◌∙◌, subst, arith}
+use Rattle.std.specs.Prelude.{slice_get}
+use Rattle.std.specs.List.{list_any, list_all, last_or, enumerate_from, cons_option}
+use Rattle.std.proofs.lemmas.Bool.{cases_lt}
+use Rattle.std.proofs.lemmas.Bool.Decides.{same_from_decides}
+use Rattle.std.proofs.lemmas.List.{append-nil}
+use Rattle.std.proofs.lemmas.List.Elements.{filter_map-append}
+use Rattle.std.proofs.lemmas.List.Folds.{list_any-append}
+use Rattle.std.proofs.lemmas.Grind.{flat_map-append}
+use Rattle.std.proofs.lemmas.Option.{slice_get-map, slice_get_past}
+use Rattle.serde_json.specs.Data.{Data}
+use Rattle.ev_types.specs.Same.{numbers_decide}
+use Rattle.ev_types.specs.declared.clusters.Discovery.{Discovery}
+use Rattle.ev_types.specs.declared.clusters.Discovery.TheVariants.{Static, Eds}
+use Rattle.ev_expand.specs.declared.keys.Key.{Key}
+use Rattle.ev_expand.specs.Keys.{key_same, key_decides}
+use Rattle.ev_expand.specs.Expanding.{due_at}
+use Rattle.ev_expand.specs.Fronts.{event_of, stream_said, stream_at, opens, heard}
+use Rattle.ev_expand.specs.Growing.{front_of}
+use Rattle.ev_expand.specs.Guarding.{Guard, Guarded, guarded_same, guarded_of, guarded_in, guarded_by, each_once, clusters_in, place_in, place_at}
+use Rattle.ev_expand.proofs.FrontLemmas.{heard-push}
+use Rattle.ev_expand.proofs.NumberLemmas.{guarded-push}
+use Rattle.ev_expand.proofs.DistinctLemmas.{AreDistinct, IsExtended, once_distinct, once_extends, own_place, place_has, first_get, behind_get}
+use Rattle.ev_secrets.specs.declared.awaited.Awaited.{Awaited}
+use Rattle.ev_secrets.specs.declared.known.Told.{Told}
+use Rattle.ev_secrets.specs.declared.known.Values.{Values}
+use Rattle.ev_secrets.specs.Awaited.{awaited_same, awaited_by, services_of}
+use Rattle.ev_secrets.specs.Known.{has_told, shown_value, later_value, gives_to}
+use Rattle.ev_secrets.specs.Looking.{Marks, completed, due_among, due_by, endpoints_with, heard_now, is_awake, open_after, was_complete}
+use Rattle.ev_secrets.specs.Marking.{is_place, is_marked}
+use Rattle.ev_secrets.specs.References.{by_secrets}
+use Rattle.ev_secrets.specs.Sealing.{tls_rules, is_due, endpoints_by, has_guarded, gives_name, gives_endpoints}
+use Rattle.ev_secrets.specs.Told.{told_by, is_told, is_complete, values_in, value_of}
+use Rattle.ev_secrets.proofs.KnownLemmas.{last-append, later-append}
+
+-- ---- the stream
+
+stream_step : (l o : Option Bool) → unwrap_or o (unwrap_or l false) ≡ unwrap_or (last_or l (cons_option o [])) false
+stream_step l None = refl
+stream_step l (Some v) = refl
+
+pub stream_now : (before : List Data) (line : Data) → open_after (stream_at before) (event_of line) ≡ stream_at (before ++ line ∷ [])
+stream_now before line =
+    let said : Data → Option Bool = λ l. option_and_then stream_said (event_of l) in
+    stream_step (last_or None (filter_map said before)) (said line)
+    ∙ sym (ap (λ (o : Option Bool). unwrap_or o false) (ap (last_or None) (filter_map-append said before (line ∷ [])) ∙ last-append None (filter_map said before) (cons_option (said line) [])))
+
+-- ---- what was told of, and values
+
+pub told_now : (before : List Data) (line : Data) (a : Awaited)
+    → is_told (before ++ line ∷ []) a ≡ (is_told before a || list_any (awaited_same a) (flat_map told_by (heard_now (stream_at (before ++ line ∷ [])) line)))
+told_now before line a =
+    ap (λ (ls : List Data). list_any (awaited_same a) (flat_map told_by ls)) (heard-push before line)
+    ∙ ap (list_any (awaited_same a)) (flat_map-append told_by (heard before) (heard_now (stream_at (before ++ line ∷ [])) line))
+    ∙ list_any-append (awaited_same a) (flat_map told_by (heard before)) (flat_map told_by (heard_now (stream_at (before ++ line ∷ [])) line))
+
+pub value_now : (before : List Data) (line : Data) (name : List ℕ)
+    → value_of (before ++ line ∷ []) name ≡ later_value name (value_of before name) (flat_map values_in (heard_now (stream_at (before ++ line ∷ [])) line))
+value_now before line name =
+    ap (λ (ls : List Data). later_value name None (flat_map values_in ls)) (heard-push before line)
+    ∙ ap (later_value name None) (flat_map-append values_in (heard before) (heard_now (stream_at (before ++ line ∷ [])) line))
+    ∙ later-append name None (flat_map values_in (heard before)) (flat_map values_in (heard_now (stream_at (before ++ line ∷ [])) line))
+
+-- ---- what is complete
+
+pub all_same : {A : Type 0} (p q : A → Bool) (xs : List A) → ((x : A) → p x ≡ q x) → list_all p xs ≡ list_all q xs
+all_same p q [] h = refl
+all_same p q (x ∷ xs) h = ap₂ (λ (a b : Bool). a && b) (h x) (all_same p q xs h)
+
+pub any_same : {A : Type 0} (p q : A → Bool) (xs : List A) → ((x : A) → p x ≡ q x) → list_any p xs ≡ list_any q xs
+any_same p q [] h = refl
+any_same p q (x ∷ xs) h = ap₂ (λ (a b : Bool). a || b) (h x) (any_same p q xs h)
+
+pub map_same : {A B : Type 0} (f g : A → B) (xs : List A) → ((x : A) → f x ≡ g x) → map f xs ≡ map g xs
+map_same f g [] h = refl
+map_same f g (x ∷ xs) h = ap₂ (λ y ys. y ∷ ys) (h x) (map_same f g xs h)
+
+pub completed_as : (lines : List Data) (told : Told) (g : Guarded) → ((a : Awaited) → has_told told a ≡ is_told lines a) → completed told g ≡ is_complete lines g.key
+completed_as lines told g h = all_same (has_told told) (is_told lines) (awaited_by g.key) h
+
+pub complete_now : (lines : List Data) (told : Told) (gs : List Guarded) → ((a : Awaited) → has_told told a ≡ is_told lines a) → map (completed told) gs ≡ map (λ (g : Guarded). is_complete lines g.key) gs
+complete_now lines told gs h = map_same (completed told) (λ (g : Guarded). is_complete lines g.key) gs (λ g. completed_as lines told g h)
+
+-- ---- what is due
+
+place_as : (gs : List Guarded) (n : ℕ) (g : Guarded) (key : Key) (own : Data) → AreDistinct gs → slice_get gs n ≡ Some g
+    → nat_eq (place_in gs key) n ≡ guarded_same g (record { key = key; own = own })
+place_as gs n g key own distinct h =
+    same_from_decides (nat_eq (place_in gs key) n) (key_same g.key key) (numbers_decide (place_in gs key) n) (
+      λ same. let e : g.key ≡ key = (key_decides g.key key).0 same in ap (place_in gs) (sym e) ∙ own_place gs n g distinct h,
+      λ at. (key_decides g.key key).1 (sym ((key_decides key g.key).0 (place_has gs key n g at h))),
+    )
+
+entry_marked : (guard : Guard) (gs : List Guarded) (n : ℕ) (g : Guarded) (entry : Data) (key : Option Key) (rest : List Guarded) → AreDistinct gs → slice_get gs n ≡ Some g
+    → (is_place (option_map (place_in gs) key) n || list_any (guarded_same g) rest) ≡ list_any (guarded_same g) (cons_option (option_map (λ k. record { key = k; own = guard.own_of entry }) key) rest)
+entry_marked guard gs n g entry None rest distinct h = refl
+entry_marked guard gs n g entry (Some key) rest distinct h = ap (λ (t : Bool). t || list_any (guarded_same g) rest) (place_as gs n g key (guard.own_of entry) distinct h)
+
+-- a place is marked exactly where its key is that of a guarded resource
+marked_as : (guard : Guard) (gs : List Guarded) (n : ℕ) (g : Guarded) (entries : List Data) → AreDistinct gs → slice_get gs n ≡ Some g
+    → is_marked (map (place_at guard gs) entries) n ≡ list_any (guarded_same g) (filter_map (guarded_of guard) entries)
+marked_as guard gs n g [] distinct h = refl
+marked_as guard gs n g (entry ∷ entries) distinct h =
+    ap (λ (t : Bool). is_place (place_at guard gs entry) n || t) (marked_as guard gs n g entries distinct h)
+    ∙ entry_marked guard gs n g entry (guard.key_of entry) (filter_map (guarded_of guard) entries) distinct h
+
+or_true : (b : Bool) → (b || true) ≡ true
+or_true true = refl
+or_true false = refl
+
+joined : (o i w v h k e : Bool) → (i || w) ≡ (h || k) → v ≡ e → (o || i || w || v) ≡ (o || h || k || e)
+joined true i w v h k e same last = refl
+joined false i w v h k e same last = ap₂ (λ (a b : Bool). a || b) same last
+
+both_sides : (s c x y : Bool) → (s ≡ true → x ≡ y) → (s && c && x) ≡ (s && c && y)
+both_sides true c x y h = ap (λ (t : Bool). c && t) (h refl)
+both_sides false c x y h = refl
+
+was_at : (old : List Guarded) (n : ℕ) (g : Guarded) (f : Guarded → Bool) (o : Option Guarded) → slice_get old n ≡ o → was_complete (map f old) n ≡ unwrap_or (option_map f o) false
+was_at old n g f o h = ap (λ (x : Option Bool). unwrap_or x false) (slice_get-map f old n ∙ ap (option_map f) h)
+
+either_place : (old more new : List Guarded) (n : ℕ) (g : Guarded) (f : Guarded → Bool) (m : Bool) → m ≡ list_any (guarded_same g) new → slice_get (old ++ more) n ≡ Some g
+    → ((i : ℕ) (x : Guarded) → slice_get more i ≡ Some x → list_any (guarded_same x) new ≡ true) → (n < length old) ⊎ (length old ≤ n)
+    → (m || not (was_complete (map f old) n)) ≡ (list_any (guarded_same g) new || not (f g))
+either_place old more new n g f m marked here among (inl within) =
+    ap₂ (λ (a b : Bool). a || not b) marked (was_at old n g f (Some g) (sym (first_get old more n within) ∙ here))
+either_place old more new n g f m marked here among (inr past) =
+    let there = behind_get old more n g past here in
+    let fresh : list_any (guarded_same g) new ≡ true = among there.0 g there.1 in
+    ap (λ (b : Bool). m || not b) (was_at old n g f None (slice_get_past old n past)) ∙ or_true m ∙ sym (ap (λ (b : Bool). b || not (f g)) fresh)
+
+-- a cause by a resource or by what was not complete before
+cause_as : (before : List Data) (line : Data) (n : ℕ) (g : Guarded) → slice_get (guarded_by by_secrets (before ++ line ∷ [])) n ≡ Some g
+    → (is_marked (map (place_at by_secrets (guarded_by by_secrets (before ++ line ∷ []))) (clusters_in line)) n
+    || not (was_complete (map (λ (g : Guarded). is_complete before g.key) (guarded_by by_secrets before)) n))
+    ≡ (has_guarded line g.key || not (is_complete before g.key))
+cause_as before line n g h =
+    let old : List Guarded = guarded_by by_secrets before in
+    let all : List Guarded = guarded_by by_secrets (before ++ line ∷ []) in
+    let f : Guarded → Bool = λ (x : Guarded). is_complete before x.key in
+    let extended : IsExtended old (each_once (flat_map (guarded_in by_secrets) before ++ guarded_in by_secrets line)) (guarded_in by_secrets line) = once_extends (flat_map (guarded_in by_secrets) before) (guarded_in by_secrets line) in
+    let grown : all ≡ old ++ extended.more = guarded-push by_secrets before line ∙ extended.grown in
+    let distinct : AreDistinct all = once_distinct (flat_map (guarded_in by_secrets) (before ++ line ∷ [])) in
+    let marked : is_marked (map (place_at by_secrets all) (clusters_in line)) n ≡ has_guarded line g.key = marked_as by_secrets all n g (clusters_in line) distinct h in
+    let here : slice_get (old ++ extended.more) n ≡ Some g = subst (λ (gs : List Guarded). slice_get gs n ≡ Some g) grown h in
+    either_place old extended.more (guarded_in by_secrets line) n g f _ marked here extended.among (cases_lt n (length old))
+
+given_true : (b : Bool) (line : Data) (name : List ℕ) → b ≡ true → gives_to name (flat_map values_in (heard_now b line)) ≡ gives_name line name
+given_true true line name h = ap (gives_to name) (append-nil (values_in line))
+given_true false line name h = absurd (cc)
+
+-- what makes the marks of a look those of a line
+pub record AreMarksOf (before : List Data) (line : Data) (marks : Marks) : Type 0 where
+  pub stream : marks.connected ≡ stream_at (before ++ line ∷ [])
+  pub opening : marks.opened ≡ opens (front_of before line)
+  pub had : (n : ℕ) → marks.was n ≡ was_complete (map (λ (g : Guarded). is_complete before g.key) (guarded_by by_secrets before)) n
+  pub marked : (n : ℕ) → marks.items n ≡ is_marked (map (place_at by_secrets (guarded_by by_secrets (before ++ line ∷ []))) (clusters_in line)) n
+  pub values : (name : List ℕ) → marks.given name ≡ gives_to name (flat_map values_in (heard_now (stream_at (before ++ line ∷ [])) line))
+
+due_as : (before : List Data) (line : Data) (told : Told) (marks : Marks) (n : ℕ) (g : Guarded) → ((a : Awaited) → has_told told a ≡ is_told (before ++ line ∷ []) a) → AreMarksOf before line marks
+    → slice_get (guarded_by by_secrets (before ++ line ∷ [])) n ≡ Some g → due_by marks told (n, g) ≡ is_due (front_of before line) g
+due_as before line told marks n g h are at =
+    ap₂ (λ (s c : Bool). s && c && is_awake marks n g.key) are.stream (completed_as (before ++ line ∷ []) told g h)
+    ∙ both_sides (stream_at (before ++ line ∷ [])) (is_complete (before ++ line ∷ []) g.key) _ _
+    (λ connected.
+    let cause = ap₂ (λ (i w : Bool). i || not w) (are.marked n) (are.had n) ∙ cause_as before line n g at in
+    ap (λ (o : Bool). o || marks.items n || not (marks.was n) || list_any marks.given (services_of g.key.cluster.discovery)) are.opening
+    ∙ joined (opens (front_of before line)) (marks.items n) (not (marks.was n)) _ (has_guarded line g.key) (not (is_complete before g.key)) (gives_endpoints line g.key) cause
+    (any_same marks.given (gives_name line) (services_of g.key.cluster.discovery) (λ name. are.values name ∙ given_true (stream_at (before ++ line ∷ [])) line name connected)))
+
+same_due : (m : ℕ) (gs : List Guarded) (p q : ℕ × Guarded → Bool) → ((i : ℕ) (g : Guarded) → slice_get gs i ≡ Some g → p (m + i, g) ≡ q (m + i, g)) → filter p (enumerate_from m gs) ≡ filter q (enumerate_from m gs)
+same_due m [] p q h = refl
+same_due m (g ∷ gs) p q h =
+    let here : m + 0 ≡ m = omega arith in
+    let first : p (m, g) ≡ q (m, g) = subst (λ (k : ℕ). p (k, g) ≡ q (k, g)) here (h 0 g refl) in
+    let rest : filter p (enumerate_from (m + 1) gs) ≡ filter q (enumerate_from (m + 1) gs) =
+    same_due (m + 1) gs p q (λ i x k. let e : m + suc i ≡ m + 1 + i = omega arith in subst (λ (j : ℕ). p (j, x) ≡ q (j, x)) e (h (suc i) x k)) in
+    λ j. cond (first j) ((m, g) ∷ rest j) (rest j)
+
+endpoints_as : (lines : List Data) (values : Values) (discovery : Discovery) (g : Guarded) → ((name : List ℕ) → shown_value values name ≡ value_of lines name)
+    → endpoints_with values discovery g.own ≡ endpoints_by discovery lines g
+endpoints_as lines values (Static rows) g h = refl
+endpoints_as lines values (Eds service limited) g h = h service
+
+-- a look finds what is due at the line
+pub due_found : (before : List Data) (line : Data) (told : Told) (values : Values) (marks : Marks) (gs : List Guarded) → ((a : Awaited) → has_told told a ≡ is_told (before ++ line ∷ []) a)
+    → ((name : List ℕ) → shown_value values name ≡ value_of (before ++ line ∷ []) name) → AreMarksOf before line marks → gs ≡ guarded_by by_secrets (before ++ line ∷ [])
+    → due_among marks told values (enumerate_from 0 gs) ≡ due_at tls_rules (front_of before line)
+due_found before line told values marks gs h k are kept =
+    let all : List Guarded = guarded_by by_secrets (before ++ line ∷ []) in
+    let P : ℕ × Guarded → Bool = λ (p : ℕ × Guarded). is_due (front_of before line) p.1 in
+    ap (λ (xs : List Guarded). due_among marks told values (enumerate_from 0 xs)) kept
+    ∙ map_same _ (λ (p : ℕ × Guarded). record { place = p.0; endpoints = endpoints_by p.1.key.cluster.discovery (before ++ line ∷ []) p.1 }) (filter (due_by marks told) (enumerate_from 0 all))
+    (λ p. ap (λ (e : Option Data). record { place = p.0; endpoints = e }) (endpoints_as (before ++ line ∷ []) values p.1.key.cluster.discovery p.1 k))
+    ∙ ap (map (λ (p : ℕ × Guarded). record { place = p.0; endpoints = endpoints_by p.1.key.cluster.discovery (before ++ line ∷ []) p.1 }))
+    (same_due 0 all (due_by marks told) P (λ i g at. let e : 0 + i ≡ i = omega arith in subst (λ (n : ℕ). due_by marks told (n, g) ≡ is_due (front_of before line) g) (sym e) (due_as before line told marks i g h are at)))

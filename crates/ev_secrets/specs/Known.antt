@@ -1,0 +1,38 @@
+-- What is known of secrets and of endpoints, found by look-ups.
+use Rattle.std.specs.Prelude.{◌≡◌, ℕ, Bool, ◌||◌, List, Option, map, filter, option_map}
+use Rattle.std.specs.List.{list_any, last_or}
+use Rattle.std.specs.Str.{bytes_eq}
+use Rattle.indexmap.specs.IndexSet.{contains}
+use Rattle.indexmap.specs.IndexMap.{get}
+use Rattle.serde_json.specs.Data.{Data}
+use Rattle.serde_json.specs.View.{view}
+use Rattle.ev_secrets.specs.declared.awaited.Awaited.{Awaited}
+use Rattle.ev_secrets.specs.declared.awaited.Awaited.TheVariants.{Secret, Endpoints}
+use Rattle.ev_secrets.specs.declared.known.Told.{Told}
+use Rattle.ev_secrets.specs.declared.known.Values.{Values}
+use Rattle.ev_secrets.specs.Awaited.{awaited_same}
+
+-- it was told of
+abbrev pub has_told : Told → Awaited → Bool
+has_told told (Secret name) = contains bytes_eq told.secrets name
+has_told told (Endpoints name) = contains bytes_eq told.endpoints name
+
+-- one is told of more
+abbrev pub Adds : Told → Told → Awaited → Type 0
+Adds old new one = (other : Awaited) → has_told new other ≡ (awaited_same other one || has_told old other)
+
+-- all of these are told of more
+abbrev pub AddsAll : Told → Told → List Awaited → Type 0
+AddsAll old new all = (other : Awaited) → has_told new other ≡ (has_told old other || list_any (awaited_same other) all)
+
+-- the value of a name
+abbrev pub shown_value : Values → List ℕ → Option Data
+shown_value values name = option_map view (get bytes_eq values.by_name name)
+
+-- the last value of a name among these, or the one before them
+abbrev pub later_value : List ℕ → Option Data → List (List ℕ × Data) → Option Data
+later_value name before values = last_or before (map (λ (v : List ℕ × Data). v.1) (filter (λ (v : List ℕ × Data). bytes_eq v.0 name) values))
+
+-- one of these is of the name
+abbrev pub gives_to : List ℕ → List (List ℕ × Data) → Bool
+gives_to name values = list_any (λ (v : List ℕ × Data). bytes_eq v.0 name) values

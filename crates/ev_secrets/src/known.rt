@@ -1,0 +1,140 @@
+ghost use Rattle.std.specs.Prelude.{◌≡◌, ◌||◌, ℕ, List, map, false, None, Some, option_map, if◌then◌else◌, IfOk, OnOk};
+ghost use Rattle.std.specs.List.{list_all};
+ghost use Rattle.std.specs.Str.{bytes_eq};
+ghost use Rattle.serde_json.specs.View.{view};
+ghost use Rattle.indexmap.specs.IndexSet.{contains};
+ghost use Rattle.ev_secrets.specs.declared.awaited.Awaited.{Awaited};
+ghost use Rattle.ev_secrets.specs.Awaited.{awaited_by, services_of};
+ghost use Rattle.ev_secrets.specs.Known.{has_told, AddsAll, Adds, shown_value, later_value, gives_to};
+ghost use Rattle.ev_secrets.specs.Told.{value_shown};
+
+use crate::awaited::Awaited;
+use ev_expand::Key;
+use ev_types::{Discovery, Name, TryCopy};
+use indexmap::{IndexMap, IndexSet};
+use serde_json::Value;
+use std::alloc::{AllocError, Global};
+
+/// What was told of: each name is found by a look-up.
+#[derive(Drop)]
+pub(crate) struct Told {
+    pub secrets: IndexSet<Name>,
+    pub endpoints: IndexSet<Name>,
+}
+
+impl Told {
+    /// Nothing was told of. It takes no memory.
+    pub(crate) fn new(alloc: Global) -> Told
+        ensures { (awaited : Awaited) → has_told result awaited ≡ false }
+    {
+        Told {
+            secrets: IndexSet::new(alloc),
+            endpoints: IndexSet::new(alloc),
+        }
+    }
+
+    /// This was told of too.
+    pub(crate) fn add(&mut self, awaited: Awaited) -> Result<(), AllocError>
+        ensures { OnOk result (Adds self.old self.new awaited) }
+    {
+        match awaited {
+            Awaited::Secret(name) => insert(&mut self.secrets, name),
+            Awaited::Endpoints(name) => insert(&mut self.endpoints, name),
+        }
+    }
+
+    /// All of these were told of too.
+    pub(crate) fn add_all(&mut self, all: Vec<Awaited>) -> Result<(), AllocError>
+        ensures { OnOk result (AddsAll self.old self.new all.items) }
+    {
+        for awaited in all {
+            self.add(awaited)?;
+        }
+        Ok(())
+    }
+
+    /// Whether all that the clusters of a key wait for was told of.
+    pub(crate) fn has_all(&self, key: &Key) -> bool
+        ensures { result ≡ list_all (has_told self.now) (awaited_by key.now) }
+    {
+        has_names(&self.secrets, key.names.as_slice()) && self.has_service(&key.cluster.discovery)
+    }
+
+    // Whether the endpoints of a cluster were told of, where it asks for some.
+    fn has_service(&self, discovery: &Discovery) -> bool
+        ensures { result ≡ list_all (λ name. has_told self.now (Awaited.Endpoints name)) (services_of discovery.now) }
+    {
+        match discovery {
+            Discovery::Static(_) => true,
+            Discovery::Eds { service, .. } => self.endpoints.contains(service),
+        }
+    }
+}
+
+// Puts a name into a set.
+fn insert(names: &mut IndexSet<Name>, name: Name) -> Result<(), AllocError>
+    ensures { OnOk result ((other : List ℕ) → contains bytes_eq names.new other ≡ (bytes_eq name other || contains bytes_eq names.old other)) }
+{
+    let Ok(_) = names.insert(name) else {
+        return Err(AllocError);
+    };
+    Ok(())
+}
+
+// Whether all of these names are in a set.
+fn has_names(set: &IndexSet<Name>, names: &[Name]) -> bool
+    ensures { result ≡ list_all (contains bytes_eq set.now) names.now }
+{
+    names.iter().all(|name| set.contains(name))
+}
+
+/// The values of names of endpoints.
+#[derive(Drop)]
+pub(crate) struct Values {
+    pub by_name: IndexMap<Name, Value>,
+}
+
+impl Values {
+    /// No value. It takes no memory.
+    pub(crate) fn new(alloc: Global) -> Values
+        ensures { (name : List ℕ) → shown_value result name ≡ None }
+    {
+        Values {
+            by_name: IndexMap::new(alloc),
+        }
+    }
+
+    /// The last value of a name.
+    pub(crate) fn get(&self, name: &Name) -> Option<&Value>
+        ensures { option_map (λ v. view v.now) result ≡ shown_value self.now name.now }
+    {
+        self.by_name.get(name)
+    }
+
+    /// Takes these values, each in the place of the one before, and answers which names they are of.
+    pub(crate) fn take_all(
+        &mut self,
+        alloc: Global,
+        values: Vec<(Name, Value)>,
+    ) -> Result<IndexSet<Name>, AllocError>
+        ensures values { OnOk result ((name : List ℕ) → shown_value self.new name ≡ later_value name (shown_value self.old name) (map value_shown values.items)) }
+        ensures names { IfOk result (λ names. (name : List ℕ) → contains bytes_eq names name ≡ gives_to name (map value_shown values.items)) }
+    {
+        let mut names = IndexSet::new(alloc);
+        for (name, value) in values {
+            insert(&mut names, name.copy(alloc)?)?;
+            self.put(name, value)?;
+        }
+        Ok(names)
+    }
+
+    // Takes a value in the place of the one before.
+    fn put(&mut self, name: Name, value: Value) -> Result<(), AllocError>
+        ensures { OnOk result ((other : List ℕ) → shown_value self.new other ≡ (if bytes_eq name other then Some (view value) else shown_value self.old other)) }
+    {
+        let Ok(_) = self.by_name.insert(name, value) else {
+            return Err(AllocError);
+        };
+        Ok(())
+    }
+}

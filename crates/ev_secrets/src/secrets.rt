@@ -1,0 +1,168 @@
+ghost use Rattle.std.specs.Prelude.{◌≡◌, ◌&&◌, ◌||◌, ℕ, [], not, nat_eq, map, IfOk, OnOk};
+ghost use Rattle.std.specs.Str.{bytes_eq};
+ghost use Rattle.serde_json.specs.View.{view};
+ghost use Rattle.ev_expand.specs.Expanding.{IsExpanded};
+ghost use Rattle.indexmap.specs.IndexSet.{contains};
+ghost use Rattle.ev_secrets.specs.Looking.{AreMarks, marks_of};
+ghost use Rattle.ev_secrets.specs.Marking.{is_marked, is_place};
+ghost use Rattle.ev_secrets.specs.Sealing.{tls_rules};
+ghost use Rattle.ev_secrets.specs.State.{IsBehind};
+
+use crate::hearing::{hear, is_quiet, open_after};
+use crate::known::{Told, Values};
+use crate::looking::{Found, Marked, look};
+use crate::references::{body_in, body_key, own_endpoints, references_of};
+use ev_expand::{Due, ExpandError, Expansion, Key, Numbers, expand_with};
+use ev_types::{Event, Item, Name};
+use indexmap::IndexSet;
+use serde_json::Value;
+use std::alloc::{AllocError, Global};
+use std::mem;
+
+// What is known behind the lines so far.
+#[derive(Drop)]
+pub(crate) struct Secrets {
+    // Whether a stream is open.
+    pub connected: bool,
+    // What was told of.
+    pub told: Told,
+    // The last value of each name of endpoints.
+    pub values: Values,
+    // What is complete, by place.
+    pub complete: Vec<bool>,
+}
+
+impl Secrets {
+    // Nothing is known. It takes no memory.
+    pub(crate) fn new(alloc: Global) -> Secrets
+        ensures { IsBehind result [] }
+    {
+        Secrets {
+            connected: false,
+            told: Told::new(alloc),
+            values: Values::new(alloc),
+            complete: Vec::new(alloc),
+        }
+    }
+}
+
+impl Expansion for Secrets {
+    ghost use Rattle.ev_secrets.specs.Sealing.{tls_rules};
+    ghost use Rattle.ev_secrets.specs.State.{IsBehind};
+
+    ghost rules = { tls_rules };
+
+    ghost is_behind = { IsBehind };
+
+    fn prefix(&self) -> &'static str {
+        "tls/"
+    }
+
+    fn nonce(&self) -> &'static str {
+        "tls-"
+    }
+
+    fn is_written(&self, _line: &Value) -> bool {
+        true
+    }
+
+    fn key(&self, alloc: Global, item: &Item, entry: &Value) -> Result<Option<Key>, AllocError> {
+        body_key(alloc, &item.body, references_of(alloc, body_in(entry))?)
+    }
+
+    fn own(&self, alloc: Global, entry: &Value) -> Result<Value, AllocError> {
+        own_endpoints(alloc, body_in(entry))
+    }
+
+    fn due(
+        &mut self,
+        alloc: Global,
+        line: &Value,
+        event: &Option<Event>,
+        numbers: &Numbers,
+        items: &[Option<usize>],
+    ) -> Result<Vec<Due>, AllocError> {
+        if is_quiet(event) {
+            return Ok(Vec::new(alloc));
+        }
+        let was_open = self.connected;
+        self.connected = open_after(was_open, event);
+        let given = hear(
+            alloc,
+            &mut self.told,
+            &mut self.values,
+            self.connected,
+            line,
+            event,
+        )?;
+        let was = mem::replace(&mut self.complete, Vec::new(alloc));
+        let marks = marks(alloc, was_open, self.connected, was, items, given)?;
+        let found = look(alloc, numbers, &self.told, &self.values, &marks)?;
+        let Found { due, complete } = found;
+        self.complete = complete;
+        Ok(due)
+    }
+}
+
+// What a look has to know.
+fn marks(
+    alloc: Global,
+    was_open: bool,
+    connected: bool,
+    was: Vec<bool>,
+    items: &[Option<usize>],
+    given: IndexSet<Name>,
+) -> Result<Marked, AllocError>
+    ensures { IfOk result (λ marks. AreMarks was_open connected was.items items.now (contains bytes_eq given) (marks_of marks)) }
+{
+    Ok(Marked {
+        connected,
+        opened: opens(was_open, connected),
+        was,
+        items: places_of(alloc, items)?,
+        given,
+    })
+}
+
+// Whether a stream is open that was not.
+fn opens(was_open: bool, connected: bool) -> bool
+    ensures { result ≡ (connected && not was_open) }
+{
+    connected && !was_open
+}
+
+// The set of the places that are given.
+fn places_of(alloc: Global, items: &[Option<usize>]) -> Result<IndexSet<usize>, AllocError>
+    ensures { IfOk result (λ set. (place : ℕ) → contains nat_eq set place ≡ is_marked items.now place) }
+{
+    let mut set = IndexSet::new(alloc);
+    for item in items {
+        put_place(&mut set, *item)?;
+    }
+    Ok(set)
+}
+
+// Puts a place into the set, where one is given.
+fn put_place(set: &mut IndexSet<usize>, item: Option<usize>) -> Result<(), AllocError>
+    ensures { OnOk result ((place : ℕ) → contains nat_eq set.new place ≡ (is_place item place || contains nat_eq set.old place)) }
+{
+    let Some(item) = item else {
+        return Ok(());
+    };
+    let Ok(_) = set.insert(item) else {
+        return Err(AllocError);
+    };
+    Ok(())
+}
+
+/// The text of a script whose clusters wait for their secrets, by its header and its lines.
+///
+/// # Errors
+/// `Private` exactly for the first line that uses a name that begins with `tls/` for endpoints. `Large` where there is none,
+/// exactly for the line with whose output the text goes above a limit of inputs. `OutOfMemory` without memory, and for 2^32
+/// lines and more.
+pub fn expand(alloc: Global, head: &Value, lines: &[Value]) -> Result<Vec<u8>, ExpandError>
+    ensures { IsExpanded tls_rules (view head.now) (map view lines.now) result }
+{
+    expand_with(alloc, Secrets::new(alloc), head, lines)
+}
