@@ -54,7 +54,9 @@ fn arguments_of(rt: &(impl Env + AllocGlobal)) -> io::Result<Vec<Text>> {
 fn report(rt: &impl Eprint, status: Status) -> io::Result<()> {
     match status {
         Status::Done | Status::Illegal => Ok(()),
-        Status::Usage => eprintln!(rt; "usage: warmgate replay | run | audit | soak SEED COUNT | chains | sotw | dump K"),
+        Status::Usage => eprintln!(rt;
+            "usage: warmgate replay | run | audit | soak SEED COUNT | chains | sotw | dump K"
+        ),
         Status::BadScript { line, kind } => eprintln!(rt; "line {line}: fault {kind}"),
         Status::ReadFault => eprintln!(rt; "read fault"),
         Status::WriteFault => eprintln!(rt; "write fault"),
