@@ -4,10 +4,13 @@ use ev_pace::Pace;
 use ev_types::{Actor, Gen};
 use ev_worker::{Accepted, Batch, Outcome};
 use std::sync::Wait;
-use std::sync::atomic::{AtomicBool, Ordering};
+use std::sync::atomic::{AtomicBool, AtomicU64, Ordering};
+use std::time::Duration;
 
-/// How often an actor looks at most whether the other has stepped.
-const TURNS: u32 = 10_000_000;
+/// How often an actor looks at most whether the other has stepped, and how long it sleeps between, in microseconds.
+const TURNS: u32 = 100_000;
+
+const NAP: u64 = 200;
 
 /// A step of an actor: who makes it, and at which line.
 #[derive(Clone, Copy, Debug, PartialEq, Eq)]
@@ -21,7 +24,8 @@ pub struct Step {
 pub struct Hold {
     held: Step,
     until: Step,
-    came: AtomicBool,
+    // 1 once that came
+    came: AtomicU64,
 }
 
 impl Hold {
@@ -30,20 +34,22 @@ impl Hold {
         Hold {
             held,
             until,
-            came: AtomicBool::new(false),
+            came: AtomicU64::new(0),
         }
     }
 
     // Notes the step, and holds it up where it is the held one. Whether that was given up.
-    fn gives_up(&self, step: Step) -> bool {
+    fn gives_up<R: Wait>(&self, rt: &R, step: Step) -> bool {
         if step == self.until {
-            self.came.store(true, Ordering::SeqCst);
+            self.came.store(1, Ordering::SeqCst);
+            self.came.wake_all();
         }
         if step == self.held {
             for _turn in 0..TURNS {
-                if self.came.load(Ordering::SeqCst) {
+                if self.came.load(Ordering::SeqCst) == 1 {
                     return false;
                 }
+                self.came.park_timeout(rt, 0, Duration::from_micros(NAP));
             }
             return true;
         }
@@ -83,12 +89,12 @@ impl Holds {
 }
 
 impl Pace for Holds {
-    fn step<R: Wait>(&self, _rt: &R, actor: Actor, at: u32, batch: Option<&Batch>) {
+    fn step<R: Wait>(&self, rt: &R, actor: Actor, at: u32, batch: Option<&Batch>) {
         let step = Step { actor, at };
         if is_served(at, batch) {
             self.served.store(true, Ordering::SeqCst);
         }
-        if self.first.gives_up(step) || self.second.gives_up(step) {
+        if self.first.gives_up(rt, step) || self.second.gives_up(rt, step) {
             self.gave_up.store(true, Ordering::SeqCst);
         }
     }
