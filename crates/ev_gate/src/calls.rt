@@ -3,12 +3,14 @@ ghost use Rattle.std.specs.Prelude.{◌≡◌, ◌+◌, ◌<◌, ◌≤◌, [], 
 ghost use Rattle.ev_gate.specs.Words.{gate_id, first_of, seats_of, AreNew, AreAll, IsWhole};
 ghost use Rattle.ev_gate.specs.Inner.{IsLeader, IsGathering, IsLast};
 
+use crate::bells::Bells;
 use crate::gate::{Gate, Pass};
 use crate::plays::{Gathering, Seating};
 use crate::stands::Stands;
 use crate::view::{GateSeat, GateTable, Terms};
 use atomic_table::{Refused, Table};
 use std::alloc::{AllocError, Global};
+use std::mem::drop;
 use std::snapshot::Snapshot;
 
 impl<V: Stands> Gate<V> {
@@ -50,7 +52,8 @@ impl<V: Stands> Gate<V> {
         ensures history { IsWhole (V.commits (first_of self)) (V.commits result) passes.items }
     {
         let leader = self.join_seats(passes);
-        let Gate { table } = self;
+        let Gate { table, bells } = self;
+        drop(bells);
         take_out(table, leader)
     }
 
@@ -79,7 +82,10 @@ impl<V: Stands> Gate<V> {
         };
         slots.push_reserved(Some(value));
         match Table::new(alloc, &[0, 0, version], slots, &terms) {
-            Ok((table, leader)) => Ok((Gate { table }, leader)),
+            Ok((table, leader)) => {
+                let bells = Bells::new();
+                Ok((Gate { table, bells }, leader))
+            }
             Err(Refused { mut slots }) => {
                 let slot = slots.take_last();
                 slots.destroy_empty();

@@ -2,6 +2,7 @@
 ghost use Rattle.std.specs.Prelude.{◌≡◌, ◌<◌, ◌≤◌, ℕ, true, false, length};
 ghost use Rattle.ev_gate.specs.Held.{TableId-set, holds_empty};
 
+use crate::bells::Bells;
 use crate::stands::Stands;
 use crate::view::{GateSeat, GateTable};
 
@@ -9,6 +10,7 @@ use crate::view::{GateSeat, GateTable};
 /// the project's own. It must be spent, by `close`.
 pub struct Gate<V: Stands> {
     pub(crate) table: GateTable<V>,
+    pub(crate) bells: Bells,
     ghost sized: { (table.shared.table_id.words ≡ 3) × (table.shared.table_id.slots ≡ 1) },
     ghost some_seat: { 0 < table.shared.key.seats },
 }

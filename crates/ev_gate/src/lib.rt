@@ -44,9 +44,9 @@
 //! | start | `Gate::new` | `ticket` and `serving` are 0, `newest` is the value's version, the value is at home, and there is one seat |
 //! | split (a load whose answer is not used) | `Gate::new` | the first seat makes the next one. The new seat's number is its place among the seats |
 //! | draw (an addition of 1 to `ticket`) | `Gate::turn` | the seat has a ticket, the number found |
-//! | look (a load of `serving`) | `Gate::turn` | where the word is the seat's ticket, the slot is out with this seat from this step on, and the seat has seen all commits. Else nothing changes, and the thread parks on `serving` |
+//! | look (a load of `serving`) | `Gate::turn` | where the word is the seat's ticket, the slot is out with this seat from this step on, and the seat has seen all commits. Else nothing changes; after some looks the thread sleeps at its ticket's bell |
 //! | exchange (plain memory) | `Gate::turn`, and at a turn's end | the value leaves the slot, or goes back into it. Only the seat that holds the slot can do this |
-//! | end (an addition of 1 to `serving`, and a wake of all that park there) | `Turn::done`, `Turn::quit` | the slot is at home again, the seat has no ticket, and the next ticket is served |
+//! | end (an addition of 1 to `serving`, and a ring of the next ticket's bell) | `Turn::done`, `Turn::quit` | the slot is at home again, the seat has no ticket, and the next ticket is served |
 //! | raise (a maximum of `newest` and the value's version) | `Turn::done`, `Turn::quit`, after the end | `newest` is not below the version of the value that the seat gave back |
 //! | ask (a maximum of `newest` and the version that the pass knows) | `Gate::newest` | the seat has heard of the history that had the greater of the two, and the answer is that version |
 //! | join (a load whose answer is not used) | `Gate::close` | the seat of the first pass takes in the next one, and remembers what it knew |
@@ -162,9 +162,10 @@
 //!   it.
 //! - `Turn::value` says by a clause on the loan what the turn has after the write, so a caller needs no proof file
 //!   for it.
-//! - Waiting threads park on the word `serving` and are all woken at the end of a turn: at most 19 wake, one of them
-//!   goes on. This is simpler than waking one chosen thread, and a wake that is lost or spurious does no harm, since
-//!   a thread compares again.
+//! - A waiting thread sleeps at a bell of its own, and the end of a turn wakes the one that is next, if it sleeps: to wake
+//!   all that wait took run twice to three times the time. Bells stand beside the table, and no clause speaks of them: a
+//!   wake that is spurious does no harm, since a thread looks again, and none is lost, since a thread looks once more after
+//!   it has said that it will sleep.
 //! - `Gate` has no `Drop` either: its value need not be `Drop`, so a gate ends in `close`.
 //! - `turn` asks for a runtime that may start threads and wait (`Threads + Wait + Sync`), as each call of the
 //!   threaded run does; it uses `Wait` alone.
@@ -185,6 +186,7 @@
 #![tactic(auto)]
 
 mod asks;
+mod bells;
 mod calls;
 mod gate;
 mod plays;

@@ -14,10 +14,7 @@ use std::marker::Brand;
 use std::sync::Wait;
 use std::thread::Threads;
 
-// Of a word as many bits as a thread parks on.
-const PARKED_BITS: u64 = 0xffff_ffff;
-
-// How often a seat looks whether its ticket is served before it parks. Where seats contend for short turns, a park and its
+// How often a seat looks whether its ticket is served before it sleeps. Where seats contend for short turns, a sleep and its
 // wake cost far more than the turn.
 const LOOKS: u32 = 100;
 
@@ -64,11 +61,20 @@ impl<V: Stands> Gate<V> {
                 };
             }
             looks = if looks < LOOKS { looks + 1 } else { 0 };
-            if looks == 0 {
-                shared.park(rt, SERVING, (served & PARKED_BITS) as u32);
-            }
+            self.wait(rt, ticket, looks);
         }
         unreachable!()
+    }
+
+    // Between two looks of a seat that has looked so often since it slept: after enough of them it says that it will sleep, looks
+    // once more, and sleeps.
+    fn wait<R: Wait>(&self, rt: &R, ticket: u64, looks: u32) {
+        if looks == LOOKS {
+            self.bells.announce(ticket);
+        }
+        if looks == 0 {
+            self.bells.sleep(rt, ticket);
+        }
     }
 
     // Draws a ticket. K names the value that the gate was made with.
@@ -145,8 +151,8 @@ impl<'a, V: Stands> Turn<'a, V> {
         let version = value.version();
         let slot = gate.table.shared.exchange(&mut seat, 0, Some(value));
         let None = slot else { unreachable!() };
-        gate.table.shared.fetch_add::<End>(&mut seat, SERVING, 1);
-        gate.table.shared.wake_all(SERVING);
+        let served = gate.table.shared.fetch_add::<End>(&mut seat, SERVING, 1);
+        gate.bells.ring(served.wrapping_add(1));
         gate.raise(seat, version)
     }
 }

@@ -4,8 +4,8 @@ use Rattle.atomic_table.specs.Table.{rest}
 use Rattle.ev_gate.proofs.Turning.{holds_empty_is, ends_as}
 use Rattle.ev_gate.proofs.gate.Turn.put_back.Goals as goal
 
-pub fetch_add-requires : goal.fetch_add-requires
-fetch_add-requires g c =
+pub fetch_add-served-requires : goal.fetch_add-served-requires
+fetch_add-served-requires g c =
     let t = c.args.self in
     let e = c.exchange-slot.ensures in
     let view = ap (λ m. m.0) e.3 in (
