@@ -1,0 +1,4 @@
+pub mod FieldLemmas
+pub mod WaitLemmas
+pub mod ItemLemmas
+pub mod ReadLemmas
