@@ -180,7 +180,7 @@ keeps_ttl : IsOther (codes "ttl") (codes "resource")
 unfolding camel_of
 keeps_ttl = record { plain = refl; camel = refl }
 
-kept_entry_name : (body entry : Data) → entry_name (with_value (codes "resource") body entry) ≡ entry_name entry
+pub kept_entry_name : (body entry : Data) → entry_name (with_value (codes "resource") body entry) ≡ entry_name entry
 kept_entry_name body entry = ap (given_or []) (text_by (codes "name") entry (with_value (codes "resource") body entry) (field_with_other (codes "name") (codes "resource") body entry keeps_entry_name))
 
 kept_ttl : (body entry : Data) → ttl_of (with_value (codes "resource") body entry) ≡ ttl_of entry
@@ -216,3 +216,6 @@ item_waits prefix place entry tree cluster short keeps good =
     waits_good (entry_name entry) service (ttl_of entry) body tree cluster waits object (some_name prefix place) (short_name prefix place short) is in
     item_with (waiting_body service body) entry (a_cluster (waiting_cluster service cluster)) (entry_object entry object)
     ((waiting_keeps service body).object ∙ object) (by_good (entry_name entry) (ttl_of entry) (waiting_body service body) (waiting_cluster service cluster) made)
+
+pub keeps_itself : (tree : Data) → KeepsFields tree tree
+keeps_itself tree = record { object = refl; fields = λ field is. refl }
