@@ -4,3 +4,7 @@ pub mod ItemLemmas
 pub mod LineLemmas
 pub mod FollowLemmas
 pub mod ReadLemmas
+pub mod DepthLemmas
+pub mod SaidLemmas
+pub mod GivenLemmas
+pub mod ScriptLemmas
