@@ -6,5 +6,6 @@ pub mod FollowLemmas
 pub mod ReadLemmas
 pub mod DepthLemmas
 pub mod SaidLemmas
+pub mod FormLemmas
 pub mod GivenLemmas
 pub mod ScriptLemmas
