@@ -11,7 +11,7 @@ use Rattle.ev_expand.specs.Guarding.{Guarded, clusters_in, waiting_line}
 use Rattle.ev_expand.specs.Following.{DueParts, following_line}
 use Rattle.ev_expand.specs.Expanding.{Rules, guarded_at, due_at, written_line, lines_due, place_of, gives}
 use Rattle.ev_expand_laws.specs.Said.{HasLine, AllAt, given_lines}
-use Rattle.ev_expand_laws.specs.Waiting.{WaitsAsSaid, stream_line, waiting_response, following_response}
+use Rattle.ev_expand_laws.specs.Waiting.{has_guarded, WaitsAsSaid, stream_line, waiting_response, following_response}
 use Rattle.ev_expand_laws.specs.Scripts.{IsLineIfWritten, IsShallow, AreShallowAt}
 use Rattle.ev_expand_laws.proofs.SaidLemmas.{line_anywhere}
 use Rattle.ev_expand_laws.proofs.ReadLemmas.{waiting_reads, waiting_stays, following_reads}
@@ -68,7 +68,7 @@ pub record IsTaken (rules : Rules) (workers : ℕ) (tree : Data) : Type 0 where
   pub line : IsTrue (rules.is_written tree) → HasLine workers 0 tree
   pub readable : IsReadable tree
 
-waits : (rules : Rules) (gs : List Guarded) (workers : ℕ) (line : Data) (b : Bool) → list_any (λ (entry : Data). is_some (rules.guard.key_of entry)) (clusters_in line) ≡ b
+waits : (rules : Rules) (gs : List Guarded) (workers : ℕ) (line : Data) (b : Bool) → has_guarded rules.guard line ≡ b
     → HasLine workers 0 line → HasLine workers 0 (waiting_line rules.prefix rules.guard gs line)
 waits rules gs workers line true some has =
     let said : WaitsAsSaid rules.prefix rules.guard gs line = waiting_reads rules.prefix rules.guard gs line some in
@@ -82,7 +82,7 @@ written_given : (rules : Rules) (gs : List Guarded) (workers : ℕ) (line : Data
     → AllByRecursion (IsGiven workers) (cond b (waiting_line rules.prefix rules.guard gs line ∷ []) [])
 written_given rules gs workers line true is taken = (
   record {
-    line = waits rules gs workers line (list_any (λ (entry : Data). is_some (rules.guard.key_of entry)) (clusters_in line)) refl (taken.line is);
+    line = waits rules gs workers line (has_guarded rules.guard line) refl (taken.line is);
     readable = waits_readable rules gs line taken.readable;
   },
   tt,

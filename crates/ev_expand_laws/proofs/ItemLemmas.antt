@@ -28,7 +28,7 @@ use Rattle.ev_wire.specs.Bodies.{is_positive, is_heartbeat, is_of_type, breaks_v
 use Rattle.ev_wire.specs.Responses.{entry_name, ttl_of, item_of}
 use Rattle.ev_expand.specs.Editing.{with_value}
 use Rattle.ev_expand.specs.Guarding.{private_name, body_in, waiting_body, waiting_entry}
-use Rattle.ev_expand_laws.specs.Waiting.{waiting_cluster, waiting_item}
+use Rattle.ev_expand_laws.specs.Waiting.{waiting_cluster, waiting_item, IsShortPrefix, IsClusterWith}
 use Rattle.ev_expand_laws.proofs.FieldLemmas.{IsOther, field_with, field_with_other, text_by, duration_by, object_with}
 use Rattle.ev_expand_laws.proofs.WaitLemmas.{KeepsFields, waiting_keeps, keeps_both, keeps_name, keeps_own_type, waits_read}
 
@@ -136,7 +136,7 @@ few_decimal n = few_digits 64 10 n false []
 pub some_name : (prefix : List ℕ) (place : ℕ) → 1 ≤ length (private_name prefix place)
 some_name prefix place = omega (arith, length-append prefix (decimal (place + 1)), some_decimal (place + 1))
 
-short_name : (prefix : List ℕ) (place : ℕ) → length prefix + 64 ≤ MAX_NAME_BYTES → nat_lt MAX_NAME_BYTES (length (private_name prefix place)) ≡ false
+short_name : (prefix : List ℕ) (place : ℕ) → IsShortPrefix prefix → nat_lt MAX_NAME_BYTES (length (private_name prefix place)) ≡ false
 short_name prefix place short = by_le (omega (arith, length-append prefix (decimal (place + 1)), few_decimal (place + 1), short))
   where
     by_le : length (private_name prefix place) ≤ MAX_NAME_BYTES → nat_lt MAX_NAME_BYTES (length (private_name prefix place)) ≡ false
@@ -202,10 +202,12 @@ item_with body entry content holds is good =
     (λ i. body_of Cds (name i) (ttl i) (there i)) ∙ good in
     λ i. record { name = name i; version = version i; ttl = is_positive (ttl i); body = read i }
 
--- the item of a resource whose body waits, where the body, or one of the same fields, is a good cluster
-pub item_waits : (prefix : List ℕ) (place : ℕ) (entry tree : Data) (cluster : Cluster) → length prefix + 64 ≤ MAX_NAME_BYTES
-    → KeepsFields (body_in entry) tree → resource_of Cds (entry_name entry) (ttl_of entry) tree ≡ Good (a_cluster cluster)
-    → item_of Cds (waiting_entry prefix (Some place) entry) ≡ record (item_of Cds entry) { body = Good (a_cluster (waiting_cluster (private_name prefix place) cluster)) }
+pub keeps_itself : (tree : Data) → KeepsFields tree tree
+keeps_itself tree = record { object = refl; fields = λ field is. refl }
+
+-- the item of a resource whose body waits, where a body of the same fields is a good cluster
+pub item_waits : (prefix : List ℕ) (place : ℕ) (entry tree : Data) (cluster : Cluster) → IsShortPrefix prefix → KeepsFields (body_in entry) tree
+    → IsClusterWith entry cluster tree → item_of Cds (waiting_entry prefix (Some place) entry) ≡ waiting_item prefix place cluster entry
 item_waits prefix place entry tree cluster short keeps good =
     let service : List ℕ = private_name prefix place in
     let body : Data = body_in entry in
@@ -217,5 +219,28 @@ item_waits prefix place entry tree cluster short keeps good =
     item_with (waiting_body service body) entry (a_cluster (waiting_cluster service cluster)) (entry_object entry object)
     ((waiting_keeps service body).object ∙ object) (by_good (entry_name entry) (ttl_of entry) (waiting_body service body) (waiting_cluster service cluster) made)
 
-pub keeps_itself : (tree : Data) → KeepsFields tree tree
-keeps_itself tree = record { object = refl; fields = λ field is. refl }
+-- ---- good resources
+
+body_there : (found : Option Data) → inside (value_or_absent (present_member found)) ≡ unwrap_or found null
+body_there None = refl
+body_there (Some null) = refl
+body_there (Some (boolean b)) = refl
+body_there (Some (number n)) = refl
+body_there (Some (string s)) = refl
+body_there (Some (array ds)) = refl
+body_there (Some (object ms)) = refl
+
+body_is : (entry : Data) → inside (field_of (codes "resource") entry) ≡ body_in entry
+unfolding field_of camel_of
+body_is entry = body_there (get (codes "resource") entry)
+
+unless_beat : (b : Bool) (body : Body) (content : Content) → cond b Beat body ≡ Good content → body ≡ Good content
+unless_beat true body content h = absurd (cc)
+unless_beat false body content h = h
+
+-- a resource that is a good cluster is it by its own body
+pub good_item : (entry : Data) (cluster : Cluster) → (item_of Cds entry).body ≡ Good (a_cluster cluster) → IsClusterWith entry cluster (body_in entry)
+unfolding item_of body_of
+good_item entry cluster h =
+    ap (resource_of Cds (entry_name entry) (ttl_of entry)) (sym (body_is entry))
+    ∙ unless_beat (is_heartbeat (entry_name entry) (ttl_of entry) (field_of (codes "resource") entry)) _ (a_cluster cluster) h

@@ -18,7 +18,7 @@ use Rattle.ev_expand.specs.Fronts.{event_of, message_of}
 use Rattle.ev_expand.specs.Guarding.{Guard, Guarded, kind_of, listed_as, clusters_in, place_in, place_at, private_name, body_in, waiting_body, waiting_entry, waiting_entries, waiting_line, response_tree}
 use Rattle.ev_expand.specs.Following.{DueParts, following_line}
 use Rattle.ev_expand.proofs.EventLemmas.{response_read}
-use Rattle.ev_expand_laws.specs.Waiting.{GuardsClusters, IsOfCluster, static_body, waiting_item, stream_line, waiting_response, WaitsAsSaid, name_with, following_response}
+use Rattle.ev_expand_laws.specs.Waiting.{IsOfCluster, static_body, waiting_item, waiting_response, WaitsAsSaid, has_guarded, name_with, following_response, ResourcesWait, LinesWait, LinesFollow}
 use Rattle.ev_expand_laws.proofs.FieldLemmas.{object_with}
 use Rattle.ev_expand_laws.proofs.WaitLemmas.{typed_keeps}
 use Rattle.ev_expand_laws.proofs.ItemLemmas.{kept_entry_name, item_waits, keeps_itself}
@@ -28,9 +28,7 @@ use Rattle.ev_expand_laws.proofs.FollowLemmas.{following_message, message_read, 
 -- ---- guarded resources
 
 -- a guarded resource waits: it is read as its cluster, with endpoints by its private name and without limit
-pub guarded_item : (guard : Guard) (prefix : List ℕ) (gs : List Guarded) (entry : Data) (key : Key) → GuardsClusters guard → length prefix + 64 ≤ MAX_NAME_BYTES
-    → guard.key_of entry ≡ Some key
-    → item_of Cds (waiting_entry prefix (place_at guard gs entry) entry) ≡ waiting_item prefix (place_in gs key) key.cluster entry
+pub guarded_item : ResourcesWait
 guarded_item guard prefix gs entry key clusters short is =
     ap (λ (found : Option Key). item_of Cds (waiting_entry prefix (option_map (place_in gs) found) entry)) is ∙ by (clusters entry key is)
   where
@@ -75,8 +73,7 @@ entry_right prefix None entry h = h
 entry_right prefix (Some place) entry h = entry_with (waiting_body (private_name prefix place) (body_in entry)) entry ∙ h
 
 -- a line that has some waits: it is the response that it was, with these as they wait
-pub waiting_reads : (prefix : List ℕ) (guard : Guard) (gs : List Guarded) (line : Data) → list_any (λ (entry : Data). is_some (guard.key_of entry)) (clusters_in line) ≡ true
-    → WaitsAsSaid prefix guard gs line
+pub waiting_reads : LinesWait
 waiting_reads prefix guard gs line some =
     let is : IsOfClusters (event_of line) = line_of_clusters (λ (entry : Data). is_some (guard.key_of entry)) line some in
     let message : Data = message_of line in
@@ -101,15 +98,13 @@ waiting_reads prefix guard gs line some =
     }
 
 -- another one stays as it is
-pub waiting_stays : (prefix : List ℕ) (guard : Guard) (gs : List Guarded) (line : Data) → list_any (λ (entry : Data). is_some (guard.key_of entry)) (clusters_in line) ≡ false
-    → waiting_line prefix guard gs line ≡ line
+pub waiting_stays : (prefix : List ℕ) (guard : Guard) (gs : List Guarded) (line : Data) → has_guarded guard line ≡ false → waiting_line prefix guard gs line ≡ line
 waiting_stays prefix guard gs line none = ap (λ (b : Bool). cond b (response_tree (message_with (waiting_entries prefix guard gs line) (message_of line))) line) none
 
 -- ---- lines that follow
 
 -- a line that follows is a response of endpoints, by private names, in order
-pub following_reads : (prefix nonce version : List ℕ) (due : List DueParts) (at : ℕ) → 1 ≤ length nonce
-    → line_of at (following_line prefix nonce version due) ≡ Some (stream_line at (following_response prefix nonce version due))
+pub following_reads : LinesFollow
 following_reads prefix nonce version due at some =
     line_made at (following_message prefix nonce version due)
     ∙ ap (λ (found : Option ResponseParts). line_at at Stream (option_map (λ r. Response r) found)) (message_read prefix nonce version due some)
