@@ -1,5 +1,5 @@
 -- How deep the lines that a command makes nest.
-use Rattle.std.proofs.Common.{◌≡◌, ◌∙◌, ℕ, zero, suc, ◌+◌, ◌≤◌, max, Bool, true, false, cond, List, [], ◌∷◌, ◌++◌, length, map, filter_map, Option, Some, None, is_some, option_map, option_and_then, unwrap_or, Ordering, Less, Equal, Greater, codes, ◌==◌, refl, sym, ap, subst, arith}
+use Rattle.std.proofs.Common.{◌≡◌, ℕ, zero, suc, ◌+◌, ◌≤◌, max, Bool, true, false, cond, List, [], ◌∷◌, ◌++◌, length, map, filter_map, Option, Some, None, is_some, option_map, option_and_then, unwrap_or, Ordering, Less, Equal, Greater, codes, ◌==◌, refl, ap, arith}
 use Rattle.std.specs.Prelude.{IfSome}
 use Rattle.std.specs.List.{AllByRecursion, list_any, list_all, cons_option}
 use Rattle.std.specs.Ordering.{match_ordering, nat_cmp}

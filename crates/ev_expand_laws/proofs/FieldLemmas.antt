@@ -1,5 +1,5 @@
 -- Fields of an object, with a member put in or left out.
-use Rattle.std.proofs.Common.{◌≡◌, ◌∙◌, ℕ, Bool, true, false, true≢false, cond, List, Option, Some, None, Ordering, Less, Equal, Greater, codes, refl, sym, ap}
+use Rattle.std.proofs.Common.{◌≡◌, ◌∙◌, ℕ, Bool, true, false, true≢false, cond, List, Option, Some, None, Ordering, Less, Equal, Greater, refl, sym, ap}
 use Rattle.std.specs.Ordering.{match_ordering, nat_cmp, is_eq}
 use Rattle.std.specs.Cmp.Lexicographic.{slice_cmp}
 use Rattle.std.specs.Str.{bytes_eq}
@@ -8,9 +8,8 @@ use Rattle.serde_json.specs.Find.{get, get_member}
 use Rattle.std.proofs.lemmas.Map.Text.{is_eq-slice_cmp}
 use Rattle.serde_json.proofs.Views.{get_member-put, get_member-put_other}
 use Rattle.ev_types.specs.Same.{bytes_decide}
-use Rattle.ev_tree.specs.declared.outcome.Found.{Found}
 use Rattle.ev_tree.specs.Spelling.{camel_of}
-use Rattle.ev_tree.specs.Forms.{is_object, present_member, value_or_absent, either_spelling, field_of, in_form, text_of, duration_of, object_of, objects_of, texts_of, enumeration_of}
+use Rattle.ev_tree.specs.Forms.{is_object, present_member, value_or_absent, either_spelling, field_of, in_form, text_of, duration_of, object_of, objects_of, texts_of}
 use Rattle.ev_expand.specs.Editing.{members_without, without, with_value}
 
 -- ---- members

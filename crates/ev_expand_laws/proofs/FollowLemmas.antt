@@ -1,5 +1,5 @@
 -- A line that follows is read as a response of endpoints.
-use Rattle.std.proofs.Common.{◌≡◌, ◌∙◌, ℕ, ◌≤◌, Bool, true, false, true≢false, not, ◌&&◌, ◌==◌, cond, List, [], ◌∷◌, ◌++◌, map, filter_map, length, Option, Some, None, option_map, codes, refl, sym, ap, ap₂, arith, ne_eqb, length-append}
+use Rattle.std.proofs.Common.{◌≡◌, ◌∙◌, ℕ, ◌≤◌, Bool, true, false, not, ◌&&◌, ◌==◌, cond, List, [], ◌∷◌, ◌++◌, map, filter_map, length, Option, Some, None, option_map, codes, refl, ap, ap₂, arith, ne_eqb, length-append}
 use Rattle.std.specs.List.{list_all, cons_option}
 use Rattle.serde_json.specs.Data.{Data, string, array, object, Members, no_members, put}
 use Rattle.serde_json.specs.View.{items_of}

@@ -1,6 +1,6 @@
 -- Trees that were read of an input without fault have the forms of its lines, and are no deeper than a reader goes.
 use Rattle.std.proofs.Common.{◌≡◌, ◌∙◌, ℕ, zero, suc, ◌+◌, ◌<◌, ◌≤◌, ◌⊎◌, inl, inr, Bool, true, false, cond, eqb, List, [], ◌∷◌, length, map, take, get_or, Option, None, Some, option_map, option_and_then, Ok, refl, sym, ap, subst, arith, eqb-true}
-use Rattle.std.specs.Prelude.{All, IsTrue, slice_index}
+use Rattle.std.specs.Prelude.{IsTrue, slice_index}
 use Rattle.std.specs.Str.{is_utf8}
 use Rattle.std.specs.List.{AllByRecursion}
 use Rattle.std.proofs.lemmas.Bool.{false≢true, leb-true}

@@ -1,14 +1,13 @@
 -- The lines that a command makes are lines of a script, and not too deep.
-use Rattle.std.proofs.Common.{◌≡◌, ◌∙◌, ℕ, ◌+◌, ◌≤◌, Bool, true, false, cond, List, [], ◌∷◌, ◌++◌, length, map, filter, flat_map, Option, None, Some, is_some, decimal, refl, sym, ap, subst, arith}
+use Rattle.std.proofs.Common.{◌≡◌, ℕ, ◌+◌, ◌≤◌, Bool, true, false, cond, List, [], ◌∷◌, ◌++◌, length, map, filter, flat_map, Option, None, Some, decimal, refl, sym, subst, arith}
 use Rattle.std.specs.Prelude.{All, IsTrue, IfSome}
-use Rattle.std.specs.List.{AllByRecursion, list_any, enumerate_from}
+use Rattle.std.specs.List.{AllByRecursion, enumerate_from}
 use Rattle.std.proofs.lemmas.List.Elements.{recursion_from_All}
 use Rattle.serde_json.specs.Data.{Data, depth}
-use Rattle.serde_json.specs.Read.{max_depth}
 use Rattle.ev_trees.specs.Trees.{IsReadable}
 use Rattle.ev_expand.specs.Fronts.{Front, up_to, fronts, behind}
-use Rattle.ev_expand.specs.Guarding.{Guarded, clusters_in, waiting_line}
-use Rattle.ev_expand.specs.Following.{DueParts, following_line}
+use Rattle.ev_expand.specs.Guarding.{Guarded, waiting_line}
+use Rattle.ev_expand.specs.Following.{DueParts}
 use Rattle.ev_expand.specs.Expanding.{Rules, guarded_at, due_at, written_line, lines_due, place_of, gives}
 use Rattle.ev_expand_laws.specs.Said.{HasLine, AllAt, given_lines}
 use Rattle.ev_expand_laws.specs.Waiting.{has_guarded, WaitsAsSaid, stream_line, waiting_response, following_response}

@@ -1,11 +1,10 @@
 -- A resource whose body waits is read as the cluster that waits.
-use Rattle.std.proofs.Common.{◌≡◌, ◌∙◌, ℕ, zero, suc, ◌+◌, ◌≤◌, Bool, true, false, true≢false, not, ◌&&◌, nat_lt, ◌==◌, ◌/◌, ◌%◌, cond, List, [], ◌∷◌, ◌++◌, length, Option, Some, None, Result, Ok, Err, is_some, unwrap_or, codes, decimal, refl, sym, ap, arith, length-append}
+use Rattle.std.proofs.Common.{◌≡◌, ◌∙◌, ℕ, zero, suc, ◌+◌, ◌≤◌, Bool, true, false, true≢false, not, ◌&&◌, nat_lt, ◌==◌, ◌/◌, ◌%◌, cond, List, [], ◌∷◌, length, Option, Some, None, Result, Ok, Err, unwrap_or, codes, decimal, refl, sym, ap, arith, length-append}
 use Rattle.std.specs.Str.{bytes_eq}
 use Rattle.std.proofs.lemmas.Bool.Decides.{nat_tests}
 use Rattle.std.specs.Fmt.{digits, digits_onto, digit_glyph}
 use Rattle.serde_json.specs.Data.{Data, null, boolean, number, string, array, object}
 use Rattle.serde_json.specs.Find.{get}
-use Rattle.ev_types.specs.Items.{ItemParts}
 use Rattle.ev_types.specs.declared.clusters.Cluster.{Cluster}
 use Rattle.ev_types.specs.declared.contents.Kind.TheVariants.{Cds}
 use Rattle.ev_types.specs.declared.contents.Content.{Content}
@@ -14,12 +13,11 @@ use Rattle.ev_types.specs.declared.contents.Body.{Body}
 use Rattle.ev_types.specs.declared.contents.Body.TheVariants.{Good, Bad, Beat}
 use Rattle.ev_tree.specs.declared.limits.TheConstants.{MAX_NAME_BYTES}
 use Rattle.ev_tree.specs.declared.outcome.Found.{Found}
-use Rattle.ev_tree.specs.declared.outcome.Found.TheVariants.{Absent, Wrong, Given}
+use Rattle.ev_tree.specs.declared.outcome.Found.TheVariants.{Given}
 use Rattle.ev_tree.specs.declared.span.Span.{Span}
 use Rattle.ev_tree.specs.Spelling.{camel_of}
-use Rattle.ev_tree.specs.Forms.{is_object, is_absent, is_wrong, given_or, inside, present_member, value_or_absent, field_of, text_of}
+use Rattle.ev_tree.specs.Forms.{is_object, is_wrong, given_or, inside, present_member, value_or_absent, field_of, text_of}
 use Rattle.ev_tree.specs.Spans.{is_not_positive}
-use Rattle.ev_tree.specs.Rules.{is_name}
 use Rattle.ev_tree.specs.Broken.{none_broken, least_of}
 use Rattle.ev_cluster_json.specs.Clusters.{cluster_reading}
 use Rattle.ev_cluster_json.proofs.RowsMade.{not_false}
@@ -29,7 +27,7 @@ use Rattle.ev_wire.specs.Responses.{entry_name, ttl_of, item_of}
 use Rattle.ev_expand.specs.Editing.{with_value}
 use Rattle.ev_expand.specs.Guarding.{private_name, body_in, waiting_body, waiting_entry}
 use Rattle.ev_expand_laws.specs.Waiting.{waiting_cluster, waiting_item, IsShortPrefix, IsClusterWith}
-use Rattle.ev_expand_laws.proofs.FieldLemmas.{IsOther, field_with, field_with_other, text_by, duration_by, object_with}
+use Rattle.ev_expand_laws.proofs.FieldLemmas.{IsOther, field_with, field_with_other, text_by, duration_by}
 use Rattle.ev_expand_laws.proofs.WaitLemmas.{KeepsFields, waiting_keeps, keeps_both, keeps_name, keeps_own_type, waits_read}
 
 -- ---- what a good body says

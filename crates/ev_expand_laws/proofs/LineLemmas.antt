@@ -1,10 +1,10 @@
 -- A response of clusters with other resources in it is read as the response of these.
-use Rattle.std.proofs.Common.{◌≡◌, ◌∙◌, ℕ, ◌≤◌, Bool, true, false, true≢false, not, ◌&&◌, ◌||◌, ◌==◌, cond, List, [], ◌∷◌, map, length, Option, Some, None, is_some, option_map, option_and_then, unwrap_or, codes, refl, sym, ap, ap₂, subst}
+use Rattle.std.proofs.Common.{◌≡◌, ◌∙◌, ℕ, Bool, true, false, true≢false, not, ◌&&◌, ◌==◌, cond, List, [], ◌∷◌, map, length, Option, Some, None, option_map, option_and_then, codes, refl, sym, ap, ap₂}
 use Rattle.std.specs.List.{list_any, list_all}
 use Rattle.std.specs.Str.{bytes_eq}
-use Rattle.serde_json.specs.Data.{Data, null, boolean, number, string, array, object}
+use Rattle.serde_json.specs.Data.{Data, array}
 use Rattle.serde_json.specs.View.{items_of}
-use Rattle.ev_types.specs.Items.{ItemParts, ResponseParts}
+use Rattle.ev_types.specs.Items.{ResponseParts}
 use Rattle.ev_types.specs.declared.contents.Kind.{Kind}
 use Rattle.ev_types.specs.declared.contents.Kind.TheVariants.{Cds, Eds, Lds, Rds}
 use Rattle.ev_types.specs.declared.events.Actor.TheVariants.{Stream}
@@ -13,7 +13,7 @@ use Rattle.ev_types.specs.declared.events.Event.TheVariants.{Response}
 use Rattle.ev_tree.specs.declared.outcome.Found.{Found}
 use Rattle.ev_tree.specs.declared.outcome.Found.TheVariants.{Absent, Wrong, Given}
 use Rattle.ev_tree.specs.Spelling.{camel_of}
-use Rattle.ev_tree.specs.Scalars.{list_in, elements_of}
+use Rattle.ev_tree.specs.Scalars.{list_in}
 use Rattle.ev_tree.specs.Forms.{is_object, is_wrong, given_or, listed, text_in, field_of, in_form, value_or_wrong, objects_in, text_of, objects_of, texts_of}
 use Rattle.ev_tree.proofs.Elements.{elements_of-items_of}
 use Rattle.ev_wire.specs.Responses.{is_entry, item_of, kind_with, response_kind, nonce_of, entries_of, removed_of, has_head, has_lists, has_lists_of, is_response, parts_of, given_if, response_of}
@@ -21,7 +21,7 @@ use Rattle.ev_script.specs.LineForms.{line_at}
 use Rattle.ev_script.specs.Lines.{line_of}
 use Rattle.ev_expand.specs.Editing.{with_value}
 use Rattle.ev_expand.specs.Fronts.{event_of, message_of}
-use Rattle.ev_expand.specs.Guarding.{kind_of, listed_as, clusters_in, waiting_entry, waiting_body, private_name, body_in, response_tree}
+use Rattle.ev_expand.specs.Guarding.{kind_of, listed_as, clusters_in, response_tree}
 use Rattle.ev_expand_laws.proofs.FieldLemmas.{IsOther, field_with, field_with_other, text_by, texts_by, object_with}
 
 -- ---- tests of lists

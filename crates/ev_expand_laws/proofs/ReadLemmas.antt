@@ -1,13 +1,12 @@
 -- What the lines that a command makes are read as.
-use Rattle.std.proofs.Common.{◌≡◌, ◌∙◌, ℕ, ◌+◌, ◌≤◌, inl, inr, Bool, true, false, cond, List, [], ◌∷◌, map, filter_map, length, Option, Some, None, is_some, option_map, codes, refl, sym, ap, ap₂}
-use Rattle.std.specs.List.{list_any, list_all}
+use Rattle.std.proofs.Common.{◌≡◌, ◌∙◌, ℕ, inl, inr, Bool, true, false, cond, List, [], ◌∷◌, map, filter_map, Option, Some, None, is_some, option_map, codes, refl, sym, ap, ap₂}
+use Rattle.std.specs.List.{list_all}
 use Rattle.serde_json.specs.Data.{Data, string}
 use Rattle.ev_types.specs.Items.{ItemParts, ResponseParts}
 use Rattle.ev_types.specs.declared.contents.Kind.{Kind}
 use Rattle.ev_types.specs.declared.contents.Kind.TheVariants.{Cds}
 use Rattle.ev_types.specs.declared.events.Actor.TheVariants.{Stream}
 use Rattle.ev_types.specs.declared.events.Event.TheVariants.{Response}
-use Rattle.ev_tree.specs.declared.limits.TheConstants.{MAX_NAME_BYTES}
 use Rattle.ev_tree.specs.Forms.{is_object}
 use Rattle.ev_wire.specs.Responses.{entry_name, is_entry, item_of, entries_of, response_of}
 use Rattle.ev_script.specs.LineForms.{line_at}
@@ -16,9 +15,9 @@ use Rattle.ev_expand.specs.declared.keys.Key.{Key}
 use Rattle.ev_expand.specs.Editing.{with_value}
 use Rattle.ev_expand.specs.Fronts.{event_of, message_of}
 use Rattle.ev_expand.specs.Guarding.{Guard, Guarded, kind_of, listed_as, clusters_in, place_in, place_at, private_name, body_in, waiting_body, waiting_entry, waiting_entries, waiting_line, response_tree}
-use Rattle.ev_expand.specs.Following.{DueParts, following_line}
+use Rattle.ev_expand.specs.Following.{DueParts}
 use Rattle.ev_expand.proofs.EventLemmas.{response_read}
-use Rattle.ev_expand_laws.specs.Waiting.{IsOfCluster, static_body, waiting_item, waiting_response, WaitsAsSaid, has_guarded, name_with, following_response, ResourcesWait, LinesWait, LinesFollow}
+use Rattle.ev_expand_laws.specs.Waiting.{IsOfCluster, static_body, waiting_item, waiting_response, has_guarded, name_with, following_response, ResourcesWait, LinesWait, LinesFollow}
 use Rattle.ev_expand_laws.proofs.FieldLemmas.{object_with}
 use Rattle.ev_expand_laws.proofs.WaitLemmas.{typed_keeps}
 use Rattle.ev_expand_laws.proofs.ItemLemmas.{kept_entry_name, item_waits, keeps_itself}

@@ -1,13 +1,11 @@
 -- The text that a command makes is a script, of the lines that it makes.
-use Rattle.std.proofs.Common.{◌≡◌, ◌∙◌, ℕ, ◌+◌, ◌<◌, false, List, [], ◌∷◌, length, map, get_or, Some, Ok, Vec, sym, ap, subst, arith}
+use Rattle.std.proofs.Common.{◌≡◌, ◌∙◌, ℕ, ◌+◌, ◌<◌, false, List, ◌∷◌, length, map, get_or, sym, ap, subst, arith}
 use Rattle.std.specs.Prelude.{All}
-use Rattle.std.specs.declared.alloc.Global.{Global}
 use Rattle.std.specs.List.{AllByRecursion}
 use Rattle.std.proofs.lemmas.List.{length-map, get_or-map}
 use Rattle.std.proofs.lemmas.List.Elements.{All-map, All-from_recursion, recursion_from_All}
 use Rattle.serde_json.specs.Data.{Data, null}
 use Rattle.serde_json.specs.View.{view}
-use Rattle.ev_script.specs.declared.trees.ScriptTrees.{ScriptTrees}
 use Rattle.ev_script.specs.Faults.{plain_lines, HasNoFault}
 use Rattle.ev_script.specs.Lines.{line_of}
 use Rattle.ev_script.specs.Script.{script_of}
@@ -16,9 +14,9 @@ use Rattle.ev_trees.specs.Trees.{text_of_trees, ReadsBack, IsReadable}
 use Rattle.ev_trees.specs.Scripts.{AreScript}
 use Rattle.ev_trees.proofs.ScriptLemmas.{script_is}
 use Rattle.ev_whole_laws.proofs.LineForms.{one_form}
-use Rattle.ev_expand.specs.Expanding.{Rules, given_by, written_by, ReadBack, IsExpanded}
+use Rattle.ev_expand.specs.Expanding.{ReadBack}
 use Rattle.ev_expand_laws.specs.Said.{HasLine, AllAt, lines_in, lines_said, input_of_text, given_lines}
-use Rattle.ev_expand_laws.specs.Scripts.{IsExpandable, IsExpandedScript, TextsAreScripts}
+use Rattle.ev_expand_laws.specs.Scripts.{TextsAreScripts}
 use Rattle.ev_expand_laws.proofs.SaidLemmas.{said_count, said_each, said_below}
 use Rattle.ev_expand_laws.proofs.GivenLemmas.{IsGiven, lines_given, given_have, given_readable}
 

@@ -1,15 +1,14 @@
 -- A cluster that waits for a name is read as one whose endpoints come by it, without limit.
-use Rattle.std.proofs.Common.{◌≡◌, ◌∙◌, ℕ, ◌≤◌, Bool, true, false, not, ◌&&◌, ◌||◌, ◌==◌, nat_lt, cond, List, [], ◌∷◌, length, Option, Some, None, Ok, Result, codes, refl, sym, ap, arith, ne_eqb}
+use Rattle.std.proofs.Common.{◌≡◌, ◌∙◌, ℕ, ◌≤◌, Bool, true, false, not, ◌&&◌, ◌||◌, ◌==◌, nat_lt, cond, List, [], ◌∷◌, length, Option, Some, None, Ok, codes, refl, sym, ap, arith, ne_eqb}
 use Rattle.std.specs.Str.{bytes_eq}
 use Rattle.serde_json.specs.Data.{Data, string, object, no_members, put}
 use Rattle.serde_json.specs.Find.{get}
 use Rattle.ev_types.specs.declared.clusters.Cluster.{Cluster}
-use Rattle.ev_types.specs.declared.clusters.Discovery.{Discovery}
 use Rattle.ev_types.specs.declared.clusters.Discovery.TheVariants.{Static, Eds}
 use Rattle.ev_tree.specs.declared.broken.BrokenRules.{BrokenRules}
 use Rattle.ev_tree.specs.declared.limits.TheConstants.{MAX_NAME_BYTES}
 use Rattle.ev_tree.specs.declared.outcome.Found.{Found}
-use Rattle.ev_tree.specs.declared.outcome.Found.TheVariants.{Absent, Wrong, Given}
+use Rattle.ev_tree.specs.declared.outcome.Found.TheVariants.{Given}
 use Rattle.ev_tree.specs.declared.tables.EnumTable.TheVariants.{Discovery as DiscoveryTable}
 use Rattle.ev_tree.specs.Scalars.{enum_in, named_in, span_of, before_unit, signed_span, seconds_span, whole_span}
 use Rattle.ev_tree.specs.Spelling.{camel_of}
@@ -21,8 +20,8 @@ use Rattle.ev_tree.specs.Sources.{source_broken, source_is_limited}
 use Rattle.ev_tree.proofs.Unions.{least_none}
 use Rattle.ev_cluster_json.specs.declared.parts.TheConstants.{STATIC, EDS}
 use Rattle.ev_cluster_json.specs.Assignments.{rows_of}
-use Rattle.ev_cluster_json.specs.Clusters.{name_of, type_of, is_static, is_eds, eds_of, eds_source_of, service_name_of, service_with, service_of, load_assignment_of, is_checked, own_broken, eds_broken, load_assignment_broken, cluster_broken, discovery_of, cluster_of, cluster_reading}
-use Rattle.ev_cluster_json.proofs.RowsMade.{left_false, right_false, not_false}
+use Rattle.ev_cluster_json.specs.Clusters.{name_of, type_of, eds_of, eds_source_of, service_name_of, service_with, service_of, load_assignment_of, is_checked, own_broken, eds_broken, load_assignment_broken, cluster_broken, discovery_of, cluster_of, cluster_reading}
+use Rattle.ev_cluster_json.proofs.RowsMade.{left_false, right_false}
 use Rattle.ev_expand.specs.Editing.{without, with_value}
 use Rattle.ev_expand.specs.Guarding.{waiting_config, stripped_body, waiting_body}
 use Rattle.ev_expand_laws.specs.Waiting.{waiting_cluster}

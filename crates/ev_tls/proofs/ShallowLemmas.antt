@@ -1,5 +1,5 @@
 -- The endpoints that are sent stood in a line that was read, at least as deep as in the line that sends them.
-use Rattle.std.proofs.Common.{◌≡◌, ◌∙◌, ℕ, ◌+◌, ◌≤◌, Bool, true, false, cond, List, [], ◌∷◌, ◌++◌, map, filter, filter_map, flat_map, Option, None, Some, option_map, codes, refl, sym, ap, arith}
+use Rattle.std.proofs.Common.{ℕ, ◌+◌, ◌≤◌, Bool, true, false, cond, List, [], ◌∷◌, filter_map, flat_map, Option, None, Some, option_map, codes, arith}
 use Rattle.std.specs.Prelude.{All, IfSome}
 use Rattle.std.specs.List.{AllByRecursion, cons_option, last_or}
 use Rattle.std.proofs.lemmas.List.Elements.{All-from_recursion}
@@ -19,12 +19,12 @@ use Rattle.ev_trees.specs.Trees.{IsReadable}
 use Rattle.ev_wire.specs.Responses.{entries_of, item_of}
 use Rattle.ev_expand.specs.declared.keys.Key.{Key}
 use Rattle.ev_expand.specs.Fronts.{Front, event_of, message_of, up_to, fronts, behind, stream_at, heard}
-use Rattle.ev_expand.specs.Guarding.{Guarded, guarded_same, clusters_in, body_in, guarded_in, each_once, guarded_by}
+use Rattle.ev_expand.specs.Guarding.{Guarded, clusters_in, body_in, guarded_in, each_once, guarded_by}
 use Rattle.ev_expand_laws.specs.Scripts.{IsShallow, AreShallowAt}
-use Rattle.ev_expand_laws.proofs.DepthLemmas.{IsWithin, AreWithin, field_within, object_within, entries_within, message_within, body_within, clusters_within}
+use Rattle.ev_expand_laws.proofs.DepthLemmas.{IsWithin, field_within, object_within, entries_within, message_within, body_within, clusters_within}
 use Rattle.ev_expand_laws.proofs.GivenLemmas.{each_so, each_mapped, each_flat, each_kept, each_front}
 use Rattle.ev_secrets.specs.References.{endpoints_in, by_secrets}
-use Rattle.ev_secrets.specs.Told.{gives_value, value_given, given_as, given_with, values_in, last_value, value_of}
+use Rattle.ev_secrets.specs.Told.{gives_value, value_given, given_as, given_with, values_in, value_of}
 use Rattle.ev_secrets.specs.Sealing.{endpoints_by, tls_rules}
 
 -- ---- endpoints in a line
