@@ -19,7 +19,7 @@ use Rattle.ev_expand.specs.Expanding.{due_at, gives, guarded_at, lines_due, plac
 use Rattle.ev_expand.specs.Fronts.{Front, behind, fronts}
 use Rattle.ev_expand.specs.Guarding.{Guard, Guarded, clusters_in, each_once, guarded_by, guarded_in, guarded_of, guarded_same, private_name, waiting_entries, waiting_entry, place_at}
 use Rattle.ev_expand_laws.specs.Said.{given_lines, lines_said}
-use Rattle.ev_expand_laws.specs.Waiting.{WaitsAsSaid, stream_line, waiting_response}
+use Rattle.ev_expand_laws.specs.Waiting.{WaitsAsSaid, has_guarded, stream_line, waiting_response}
 use Rattle.ev_expand_laws.proofs.ReadLemmas.{waiting_reads}
 use Rattle.ev_secrets.specs.References.{by_secrets}
 use Rattle.ev_secrets.specs.Sealing.{tls_rules}
@@ -70,9 +70,9 @@ none_guarded guard (entry ∷ entries) h =
 
 -- the line of a front has no fewer resources than guarded ones
 front_items : (front : Front) (at : ℕ) → length (guarded_in by_secrets front.line) ≤ items_of (lines_said at (gives tls_rules front))
-front_items front at = by (list_any (λ (entry : Data). is_some (by_secrets.key_of entry)) (clusters_in front.line)) refl
+front_items front at = by (has_guarded by_secrets front.line) refl
   where
-    by : (b : Bool) → list_any (λ (entry : Data). is_some (by_secrets.key_of entry)) (clusters_in front.line) ≡ b
+    by : (b : Bool) → has_guarded by_secrets front.line ≡ b
         → length (guarded_in by_secrets front.line) ≤ items_of (lines_said at (gives tls_rules front))
     by false none = omega (arith, ap length (none_guarded by_secrets (clusters_in front.line) none))
     by true some =

@@ -1,5 +1,5 @@
 -- A line of the text that names the endpoints of a private name follows a line at which the name's place is due.
-use Rattle.std.proofs.Common.{◌≡◌, ◌∙◌, ℕ, zero, suc, ◌+◌, ◌<◌, Bool, true, false, List, [], ◌∷◌, ◌++◌, filter_map, decimal, Option, Some, None, option_map, is_some, codes, refl, sym, ap, subst, arith}
+use Rattle.std.proofs.Common.{◌≡◌, ◌∙◌, ℕ, zero, suc, ◌+◌, ◌<◌, Bool, true, false, List, [], ◌∷◌, ◌++◌, filter_map, decimal, Option, Some, None, option_map, codes, refl, sym, ap, subst, arith}
 use Rattle.std.specs.Prelude.{slice_get}
 use Rattle.std.specs.List.{list_any}
 use Rattle.std.specs.Str.{bytes_eq}
@@ -17,10 +17,10 @@ use Rattle.ev_script.specs.Lines.{line_of}
 use Rattle.ev_expand.specs.Expanding.{due_at, gives, guarded_at, lines_due, place_of}
 use Rattle.ev_expand.specs.Following.{DueParts, following_line}
 use Rattle.ev_expand.specs.Fronts.{Front, fronts}
-use Rattle.ev_expand.specs.Guarding.{clusters_in, private_name, waiting_line}
+use Rattle.ev_expand.specs.Guarding.{private_name, waiting_line}
 use Rattle.ev_expand.specs.Private.{first_use}
 use Rattle.ev_expand_laws.specs.Said.{given_lines}
-use Rattle.ev_expand_laws.specs.Waiting.{WaitsAsSaid, bare_name, following_response, name_left, name_with, stream_line, waiting_response}
+use Rattle.ev_expand_laws.specs.Waiting.{WaitsAsSaid, has_guarded, bare_name, following_response, name_left, name_with, stream_line, waiting_response}
 use Rattle.ev_expand_laws.proofs.ReadLemmas.{following_names, following_reads, waiting_reads, waiting_stays}
 use Rattle.ev_secrets.specs.References.{by_secrets}
 use Rattle.ev_secrets.specs.Sealing.{tls_rules}
@@ -116,9 +116,9 @@ no_endpoints response name clusters names = differ (sym clusters ∙ names.0)
 -- it names no endpoints by a private name, where no line of the input uses one
 own_names_none : (lines : List Data) (index : ℕ) (front : Front) (at : ℕ) (line : Line) (rest : List ℕ) → first_use (codes "tls/") lines ≡ None
     → slice_get (fronts lines) index ≡ Some front → line_of at (own_line front) ≡ Some line → NamesEndpoints (codes "tls/" ++ rest) line.event → ⊥
-own_names_none lines index front at line rest unused there is names = by (list_any (λ (entry : Data). is_some (by_secrets.key_of entry)) (clusters_in front.line)) refl
+own_names_none lines index front at line rest unused there is names = by (has_guarded by_secrets front.line) refl
   where
-    by : (b : Bool) → list_any (λ (entry : Data). is_some (by_secrets.key_of entry)) (clusters_in front.line) ≡ b → ⊥
+    by : (b : Bool) → has_guarded by_secrets front.line ≡ b → ⊥
     by true some =
         let reads : WaitsAsSaid (codes "tls/") by_secrets (guarded_at tls_rules front) front.line =
         waiting_reads (codes "tls/") by_secrets (guarded_at tls_rules front) front.line some in
