@@ -8,7 +8,7 @@ use Rattle.ev_audit_input.proofs.GrowLemmas.{stands_more_with}
 use Rattle.ev_chain_lines.specs.Lines.{chain_lines}
 use Rattle.ev_sotw_lines.specs.Lines.{sotw_lines}
 use Rattle.ev_app.specs.declared.commands.Command.{Command}
-use Rattle.ev_app.specs.declared.commands.Command.TheVariants.{Replay, Run, Audit, Soak, Chains, Sotw, Dump}
+use Rattle.ev_app.specs.declared.commands.Command.TheVariants.{Replay, Run, Audit, Soak, Tls, Chains, Sotw, Dump}
 use Rattle.ev_app.specs.Input.{has_journal, TakesInput, IsTakenFor}
 use Rattle.ev_io.specs.Outside.{Rose}
 use Rattle.ev_app.specs.Faults.{IsEarly, NoneEarly, IsLate, IsFirstEarly, IsFaultFor, HasNoneFor, IsCutOff}
@@ -24,6 +24,7 @@ early_more Replay xs ys place kind early = stands_more plain_lines xs ys true fa
 early_more Run xs ys place kind early = stands_more plain_lines xs ys true false place kind early
 early_more Audit xs ys place kind early = stands_more_with xs ys true true place kind early
 early_more (Soak seed count) xs ys place kind early = early
+early_more Tls xs ys place kind early = stands_more plain_lines xs ys true false place kind early
 early_more Chains xs ys place kind early = stands_more chain_lines xs ys true false place kind early
 early_more Sotw xs ys place kind early = stands_more sotw_lines xs ys true false place kind early
 early_more (Dump entries) xs ys place kind early = stands_more_with xs ys true true place kind early
@@ -74,6 +75,7 @@ pub not_refused : (command : Command) (outside : Outside) (line number : ℕ) (i
 not_refused Replay outside line number input taken fault honest = not_refused_by Replay outside line number input taken fault honest.told
 not_refused Run outside line number input taken fault honest = not_refused_by Run outside line number input taken fault honest.told
 not_refused Audit outside line number input taken fault honest = not_refused_by Audit outside line number input taken fault honest.told
+not_refused Tls outside line number input taken fault honest = not_refused_by Tls outside line number input taken fault honest.told
 not_refused Chains outside line number input taken fault honest = not_refused_by Chains outside line number input taken fault honest.told
 not_refused Sotw outside line number input taken fault honest = not_refused_by Sotw outside line number input taken fault honest.told
 not_refused (Dump entries) outside line number input taken fault honest = not_refused_by (Dump entries) outside line number input taken fault honest.told
@@ -84,6 +86,7 @@ pub not_cut_off : (command : Command) (outside : Outside) (input : Input) → Is
 not_cut_off Replay outside input taken cut rose honest = honest.told.no_read_fault rose
 not_cut_off Run outside input taken cut rose honest = honest.told.no_read_fault rose
 not_cut_off Audit outside input taken cut rose honest = honest.told.no_read_fault rose
+not_cut_off Tls outside input taken cut rose honest = honest.told.no_read_fault rose
 not_cut_off Chains outside input taken cut rose honest = honest.told.no_read_fault rose
 not_cut_off Sotw outside input taken cut rose honest = honest.told.no_read_fault rose
 not_cut_off (Dump entries) outside input taken cut rose honest = honest.told.no_read_fault rose

@@ -9,4 +9,7 @@ pub mod PartsLemmas
 pub mod AuditLemmas
 pub mod DumpLemmas
 pub mod ChainLemmas
+pub mod TreeLemmas
+pub mod ExpandLemmas
+pub mod TlsLemmas
 pub mod SotwLemmas

@@ -1,6 +1,9 @@
 pub mod Commands
 pub mod Input
 pub mod Scripts
+pub mod Trees
+pub mod Expansions
+pub mod Tls
 pub mod Faults
 pub mod Replay
 pub mod Runs

@@ -1,6 +1,6 @@
 -- The text that answers a script whose responses are those of the state of the world: the journal of the replay of the
 -- incremental script that says the same, with the requests of the state of the world. Journals are of format 2.
-use Rattle.std.specs.Prelude.{ℕ, ◌≡◌, List, map, false, ⊤, Option, Result, Ok, Err}
+use Rattle.std.specs.Prelude.{ℕ, ◌≡◌, List, map, ⊤, Result, Ok, Err}
 use Rattle.ev_io.specs.declared.faults.ScriptFault.{ScriptFault}
 use Rattle.ev_io.specs.declared.faults.ScriptFault.TheVariants.{Bad, Read, OutOfMemory as lacks_memory}
 use Rattle.ev_types.specs.Scripts.{ScriptParts}
@@ -9,15 +9,14 @@ use Rattle.ev_types.specs.declared.journals.Format.TheVariants.{Two}
 use Rattle.ev_model.specs.Laws.{Laws}
 use Rattle.ev_model.specs.Operations.{IsReplay}
 use Rattle.ev_script.specs.declared.trees.ScriptTrees.{ScriptTrees}
-use Rattle.ev_script.specs.Faults.{Input}
-use Rattle.ev_script.specs.ReadTrees.{IsTreesAnswer}
 use Rattle.ev_sotw_lines.specs.Lines.{sotw_lines}
-use Rattle.ev_sotw_delta.specs.DeltaText.{lines_in, written_of, delta_script, input_of_text, FitsInput, IsFirstTooLarge}
+use Rattle.ev_expand_laws.specs.Said.{lines_in}
+use Rattle.ev_sotw_delta.specs.DeltaText.{written_of, delta_script, FitsInput, IsFirstTooLarge}
 use Rattle.ev_sotw.specs.Text.{stated_in, sotw_text}
 use Rattle.ev_sotw_laws.specs.SameWorld.{IsSameWorld}
 use Rattle.ev_app.specs.declared.status.Status.TheVariants.{Done}
 use Rattle.ev_app.specs.declared.made.Made.{Made}
-use Rattle.ev_app.specs.Input.{TakesInput}
+use Rattle.ev_app.specs.Trees.{AreTreesOf}
 
 -- the journal is that of the replay of the script that says the same; it has the laws, and is the same world
 pub record IsSotwJournal (script : ScriptParts) (journal : List Entry) : Type 0 where
@@ -31,29 +30,19 @@ pub record IsSotwText (trees : ScriptTrees) (text : List ℕ) : Type 0 where
   pub replayed : IsSotwJournal (delta_script trees) journal
   pub rendered : text ≡ sotw_text (delta_script trees).workers (map (stated_in (lines_in trees)) journal)
 
--- the bytes are a whole script of the state of the world, of these trees
-abbrev pub AreSotwTrees : List ℕ → ScriptTrees → Type 0
-AreSotwTrees bytes trees = IsTreesAnswer sotw_lines (input_of_text bytes) (Ok trees)
-
 -- the bytes are a script of the state of the world, and the text answers it
 pub record IsSotw (bytes text : List ℕ) : Type 0 where
   pub trees : ScriptTrees
-  pub reads : AreSotwTrees bytes trees
+  pub reads : AreTreesOf sotw_lines bytes trees
   pub answers : IsSotwText trees text
 
 -- the bytes are a script of the state of the world, and the incremental script that says the same is too large to be an input: a
 -- fault at the first line with which it is, of kind 10
 pub record GrowsTooLarge (bytes : List ℕ) (line number : ℕ) : Type 0 where
   pub trees : ScriptTrees
-  pub reads : AreSotwTrees bytes trees
+  pub reads : AreTreesOf sotw_lines bytes trees
   pub large : IsFirstTooLarge (written_of trees) line
   pub numbered : number ≡ 10
-
--- what a source told before and after, and which trees the bytes taken in between are
-pub record ReadsSotw (before after : Option (List ℕ)) (result : Result ScriptTrees ScriptFault) : Type 0 where
-  pub input : Input
-  pub takes : TakesInput false before after input
-  pub is : IsTreesAnswer sotw_lines input result
 
 -- the script that says the same, which is an input, or why it is none
 abbrev pub IsDeltaAnswer : ScriptTrees → Result ScriptParts ScriptFault → Type 0

@@ -4,7 +4,7 @@ use Rattle.ev_io.specs.declared.faults.ScriptFault.{ScriptFault}
 use Rattle.ev_io.specs.declared.faults.ScriptFault.TheVariants.{Bad, Read, OutOfMemory as lacks_memory}
 use Rattle.ev_script.specs.Faults.{Input}
 use Rattle.ev_app.specs.declared.commands.Command.{Command}
-use Rattle.ev_app.specs.declared.commands.Command.TheVariants.{Replay, Run, Audit, Soak, Chains, Sotw, Dump}
+use Rattle.ev_app.specs.declared.commands.Command.TheVariants.{Replay, Run, Audit, Soak, Tls, Chains, Sotw, Dump}
 use Rattle.ev_app.specs.declared.status.Status.{Status}
 use Rattle.ev_app.specs.declared.status.Status.TheVariants.{Done, Illegal, OutOfMemory}
 use Rattle.ev_app.specs.declared.made.Made.{Made}
@@ -13,6 +13,7 @@ use Rattle.ev_app.specs.Faults.{IsFaultFor, HasNoneFor, IsCutOff}
 use Rattle.ev_app.specs.Replay.{IsReplayOf}
 use Rattle.ev_app.specs.Runs.{IsTextOfRun}
 use Rattle.ev_app.specs.Audits.{IsAudited}
+use Rattle.ev_app.specs.Tls.{IsTls}
 use Rattle.ev_app.specs.Sotw.{IsSotw}
 use Rattle.ev_app.specs.Dumps.{IsDumped}
 use Rattle.ev_app.specs.Chains.{IsChained}
@@ -24,6 +25,7 @@ Answers Replay bytes status text = (status ≡ Done) × IsReplayOf bytes text
 Answers Run bytes status text = (status ≡ Done) × IsTextOfRun bytes text
 Answers Audit bytes status text = IsAudited bytes status text
 Answers (Soak seed count) bytes status text = (status ≡ Done) × IsSoakText seed count text
+Answers Tls bytes status text = (status ≡ Done) × IsTls bytes text
 Answers Chains bytes status text = (status ≡ Done) × IsChained bytes text
 Answers Sotw bytes status text = (status ≡ Done) × IsSotw bytes text
 Answers (Dump entries) bytes status text = IsDumped entries bytes status text
@@ -34,6 +36,7 @@ IsAnswered Replay status = (status ≡ Done) ⊎ (status ≡ OutOfMemory)
 IsAnswered Run status = (status ≡ Done) ⊎ (status ≡ OutOfMemory)
 IsAnswered Audit status = (status ≡ Done) ⊎ ((status ≡ Illegal) ⊎ (status ≡ OutOfMemory))
 IsAnswered (Soak seed count) status = (status ≡ Done) ⊎ (status ≡ OutOfMemory)
+IsAnswered Tls status = (status ≡ Done) ⊎ (status ≡ OutOfMemory)
 IsAnswered Chains status = (status ≡ Done) ⊎ (status ≡ OutOfMemory)
 IsAnswered Sotw status = (status ≡ Done) ⊎ (status ≡ OutOfMemory)
 IsAnswered (Dump entries) status = (status ≡ Done) ⊎ ((status ≡ Illegal) ⊎ (status ≡ OutOfMemory))

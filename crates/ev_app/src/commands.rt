@@ -1,6 +1,6 @@
 ghost use Rattle.std.specs.Prelude.{◌≡◌, ℕ, ◌<◌, ◌^◌, ◌↔◌, [], ◌∷◌, None, IsTrue, IfSome};
 ghost use Rattle.ev_app.specs.declared.commands.Command.{Command};
-ghost use Rattle.ev_app.specs.declared.commands.Command.TheVariants.{Replay, Run, Audit, Soak, Chains, Sotw, Dump};
+ghost use Rattle.ev_app.specs.declared.commands.Command.TheVariants.{Replay, Run, Audit, Soak, Tls, Chains, Sotw, Dump};
 ghost use Rattle.ev_app.specs.Commands.{Asks, IsSoak, IsWithin};
 
 use ev_numbers::number_of;
@@ -19,6 +19,8 @@ pub enum Command {
     /// `soak SEED COUNT`: a line that tells what the replay of a seed's script came to. The script has so many lines behind
     /// its header, 1 to `MAX_SOAK`; nothing is read.
     Soak { seed: u64, count: u32 },
+    /// `tls`: the script in which each cluster that names secrets waits for them.
+    Tls,
     /// `chains`: the answers to versions of one listener with several filter chains, and to connections.
     Chains,
     /// `sotw`: the journal of a script whose responses are those of the state of the world, as one thread makes it.
@@ -41,6 +43,9 @@ pub(crate) fn command_of(arguments: &[Text]) -> Option<Command>
     }
     if is_word(arguments, "audit") {
         return Some(Command::Audit);
+    }
+    if is_word(arguments, "tls") {
+        return Some(Command::Tls);
     }
     if is_word(arguments, "chains") {
         return Some(Command::Chains);

@@ -19,6 +19,8 @@ mod run;
 mod soak;
 mod sotw;
 mod status;
+mod tls;
+mod trees;
 
 pub use commands::Command;
 pub use program::run_program;

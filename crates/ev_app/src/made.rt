@@ -12,6 +12,7 @@ use crate::run::make_run;
 use crate::soak::soak_text;
 use crate::sotw::make_sotw;
 use crate::status::Status;
+use crate::tls::make_tls;
 use ev_io::{ScriptFault, Source};
 use ev_pace::Pace;
 use std::alloc::Global;
@@ -51,6 +52,7 @@ pub(crate) fn make<R: Threads + Wait + Sync, S: Source, P: Pace + Sync>(
             }),
             Err(_) => Err(ScriptFault::OutOfMemory),
         },
+        Command::Tls => make_tls(alloc, source),
         Command::Chains => make_of_chains(alloc, source),
         Command::Sotw => make_sotw(alloc, source),
         Command::Dump { entries } => make_dump(alloc, entries, source),

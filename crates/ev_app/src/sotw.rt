@@ -7,7 +7,7 @@ ghost use Rattle.ev_script.specs.Script.{script_of};
 ghost use Rattle.ev_sotw_lines.specs.Lines.{sotw_lines};
 ghost use Rattle.ev_sotw_delta.specs.DeltaText.{delta_script};
 ghost use Rattle.ev_app.specs.declared.commands.Command.TheVariants.{Sotw};
-ghost use Rattle.ev_app.specs.Sotw.{IsSotwText, ReadsSotw, IsDeltaAnswer, IsSotwAnswer};
+ghost use Rattle.ev_app.specs.Sotw.{IsSotwText, IsDeltaAnswer, IsSotwAnswer};
 ghost use Rattle.ev_app.specs.Texts.{IsMadeBy};
 
 use crate::input::read_input;
@@ -15,10 +15,11 @@ use crate::made::Made;
 use crate::replay::replay;
 use crate::run::workers_of;
 use crate::status::Status;
+use crate::trees::read_trees_of;
 use ev_actors::Journaled;
-use ev_io::{Lines, MemSource, ScriptFault, Source};
+use ev_io::{MemSource, ScriptFault, Source};
 use ev_model_laws::{replay_is_a_run_of_its_script, runs_have_the_laws};
-use ev_script::{ScriptTrees, read_trees_with};
+use ev_script::ScriptTrees;
 use ev_sotw::render_sotw;
 use ev_sotw_delta::{DeltaError, to_delta};
 use ev_sotw_laws::same_world;
@@ -41,21 +42,8 @@ pub(crate) fn make_sotw<S: Source>(alloc: Global, source: &mut S) -> Result<Made
     ensures same_count { (S.faults source.new ≡ S.faults source.old) ⊎ (result ≡ Err ScriptFault.Read) }
     ensures count { S.faults source.old ≤ S.faults source.new }
 {
-    let trees = read_sotw(alloc, source)?;
+    let trees = read_trees_of(alloc, &SotwLines, source)?;
     sotw_made(alloc, &trees)
-}
-
-// Reads the trees of the script of the state of the world that the source's bytes are.
-fn read_sotw<S: Source>(alloc: Global, source: &mut S) -> Result<ScriptTrees, ScriptFault>
-    ensures reads { ReadsSotw (S.left source.old) (S.left source.new) result }
-    ensures failed { result ≡ Err ScriptFault.Read → Rose (S.faults source.old) (S.faults source.new) }
-    ensures same_count { (S.faults source.new ≡ S.faults source.old) ⊎ (result ≡ Err ScriptFault.Read) }
-    ensures count { S.faults source.old ≤ S.faults source.new }
-{
-    let Ok(mut lines) = Lines::new(alloc) else {
-        return Err(ScriptFault::OutOfMemory);
-    };
-    read_trees_with(alloc, &SotwLines, &mut lines, source)
 }
 
 // What answers the trees of a script of the state of the world, or why nothing does.

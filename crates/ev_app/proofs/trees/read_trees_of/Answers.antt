@@ -1,10 +1,10 @@
--- What the trees are, at each end.
-use Rattle.ev_app.proofs.SotwLemmas.{reads_no_tree, reads_trees}
-use Rattle.ev_app.proofs.sotw.read_sotw.Goals as goal
+-- What was read, at each end.
+use Rattle.ev_app.proofs.TreeLemmas.{reads_no_tree, reads_trees}
+use Rattle.ev_app.proofs.trees.read_trees_of.Goals as goal
 
 pub returns-in_default-clause-reads : goal.returns-in_default-clause-reads
-returns-in_default-clause-reads g c = reads_no_tree (g.S.Source.left c.args.source.now)
+returns-in_default-clause-reads g c = reads_no_tree (g.F.Forms.forms) (g.S.Source.left c.args.source.now)
 
 pub returns-clause-reads : goal.returns-clause-reads
 returns-clause-reads g c =
-    reads_trees (g.S.Source.left c.args.source.now) (g.S.Source.left c.read_trees_with.new.source) c.read_trees_with.new.lines c.read_trees_with.result c.read_trees_with.ensures.at_most c.read_trees_with.ensures.at_end c.read_trees_with.ensures.reads
+    reads_trees (g.F.Forms.forms) (g.S.Source.left c.args.source.now) (g.S.Source.left c.read_trees_with.new.source) c.read_trees_with.new.lines c.read_trees_with.result c.read_trees_with.ensures.at_most c.read_trees_with.ensures.at_end c.read_trees_with.ensures.reads

@@ -1,0 +1,79 @@
+-- What is made of a script whose clusters wait for their secrets.
+use Rattle.std.proofs.Common.{◌≡◌, ℕ, List, Option, None, Some, Result, Ok, Err, Vec, inl, inr, refl, sym, ap, subst, ◌∙◌}
+use Rattle.std.specs.declared.alloc.Global.{Global}
+use Rattle.serde_json.specs.View.{view}
+use Rattle.ev_io.specs.declared.faults.ScriptFault.{ScriptFault}
+use Rattle.ev_io.specs.declared.faults.ScriptFault.TheVariants.{Bad, Read, OutOfMemory as lacks_memory}
+use Rattle.ev_script.specs.declared.trees.ScriptTrees.{ScriptTrees}
+use Rattle.ev_script.specs.Faults.{Input, IsFaultOf, HasNoFault, plain_lines}
+use Rattle.ev_script.specs.Script.{script_of}
+use Rattle.ev_expand.specs.Expanding.{IsExpanded}
+use Rattle.ev_expand.specs.declared.outcome.ExpandError.{ExpandError}
+use Rattle.ev_expand.specs.declared.outcome.ExpandError.TheVariants.{Private, Large, OutOfMemory}
+use Rattle.ev_expand_laws.specs.Said.{lines_in, input_of_text, expanded_script}
+use Rattle.ev_sealed.specs.Sealed.{Sealed}
+use Rattle.ev_secrets.specs.Sealing.{tls_rules}
+use Rattle.ev_app.specs.declared.commands.Command.TheVariants.{Tls}
+use Rattle.ev_app.specs.declared.made.Made.{Made}
+use Rattle.ev_app.specs.declared.status.Status.TheVariants.{Done}
+use Rattle.ev_app.specs.Expansions.{fault_of}
+use Rattle.ev_app.specs.Faults.{IsFirstEarly}
+use Rattle.ev_app.specs.Texts.{IsMadeBy}
+use Rattle.ev_app.specs.Tls.{IsTlsAnswer}
+use Rattle.ev_app.specs.Trees.{ReadsTrees}
+use Rattle.ev_app.proofs.ExpandLemmas.{never_unmade}
+use Rattle.ev_app.proofs.TreeLemmas.{whole_trees}
+
+-- the text that was made
+pub tls_told : (trees : ScriptTrees) (text : Vec ℕ Global) (made : Made) → Sealed → IsExpanded tls_rules (view trees.head) (lines_in trees) (Ok text)
+    → HasNoFault plain_lines (input_of_text text.items) → script_of false text.items ≡ Some (expanded_script tls_rules trees)
+    → made.status ≡ Done → made.text ≡ text → IsTlsAnswer trees (Ok made)
+tls_told trees text made law told sound script done same = (
+  record { unused = told.0; limits = told.1 },
+  done,
+  record {
+    made = record {
+      is = ap (λ (t : Vec ℕ Global). t.items) same ∙ told.3;
+      sound = subst (λ (t : Vec ℕ Global). HasNoFault plain_lines (input_of_text t.items)) (sym same) sound;
+      script = ap (λ (t : Vec ℕ Global). script_of false t.items) same ∙ script;
+    };
+    sealed = λ format journal k worker number place secret. law trees format journal k worker number place secret told.0;
+  },
+)
+
+-- why none was
+pub tls_not_told : (trees : ScriptTrees) (error : ExpandError) → IsExpanded tls_rules (view trees.head) (lines_in trees) (Err error) → IsTlsAnswer trees (Err (fault_of error))
+tls_not_told trees (Private line) told = inl (told, refl)
+tls_not_told trees (Large line) told = inr (told.0, told.1, refl)
+tls_not_told trees OutOfMemory told = tt
+
+first_early : (input : Input) (line number : ℕ) → IsFaultOf plain_lines input line number → IsFirstEarly Tls input line number
+first_early input line number fault = record { place = fault.place; kind = fault.kind; stands = fault.first.stands; first = fault.first.first; told = fault.told; numbered = fault.numbered }
+
+-- the text answers what was read, or there is none
+pub answered : (before after : Option (List ℕ)) (trees : ScriptTrees) (result : Result Made ScriptFault) → ReadsTrees plain_lines before after (Ok trees) → IsTlsAnswer trees result → IsMadeBy Tls before after result
+answered before after trees (Ok made) read told = record {
+  input = read.input;
+  takes = read.takes;
+  is = record {
+    ended = read.is.0.ended;
+    sound = record {
+      early = read.is.0.sound;
+      late = λ ended line number late. never_unmade tls_rules plain_lines read.input.bytes trees (whole_trees plain_lines read.input trees read.is) told.0 line number late;
+    };
+    answers = (told.1, record { trees = trees; reads = whole_trees plain_lines read.input trees read.is; answers = told.2 });
+  };
+}
+answered before after trees (Err (Bad line number)) read told = record {
+  input = read.input;
+  takes = read.takes;
+  is = inr (read.is.0.ended, read.is.0.sound, record { trees = trees; reads = whole_trees plain_lines read.input trees read.is; unmade = told });
+}
+answered before after trees (Err Read) read told = absurd told
+answered before after trees (Err lacks_memory) read told = record { input = read.input; takes = read.takes; is = tt }
+
+-- nothing was read
+pub not_read : (before after : Option (List ℕ)) (fault : ScriptFault) → ReadsTrees plain_lines before after (Err fault) → IsMadeBy Tls before after (Err fault)
+not_read before after (Bad line number) read = record { input = read.input; takes = read.takes; is = inl (first_early read.input line number read.is) }
+not_read before after Read read = record { input = read.input; takes = read.takes; is = record { goes_on = read.is.1; sound = read.is.0 } }
+not_read before after lacks_memory read = record { input = read.input; takes = read.takes; is = tt }

@@ -1,0 +1,76 @@
+-- Bytes have the same trees in each reading, and what the reader of trees tells.
+use Rattle.std.proofs.Common.{◌≡◌, ℕ, suc, ◌+◌, ◌<◌, true, false, IsTrue, List, [], ◌∷◌, map, length, Option, None, Some, Result, Ok, Err, refl, sym, ap, ap₂, subst, ◌∙◌, arith, slice_index_or}
+use Rattle.std.specs.Io.KnownBytes.{IsAtEnd}
+use Rattle.serde_json.specs.Data.{Data}
+use Rattle.serde_json.specs.View.{view}
+use Rattle.serde_json.specs.declared.value.Value.{Value}
+use Rattle.ev_io.specs.Lines.{lines_of}
+use Rattle.ev_io.specs.LinesState.{LinesState, HasTaken, IsWithin}
+use Rattle.ev_io.specs.Outside.{Takes}
+use Rattle.ev_io.specs.declared.faults.ScriptFault.{ScriptFault}
+use Rattle.ev_io.specs.declared.faults.ScriptFault.TheVariants.{OutOfMemory as lacks_memory}
+use Rattle.ev_script.specs.declared.trees.ScriptTrees.{ScriptTrees}
+use Rattle.ev_script.specs.Faults.{Input, LineForms}
+use Rattle.ev_script.specs.Members.{tree_of}
+use Rattle.ev_script.specs.ReadInput.{input_of}
+use Rattle.ev_script.specs.ReadTrees.{IsTreesAnswer}
+use Rattle.ev_expand_laws.specs.Said.{lines_in, input_of_text}
+use Rattle.ev_app.specs.Trees.{AreTreesOf, ReadsTrees}
+use Rattle.ev_app.proofs.InputLemmas.{taken_input, no_byte}
+
+-- ---- bytes have the same trees in each reading
+
+-- values of one length that are the same trees, each by each
+same_views : (xs ys : List Value) → length xs ≡ length ys → ((i : ℕ) (other : Value) → i < length xs → view (slice_index_or xs i other) ≡ view (slice_index_or ys i other)) → map view xs ≡ map view ys
+same_views [] [] long each = refl
+same_views [] (y ∷ ys) long each = absurd (omega (arith, long))
+same_views (x ∷ xs) [] long each = absurd (omega (arith, long))
+same_views (x ∷ xs) (y ∷ ys) long each =
+    ap₂ (λ (d : Data) ds. d ∷ ds) (each 0 x (omega arith)) (same_views xs ys (omega (arith, long)) (λ i other less. each (suc i) other (omega (arith, less))))
+
+abbrev tree_in : Data → Option Data → Data
+tree_in tree None = tree
+tree_in tree (Some found) = found
+
+-- a text has one tree
+one_tree : (text : List ℕ) (a b : Data) → tree_of text ≡ Some a → tree_of text ≡ Some b → a ≡ b
+one_tree text a b first second = ap (tree_in a) (sym first ∙ second)
+
+pub same_heads : (forms : LineForms) (bytes : List ℕ) (trees others : ScriptTrees) → AreTreesOf forms bytes trees → AreTreesOf forms bytes others → view trees.head ≡ view others.head
+same_heads forms bytes trees others one two = one_tree (slice_index_or (lines_of bytes) 0 []) (view trees.head) (view others.head) one.1.head two.1.head
+
+pub same_lines : (forms : LineForms) (bytes : List ℕ) (trees others : ScriptTrees) → AreTreesOf forms bytes trees → AreTreesOf forms bytes others → lines_in trees ≡ lines_in others
+same_lines forms bytes trees others one two =
+    let long : length trees.lines.items ≡ length others.lines.items = omega (arith, one.0.lines, two.0.lines) in
+    same_views trees.lines.items others.lines.items long
+    (λ i other less. one_tree (slice_index_or (lines_of bytes) (i + 1) []) (view (slice_index_or trees.lines.items i other)) (view (slice_index_or others.lines.items i other))
+    (one.1.lines i other less) (two.1.lines i other (omega (arith, less, long))))
+
+-- ---- readings
+
+-- what the reader of trees ensures
+abbrev pub Reads : LineForms → Option (List ℕ) → Option (List ℕ) → LinesState → Result ScriptTrees ScriptFault → Type 0
+Reads forms before after state result = (bytes : List ℕ) × Takes before after bytes × HasTaken state bytes × IsTreesAnswer forms (input_of false state bytes) result
+
+pub reads_trees : (forms : LineForms) (before after : Option (List ℕ)) (state : LinesState) (result : Result ScriptTrees ScriptFault) → IsWithin state
+    → (IsTrue state.ended → IsAtEnd after) → Reads forms before after state result → ReadsTrees forms before after result
+reads_trees forms before after state result within ended read = record {
+  input = input_of false state read.0;
+  takes = taken_input before after state read.0 read.1 read.2 within ended;
+  is = read.3;
+}
+
+-- nothing was taken
+pub reads_no_tree : (forms : LineForms) (left : Option (List ℕ)) → ReadsTrees forms left left (Err lacks_memory)
+reads_no_tree forms left = record {
+  input = record { bytes = []; ended = false; audit = false };
+  takes = record { asked = refl; taken = no_byte left; at_most = omega arith; ended = λ no. let f : false ≡ true = no in cc };
+  is = tt;
+}
+
+-- an input that was read whole is a text
+is_text : (input : Input) → input.audit ≡ false → IsTrue input.ended → input ≡ input_of_text input.bytes
+is_text input audit ended = λ i. record { bytes = input.bytes; ended = ended i; audit = audit i }
+
+pub whole_trees : (forms : LineForms) (input : Input) (trees : ScriptTrees) → IsTreesAnswer forms input (Ok trees) → AreTreesOf forms input.bytes trees
+whole_trees forms input trees read = subst (λ (x : Input). IsTreesAnswer forms x (Ok trees)) (is_text input read.0.script read.0.ended) read
