@@ -37,7 +37,7 @@ tls_told trees text made law told sound script done same = (
       sound = subst (λ (t : Vec ℕ Global). HasNoFault plain_lines (input_of_text t.items)) (sym same) sound;
       script = ap (λ (t : Vec ℕ Global). script_of false t.items) same ∙ script;
     };
-    sealed = λ format journal k worker number place secret. law trees format journal k worker number place secret told.0;
+    sealed = λ format journal. law trees format journal told.0;
   },
 )
 

@@ -5,32 +5,24 @@ use Rattle.ev_io.specs.declared.faults.ScriptFault.TheVariants.{Bad, Read, OutOf
 use Rattle.ev_script.specs.declared.trees.ScriptTrees.{ScriptTrees}
 use Rattle.ev_script.specs.Faults.{plain_lines}
 use Rattle.ev_types.specs.Scripts.{IsScript}
-use Rattle.ev_types.specs.declared.events.Actor.{Actor}
 use Rattle.ev_types.specs.declared.events.Entry.{Entry}
 use Rattle.ev_types.specs.declared.journals.Format.{Format}
-use Rattle.ev_model.specs.Laws.{Accepts}
 use Rattle.ev_model.specs.Operations.{IsRunOf}
-use Rattle.ev_expand_laws.specs.Said.{lines_in}
 use Rattle.ev_secrets.specs.Sealing.{tls_rules}
-use Rattle.ev_sealed.specs.Sealed.{AsksFor, NamesSecret, WasTold, run_told, sealed_script}
+use Rattle.ev_sealed.specs.Sealed.{IsSealed, sealed_script}
 use Rattle.ev_app.specs.declared.status.Status.TheVariants.{Done}
 use Rattle.ev_app.specs.declared.made.Made.{Made}
 use Rattle.ev_app.specs.Trees.{AreTreesOf}
 use Rattle.ev_app.specs.Expansions.{HasText, IsTextBy, IsUnmade}
 
--- In every run of the script that is written, whose worlds are bounded as those of scripts are that were read: an accept at a
--- cluster that asks for its endpoints by a private name stands behind the telling of each secret that is named there.
-abbrev pub AcceptsAreSealed : ScriptTrees → Type 0
-AcceptsAreSealed trees =
-    (format : Format) (journal : List Entry) (k : ℕ) (worker : Actor) (number place : ℕ) (secret : List ℕ)
-    → IsScript (sealed_script trees) → IsRunOf format (sealed_script trees) journal
-    → Accepts (run_told format (sealed_script trees) journal) k worker number → AsksFor journal number place
-    → NamesSecret (lines_in trees) place secret → WasTold journal k (lines_in trees) secret
+-- what is accepted in the runs of the script that is written is sealed; a script that was read is within the bounds of scripts
+abbrev pub AreSealed : ScriptTrees → Type 0
+AreSealed trees = (format : Format) (journal : List Entry) → IsScript (sealed_script trees) → IsRunOf format (sealed_script trees) journal → IsSealed format trees journal
 
 -- the text is that of a script of these trees, and what is accepted in its runs is sealed
 pub record IsTlsText (trees : ScriptTrees) (text : List ℕ) : Type 0 where
   pub made : IsTextBy tls_rules trees text
-  pub sealed : AcceptsAreSealed trees
+  pub sealed : AreSealed trees
 
 -- the bytes are a script, and the text answers it
 pub record IsTls (bytes text : List ℕ) : Type 0 where
