@@ -15,7 +15,7 @@ use Rattle.ev_expand.specs.declared.keys.Key.{Key}
 use Rattle.ev_expand.specs.Editing.{with_value}
 use Rattle.ev_expand.specs.Fronts.{event_of, message_of}
 use Rattle.ev_expand.specs.Guarding.{Guard, Guarded, kind_of, listed_as, clusters_in, place_in, place_at, private_name, body_in, waiting_body, waiting_entry, waiting_entries, waiting_line, response_tree}
-use Rattle.ev_expand.specs.Following.{DueParts}
+use Rattle.ev_expand.specs.Following.{DueParts, following_line}
 use Rattle.ev_expand.proofs.EventLemmas.{response_read, cluster_items_read}
 use Rattle.ev_expand_laws.specs.Waiting.{IsOfCluster, static_body, waiting_item, waiting_response, has_guarded, name_with, following_response, names_in, IsStreamLine, ResourcesWait, LinesWait, LinesFollow}
 use Rattle.ev_expand_laws.proofs.FieldLemmas.{object_with}
