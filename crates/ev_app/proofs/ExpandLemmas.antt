@@ -32,8 +32,8 @@ written_before rules head lines more =
     let parts : (rest : List Front) × (fronts (lines ++ more) ≡ fronts lines ++ rest) = fronts_before lines more in (
       map whole (flat_map (gives rules) parts.0),
       ap (λ (fs : List Front). map whole (head ∷ flat_map (gives rules) fs)) parts.1
-      ∙ ap (λ (ds : List Data). map whole (head ∷ ds)) (flat_map-append (gives rules) (fronts lines) parts.0)
-      ∙ map-append whole (given_by rules head lines) (flat_map (gives rules) parts.0),
+          ∙ ap (λ (ds : List Data). map whole (head ∷ ds)) (flat_map-append (gives rules) (fronts lines) parts.0)
+          ∙ map-append whole (given_by rules head lines) (flat_map (gives rules) parts.0),
     )
 
 front_within : (rules : Rules) (head : Data) (lines : List Data) (n : ℕ) → AreWithinLimits (written_by rules head lines) → AreWithinLimits (written_by rules head (take n lines))

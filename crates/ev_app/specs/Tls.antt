@@ -17,7 +17,9 @@ use Rattle.ev_app.specs.Expansions.{HasText, IsTextBy, IsUnmade}
 
 -- what is accepted in the runs of the script that is written is sealed; a script that was read is within the bounds of scripts
 abbrev pub AreSealed : ScriptTrees → Type 0
-AreSealed trees = (format : Format) (journal : List Entry) → IsScript (sealed_script trees) → IsRunOf format (sealed_script trees) journal → IsSealed format trees journal
+AreSealed trees =
+    (format : Format) (journal : List Entry) → IsScript (sealed_script trees) → IsRunOf format (sealed_script trees) journal
+    → IsSealed format trees journal
 
 -- the text is that of a script of these trees, and what is accepted in its runs is sealed
 pub record IsTlsText (trees : ScriptTrees) (text : List ℕ) : Type 0 where
