@@ -11,14 +11,17 @@
 #![tactic(auto)]
 
 mod awaited;
+mod complete;
 mod hearing;
 mod known;
 mod looking;
 mod names;
+mod places;
 mod references;
 mod secrets;
 mod told;
 mod values;
+mod waiting;
 
 pub use awaited::Awaited;
 pub use secrets::expand;
