@@ -14,7 +14,7 @@ use Rattle.ev_secrets.specs.declared.awaited.Awaited.TheVariants.{Endpoints}
 use Rattle.ev_secrets.specs.declared.complete.Complete.{Complete}
 use Rattle.ev_secrets.specs.Awaited.{services_of}
 use Rattle.ev_secrets.specs.Places.{PlacesKept, stands_under, Enters}
-use Rattle.ev_secrets.specs.Waiting.{EntersAll, EntersOne, KeepsUnder, is_served}
+use Rattle.ev_secrets.specs.Waiting.{EntersAll, EntersOne, is_served}
 use Rattle.ev_secrets.proofs.PlaceLemmas.{number_swapped, stands_own}
 
 and_true : (a : Bool) → (a && true) ≡ a

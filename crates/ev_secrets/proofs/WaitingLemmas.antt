@@ -1,5 +1,5 @@
 -- Places that go on.
-use Rattle.std.proofs.Common.{◌≡◌, ℕ, zero, suc, ◌+◌, ◌<◌, ◌≤◌, ◌⊎◌, inl, inr, Bool, true, false, not, cond, ◌||◌, ◌&&◌, List, [], ◌∷◌, ◌++◌, length, get_or, set, take, Option, Some, None, option_map, unwrap_or, nat_eq, refl, sym, ap, ap₂, ◌∙◌, subst, arith}
+use Rattle.std.proofs.Common.{◌≡◌, ℕ, zero, suc, ◌+◌, ◌<◌, ◌⊎◌, inl, inr, Bool, true, false, not, cond, ◌||◌, ◌&&◌, List, [], ◌∷◌, length, get_or, set, take, Option, Some, None, option_map, unwrap_or, nat_eq, refl, sym, ap, ap₂, ◌∙◌}
 use Rattle.std.specs.Prelude.{slice_get}
 use Rattle.std.specs.List.{list_any, list_all, find, prefix_len}
 use Rattle.std.specs.Str.{bytes_eq}
@@ -8,9 +8,9 @@ use Rattle.ev_types.specs.Same.{numbers_decide}
 use Rattle.ev_expand.specs.Guarding.{Guarded}
 use Rattle.ev_secrets.specs.declared.awaited.Awaited.{Awaited}
 use Rattle.ev_secrets.specs.declared.known.Told.{Told}
-use Rattle.ev_secrets.specs.Awaited.{awaited_same, awaited_by, awaited_decides}
-use Rattle.ev_secrets.specs.Known.{has_told, first_untold, next_of}
-use Rattle.ev_secrets.specs.Places.{PlacesKept, places_under, has_place, stands_under, Enters}
+use Rattle.ev_secrets.specs.Awaited.{awaited_by}
+use Rattle.ev_secrets.specs.Known.{has_told, next_of}
+use Rattle.ev_secrets.specs.Places.{PlacesKept, has_place, stands_under, Enters}
 use Rattle.ev_secrets.specs.Waiting.{completed, complete_at, is_waiting, HavePassed, Advances, AdvancesOne}
 use Rattle.ev_secrets.proofs.KnownLemmas.{front_passes}
 use Rattle.ev_secrets.proofs.PlaceLemmas.{or_first, or_second, any_more, number_swapped, stands_own, stands_still}

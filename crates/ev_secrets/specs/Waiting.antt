@@ -1,9 +1,8 @@
 -- Which places are complete, and what each of the others waits for.
-use Rattle.std.specs.Prelude.{◌≡◌, ℕ, ◌<◌, ◌≤◌, Bool, true, false, not, ◌&&◌, ◌||◌, nat_eq, List, length, take, Option, None, Some, option_map, unwrap_or, slice_get, slice_index_or}
-use Rattle.std.specs.List.{list_any, list_all, position_or_len}
+use Rattle.std.specs.Prelude.{◌≡◌, ℕ, ◌<◌, ◌≤◌, Bool, true, false, not, ◌&&◌, ◌||◌, nat_eq, List, length, take, Some, option_map, unwrap_or, slice_get, slice_index_or}
+use Rattle.std.specs.List.{list_any, list_all}
 use Rattle.std.specs.Str.{bytes_eq}
-use Rattle.indexmap.specs.IndexSet.{contains, IndexSet}
-use Rattle.ev_types.specs.declared.clusters.Discovery.{Discovery}
+use Rattle.indexmap.specs.IndexSet.{contains}
 use Rattle.ev_expand.specs.Guarding.{Guarded}
 use Rattle.ev_secrets.specs.declared.awaited.Awaited.{Awaited}
 use Rattle.ev_secrets.specs.declared.awaited.Awaited.TheVariants.{Endpoints}

@@ -51,12 +51,7 @@ impl Complete {
     }
 
     // Takes up a place.
-    fn enter(
-        &mut self,
-        alloc: Global,
-        numbers: &Numbers,
-        place: usize,
-    ) -> Result<(), AllocError>
+    fn enter(&mut self, alloc: Global, numbers: &Numbers, place: usize) -> Result<(), AllocError>
         ensures { OnOk result (EntersOne (guarded_so_far numbers.now) place self.old self.new) }
     {
         insert_place(&mut self.places, place)?;

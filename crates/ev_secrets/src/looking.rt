@@ -150,9 +150,7 @@ fn is_due(complete: &Complete, marks: &Marked, place: usize, key: &Key) -> bool
     ensures { result ≡ due_where (marks_of complete.now marks.now) place key.now }
 {
     let was = complete.places.contains(&place);
-    marks.connected
-        && (was || marks.finished.contains(&place))
-        && is_awake(marks, was, place, key)
+    marks.connected && (was || marks.finished.contains(&place)) && is_awake(marks, was, place, key)
 }
 
 // Whether the line gives a cause to send it, by whether it was complete before.

@@ -92,9 +92,7 @@ impl Expansion for Secrets {
         let was_open = self.connected;
         self.connected = open_after(was_open, event);
         let News { told, values } = hear(alloc, self.connected, line, event)?;
-        let finished = self
-            .waiting
-            .go_on(alloc, &mut self.told, told, numbers)?;
+        let finished = self.waiting.go_on(alloc, &mut self.told, told, numbers)?;
         let given = self.values.take_all(alloc, values)?;
         let marks = marks(alloc, was_open, self.connected, finished, items, given)?;
         let due = look(alloc, numbers, &self.values, &self.complete, &marks)?;

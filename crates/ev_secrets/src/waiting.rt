@@ -104,11 +104,7 @@ impl Waiting {
 }
 
 // Takes up the places that are new, up to a count, and gives them.
-fn take_up(
-    alloc: Global,
-    passed: &mut Vec<usize>,
-    count: usize,
-) -> Result<Vec<usize>, AllocError>
+fn take_up(alloc: Global, passed: &mut Vec<usize>, count: usize) -> Result<Vec<usize>, AllocError>
     ensures counted { length passed.old.items ≤ count → OnOk result (length passed.new.items ≡ count) }
     ensures passed { OnOk result ((n : ℕ) → slice_index_or passed.new.items n 0 ≡ slice_index_or passed.old.items n 0) }
     ensures taken { IfOk result (λ places. (n : ℕ) → length passed.old.items ≤ n → n < count → has_place places.items n ≡ true) }
@@ -122,11 +118,7 @@ fn take_up(
 }
 
 // Takes the places that wait for one of these out, and puts them behind the others.
-fn wake(
-    under: &mut Places,
-    told: &[Awaited],
-    woken: &mut Vec<usize>,
-) -> Result<(), AllocError>
+fn wake(under: &mut Places, told: &[Awaited], woken: &mut Vec<usize>) -> Result<(), AllocError>
     ensures wakes { OnOk result (Wakes told.now under.old under.new woken.new.items) }
     ensures kept { OnOk result ((n : ℕ) → has_place woken.old.items n ≡ true → has_place woken.new.items n ≡ true) }
 {

@@ -1,4 +1,4 @@
-use Rattle.std.proofs.Common.{◌≡◌, ℕ, List, ap, ◌∙◌}
+use Rattle.std.proofs.Common.{ap, ◌∙◌}
 use Rattle.ev_secrets.specs.Places.{has_place, places_under}
 use Rattle.ev_secrets.proofs.PlaceLemmas.{wakes_more, has_more, or_first}
 use Rattle.ev_secrets.proofs.waiting.wake.Goals as goal

@@ -1,4 +1,4 @@
-use Rattle.std.proofs.Common.{◌≡◌, ℕ, ◌<◌, ◌≤◌, List, ◌++◌, length, get_or, map, Option, Some, sym, ap, ◌∙◌, subst}
+use Rattle.std.proofs.Common.{◌≡◌, ℕ, ◌<◌, ◌≤◌, List, length, get_or, map, Option, Some, sym, ap, ◌∙◌, subst}
 use Rattle.std.specs.List.{prefix_len}
 use Rattle.std.specs.Str.{bytes_eq}
 use Rattle.std.proofs.lemmas.Result.{IfOk-weaker}
@@ -6,7 +6,6 @@ use Rattle.indexmap.specs.IndexSet.{contains}
 use Rattle.ev_secrets.specs.declared.awaited.Awaited.{Awaited}
 use Rattle.ev_secrets.specs.declared.awaited.Awaited.TheVariants.{Secret, Endpoints}
 use Rattle.ev_secrets.specs.Awaited.{services_of}
-use Rattle.ev_secrets.specs.Known.{first_untold}
 use Rattle.ev_secrets.proofs.KnownLemmas.{next_secret, next_other}
 use Rattle.ev_secrets.proofs.known.Told.next_of.Goals as goal
 

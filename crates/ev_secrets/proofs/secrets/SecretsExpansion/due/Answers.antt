@@ -1,4 +1,4 @@
-use Rattle.std.proofs.Common.{◌≡◌, ℕ, Bool, List, [], ◌∷◌, ◌++◌, ◌||◌, ◌&&◌, not, map, flat_map, Some, nat_eq, sym, ap, ◌∙◌, subst}
+use Rattle.std.proofs.Common.{◌≡◌, ℕ, Bool, List, [], ◌∷◌, ◌++◌, ◌||◌, ◌&&◌, not, map, flat_map, nat_eq, sym, ap, ◌∙◌, subst}
 use Rattle.std.specs.Prelude.{slice_get}
 use Rattle.std.specs.List.{list_any}
 use Rattle.indexmap.specs.IndexSet.{IndexSet, contains}
@@ -33,11 +33,11 @@ returns-clause-due c = λ before behind kept.
     let all : List Guarded = guarded_so_far c.args.numbers.now in
     let finished : ℕ → Bool = contains nat_eq c.in_ok-marks.marks.finished in
     let connected : c.open_after-self.result ≡ stream_at (before ++ line ∷ []) = c.open_after-self.ensures ∙ (λ i. open_after (behind.stream i) (c.requires.event i)) ∙ stream_now before line in
-    let heard : c.in_ok-told.told.items ≡ flat_map told_by (heard_now (stream_at (before ++ line ∷ [])) line) =
+    let heard : c.in_ok-told.field-0.told.items ≡ flat_map told_by (heard_now (stream_at (before ++ line ∷ [])) line) =
     c.in_ok-told.ensures.told ∙ ap (λ (b : Bool). flat_map told_by (heard_now b line)) connected in
-    let gave : map value_shown c.in_ok-told.values.items ≡ flat_map values_in (heard_now (stream_at (before ++ line ∷ [])) line) =
+    let gave : map value_shown c.in_ok-told.field-0.values.items ≡ flat_map values_in (heard_now (stream_at (before ++ line ∷ [])) line) =
     c.in_ok-told.ensures.values ∙ ap (λ (b : Bool). flat_map values_in (heard_now b line)) connected in
-    let adds : AddsAll old new c.in_ok-told.told.items = c.in_ok-finished.ensures.told in
+    let adds : AddsAll old new c.in_ok-told.field-0.told.items = c.in_ok-finished.ensures.told in
     let told : (a : Awaited) → has_told new a ≡ is_told (before ++ line ∷ []) a = λ a. adds a ∙ (λ i. behind.told a i || list_any (awaited_same a) (heard i)) ∙ sym (told_now before line a) in
     let values : (name : List ℕ) → shown_value c.take_all.new.self name ≡ value_of (before ++ line ∷ []) name = λ name.
     c.in_ok-given.ensures.values name ∙ (λ i. later_value name (behind.values name i) (gave i)) ∙ sym (value_now before line name) in
@@ -50,12 +50,12 @@ returns-clause-due c = λ before behind kept.
       stream = m.stream ∙ connected;
       opening = m.opening ∙ (λ i. connected i && not (behind.stream i));
       had = λ n. behind.complete.places n ∙ was_as before old gs n behind.told;
-      now = λ n g at. complete_now old new c.in_ok-told.told.items gs all c.args.self.now.complete finished adds grows behind.complete finishes n
+      now = λ n g at. complete_now old new c.in_ok-told.field-0.told.items gs all c.args.self.now.complete finished adds grows behind.complete finishes n
           ∙ complete_here new all n g (ap (λ (xs : List Guarded). slice_get xs n) kept ∙ at) ∙ completed_as (before ++ line ∷ []) new g told;
       marked = λ n. m.items n ∙ ap (λ xs. is_marked xs n) (c.requires.places.each ∙ ap (λ (xs : List Guarded). map (place_at by_secrets xs) (clusters_in line)) kept);
       values = λ name. m.values name ∙ c.in_ok-given.ensures.names name ∙ ap (gives_to name) gave;
     } in
-    c.in_ok-due.ensures (were_served old new c.in_ok-told.told.items gs all c.args.self.now.complete finished adds grows behind.complete finishes)
+    c.in_ok-due.ensures (were_served old new c.in_ok-told.field-0.told.items gs all c.args.self.now.complete finished adds grows behind.complete finishes)
     ∙ due_found before line c.take_all.new.self (marks_of c.args.self.now.complete c.in_ok-marks.marks) all values marks kept
 
 pub returns-clause-behind : goal.returns-clause-behind
@@ -67,11 +67,11 @@ returns-clause-behind c = λ before behind kept.
     let all : List Guarded = guarded_so_far c.args.numbers.now in
     let finished : ℕ → Bool = contains nat_eq c.in_ok-marks.marks.finished in
     let connected : c.open_after-self.result ≡ stream_at (before ++ line ∷ []) = c.open_after-self.ensures ∙ (λ i. open_after (behind.stream i) (c.requires.event i)) ∙ stream_now before line in
-    let heard : c.in_ok-told.told.items ≡ flat_map told_by (heard_now (stream_at (before ++ line ∷ [])) line) =
+    let heard : c.in_ok-told.field-0.told.items ≡ flat_map told_by (heard_now (stream_at (before ++ line ∷ [])) line) =
     c.in_ok-told.ensures.told ∙ ap (λ (b : Bool). flat_map told_by (heard_now b line)) connected in
-    let gave : map value_shown c.in_ok-told.values.items ≡ flat_map values_in (heard_now (stream_at (before ++ line ∷ [])) line) =
+    let gave : map value_shown c.in_ok-told.field-0.values.items ≡ flat_map values_in (heard_now (stream_at (before ++ line ∷ [])) line) =
     c.in_ok-told.ensures.values ∙ ap (λ (b : Bool). flat_map values_in (heard_now b line)) connected in
-    let adds : AddsAll old new c.in_ok-told.told.items = c.in_ok-finished.ensures.told in
+    let adds : AddsAll old new c.in_ok-told.field-0.told.items = c.in_ok-finished.ensures.told in
     let told : (a : Awaited) → has_told new a ≡ is_told (before ++ line ∷ []) a = λ a. adds a ∙ (λ i. behind.told a i || list_any (awaited_same a) (heard i)) ∙ sym (told_now before line a) in
     let values : (name : List ℕ) → shown_value c.take_all.new.self name ≡ value_of (before ++ line ∷ []) name = λ name.
     c.in_ok-given.ensures.values name ∙ (λ i. later_value name (behind.values name i) (gave i)) ∙ sym (value_now before line name) in
@@ -85,7 +85,7 @@ returns-clause-behind c = λ before behind kept.
       values = values;
       waiting = subst (λ (xs : List Guarded). IsWaiting new xs c.go_on.new.self) kept goes.waits;
       complete = subst (λ (xs : List Guarded). AreComplete new xs c.enter_all.new.self) kept
-          (complete_after old new c.in_ok-told.told.items gs all c.args.self.now.complete finished adds grows behind.complete finishes c.enter_all.new.self c.in_ok-enter_all.ensures);
+          (complete_after old new c.in_ok-told.field-0.told.items gs all c.args.self.now.complete finished adds grows behind.complete finishes c.enter_all.new.self c.in_ok-enter_all.ensures);
     }
 
 pub returns-then-is_quiet-clause-due : goal.returns-then-is_quiet-clause-due

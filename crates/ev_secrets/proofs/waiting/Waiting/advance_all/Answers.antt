@@ -1,4 +1,4 @@
-use Rattle.std.proofs.Common.{ℕ, nat_eq, refl, ◌∙◌}
+use Rattle.std.proofs.Common.{nat_eq, refl, ◌∙◌}
 use Rattle.indexmap.specs.IndexSet.{contains}
 use Rattle.ev_expand.specs.Numbers.{guarded_so_far}
 use Rattle.ev_secrets.proofs.WaitingLemmas.{advances_more}

@@ -1,11 +1,11 @@
 use Rattle.std.proofs.Common.{◌≡◌, ◌≤◌, ◌<◌, ◌∙◌, ℕ, List, Result, Ok, Err, IfOk, OnOk, true, nat_eq, length, refl, sym, ap, subst, arith}
-use Rattle.indexmap.specs.IndexSet.{IndexSet, contains}
+use Rattle.indexmap.specs.IndexSet.{contains}
 use Rattle.ev_expand.specs.Guarding.{Guarded}
 use Rattle.ev_expand.specs.Numbers.{guarded_so_far}
 use Rattle.ev_secrets.specs.declared.awaited.Awaited.{Awaited}
 use Rattle.ev_secrets.specs.Known.{AddsAll}
-use Rattle.ev_secrets.specs.Places.{PlacesKept, has_place}
-use Rattle.ev_secrets.specs.Waiting.{Advances, GoesOn, HavePassed, Wakes}
+use Rattle.ev_secrets.specs.Places.{has_place}
+use Rattle.ev_secrets.specs.Waiting.{HavePassed, Wakes}
 use Rattle.ev_secrets.proofs.ProgressLemmas.{WentOn, waits_on, finishes, passed_still}
 use Rattle.ev_secrets.proofs.waiting.Waiting.go_on.Goals as goal
 
