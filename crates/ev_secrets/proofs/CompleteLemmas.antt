@@ -27,9 +27,9 @@ or_none false = refl
 
 -- a place that was put under its endpoints is served
 pub serves : (d : Discovery) (service copied : List ℕ) (limited : Bool) (place : ℕ) (before after : PlacesKept) → d ≡ Eds service limited → copied ≡ service → Enters (Endpoints copied) place before after
-    → list_all (λ (name : List ℕ). stands_under after (Endpoints name) place) (services_of d) ≡ true
+    → is_served after place d ≡ true
 serves d service copied limited place before after is same enters =
-    ap (λ (x : Discovery). list_all (λ (name : List ℕ). stands_under after (Endpoints name) place) (services_of x)) is ∙ and_true (stands_under after (Endpoints service) place)
+    ap (is_served after place) is ∙ and_true (stands_under after (Endpoints service) place)
     ∙ ap (λ (name : List ℕ). stands_under after (Endpoints name) place) (sym same) ∙ stands_own (Endpoints copied) place before after enters
 
 pub all_so : {X : Type 0} (p q : X → Bool) → ((x : X) → p x ≡ true → q x ≡ true) → (xs : List X) → list_all p xs ≡ true → list_all q xs ≡ true
@@ -61,10 +61,10 @@ enters_more gs xs x before mid after so_far one = record {
   served = λ n g here entered. by n g here (list_any (nat_eq n) (map deref xs)) refl (sym (seen_more (nat_eq n) xs x) ∙ entered);
 }
   where
-    by : (n : ℕ) (g : Guarded) → slice_get gs n ≡ Some g → (t : Bool) → list_any (nat_eq n) (map deref xs) ≡ t → (t || nat_eq n x.now) ≡ true → is_served after.served n g ≡ true
+    by : (n : ℕ) (g : Guarded) → slice_get gs n ≡ Some g → (t : Bool) → list_any (nat_eq n) (map deref xs) ≡ t → (t || nat_eq n x.now) ≡ true → is_served after.served n g.key.cluster.discovery ≡ true
     by n g here true at h =
         all_so (λ (name : List ℕ). stands_under mid.served (Endpoints name) n) (λ (name : List ℕ). stands_under after.served (Endpoints name) n) (λ name. one.kept (Endpoints name) n)
         (services_of g.key.cluster.discovery) (so_far.served n g here at)
     by n g here false at h =
         let same : n ≡ x.now = (numbers_decide n x.now).0 h in
-        ap (λ (m : ℕ). is_served after.served m g) same ∙ one.served g (ap (slice_get gs) (sym same) ∙ here)
+        ap (λ (m : ℕ). is_served after.served m g.key.cluster.discovery) same ∙ one.served g (ap (slice_get gs) (sym same) ∙ here)

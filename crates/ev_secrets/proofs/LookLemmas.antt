@@ -8,7 +8,6 @@ use Rattle.std.specs.Ordering.{nat_cmp}
 use Rattle.std.specs.declared.cmp.Ordering.TheVariants.{Less}
 use Rattle.std.proofs.lemmas.Bool.{cases_lt}
 use Rattle.std.proofs.lemmas.Bool.Decides.{nat_tests}
-use Rattle.std.specs.List.{list_all}
 use Rattle.std.specs.Str.{bytes_eq}
 use Rattle.indexmap.specs.IndexSet.{IndexSet, contains}
 use Rattle.ev_types.specs.Same.{bytes_decide}
@@ -20,8 +19,9 @@ use Rattle.ev_secrets.specs.declared.complete.Complete.{Complete}
 use Rattle.ev_secrets.specs.declared.known.Values.{Values}
 use Rattle.ev_secrets.specs.declared.looking.Marked.{Marked}
 use Rattle.ev_secrets.specs.Awaited.{services_of}
-use Rattle.ev_secrets.specs.Looking.{Marks, due_among, due_by, due_one, due_parts, due_there, marks_of, may_be_due, WereServed}
+use Rattle.ev_secrets.specs.Looking.{Marks, due_among, due_by, due_one, due_parts, due_there, marks_of, may_be_due, stands_under_any, WereServed}
 use Rattle.ev_secrets.specs.Places.{PlacesKept, stands_under}
+use Rattle.ev_secrets.specs.Waiting.{is_served}
 use Rattle.ev_secrets.proofs.WaitingLemmas.{any_so}
 
 -- ascending from this one on
@@ -157,8 +157,8 @@ found_due marks values gs cs may up has holds =
     (λ i g here. let e : i ≡ 0 + i = omega arith in
     subst (λ (k : ℕ). due_by marks (k, g) ≡ true → list_any (nat_eq k) cs ≡ true) e (λ due. has_same i cs ∙ has i ∙ holds i g here due))
 
-given_served : {S : Type 0} (given : IndexSet (List ℕ) S) (served : PlacesKept) (n : ℕ) (d : Discovery) → list_all (λ (name : List ℕ). stands_under served (Endpoints name) n) (services_of d) ≡ true
-    → list_any (contains bytes_eq given) (services_of d) ≡ true → list_any (λ (name : List ℕ). stands_under served (Endpoints name) n) given.keys ≡ true
+given_served : {S : Type 0} (given : IndexSet (List ℕ) S) (served : PlacesKept) (n : ℕ) (d : Discovery) → is_served served n d ≡ true
+    → list_any (contains bytes_eq given) (services_of d) ≡ true → stands_under_any served given.keys n ≡ true
 given_served {S} given served n (Static rows) all any = absurd (cc)
 given_served {S} given served n (Eds service limited) all any =
     any_so (bytes_eq service) (λ (name : List ℕ). stands_under served (Endpoints name) n)

@@ -13,6 +13,7 @@ use Rattle.serde_json.specs.Data.{Data}
 use Rattle.ev_types.specs.Same.{numbers_decide}
 use Rattle.ev_types.specs.declared.clusters.Discovery.{Discovery}
 use Rattle.ev_types.specs.declared.clusters.Discovery.TheVariants.{Static, Eds}
+use Rattle.ev_types.specs.declared.events.Event.{Event}
 use Rattle.ev_expand.specs.declared.keys.Key.{Key}
 use Rattle.ev_expand.specs.Keys.{key_same, key_decides}
 use Rattle.ev_expand.specs.Expanding.{due_at}
@@ -25,12 +26,14 @@ use Rattle.ev_expand.proofs.DistinctLemmas.{AreDistinct, IsExtended, once_distin
 use Rattle.ev_secrets.specs.declared.awaited.Awaited.{Awaited}
 use Rattle.ev_secrets.specs.declared.known.Told.{Told}
 use Rattle.ev_secrets.specs.declared.known.Values.{Values}
+use Rattle.ev_secrets.specs.declared.secrets.Secrets.{Secrets}
 use Rattle.ev_secrets.specs.Awaited.{awaited_same, awaited_by, services_of}
-use Rattle.ev_secrets.specs.Known.{has_told, shown_value, later_value, gives_to}
+use Rattle.ev_secrets.specs.Known.{has_told, shown_value, later_value, gives_to, AddsAll}
 use Rattle.ev_secrets.specs.Hearing.{heard_now, open_after}
 use Rattle.ev_secrets.specs.Looking.{Marks, due_among, due_by, due_parts, endpoints_with, is_awake}
 use Rattle.ev_secrets.specs.Marking.{is_place, is_marked}
 use Rattle.ev_secrets.specs.References.{by_secrets}
+use Rattle.ev_secrets.specs.State.{IsBehind}
 use Rattle.ev_secrets.specs.Sealing.{tls_rules, is_due, endpoints_by, has_guarded, gives_name, gives_endpoints}
 use Rattle.ev_secrets.specs.Told.{told_by, is_told, is_complete, values_in, value_of}
 use Rattle.ev_secrets.specs.Waiting.{completed, complete_at, Grows}
@@ -217,4 +220,25 @@ guarded_grows before line all kept =
     record {
       longer = let l : length all ≡ length old + length extended.more = ap length grown ∙ length-append old extended.more in omega (arith, l);
       first = λ n within. ap (λ (xs : List Guarded). slice_get xs n) grown ∙ first_get old extended.more n within;
+    }
+
+-- what is known behind one line more, by what it told of and gave
+pub record Hears (before : List Data) (line : Data) (connected : Bool) (gave : List (List ℕ × Data)) (told : Told) (values : Values) : Type 0 where
+  pub stream : connected ≡ stream_at (before ++ line ∷ [])
+  pub given : gave ≡ flat_map values_in (heard_now (stream_at (before ++ line ∷ [])) line)
+  pub tells : (a : Awaited) → has_told told a ≡ is_told (before ++ line ∷ []) a
+  pub shows : (name : List ℕ) → shown_value values name ≡ value_of (before ++ line ∷ []) name
+
+pub hears : (before : List Data) (line : Data) (s : Secrets) (event : Option Event) (connected : Bool) (heard : List Awaited) (gave : List (List ℕ × Data)) (told : Told) (values : Values)
+    → IsBehind s before → event ≡ event_of line → connected ≡ open_after s.connected event → heard ≡ flat_map told_by (heard_now connected line) → gave ≡ flat_map values_in (heard_now connected line)
+    → AddsAll s.told told heard → ((name : List ℕ) → shown_value values name ≡ later_value name (shown_value s.values name) gave) → Hears before line connected gave told values
+hears before line s event connected heard gave told values behind read opened telling giving adds later =
+    let stream : connected ≡ stream_at (before ++ line ∷ []) = opened ∙ (λ i. open_after (behind.stream i) (read i)) ∙ stream_now before line in
+    let said : heard ≡ flat_map told_by (heard_now (stream_at (before ++ line ∷ [])) line) = telling ∙ ap (λ (b : Bool). flat_map told_by (heard_now b line)) stream in
+    let given : gave ≡ flat_map values_in (heard_now (stream_at (before ++ line ∷ [])) line) = giving ∙ ap (λ (b : Bool). flat_map values_in (heard_now b line)) stream in
+    record {
+      stream = stream;
+      given = given;
+      tells = λ a. adds a ∙ (λ i. behind.told a i || list_any (awaited_same a) (said i)) ∙ sym (told_now before line a);
+      shows = λ name. later name ∙ (λ i. later_value name (behind.values name i) (given i)) ∙ sym (value_now before line name);
     }

@@ -1,15 +1,16 @@
 -- Places that go on.
 use Rattle.std.proofs.Common.{◌≡◌, ℕ, zero, suc, ◌+◌, ◌<◌, ◌⊎◌, inl, inr, Bool, true, false, not, cond, ◌||◌, ◌&&◌, List, [], ◌∷◌, length, get_or, set, take, Option, Some, None, option_map, unwrap_or, nat_eq, refl, sym, ap, ap₂, ◌∙◌}
 use Rattle.std.specs.Prelude.{slice_get}
-use Rattle.std.specs.List.{list_any, list_all, find, prefix_len}
+use Rattle.std.specs.List.{list_any, list_all, find}
 use Rattle.std.specs.Str.{bytes_eq}
-use Rattle.indexmap.specs.IndexSet.{contains}
+use Rattle.indexmap.specs.IndexSet.{IndexSet, contains}
 use Rattle.ev_types.specs.Same.{numbers_decide}
 use Rattle.ev_expand.specs.Guarding.{Guarded}
 use Rattle.ev_secrets.specs.declared.awaited.Awaited.{Awaited}
 use Rattle.ev_secrets.specs.declared.known.Told.{Told}
+use Rattle.ev_secrets.specs.declared.waiting.Waiting.{Waiting}
 use Rattle.ev_secrets.specs.Awaited.{awaited_by}
-use Rattle.ev_secrets.specs.Known.{has_told, next_of}
+use Rattle.ev_secrets.specs.Known.{first_told, has_told, next_of}
 use Rattle.ev_secrets.specs.Places.{PlacesKept, has_place, stands_under, Enters}
 use Rattle.ev_secrets.specs.Waiting.{completed, complete_at, is_waiting, HavePassed, Advances, AdvancesOne}
 use Rattle.ev_secrets.proofs.KnownLemmas.{front_passes}
@@ -72,7 +73,7 @@ set_at (x ∷ xs) (suc i) v (suc n) = one (set_at xs i v n)
     one (inr here) = inr (ap suc here.0, here.1)
 
 -- the count of one place is set
-pub passed_set : (told : Told) (gs : List Guarded) (place count : ℕ) (g : Guarded) (old : List ℕ) → slice_get gs place ≡ Some g → count ≡ prefix_len (contains bytes_eq told.secrets) g.key.names
+pub passed_set : (told : Told) (gs : List Guarded) (place count : ℕ) (g : Guarded) (old : List ℕ) → slice_get gs place ≡ Some g → count ≡ first_told told g.key.names
     → HavePassed told gs old → HavePassed told gs (set old place count)
 passed_set told gs place count g old at is had n x here = by (set_at old place count n)
   where
@@ -100,26 +101,34 @@ one_finished false true at h = sym (h refl)
 one_finished false false at h = refl
 
 -- a place that isn't complete comes to stand under the first that it still waits for
-pub advances_waiting : (told : Told) (gs : List Guarded) (place : ℕ) (g : Guarded) (a : Awaited) (before after : PlacesKept) (was : ℕ → Bool) → slice_get gs place ≡ Some g → next_of told g.key ≡ Some a
-    → Enters a place before after → AdvancesOne told gs place before after was was
-advances_waiting told gs place g a before after was at next enters = record {
-  kept = stands_still a place before after enters;
-  waits = λ x here none. ap (is_waiting told after place) (some_same x g (sym here ∙ at))
-      ∙ found_stands (λ (y : Awaited). not (has_told told y)) (λ (y : Awaited). stands_under after y place) (awaited_by g.key) a next (stands_own a place before after enters);
-  finished = λ n. nothing_more (was n) (nat_eq n place) (complete_at told gs n)
+pub advances_waiting : {S : Type 0} (told : Told) (gs : List Guarded) (place : ℕ) (g : Guarded) (a : Awaited) (before after : Waiting) (finished : IndexSet ℕ S) → slice_get gs place ≡ Some g
+    → next_of told g.key ≡ Some a → Enters a place before.under after.under → length after.passed.items ≡ length before.passed.items → HavePassed told gs after.passed.items
+    → AdvancesOne told gs place before after finished finished
+advances_waiting {S} told gs place g a before after finished at next enters counted passed = record {
+  counted = counted;
+  passed = passed;
+  kept = stands_still a place before.under after.under enters;
+  waits = λ x here none. ap (is_waiting told after.under place) (some_same x g (sym here ∙ at))
+      ∙ found_stands (λ (y : Awaited). not (has_told told y)) (λ (y : Awaited). stands_under after.under y place) (awaited_by g.key) a next
+      (stands_own a place before.under after.under enters);
+  finishes = λ n. nothing_more (contains nat_eq finished n) (nat_eq n place) (complete_at told gs n)
       (λ same. ap (complete_at told gs) ((numbers_decide n place).0 same) ∙ complete_here told gs place g at ∙ found_some (has_told told) (awaited_by g.key) a next);
 }
 
 -- a place that is complete is finished
-pub advances_finished : (told : Told) (gs : List Guarded) (place : ℕ) (g : Guarded) (under : PlacesKept) (was now : ℕ → Bool) → slice_get gs place ≡ Some g → next_of told g.key ≡ None
-    → ((n : ℕ) → now n ≡ (nat_eq place n || was n)) → AdvancesOne told gs place under under was now
-advances_finished told gs place g under was now at next put =
+pub advances_finished : {S : Type 0} (told : Told) (gs : List Guarded) (place : ℕ) (g : Guarded) (before after : Waiting) (old new : IndexSet ℕ S) → slice_get gs place ≡ Some g
+    → next_of told g.key ≡ None → after.under ≡ before.under → length after.passed.items ≡ length before.passed.items → HavePassed told gs after.passed.items
+    → ((n : ℕ) → contains nat_eq new n ≡ (nat_eq place n || contains nat_eq old n)) → AdvancesOne told gs place before after old new
+advances_finished {S} told gs place g before after old new at next same counted passed put =
     let done : completed told g ≡ true = found_none (has_told told) (awaited_by g.key) next in
     record {
-      kept = λ b n stands. stands;
+      counted = counted;
+      passed = passed;
+      kept = λ b n stands. ap (λ (u : PlacesKept). stands_under u b n) same ∙ stands;
       waits = λ x here none. absurd (both (completed told x) (ap (completed told) (some_same x g (sym here ∙ at)) ∙ done) none);
-      finished = λ n. put n ∙ ap (λ (t : Bool). t || was n) (number_swapped place n)
-          ∙ one_finished (was n) (nat_eq n place) (complete_at told gs n) (λ same. ap (complete_at told gs) ((numbers_decide n place).0 same) ∙ complete_here told gs place g at ∙ done);
+      finishes = λ n. put n ∙ ap (λ (t : Bool). t || contains nat_eq old n) (number_swapped place n)
+          ∙ one_finished (contains nat_eq old n) (nat_eq n place) (complete_at told gs n)
+          (λ same. ap (complete_at told gs) ((numbers_decide n place).0 same) ∙ complete_here told gs place g at ∙ done);
     }
   where
     both : (b : Bool) → b ≡ true → b ≡ false → ⊥
@@ -134,19 +143,22 @@ finished_more was true true false h = ap (λ (t : Bool). t || false) h
 finished_more was true false false h = ap (λ (t : Bool). t || false) h
 finished_more was false same at h = ap (λ (t : Bool). t || (same && at)) h
 
-pub advances_more : (told : Told) (gs : List Guarded) (places : List ℕ) (i place : ℕ) (before mid after : PlacesKept) (was now : ℕ → Bool) → i < length places → place ≡ get_or places i 0
-    → Advances told gs (take i places) before mid was → AdvancesOne told gs place mid after was now → Advances told gs (take (i + 1) places) before after now
-advances_more told gs places i place before mid after was now below is so_far one = record {
+pub advances_more : {S : Type 0} (told : Told) (gs : List Guarded) (places : List ℕ) (i place : ℕ) (before mid after : Waiting) (old new : IndexSet ℕ S) → i < length places
+    → place ≡ get_or places i 0 → Advances told gs (take i places) before mid old → AdvancesOne told gs place mid after old new → Advances told gs (take (i + 1) places) before after new
+advances_more {S} told gs places i place before mid after old new below is so_far one = record {
+  counted = one.counted ∙ so_far.counted;
+  passed = one.passed;
   kept = λ a n stands. one.kept a n (so_far.kept a n stands);
   waits = λ n g here has none. by n g here none (has_place (take i places) n) refl (sym (any_more (nat_eq n) places i 0 place below is) ∙ has);
-  finished = λ n. one.finished n ∙ finished_more (was n) (has_place (take i places) n) (nat_eq n place) (complete_at told gs n) (so_far.finished n)
+  finishes = λ n. one.finishes n ∙ finished_more (contains nat_eq old n) (has_place (take i places) n) (nat_eq n place) (complete_at told gs n) (so_far.finishes n)
       ∙ ap (λ (t : Bool). t && complete_at told gs n) (sym (any_more (nat_eq n) places i 0 place below is));
 }
   where
-    by : (n : ℕ) (g : Guarded) → slice_get gs n ≡ Some g → completed told g ≡ false → (t : Bool) → has_place (take i places) n ≡ t → (t || nat_eq n place) ≡ true → is_waiting told after n g ≡ true
+    by : (n : ℕ) (g : Guarded) → slice_get gs n ≡ Some g → completed told g ≡ false → (t : Bool) → has_place (take i places) n ≡ t → (t || nat_eq n place) ≡ true
+        → is_waiting told after.under n g ≡ true
     by n g here none true has h =
-        any_so (λ (a : Awaited). not (has_told told a) && stands_under mid a n) (λ (a : Awaited). not (has_told told a) && stands_under after a n)
-        (λ a. and_so (not (has_told told a)) (stands_under mid a n) (stands_under after a n) (one.kept a n)) (awaited_by g.key) (so_far.waits n g here has none)
+        any_so (λ (a : Awaited). not (has_told told a) && stands_under mid.under a n) (λ (a : Awaited). not (has_told told a) && stands_under after.under a n)
+        (λ a. and_so (not (has_told told a)) (stands_under mid.under a n) (stands_under after.under a n) (one.kept a n)) (awaited_by g.key) (so_far.waits n g here has none)
     by n g here none false has h =
         let same : n ≡ place = (numbers_decide n place).0 h in
-        ap (λ (m : ℕ). is_waiting told after m g) same ∙ one.waits g (ap (slice_get gs) (sym same) ∙ here) none
+        ap (λ (m : ℕ). is_waiting told after.under m g) same ∙ one.waits g (ap (slice_get gs) (sym same) ∙ here) none

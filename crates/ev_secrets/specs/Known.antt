@@ -1,6 +1,6 @@
 -- What is known of secrets and of endpoints, found by look-ups.
 use Rattle.std.specs.Prelude.{◌≡◌, ℕ, Bool, not, ◌||◌, List, Option, map, filter, option_map}
-use Rattle.std.specs.List.{list_any, find, last_or}
+use Rattle.std.specs.List.{list_any, list_all, find, last_or, prefix_len}
 use Rattle.std.specs.Str.{bytes_eq}
 use Rattle.indexmap.specs.IndexSet.{contains}
 use Rattle.indexmap.specs.IndexMap.{get}
@@ -25,6 +25,14 @@ Adds old new one = (other : Awaited) → has_told new other ≡ (awaited_same ot
 -- all of these are told of more
 abbrev pub AddsAll : Told → Told → List Awaited → Type 0
 AddsAll old new all = (other : Awaited) → has_told new other ≡ (has_told old other || list_any (awaited_same other) all)
+
+-- all of these secrets were told of
+abbrev pub are_told : Told → List (List ℕ) → Bool
+are_told told secrets = list_all (contains bytes_eq told.secrets) secrets
+
+-- how many of these secrets, from the first on, were told of
+abbrev pub first_told : Told → List (List ℕ) → ℕ
+first_told told secrets = prefix_len (contains bytes_eq told.secrets) secrets
 
 -- the first of these that wasn't told of
 abbrev pub first_untold : Told → List Awaited → Option Awaited

@@ -1,6 +1,8 @@
 -- Which places are due at a line, found among some.
 use Rattle.std.specs.Prelude.{◌≡◌, ℕ, Bool, true, not, ◌&&◌, ◌||◌, nat_eq, List, [], ◌∷◌, map, filter, Option, Some, None, if◌then◌else◌, slice_get}
+use Rattle.std.specs.BTreeSet.{BTreeSet, contains as has_key}
 use Rattle.std.specs.List.{list_any}
+use Rattle.std.specs.Ordering.{nat_cmp}
 use Rattle.std.specs.Str.{bytes_eq}
 use Rattle.indexmap.specs.IndexSet.{contains}
 use Rattle.serde_json.specs.Data.{Data}
@@ -16,7 +18,7 @@ use Rattle.ev_secrets.specs.declared.looking.Marked.{Marked}
 use Rattle.ev_secrets.specs.Awaited.{services_of}
 use Rattle.ev_secrets.specs.Known.{shown_value}
 use Rattle.ev_secrets.specs.Marking.{is_marked}
-use Rattle.ev_secrets.specs.Places.{stands_under}
+use Rattle.ev_secrets.specs.Places.{PlacesKept, stands_under}
 use Rattle.ev_secrets.specs.Waiting.{is_served}
 
 -- the endpoints of something guarded, by these values
@@ -24,8 +26,8 @@ abbrev pub endpoints_with : Values → Discovery → Data → Option Data
 endpoints_with values (Static rows) own = Some own
 endpoints_with values (Eds service limited) own = shown_value values service
 
--- What is known at a line: whether a stream is open, and was opened by the line, which places were complete before it, and are now,
--- which have a guarded resource in it, and which names it gives a value.
+-- What is known at a line: whether a stream is open, and was opened by the line, which places were complete before it, which are
+-- now, which have a guarded resource in it, and which names it gives a value.
 pub record Marks : Type 0 where
   pub connected : Bool
   pub opened : Bool
@@ -45,13 +47,10 @@ marks_of complete marked = record {
   given = contains bytes_eq marked.given;
 }
 
--- a cause to send it: a stream that was opened, a guarded resource of it, that it is complete since the line, a value of its endpoints
-abbrev pub cause_by : Bool → Bool → Bool → (List ℕ → Bool) → Key → Bool
-cause_by opened item was given key = opened || item || not was || list_any given (services_of key.cluster.discovery)
-
 -- the line gives a cause to send it
 abbrev pub is_awake : Marks → ℕ → Key → Bool
-is_awake marks place key = cause_by marks.opened (marks.items place) (marks.was place) marks.given key
+is_awake marks place key =
+    marks.opened || marks.items place || not (marks.was place) || list_any marks.given (services_of key.cluster.discovery)
 
 -- something guarded is due, by its place
 abbrev pub due_where : Marks → ℕ → Key → Bool
@@ -76,20 +75,29 @@ due_there marks values place (Some g) = if due_by marks (place, g) then due_part
 abbrev pub due_one : Marks → Values → List Guarded → ℕ → List DueParts
 due_one marks values guarded place = due_there marks values place (slice_get guarded place)
 
--- a place may be due: a value stands under its endpoints, a guarded resource is in the line, which completes it or opens the stream
+-- a place stands under the endpoints of one of these names
+abbrev pub stands_under_any : PlacesKept → List (List ℕ) → ℕ → Bool
+stands_under_any served names place = list_any (λ (name : List ℕ). stands_under served (Endpoints name) place) names
+
+-- a place may be due: the line completes it, has a guarded resource of it, gives its endpoints a value or opens a stream
 abbrev pub may_be_due : Complete → Marked → ℕ → Bool
 may_be_due complete marked place =
     contains nat_eq marked.finished place || contains nat_eq marked.items place
-    || list_any (λ (name : List ℕ). stands_under complete.served (Endpoints name) place) marked.given.keys
-    || (marked.opened && contains nat_eq complete.places place)
+    || stands_under_any complete.served marked.given.keys place || (marked.opened && contains nat_eq complete.places place)
+
+-- these places are among the others too
+abbrev pub Gains : (ℕ → Bool) → BTreeSet ℕ → BTreeSet ℕ → Type 0
+Gains more before after = (n : ℕ) → has_key nat_cmp after n ≡ (has_key nat_cmp before n || more n)
 
 -- each place that was complete before stands under its endpoints
 abbrev pub WereServed : Complete → List Guarded → Type 0
-WereServed complete guarded = (place : ℕ) (g : Guarded) → slice_get guarded place ≡ Some g → contains nat_eq complete.places place ≡ true → is_served complete.served place g ≡ true
+WereServed complete guarded = (place : ℕ) (g : Guarded) → slice_get guarded place ≡ Some g
+    → contains nat_eq complete.places place ≡ true → is_served complete.served place g.key.cluster.discovery ≡ true
 
--- these are the marks of a line, by whether a stream was open before it and is behind it, the places of its guarded resources and the
--- names that it gives a value
-pub record AreMarks (was_open connected : Bool) (places : List (Option ℕ)) (names : List ℕ → Bool) (marked : Marked) : Type 0 where
+-- these are the marks of a line, by whether a stream was open before it and is behind it, the places of its guarded resources and
+-- the names that it gives a value
+pub record AreMarks (was_open connected : Bool) (places : List (Option ℕ)) (names : List ℕ → Bool) (marked : Marked)
+    : Type 0 where
   pub stream : marked.connected ≡ connected
   pub opening : marked.opened ≡ (connected && not was_open)
   pub items : (n : ℕ) → contains nat_eq marked.items n ≡ is_marked places n

@@ -22,10 +22,10 @@ stands_under kept awaited place = has_place (places_under kept awaited) place
 
 -- the place stands behind the others under this, and the same as before under all else
 abbrev pub Enters : Awaited → ℕ → PlacesKept → PlacesKept → Type 0
-Enters awaited place before after =
-    (other : Awaited) → places_under after other ≡ places_under before other ++ (if awaited_same awaited other then place ∷ [] else [])
+Enters awaited place before after = (other : Awaited)
+    → places_under after other ≡ places_under before other ++ (if awaited_same awaited other then place ∷ [] else [])
 
 -- none stands under this, and the same as before under all else
 abbrev pub Leaves : Awaited → PlacesKept → PlacesKept → Type 0
-Leaves awaited before after =
-    (other : Awaited) → places_under after other ≡ (if awaited_same awaited other then [] else places_under before other)
+Leaves awaited before after = (other : Awaited)
+    → places_under after other ≡ (if awaited_same awaited other then [] else places_under before other)

@@ -6,7 +6,7 @@ ghost use Rattle.ev_secrets.specs.declared.awaited.Awaited.TheVariants.{Endpoint
 ghost use Rattle.ev_secrets.specs.declared.known.Told.{Told};
 ghost use Rattle.ev_secrets.specs.Awaited.{services_of};
 ghost use Rattle.ev_secrets.specs.Places.{stands_under};
-ghost use Rattle.ev_secrets.specs.Waiting.{AreComplete, EntersAll, EntersOne, KeepsUnder};
+ghost use Rattle.ev_secrets.specs.Waiting.{AreComplete, EntersAll, EntersOne, KeepsUnder, is_served};
 
 use crate::awaited::Awaited;
 use crate::places::Places;
@@ -70,7 +70,7 @@ fn serve(
     place: usize,
 ) -> Result<(), AllocError>
     ensures kept { OnOk result (KeepsUnder served.old served.new) }
-    ensures served { OnOk result (list_all (λ name. stands_under served.new (Endpoints name) place) (services_of discovery.now) ≡ true) }
+    ensures served { OnOk result (is_served served.new place discovery.now ≡ true) }
 {
     let Discovery::Eds { service, .. } = discovery else {
         return Ok(());

@@ -1,12 +1,11 @@
 ghost use Rattle.std.specs.Prelude.{◌≡◌, ◌||◌, ℕ, List, map, take, false, true, None, Some, option_map, if◌then◌else◌, IfOk, OnOk};
-ghost use Rattle.std.specs.List.{list_all, prefix_len};
 ghost use Rattle.std.specs.Str.{bytes_eq};
 ghost use Rattle.serde_json.specs.View.{view};
 ghost use Rattle.indexmap.specs.IndexSet.{contains};
 ghost use Rattle.ev_secrets.specs.declared.awaited.Awaited.{Awaited};
 ghost use Rattle.ev_secrets.specs.declared.awaited.Awaited.TheVariants.{Endpoints};
 ghost use Rattle.ev_secrets.specs.Awaited.{services_of};
-ghost use Rattle.ev_secrets.specs.Known.{has_told, first_untold, next_of, AddsAll, Adds, shown_value, later_value, gives_to};
+ghost use Rattle.ev_secrets.specs.Known.{are_told, has_told, first_told, first_untold, next_of, AddsAll, Adds, shown_value, later_value, gives_to};
 ghost use Rattle.ev_secrets.specs.Told.{value_shown};
 
 use crate::awaited::Awaited;
@@ -54,10 +53,9 @@ impl Told {
         Ok(())
     }
 
-    /// How many of these secrets, from the first on, were told of. As many as have passed are known to have been.
+    /// How many of these secrets, from the first on, were told of. As many as have passed need no look-up.
     pub(crate) fn first_told(&self, secrets: &[Name], passed: usize) -> usize
-        ensures { list_all (contains bytes_eq self.now.secrets) (take passed secrets.now) ≡ true
-            → result ≡ prefix_len (contains bytes_eq self.now.secrets) secrets.now }
+        ensures { are_told self.now (take passed secrets.now) ≡ true → result ≡ first_told self.now secrets.now }
     {
         for index in passed..secrets.len() {
             if !self.secrets.contains(&secrets[index]) {
@@ -67,14 +65,15 @@ impl Told {
         secrets.len()
     }
 
-    /// The first of what the clusters of a key wait for that wasn't told of. As many of its secrets as have passed were told of.
+    /// The first of what the clusters of a key wait for that wasn't told of, where so many of its secrets, from the first on,
+    /// were told of.
     pub(crate) fn next_of(
         &self,
         alloc: Global,
         key: &Key,
         passed: usize,
     ) -> Result<Option<Awaited>, AllocError>
-        ensures { passed ≡ prefix_len (contains bytes_eq self.now.secrets) key.now.names → IfOk result (λ next. next ≡ next_of self.now key.now) }
+        ensures { passed ≡ first_told self.now key.now.names → IfOk result (λ next. next ≡ next_of self.now key.now) }
     {
         match key.names.as_slice().get(passed) {
             Some(name) => Ok(Some(Awaited::Secret(name.copy(alloc)?))),

@@ -7,10 +7,9 @@ ghost use Rattle.indexmap.specs.IndexSet.{contains};
 ghost use Rattle.serde_json.specs.View.{view};
 ghost use Rattle.ev_expand.specs.Following.{due_shown};
 ghost use Rattle.ev_expand.specs.Numbers.{guarded_so_far};
-ghost use Rattle.ev_secrets.specs.declared.awaited.Awaited.TheVariants.{Endpoints};
 ghost use Rattle.ev_secrets.specs.Awaited.{services_of};
-ghost use Rattle.ev_secrets.specs.Looking.{cause_by, due_among, due_one, due_where, endpoints_with, is_awake, marks_of, may_be_due, WereServed};
-ghost use Rattle.ev_secrets.specs.Places.{has_place, stands_under};
+ghost use Rattle.ev_secrets.specs.Looking.{Gains, WereServed, due_among, due_one, due_where, endpoints_with, marks_of, may_be_due, stands_under_any};
+ghost use Rattle.ev_secrets.specs.Places.{has_place};
 
 use crate::awaited::Awaited;
 use crate::complete::Complete;
@@ -77,7 +76,7 @@ fn candidates(
 
 // Puts the places of a set among others.
 fn put_all(places: &mut BTreeSet<usize>, others: &IndexSet<usize>) -> Result<(), AllocError>
-    ensures { OnOk result ((n : ℕ) → has_key nat_cmp places.new n ≡ (has_key nat_cmp places.old n || contains nat_eq others.now n)) }
+    ensures { OnOk result (Gains (contains nat_eq others.now) places.old places.new) }
 {
     for other in others {
         put(places, *other)?;
@@ -92,8 +91,7 @@ fn put_served(
     served: &Places,
     given: &IndexSet<Name>,
 ) -> Result<(), AllocError>
-    ensures { OnOk result ((n : ℕ) → has_key nat_cmp places.new n
-        ≡ (has_key nat_cmp places.old n || list_any (λ name. stands_under served.now (Endpoints name) n) given.now.keys)) }
+    ensures { OnOk result (Gains (stands_under_any served.now given.now.keys) places.old places.new) }
 {
     for name in given {
         let endpoints = Awaited::Endpoints(name.copy(alloc)?);
@@ -104,7 +102,7 @@ fn put_served(
 
 // Puts these places among others.
 fn put_each(places: &mut BTreeSet<usize>, others: &[usize]) -> Result<(), AllocError>
-    ensures { OnOk result ((n : ℕ) → has_key nat_cmp places.new n ≡ (has_key nat_cmp places.old n || has_place others.now n)) }
+    ensures { OnOk result (Gains (has_place others.now) places.old places.new) }
 {
     for other in others {
         put(places, *other)?;
@@ -114,7 +112,7 @@ fn put_each(places: &mut BTreeSet<usize>, others: &[usize]) -> Result<(), AllocE
 
 // Puts a place among others.
 fn put(places: &mut BTreeSet<usize>, place: usize) -> Result<(), AllocError>
-    ensures { OnOk result ((n : ℕ) → has_key nat_cmp places.new n ≡ (has_key nat_cmp places.old n || nat_eq n place)) }
+    ensures { OnOk result (Gains (λ n. nat_eq n place) places.old places.new) }
 {
     let Ok(_) = places.insert(place) else {
         return Err(AllocError);
@@ -131,8 +129,8 @@ fn push_due(
     marks: &Marked,
     place: usize,
 ) -> Result<(), AllocError>
-    ensures { OnOk result (map due_shown due.new.items
-        ≡ map due_shown due.old.items ++ due_one (marks_of complete.now marks.now) values.now (guarded_so_far numbers.now) place) }
+    ensures { OnOk result (map due_shown due.new.items ≡ map due_shown due.old.items
+        ++ due_one (marks_of complete.now marks.now) values.now (guarded_so_far numbers.now) place) }
 {
     let Some((key, own)) = numbers.get(place) else {
         return Ok(());
@@ -150,17 +148,12 @@ fn is_due(complete: &Complete, marks: &Marked, place: usize, key: &Key) -> bool
     ensures { result ≡ due_where (marks_of complete.now marks.now) place key.now }
 {
     let was = complete.places.contains(&place);
-    marks.connected && (was || marks.finished.contains(&place)) && is_awake(marks, was, place, key)
-}
-
-// Whether the line gives a cause to send it, by whether it was complete before.
-fn is_awake(marks: &Marked, was: bool, place: usize, key: &Key) -> bool
-    ensures { result ≡ cause_by marks.now.opened (contains nat_eq marks.now.items place) was (contains bytes_eq marks.now.given) key.now }
-{
-    marks.opened
-        || marks.items.contains(&place)
-        || !was
-        || gives_to(&marks.given, &key.cluster.discovery)
+    marks.connected
+        && (was || marks.finished.contains(&place))
+        && (marks.opened
+            || marks.items.contains(&place)
+            || !was
+            || gives_to(&marks.given, &key.cluster.discovery))
 }
 
 // Whether the endpoints of a cluster are given a value.

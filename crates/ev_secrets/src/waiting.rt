@@ -1,13 +1,11 @@
 ghost use Rattle.std.specs.Prelude.{◌≡◌, ◌≤◌, ◌<◌, ◌++◌, ◌||◌, ℕ, List, [], length, nat_eq, true, Some, slice_get, slice_set, slice_index_or, take, IfOk, OnOk};
-ghost use Rattle.std.specs.List.{list_all, prefix_len};
-ghost use Rattle.std.specs.Str.{bytes_eq};
 ghost use Rattle.indexmap.specs.IndexSet.{contains};
 ghost use Rattle.ev_expand.specs.Guarding.{Guarded};
 ghost use Rattle.ev_expand.specs.Numbers.{guarded_so_far};
 ghost use Rattle.ev_secrets.specs.declared.known.Told.{Told};
-ghost use Rattle.ev_secrets.specs.Known.{AddsAll};
+ghost use Rattle.ev_secrets.specs.Known.{AddsAll, are_told, first_told};
 ghost use Rattle.ev_secrets.specs.Places.{has_place, places_under, Leaves};
-ghost use Rattle.ev_secrets.specs.Waiting.{Advances, AdvancesOne, GoesOn, Grows, HavePassed, IsWaiting, Wakes};
+ghost use Rattle.ev_secrets.specs.Waiting.{Advances, AdvancesOne, GoesOn, Grows, HasBetween, HavePassed, IsWaiting, Wakes};
 
 use crate::awaited::Awaited;
 use crate::complete::insert_place;
@@ -38,7 +36,8 @@ impl Waiting {
         }
     }
 
-    /// Takes what was told of and the places that are new, goes on with each place that can, and gives those that are complete now.
+    /// Takes what was told of and the places that are new, goes on with each place that can, and gives those that are complete
+    /// now.
     pub(crate) fn go_on(
         &mut self,
         alloc: Global,
@@ -47,8 +46,9 @@ impl Waiting {
         numbers: &Numbers,
     ) -> Result<IndexSet<usize>, AllocError>
         ensures told { OnOk result (AddsAll told.old told.new heard.items) }
-        ensures goes { (guarded : List Guarded) → IsWaiting told.old guarded self.old → Grows guarded (guarded_so_far numbers.now)
-            → IfOk result (λ finished. GoesOn told.old told.new guarded (guarded_so_far numbers.now) self.new (contains nat_eq finished)) }
+        ensures goes { (guarded : List Guarded) → IsWaiting told.old guarded self.old
+            → Grows guarded (guarded_so_far numbers.now)
+            → IfOk result (λ finished. GoesOn told.old told.new guarded (guarded_so_far numbers.now) self.new finished) }
     {
         let mut woken = take_up(alloc, &mut self.passed, numbers.len())?;
         wake(&mut self.under, heard.as_slice(), &mut woken)?;
@@ -64,11 +64,8 @@ impl Waiting {
         numbers: &Numbers,
         places: &[usize],
     ) -> Result<IndexSet<usize>, AllocError>
-        ensures passed { HavePassed told.now (guarded_so_far numbers.now) self.old.passed.items
-            → OnOk result (HavePassed told.now (guarded_so_far numbers.now) self.new.passed.items) }
-        ensures counted { length self.new.passed.items ≡ length self.old.passed.items }
-        ensures advances { HavePassed told.now (guarded_so_far numbers.now) self.old.passed.items
-            → IfOk result (λ finished. Advances told.now (guarded_so_far numbers.now) places.now self.old.under self.new.under (contains nat_eq finished)) }
+        ensures { HavePassed told.now (guarded_so_far numbers.now) self.old.passed.items
+            → IfOk result (λ finished. Advances told.now (guarded_so_far numbers.now) places.now self.old self.new finished) }
     {
         let mut finished = IndexSet::new(alloc);
         for place in places {
@@ -86,11 +83,8 @@ impl Waiting {
         place: usize,
         finished: &mut IndexSet<usize>,
     ) -> Result<(), AllocError>
-        ensures passed { HavePassed told.now (guarded_so_far numbers.now) self.old.passed.items
-            → OnOk result (HavePassed told.now (guarded_so_far numbers.now) self.new.passed.items) }
-        ensures counted { length self.new.passed.items ≡ length self.old.passed.items }
-        ensures advances { HavePassed told.now (guarded_so_far numbers.now) self.old.passed.items
-            → OnOk result (AdvancesOne told.now (guarded_so_far numbers.now) place self.old.under self.new.under (contains nat_eq finished.old) (contains nat_eq finished.new)) }
+        ensures { HavePassed told.now (guarded_so_far numbers.now) self.old.passed.items
+            → OnOk result (AdvancesOne told.now (guarded_so_far numbers.now) place self.old self.new finished.old finished.new) }
     {
         let Some((key, _)) = numbers.get(place) else {
             return Ok(());
@@ -107,7 +101,7 @@ impl Waiting {
 fn take_up(alloc: Global, passed: &mut Vec<usize>, count: usize) -> Result<Vec<usize>, AllocError>
     ensures counted { length passed.old.items ≤ count → OnOk result (length passed.new.items ≡ count) }
     ensures passed { OnOk result ((n : ℕ) → slice_index_or passed.new.items n 0 ≡ slice_index_or passed.old.items n 0) }
-    ensures taken { IfOk result (λ places. (n : ℕ) → length passed.old.items ≤ n → n < count → has_place places.items n ≡ true) }
+    ensures taken { IfOk result (λ places. HasBetween (length passed.old.items) count places.items) }
 {
     let mut places = Vec::new(alloc);
     for place in passed.len()..count {
@@ -143,10 +137,10 @@ fn take_waiting(
     Ok(())
 }
 
-// Counts on how many of the secrets of a place were told of.
+// Counts on how many of the secrets of a place, from the first on, were told of.
 fn count_on(passed: &mut Vec<usize>, told: &Told, place: usize, secrets: &[Name]) -> usize
-    ensures counted { list_all (contains bytes_eq told.now.secrets) (take (slice_index_or passed.old.items place 0) secrets.now) ≡ true
-        → result ≡ prefix_len (contains bytes_eq told.now.secrets) secrets.now }
+    ensures counted { are_told told.now (take (slice_index_or passed.old.items place 0) secrets.now) ≡ true
+        → result ≡ first_told told.now secrets.now }
     ensures set { passed.new.items ≡ slice_set passed.old.items place result }
 {
     let count = told.first_told(secrets, passed_at(passed.as_slice(), place));
