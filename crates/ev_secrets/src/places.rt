@@ -1,5 +1,4 @@
 ghost use Rattle.std.specs.Prelude.{◌≡◌, [], OnOk};
-ghost use Rattle.std.specs.Option.{unwrap_or};
 ghost use Rattle.ev_secrets.specs.Places.{places_under, Enters, Leaves};
 
 use crate::awaited::Awaited;
@@ -62,11 +61,14 @@ impl Places {
         Ok(())
     }
 
-    /// Takes the places under this out, where there are some.
-    pub(crate) fn take(&mut self, awaited: &Awaited) -> Option<Seq<usize>>
-        ensures taken { unwrap_or result [] ≡ places_under self.old awaited.now }
+    /// Takes the places under this out.
+    pub(crate) fn take(&mut self, alloc: Global, awaited: &Awaited) -> Seq<usize>
+        ensures taken { result ≡ places_under self.old awaited.now }
         ensures left { Leaves awaited.now self.old self.new }
     {
-        self.lists.swap_remove(awaited)
+        match self.lists.swap_remove(awaited) {
+            Some(places) => places,
+            None => Seq::new(alloc),
+        }
     }
 }

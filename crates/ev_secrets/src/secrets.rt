@@ -115,18 +115,11 @@ fn marks(
 {
     Ok(Marked {
         connected,
-        opened: opens(was_open, connected),
+        opened: connected && !was_open,
         finished,
         items: places_of(alloc, items)?,
         given,
     })
-}
-
-// Whether a stream is open that was not.
-fn opens(was_open: bool, connected: bool) -> bool
-    ensures { result ≡ (connected && not was_open) }
-{
-    connected && !was_open
 }
 
 // The set of the places that are given.

@@ -4,7 +4,7 @@ ghost use Rattle.ev_expand.specs.Guarding.{Guarded};
 ghost use Rattle.ev_expand.specs.Numbers.{guarded_so_far};
 ghost use Rattle.ev_secrets.specs.declared.known.Told.{Told};
 ghost use Rattle.ev_secrets.specs.Known.{AddsAll, are_told, first_told};
-ghost use Rattle.ev_secrets.specs.Places.{has_place, places_under, Leaves};
+ghost use Rattle.ev_secrets.specs.Places.{has_place};
 ghost use Rattle.ev_secrets.specs.Waiting.{Advances, AdvancesOne, GoesOn, Grows, HasBetween, HavePassed, IsWaiting, Wakes};
 
 use crate::awaited::Awaited;
@@ -51,7 +51,7 @@ impl Waiting {
             → IfOk result (λ finished. GoesOn told.old told.new guarded (guarded_so_far numbers.now) self.new finished) }
     {
         let mut woken = take_up(alloc, &mut self.passed, numbers.len())?;
-        wake(&mut self.under, heard.as_slice(), &mut woken)?;
+        wake(alloc, &mut self.under, heard.as_slice(), &mut woken)?;
         told.add_all(heard)?;
         self.advance_all(alloc, told, numbers, woken.as_slice())
     }
@@ -112,27 +112,17 @@ fn take_up(alloc: Global, passed: &mut Vec<usize>, count: usize) -> Result<Vec<u
 }
 
 // Takes the places that wait for one of these out, and puts them behind the others.
-fn wake(under: &mut Places, told: &[Awaited], woken: &mut Vec<usize>) -> Result<(), AllocError>
+fn wake(
+    alloc: Global,
+    under: &mut Places,
+    told: &[Awaited],
+    woken: &mut Vec<usize>,
+) -> Result<(), AllocError>
     ensures wakes { OnOk result (Wakes told.now under.old under.new woken.new.items) }
     ensures kept { OnOk result ((n : ℕ) → has_place woken.old.items n ≡ true → has_place woken.new.items n ≡ true) }
 {
     for awaited in told {
-        take_waiting(under, awaited, woken)?;
-    }
-    Ok(())
-}
-
-// Takes the places that wait for this out, and puts them behind the others.
-fn take_waiting(
-    under: &mut Places,
-    awaited: &Awaited,
-    woken: &mut Vec<usize>,
-) -> Result<(), AllocError>
-    ensures taken { OnOk result (woken.new.items ≡ woken.old.items ++ places_under under.old awaited.now) }
-    ensures left { Leaves awaited.now under.old under.new }
-{
-    if let Some(places) = under.take(awaited) {
-        woken.extend_from_slice(places.as_slice())?;
+        woken.extend_from_slice(under.take(alloc, awaited).as_slice())?;
     }
     Ok(())
 }
@@ -143,26 +133,9 @@ fn count_on(passed: &mut Vec<usize>, told: &Told, place: usize, secrets: &[Name]
         → result ≡ first_told told.now secrets.now }
     ensures set { passed.new.items ≡ slice_set passed.old.items place result }
 {
-    let count = told.first_told(secrets, passed_at(passed.as_slice(), place));
-    set_passed(passed, place, count);
-    count
-}
-
-// How many of the secrets of a place are known to have been told of.
-fn passed_at(passed: &[usize], place: usize) -> usize
-    ensures { result ≡ slice_index_or passed.now place 0 }
-{
-    match passed.get(place) {
-        Some(count) => *count,
-        None => 0,
-    }
-}
-
-// Notes how many of the secrets of a place were told of.
-fn set_passed(passed: &mut Vec<usize>, place: usize, count: usize)
-    ensures { passed.new.items ≡ slice_set passed.old.items place count }
-{
-    if place < passed.len() {
-        passed[place] = count;
-    }
+    let Some(count) = passed.get_mut(place) else {
+        return told.first_told(secrets, 0);
+    };
+    *count = told.first_told(secrets, *count);
+    *count
 }
