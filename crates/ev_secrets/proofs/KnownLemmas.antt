@@ -1,19 +1,18 @@
 -- What is known, and one more.
-use Rattle.std.proofs.Common.{◌≡◌, ℕ, Bool, true, false, cond, ◌||◌, ◌&&◌, List, [], ◌∷◌, ◌++◌, map, filter, Option, Some, refl, sym, ap, ap₂, ◌∙◌}
-use Rattle.std.specs.List.{list_all, last_or}
+use Rattle.std.proofs.Common.{◌≡◌, ℕ, zero, suc, ◌+◌, ◌<◌, ◌≤◌, Bool, true, false, not, cond, ◌||◌, ◌&&◌, List, [], ◌∷◌, ◌++◌, length, get_or, take, map, filter, Option, Some, refl, sym, ap, ◌∙◌, arith}
+use Rattle.std.specs.List.{list_all, prefix_len, last_or}
 use Rattle.std.specs.Str.{bytes_eq}
 use Rattle.std.specs.Cmp.Lexicographic.{bytes_decides}
 use Rattle.std.proofs.lemmas.Bool.Decides.{same_from_decides}
 use Rattle.std.proofs.lemmas.List.{map-append}
 use Rattle.std.proofs.lemmas.List.Elements.{filter-append}
-use Rattle.std.proofs.lemmas.List.Folds.{list_any-append, list_all-append}
+use Rattle.std.proofs.lemmas.List.Folds.{list_any-append}
 use Rattle.indexmap.specs.IndexSet.{contains}
 use Rattle.serde_json.specs.Data.{Data}
-use Rattle.ev_expand.specs.declared.keys.Key.{Key}
+use Rattle.ev_secrets.specs.declared.awaited.Awaited.{Awaited}
 use Rattle.ev_secrets.specs.declared.awaited.Awaited.TheVariants.{Secret, Endpoints}
 use Rattle.ev_secrets.specs.declared.known.Told.{Told}
-use Rattle.ev_secrets.specs.Awaited.{awaited_by, services_of}
-use Rattle.ev_secrets.specs.Known.{has_told, Adds, later_value, gives_to}
+use Rattle.ev_secrets.specs.Known.{first_untold, Adds, later_value, gives_to}
 
 pub bytes_sym : (a b : List ℕ) → bytes_eq a b ≡ bytes_eq b a
 bytes_sym a b = same_from_decides (bytes_eq a b) (bytes_eq b a) (bytes_decides a b) (λ h. sym ((bytes_decides b a).0 h), λ e. (bytes_decides b a).1 (sym e))
@@ -28,20 +27,57 @@ pub adds_endpoints : (old new : Told) (name : List ℕ) → ((o : List ℕ) → 
 adds_endpoints old new name h same (Secret o) = same o
 adds_endpoints old new name h same (Endpoints o) = h o ∙ ap (λ (t : Bool). t || contains bytes_eq old.endpoints o) (bytes_sym name o)
 
-all_secrets : (told : Told) (names : List (List ℕ)) → list_all (has_told told) (map Secret names) ≡ list_all (contains bytes_eq told.secrets) names
-all_secrets told [] = refl
-all_secrets told (name ∷ names) = ap (λ (t : Bool). contains bytes_eq told.secrets name && t) (all_secrets told names)
+one_more : (n : ℕ) → suc n ≡ 1 + n
+one_more n = omega arith
 
-all_endpoints : (told : Told) (names : List (List ℕ)) → list_all (has_told told) (map Endpoints names) ≡ list_all (λ (name : List ℕ). has_told told (Endpoints name)) names
-all_endpoints told [] = refl
-all_endpoints told (name ∷ names) = ap (λ (t : Bool). contains bytes_eq told.endpoints name && t) (all_endpoints told names)
+-- how many of some, from the first on, pass
+pub front_ends : {A : Type 0} (p : A → Bool) (xs : List A) (i : ℕ) (x : A) → i < length xs → x ≡ get_or xs i x → list_all p (take i xs) ≡ true → p x ≡ false → i ≡ prefix_len p xs
+front_ends p [] i x h is all stops = absurd (omega arith)
+front_ends p (y ∷ ys) zero x h is all stops = let e : p y ≡ false = ap p (sym is) ∙ stops in rw e refl
+front_ends p (y ∷ ys) (suc i) x h is all stops = by (p y) all (λ rest. front_ends p ys i x (omega arith) is rest stops)
+  where
+    by : (b : Bool) → (b && list_all p (take i ys)) ≡ true → (list_all p (take i ys) ≡ true → i ≡ prefix_len p ys) → suc i ≡ cond b (1 + prefix_len p ys) 0
+    by true rest so = ap suc (so rest) ∙ one_more (prefix_len p ys)
+    by false rest so = absurd (cc)
 
--- all that a key waits for
-pub all_awaited : (told : Told) (key : Key)
-    → list_all (has_told told) (awaited_by key) ≡ (list_all (contains bytes_eq told.secrets) key.names && list_all (λ (name : List ℕ). has_told told (Endpoints name)) (services_of key.cluster.discovery))
-all_awaited told key =
-    list_all-append (has_told told) (map Secret key.names) (map Endpoints (services_of key.cluster.discovery))
-    ∙ ap₂ (λ (a b : Bool). a && b) (all_secrets told key.names) (all_endpoints told (services_of key.cluster.discovery))
+pub front_whole : {A : Type 0} (p : A → Bool) (xs : List A) (i : ℕ) → length xs ≤ i → list_all p (take i xs) ≡ true → length xs ≡ prefix_len p xs
+front_whole p [] i h all = refl
+front_whole p (y ∷ ys) zero h all = absurd (omega arith)
+front_whole p (y ∷ ys) (suc i) h all = by (p y) all (λ rest. front_whole p ys i (omega arith) rest)
+  where
+    by : (b : Bool) → (b && list_all p (take i ys)) ≡ true → (list_all p (take i ys) ≡ true → length ys ≡ prefix_len p ys) → suc (length ys) ≡ cond b (1 + prefix_len p ys) 0
+    by true rest so = ap suc (so rest) ∙ one_more (prefix_len p ys)
+    by false rest so = absurd (cc)
+
+pub front_passes : {A : Type 0} (p : A → Bool) (xs : List A) → list_all p (take (prefix_len p xs) xs) ≡ true
+front_passes p [] = refl
+front_passes p (x ∷ xs) = by (p x) refl (front_passes p xs)
+  where
+    by : (b : Bool) → p x ≡ b → list_all p (take (prefix_len p xs) xs) ≡ true → list_all p (take (cond b (1 + prefix_len p xs) 0) (x ∷ xs)) ≡ true
+    by true at rest = ap (λ (n : ℕ). list_all p (take n (x ∷ xs))) (sym (one_more (prefix_len p xs))) ∙ ap (λ (t : Bool). t && list_all p (take (prefix_len p xs) xs)) at ∙ rest
+    by false at rest = refl
+
+secret_at : (b : Bool) (x name : List ℕ) (xs : List (List ℕ)) (n : ℕ) (rest : Option Awaited) → cond b (1 + n) 0 < length (x ∷ xs) → name ≡ get_or (x ∷ xs) (cond b (1 + n) 0) name
+    → (n < length xs → name ≡ get_or xs n name → rest ≡ Some (Secret name)) → cond (not b) (Some (Secret x)) rest ≡ Some (Secret name)
+secret_at true x name xs n rest h is so = so (omega arith) (is ∙ ap (λ (m : ℕ). get_or (x ∷ xs) m name) (sym (one_more n)))
+secret_at false x name xs n rest h is so = ap (λ (s : List ℕ). Some (Secret s)) (sym is)
+
+-- the first secret that wasn't told of
+pub next_secret : (told : Told) (names : List (List ℕ)) (others : List Awaited) (name : List ℕ) → prefix_len (contains bytes_eq told.secrets) names < length names
+    → name ≡ get_or names (prefix_len (contains bytes_eq told.secrets) names) name → first_untold told (map Secret names ++ others) ≡ Some (Secret name)
+next_secret told [] others name h is = absurd (omega arith)
+next_secret told (x ∷ xs) others name h is = secret_at (contains bytes_eq told.secrets x) x name xs _ _ h is (λ below at. next_secret told xs others name below at)
+
+other_at : (b : Bool) (x : List ℕ) (xs : List (List ℕ)) (n : ℕ) (rest last : Option Awaited) → length (x ∷ xs) ≤ cond b (1 + n) 0 → (length xs ≤ n → rest ≡ last)
+    → cond (not b) (Some (Secret x)) rest ≡ last
+other_at true x xs n rest last h so = so (omega arith)
+other_at false x xs n rest last h so = absurd (omega arith)
+
+-- there is none
+pub next_other : (told : Told) (names : List (List ℕ)) (others : List Awaited) → length names ≤ prefix_len (contains bytes_eq told.secrets) names
+    → first_untold told (map Secret names ++ others) ≡ first_untold told others
+next_other told [] others h = refl
+next_other told (x ∷ xs) others h = other_at (contains bytes_eq told.secrets x) x xs _ _ _ h (λ past. next_other told xs others past)
 
 pub last-append : {A : Type 0} (o : Option A) (xs ys : List A) → last_or o (xs ++ ys) ≡ last_or (last_or o xs) ys
 last-append o [] ys = refl

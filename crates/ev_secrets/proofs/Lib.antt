@@ -1,5 +1,9 @@
 mod PushLemmas
 mod KnownLemmas
+mod PlaceLemmas
+mod WaitingLemmas
+mod CompleteLemmas
+mod ProgressLemmas
 mod LookLemmas
 mod StateLemmas
 mod QuietLemmas

@@ -1,5 +1,5 @@
 -- A line that is no connect, disconnect or response changes nothing, and nothing is due at it.
-use Rattle.std.proofs.Common.{◌≡◌, ℕ, Bool, true, false, not, ◌&&◌, ◌||◌, List, [], ◌∷◌, ◌++◌, map, filter, filter_map, flat_map, Option, Some, None, option_and_then, unwrap_or, refl, sym, ap, ◌∙◌}
+use Rattle.std.proofs.Common.{◌≡◌, ℕ, Bool, true, false, not, ◌&&◌, ◌||◌, List, [], ◌∷◌, ◌++◌, map, filter, filter_map, flat_map, Option, Some, None, option_and_then, unwrap_or, refl, sym, ap, ◌∙◌, subst}
 use Rattle.std.specs.List.{list_any, enumerate_from}
 use Rattle.std.specs.Str.{bytes_eq}
 use Rattle.std.proofs.lemmas.List.{append-nil}
@@ -15,12 +15,13 @@ use Rattle.ev_secrets.specs.declared.awaited.Awaited.{Awaited}
 use Rattle.ev_secrets.specs.declared.secrets.Secrets.{Secrets}
 use Rattle.ev_secrets.specs.Awaited.{awaited_same, awaited_by, services_of}
 use Rattle.ev_secrets.specs.Known.{later_value}
-use Rattle.ev_secrets.specs.Looking.{heard_now, is_quiet}
+use Rattle.ev_secrets.specs.Hearing.{heard_now, is_quiet}
 use Rattle.ev_secrets.specs.References.{by_secrets}
 use Rattle.ev_secrets.specs.Sealing.{tls_rules, is_due, endpoints_by, has_guarded, gives_name, gives_endpoints}
 use Rattle.ev_secrets.specs.State.{IsBehind}
 use Rattle.ev_secrets.specs.Told.{told_by, told_with, is_told, is_complete, values_in, given_with, value_of}
-use Rattle.ev_secrets.proofs.StateLemmas.{stream_now, told_now, value_now, all_same, map_same}
+use Rattle.ev_secrets.specs.Waiting.{AreComplete, IsWaiting}
+use Rattle.ev_secrets.proofs.StateLemmas.{stream_now, told_now, value_now, all_same}
 
 -- what a quiet event says
 record SaysNothing (event : Option Event) (message : Data) : Type 0 where
@@ -85,10 +86,8 @@ quiet_behind before line s event is quiet behind =
       stream = behind.stream ∙ sym (stays_open before line says.stream);
       told = λ a. behind.told a ∙ sym (stays_told before line a says.tells);
       values = λ name. behind.values name ∙ sym (value_now before line name ∙ ap (later_value name (value_of before name)) (nothing_of values_in (stream_at (before ++ line ∷ [])) line says.gives));
-      complete = behind.complete
-          ∙ map_same (λ (g : Guarded). is_complete before g.key) (λ (g : Guarded). is_complete (before ++ line ∷ []) g.key) (guarded_by by_secrets before)
-          (λ g. all_same (is_told before) (is_told (before ++ line ∷ [])) (awaited_by g.key) (λ a. sym (stays_told before line a says.tells)))
-          ∙ ap (map (λ (g : Guarded). is_complete (before ++ line ∷ []) g.key)) (sym (stays_guarded before line guarded));
+      waiting = subst (λ (gs : List Guarded). IsWaiting s.told gs s.waiting) (sym (stays_guarded before line guarded)) behind.waiting;
+      complete = subst (λ (gs : List Guarded). AreComplete s.told gs s.complete) (sym (stays_guarded before line guarded)) behind.complete;
     }
 
 not_due : (before : List Data) (line : Data) (g : Guarded) → SaysNothing (event_of line) (message_of line) → is_due (front_of before line) g ≡ false

@@ -1,5 +1,5 @@
 -- What is known behind one line more.
-use Rattle.std.proofs.Common.{◌≡◌, ℕ, suc, ◌+◌, ◌<◌, ◌≤◌, ◌⊎◌, inl, inr, Bool, true, false, not, cond, ◌&&◌, ◌||◌, List, [], ◌∷◌, ◌++◌, length, map, filter, filter_map, flat_map, Option, Some, None, option_map, option_and_then, unwrap_or, nat_eq, refl, sym, ap, ap₂, ◌∙◌, subst, arith}
+use Rattle.std.proofs.Common.{◌≡◌, ℕ, suc, ◌+◌, ◌<◌, ◌≤◌, ◌⊎◌, inl, inr, Bool, true, false, not, cond, ◌&&◌, ◌||◌, List, [], ◌∷◌, ◌++◌, length, map, filter, filter_map, flat_map, Option, Some, None, option_map, option_and_then, unwrap_or, nat_eq, refl, sym, ap, ap₂, ◌∙◌, subst, arith, length-append}
 use Rattle.std.specs.Prelude.{slice_get}
 use Rattle.std.specs.List.{list_any, list_all, last_or, enumerate_from, cons_option}
 use Rattle.std.proofs.lemmas.Bool.{cases_lt}
@@ -8,11 +8,12 @@ use Rattle.std.proofs.lemmas.List.{append-nil}
 use Rattle.std.proofs.lemmas.List.Elements.{filter_map-append}
 use Rattle.std.proofs.lemmas.List.Folds.{list_any-append}
 use Rattle.std.proofs.lemmas.Grind.{flat_map-append}
-use Rattle.std.proofs.lemmas.Option.{slice_get-map, slice_get_past}
+use Rattle.std.proofs.lemmas.Option.{slice_get_past}
 use Rattle.serde_json.specs.Data.{Data}
 use Rattle.ev_types.specs.Same.{numbers_decide}
 use Rattle.ev_types.specs.declared.clusters.Discovery.{Discovery}
 use Rattle.ev_types.specs.declared.clusters.Discovery.TheVariants.{Static, Eds}
+use Rattle.ev_types.specs.declared.events.Event.{Event}
 use Rattle.ev_expand.specs.declared.keys.Key.{Key}
 use Rattle.ev_expand.specs.Keys.{key_same, key_decides}
 use Rattle.ev_expand.specs.Expanding.{due_at}
@@ -25,13 +26,17 @@ use Rattle.ev_expand.proofs.DistinctLemmas.{AreDistinct, IsExtended, once_distin
 use Rattle.ev_secrets.specs.declared.awaited.Awaited.{Awaited}
 use Rattle.ev_secrets.specs.declared.known.Told.{Told}
 use Rattle.ev_secrets.specs.declared.known.Values.{Values}
+use Rattle.ev_secrets.specs.declared.secrets.Secrets.{Secrets}
 use Rattle.ev_secrets.specs.Awaited.{awaited_same, awaited_by, services_of}
-use Rattle.ev_secrets.specs.Known.{has_told, shown_value, later_value, gives_to}
-use Rattle.ev_secrets.specs.Looking.{Marks, completed, due_among, due_by, endpoints_with, heard_now, is_awake, open_after, was_complete}
+use Rattle.ev_secrets.specs.Known.{has_told, shown_value, later_value, gives_to, AddsAll}
+use Rattle.ev_secrets.specs.Hearing.{heard_now, open_after}
+use Rattle.ev_secrets.specs.Looking.{Marks, due_among, due_by, due_parts, endpoints_with, is_awake}
 use Rattle.ev_secrets.specs.Marking.{is_place, is_marked}
 use Rattle.ev_secrets.specs.References.{by_secrets}
+use Rattle.ev_secrets.specs.State.{IsBehind}
 use Rattle.ev_secrets.specs.Sealing.{tls_rules, is_due, endpoints_by, has_guarded, gives_name, gives_endpoints}
 use Rattle.ev_secrets.specs.Told.{told_by, is_told, is_complete, values_in, value_of}
+use Rattle.ev_secrets.specs.Waiting.{completed, complete_at, Grows}
 use Rattle.ev_secrets.proofs.KnownLemmas.{last-append, later-append}
 
 -- ---- the stream
@@ -79,9 +84,6 @@ map_same f g (x ∷ xs) h = ap₂ (λ y ys. y ∷ ys) (h x) (map_same f g xs h)
 pub completed_as : (lines : List Data) (told : Told) (g : Guarded) → ((a : Awaited) → has_told told a ≡ is_told lines a) → completed told g ≡ is_complete lines g.key
 completed_as lines told g h = all_same (has_told told) (is_told lines) (awaited_by g.key) h
 
-pub complete_now : (lines : List Data) (told : Told) (gs : List Guarded) → ((a : Awaited) → has_told told a ≡ is_told lines a) → map (completed told) gs ≡ map (λ (g : Guarded). is_complete lines g.key) gs
-complete_now lines told gs h = map_same (completed told) (λ (g : Guarded). is_complete lines g.key) gs (λ g. completed_as lines told g h)
-
 -- ---- what is due
 
 place_as : (gs : List Guarded) (n : ℕ) (g : Guarded) (key : Key) (own : Data) → AreDistinct gs → slice_get gs n ≡ Some g
@@ -117,23 +119,27 @@ both_sides : (s c x y : Bool) → (s ≡ true → x ≡ y) → (s && c && x) ≡
 both_sides true c x y h = ap (λ (t : Bool). c && t) (h refl)
 both_sides false c x y h = refl
 
-was_at : (old : List Guarded) (n : ℕ) (g : Guarded) (f : Guarded → Bool) (o : Option Guarded) → slice_get old n ≡ o → was_complete (map f old) n ≡ unwrap_or (option_map f o) false
-was_at old n g f o h = ap (λ (x : Option Bool). unwrap_or x false) (slice_get-map f old n ∙ ap (option_map f) h)
+-- what was complete before, by a test
+abbrev was_by : (Guarded → Bool) → List Guarded → ℕ → Bool
+was_by f old n = unwrap_or (option_map f (slice_get old n)) false
+
+was_at : (old : List Guarded) (n : ℕ) (f : Guarded → Bool) (o : Option Guarded) → slice_get old n ≡ o → was_by f old n ≡ unwrap_or (option_map f o) false
+was_at old n f o h = ap (λ (x : Option Guarded). unwrap_or (option_map f x) false) h
 
 either_place : (old more new : List Guarded) (n : ℕ) (g : Guarded) (f : Guarded → Bool) (m : Bool) → m ≡ list_any (guarded_same g) new → slice_get (old ++ more) n ≡ Some g
     → ((i : ℕ) (x : Guarded) → slice_get more i ≡ Some x → list_any (guarded_same x) new ≡ true) → (n < length old) ⊎ (length old ≤ n)
-    → (m || not (was_complete (map f old) n)) ≡ (list_any (guarded_same g) new || not (f g))
+    → (m || not (was_by f old n)) ≡ (list_any (guarded_same g) new || not (f g))
 either_place old more new n g f m marked here among (inl within) =
-    ap₂ (λ (a b : Bool). a || not b) marked (was_at old n g f (Some g) (sym (first_get old more n within) ∙ here))
+    ap₂ (λ (a b : Bool). a || not b) marked (was_at old n f (Some g) (sym (first_get old more n within) ∙ here))
 either_place old more new n g f m marked here among (inr past) =
     let there = behind_get old more n g past here in
     let fresh : list_any (guarded_same g) new ≡ true = among there.0 g there.1 in
-    ap (λ (b : Bool). m || not b) (was_at old n g f None (slice_get_past old n past)) ∙ or_true m ∙ sym (ap (λ (b : Bool). b || not (f g)) fresh)
+    ap (λ (b : Bool). m || not b) (was_at old n f None (slice_get_past old n past)) ∙ or_true m ∙ sym (ap (λ (b : Bool). b || not (f g)) fresh)
 
 -- a cause by a resource or by what was not complete before
 cause_as : (before : List Data) (line : Data) (n : ℕ) (g : Guarded) → slice_get (guarded_by by_secrets (before ++ line ∷ [])) n ≡ Some g
     → (is_marked (map (place_at by_secrets (guarded_by by_secrets (before ++ line ∷ []))) (clusters_in line)) n
-    || not (was_complete (map (λ (g : Guarded). is_complete before g.key) (guarded_by by_secrets before)) n))
+    || not (was_by (λ (g : Guarded). is_complete before g.key) (guarded_by by_secrets before) n))
     ≡ (has_guarded line g.key || not (is_complete before g.key))
 cause_as before line n g h =
     let old : List Guarded = guarded_by by_secrets before in
@@ -154,14 +160,15 @@ given_true false line name h = absurd (cc)
 pub record AreMarksOf (before : List Data) (line : Data) (marks : Marks) : Type 0 where
   pub stream : marks.connected ≡ stream_at (before ++ line ∷ [])
   pub opening : marks.opened ≡ opens (front_of before line)
-  pub had : (n : ℕ) → marks.was n ≡ was_complete (map (λ (g : Guarded). is_complete before g.key) (guarded_by by_secrets before)) n
+  pub had : (n : ℕ) → marks.was n ≡ was_by (λ (g : Guarded). is_complete before g.key) (guarded_by by_secrets before) n
+  pub now : (n : ℕ) (g : Guarded) → slice_get (guarded_by by_secrets (before ++ line ∷ [])) n ≡ Some g → marks.now n ≡ is_complete (before ++ line ∷ []) g.key
   pub marked : (n : ℕ) → marks.items n ≡ is_marked (map (place_at by_secrets (guarded_by by_secrets (before ++ line ∷ []))) (clusters_in line)) n
   pub values : (name : List ℕ) → marks.given name ≡ gives_to name (flat_map values_in (heard_now (stream_at (before ++ line ∷ [])) line))
 
-due_as : (before : List Data) (line : Data) (told : Told) (marks : Marks) (n : ℕ) (g : Guarded) → ((a : Awaited) → has_told told a ≡ is_told (before ++ line ∷ []) a) → AreMarksOf before line marks
-    → slice_get (guarded_by by_secrets (before ++ line ∷ [])) n ≡ Some g → due_by marks told (n, g) ≡ is_due (front_of before line) g
-due_as before line told marks n g h are at =
-    ap₂ (λ (s c : Bool). s && c && is_awake marks n g.key) are.stream (completed_as (before ++ line ∷ []) told g h)
+due_as : (before : List Data) (line : Data) (marks : Marks) (n : ℕ) (g : Guarded) → AreMarksOf before line marks
+    → slice_get (guarded_by by_secrets (before ++ line ∷ [])) n ≡ Some g → due_by marks (n, g) ≡ is_due (front_of before line) g
+due_as before line marks n g are at =
+    ap₂ (λ (s c : Bool). s && c && is_awake marks n g.key) are.stream (are.now n g at)
     ∙ both_sides (stream_at (before ++ line ∷ [])) (is_complete (before ++ line ∷ []) g.key) _ _
     (λ connected.
     let cause = ap₂ (λ (i w : Bool). i || not w) (are.marked n) (are.had n) ∙ cause_as before line n g at in
@@ -184,14 +191,54 @@ endpoints_as lines values (Static rows) g h = refl
 endpoints_as lines values (Eds service limited) g h = h service
 
 -- a look finds what is due at the line
-pub due_found : (before : List Data) (line : Data) (told : Told) (values : Values) (marks : Marks) (gs : List Guarded) → ((a : Awaited) → has_told told a ≡ is_told (before ++ line ∷ []) a)
-    → ((name : List ℕ) → shown_value values name ≡ value_of (before ++ line ∷ []) name) → AreMarksOf before line marks → gs ≡ guarded_by by_secrets (before ++ line ∷ [])
-    → due_among marks told values (enumerate_from 0 gs) ≡ due_at tls_rules (front_of before line)
-due_found before line told values marks gs h k are kept =
+pub due_found : (before : List Data) (line : Data) (values : Values) (marks : Marks) (gs : List Guarded) → ((name : List ℕ) → shown_value values name ≡ value_of (before ++ line ∷ []) name)
+    → AreMarksOf before line marks → gs ≡ guarded_by by_secrets (before ++ line ∷ []) → due_among marks values (enumerate_from 0 gs) ≡ due_at tls_rules (front_of before line)
+due_found before line values marks gs k are kept =
     let all : List Guarded = guarded_by by_secrets (before ++ line ∷ []) in
     let P : ℕ × Guarded → Bool = λ (p : ℕ × Guarded). is_due (front_of before line) p.1 in
-    ap (λ (xs : List Guarded). due_among marks told values (enumerate_from 0 xs)) kept
-    ∙ map_same _ (λ (p : ℕ × Guarded). record { place = p.0; endpoints = endpoints_by p.1.key.cluster.discovery (before ++ line ∷ []) p.1 }) (filter (due_by marks told) (enumerate_from 0 all))
+    ap (λ (xs : List Guarded). due_among marks values (enumerate_from 0 xs)) kept
+    ∙ map_same (due_parts values) (λ (p : ℕ × Guarded). record { place = p.0; endpoints = endpoints_by p.1.key.cluster.discovery (before ++ line ∷ []) p.1 }) (filter (due_by marks) (enumerate_from 0 all))
     (λ p. ap (λ (e : Option Data). record { place = p.0; endpoints = e }) (endpoints_as (before ++ line ∷ []) values p.1.key.cluster.discovery p.1 k))
     ∙ ap (map (λ (p : ℕ × Guarded). record { place = p.0; endpoints = endpoints_by p.1.key.cluster.discovery (before ++ line ∷ []) p.1 }))
-    (same_due 0 all (due_by marks told) P (λ i g at. let e : 0 + i ≡ i = omega arith in subst (λ (n : ℕ). due_by marks told (n, g) ≡ is_due (front_of before line) g) (sym e) (due_as before line told marks i g h are at)))
+    (same_due 0 all (due_by marks) P (λ i g at. let e : 0 + i ≡ i = omega arith in subst (λ (n : ℕ). due_by marks (n, g) ≡ is_due (front_of before line) g) (sym e) (due_as before line marks i g are at)))
+
+-- what a test of what is complete says of a place, by what was told of
+pub was_as : (lines : List Data) (told : Told) (gs : List Guarded) (n : ℕ) → ((a : Awaited) → has_told told a ≡ is_told lines a)
+    → complete_at told gs n ≡ was_by (λ (g : Guarded). is_complete lines g.key) gs n
+was_as lines told gs n h = by (slice_get gs n)
+  where
+    by : (o : Option Guarded) → unwrap_or (option_map (completed told) o) false ≡ unwrap_or (option_map (λ (g : Guarded). is_complete lines g.key) o) false
+    by None = refl
+    by (Some g) = completed_as lines told g h
+
+-- what is guarded behind one line more stands behind the others
+pub guarded_grows : (before : List Data) (line : Data) (all : List Guarded) → all ≡ guarded_by by_secrets (before ++ line ∷ []) → Grows (guarded_by by_secrets before) all
+guarded_grows before line all kept =
+    let old : List Guarded = guarded_by by_secrets before in
+    let extended : IsExtended old (each_once (flat_map (guarded_in by_secrets) before ++ guarded_in by_secrets line)) (guarded_in by_secrets line) = once_extends (flat_map (guarded_in by_secrets) before) (guarded_in by_secrets line) in
+    let grown : all ≡ old ++ extended.more = kept ∙ guarded-push by_secrets before line ∙ extended.grown in
+    record {
+      longer = let l : length all ≡ length old + length extended.more = ap length grown ∙ length-append old extended.more in omega (arith, l);
+      first = λ n within. ap (λ (xs : List Guarded). slice_get xs n) grown ∙ first_get old extended.more n within;
+    }
+
+-- what is known behind one line more, by what it told of and gave
+pub record Hears (before : List Data) (line : Data) (connected : Bool) (gave : List (List ℕ × Data)) (told : Told) (values : Values) : Type 0 where
+  pub stream : connected ≡ stream_at (before ++ line ∷ [])
+  pub given : gave ≡ flat_map values_in (heard_now (stream_at (before ++ line ∷ [])) line)
+  pub tells : (a : Awaited) → has_told told a ≡ is_told (before ++ line ∷ []) a
+  pub shows : (name : List ℕ) → shown_value values name ≡ value_of (before ++ line ∷ []) name
+
+pub hears : (before : List Data) (line : Data) (s : Secrets) (event : Option Event) (connected : Bool) (heard : List Awaited) (gave : List (List ℕ × Data)) (told : Told) (values : Values)
+    → IsBehind s before → event ≡ event_of line → connected ≡ open_after s.connected event → heard ≡ flat_map told_by (heard_now connected line) → gave ≡ flat_map values_in (heard_now connected line)
+    → AddsAll s.told told heard → ((name : List ℕ) → shown_value values name ≡ later_value name (shown_value s.values name) gave) → Hears before line connected gave told values
+hears before line s event connected heard gave told values behind read opened telling giving adds later =
+    let stream : connected ≡ stream_at (before ++ line ∷ []) = opened ∙ (λ i. open_after (behind.stream i) (read i)) ∙ stream_now before line in
+    let said : heard ≡ flat_map told_by (heard_now (stream_at (before ++ line ∷ [])) line) = telling ∙ ap (λ (b : Bool). flat_map told_by (heard_now b line)) stream in
+    let given : gave ≡ flat_map values_in (heard_now (stream_at (before ++ line ∷ [])) line) = giving ∙ ap (λ (b : Bool). flat_map values_in (heard_now b line)) stream in
+    record {
+      stream = stream;
+      given = given;
+      tells = λ a. adds a ∙ (λ i. behind.told a i || list_any (awaited_same a) (said i)) ∙ sym (told_now before line a);
+      shows = λ name. later name ∙ (λ i. later_value name (behind.values name i) (given i)) ∙ sym (value_now before line name);
+    }

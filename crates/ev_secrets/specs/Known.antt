@@ -1,16 +1,17 @@
 -- What is known of secrets and of endpoints, found by look-ups.
-use Rattle.std.specs.Prelude.{◌≡◌, ℕ, Bool, ◌||◌, List, Option, map, filter, option_map}
-use Rattle.std.specs.List.{list_any, last_or}
+use Rattle.std.specs.Prelude.{◌≡◌, ℕ, Bool, not, ◌||◌, List, Option, map, filter, option_map}
+use Rattle.std.specs.List.{list_any, list_all, find, last_or, prefix_len}
 use Rattle.std.specs.Str.{bytes_eq}
 use Rattle.indexmap.specs.IndexSet.{contains}
 use Rattle.indexmap.specs.IndexMap.{get}
 use Rattle.serde_json.specs.Data.{Data}
 use Rattle.serde_json.specs.View.{view}
+use Rattle.ev_expand.specs.declared.keys.Key.{Key}
 use Rattle.ev_secrets.specs.declared.awaited.Awaited.{Awaited}
 use Rattle.ev_secrets.specs.declared.awaited.Awaited.TheVariants.{Secret, Endpoints}
 use Rattle.ev_secrets.specs.declared.known.Told.{Told}
 use Rattle.ev_secrets.specs.declared.known.Values.{Values}
-use Rattle.ev_secrets.specs.Awaited.{awaited_same}
+use Rattle.ev_secrets.specs.Awaited.{awaited_same, awaited_by}
 
 -- it was told of
 abbrev pub has_told : Told → Awaited → Bool
@@ -24,6 +25,22 @@ Adds old new one = (other : Awaited) → has_told new other ≡ (awaited_same ot
 -- all of these are told of more
 abbrev pub AddsAll : Told → Told → List Awaited → Type 0
 AddsAll old new all = (other : Awaited) → has_told new other ≡ (has_told old other || list_any (awaited_same other) all)
+
+-- all of these secrets were told of
+abbrev pub are_told : Told → List (List ℕ) → Bool
+are_told told secrets = list_all (contains bytes_eq told.secrets) secrets
+
+-- how many of these secrets, from the first on, were told of
+abbrev pub first_told : Told → List (List ℕ) → ℕ
+first_told told secrets = prefix_len (contains bytes_eq told.secrets) secrets
+
+-- the first of these that wasn't told of
+abbrev pub first_untold : Told → List Awaited → Option Awaited
+first_untold told all = find (λ (a : Awaited). not (has_told told a)) all
+
+-- the first of what the clusters of a key wait for that wasn't told of
+abbrev pub next_of : Told → Key → Option Awaited
+next_of told key = first_untold told (awaited_by key)
 
 -- the value of a name
 abbrev pub shown_value : Values → List ℕ → Option Data

@@ -1,8 +1,6 @@
 ghost use Rattle.std.specs.Prelude.{◌≡◌, map, IfOk};
-ghost use Rattle.ev_secrets.specs.Awaited.{awaited_by};
 
-use ev_expand::Key;
-use ev_types::{Discovery, Name, TryCopy};
+use ev_types::{Name, TryCopy};
 use std::alloc::{AllocError, Global};
 use std::hash::{Hash, Hasher};
 
@@ -68,17 +66,6 @@ impl Hash for Awaited {
             }
         }
     }
-}
-
-// What the clusters of a key wait for: each secret that they name, and then their endpoints.
-pub(crate) fn awaited_by(alloc: Global, key: &Key) -> Result<Vec<Awaited>, AllocError>
-    ensures { IfOk result (λ awaited. awaited.items ≡ awaited_by key.now) }
-{
-    let mut awaited = secrets(alloc, key.names.as_slice())?;
-    if let Discovery::Eds { service, .. } = &key.cluster.discovery {
-        awaited.push(Awaited::Endpoints(service.copy(alloc)?))?;
-    }
-    Ok(awaited)
 }
 
 // The secrets of these names.

@@ -1,11 +1,11 @@
-ghost use Rattle.std.specs.Prelude.{◌≡◌, ◌||◌, ℕ, List, map, false, None, Some, option_map, if◌then◌else◌, IfOk, OnOk};
-ghost use Rattle.std.specs.List.{list_all};
+ghost use Rattle.std.specs.Prelude.{◌≡◌, ◌||◌, ℕ, List, map, take, false, true, None, Some, option_map, if◌then◌else◌, IfOk, OnOk};
 ghost use Rattle.std.specs.Str.{bytes_eq};
 ghost use Rattle.serde_json.specs.View.{view};
 ghost use Rattle.indexmap.specs.IndexSet.{contains};
 ghost use Rattle.ev_secrets.specs.declared.awaited.Awaited.{Awaited};
-ghost use Rattle.ev_secrets.specs.Awaited.{awaited_by, services_of};
-ghost use Rattle.ev_secrets.specs.Known.{has_told, AddsAll, Adds, shown_value, later_value, gives_to};
+ghost use Rattle.ev_secrets.specs.declared.awaited.Awaited.TheVariants.{Endpoints};
+ghost use Rattle.ev_secrets.specs.Awaited.{services_of};
+ghost use Rattle.ev_secrets.specs.Known.{are_told, has_told, first_told, first_untold, next_of, AddsAll, Adds, shown_value, later_value, gives_to};
 ghost use Rattle.ev_secrets.specs.Told.{value_shown};
 
 use crate::awaited::Awaited;
@@ -53,21 +53,49 @@ impl Told {
         Ok(())
     }
 
-    /// Whether all that the clusters of a key wait for was told of.
-    pub(crate) fn has_all(&self, key: &Key) -> bool
-        ensures { result ≡ list_all (has_told self.now) (awaited_by key.now) }
+    /// How many of these secrets, from the first on, were told of. As many as have passed need no look-up.
+    pub(crate) fn first_told(&self, secrets: &[Name], passed: usize) -> usize
+        ensures { are_told self.now (take passed secrets.now) ≡ true → result ≡ first_told self.now secrets.now }
     {
-        has_names(&self.secrets, key.names.as_slice()) && self.has_service(&key.cluster.discovery)
+        for index in passed..secrets.len() {
+            if !self.secrets.contains(&secrets[index]) {
+                return index;
+            }
+        }
+        secrets.len()
     }
 
-    // Whether the endpoints of a cluster were told of, where it asks for some.
-    fn has_service(&self, discovery: &Discovery) -> bool
-        ensures { result ≡ list_all (λ name. has_told self.now (Awaited.Endpoints name)) (services_of discovery.now) }
+    /// The first of what the clusters of a key wait for that wasn't told of, where so many of its secrets, from the first on,
+    /// were told of.
+    pub(crate) fn next_of(
+        &self,
+        alloc: Global,
+        key: &Key,
+        passed: usize,
+    ) -> Result<Option<Awaited>, AllocError>
+        ensures { passed ≡ first_told self.now key.now.names → IfOk result (λ next. next ≡ next_of self.now key.now) }
     {
-        match discovery {
-            Discovery::Static(_) => true,
-            Discovery::Eds { service, .. } => self.endpoints.contains(service),
+        match key.names.as_slice().get(passed) {
+            Some(name) => Ok(Some(Awaited::Secret(name.copy(alloc)?))),
+            None => self.next_service(alloc, &key.cluster.discovery),
         }
+    }
+
+    // The endpoints that a cluster asks for, where they weren't told of.
+    fn next_service(
+        &self,
+        alloc: Global,
+        discovery: &Discovery,
+    ) -> Result<Option<Awaited>, AllocError>
+        ensures { IfOk result (λ next. next ≡ first_untold self.now (map Endpoints (services_of discovery.now))) }
+    {
+        let Discovery::Eds { service, .. } = discovery else {
+            return Ok(None);
+        };
+        if self.endpoints.contains(service) {
+            return Ok(None);
+        }
+        Ok(Some(Awaited::Endpoints(service.copy(alloc)?)))
     }
 }
 
@@ -79,13 +107,6 @@ fn insert(names: &mut IndexSet<Name>, name: Name) -> Result<(), AllocError>
         return Err(AllocError);
     };
     Ok(())
-}
-
-// Whether all of these names are in a set.
-fn has_names(set: &IndexSet<Name>, names: &[Name]) -> bool
-    ensures { result ≡ list_all (contains bytes_eq set.now) names.now }
-{
-    names.iter().all(|name| set.contains(name))
 }
 
 /// The values of names of endpoints.

@@ -6,19 +6,25 @@
 //! - A cluster names secrets by its transport socket alone, and only where that is the context of TLS towards upstream hosts. A
 //!   member of a wrong form, or in both spellings, names nothing, and the others still count.
 //! - Secrets are told of on an open stream alone, by a resource or a removed name, whatever else stands in it.
-//! - Each place that isn't complete stands under the first that it still waits for, so a line wakes only the places that wait
-//!   for what it tells of, and each of them goes on from where it was. The complete ones stand under their endpoints.
+//! - A line costs look-ups by what it says and what is sent behind it, however much is guarded. Each place that isn't complete
+//!   stands under the first that it still waits for. A line that tells of that takes the place out, which goes on from where it
+//!   was among its secrets. The complete places stand in a set, and under the endpoints that they ask for: a line that opens a
+//!   stream looks at all of them, and one that gives endpoints a value at those under them, and each of these is sent.
+//! - The places that may be due at a line are put in order by a `BTreeSet`.
 #![tactic(auto)]
 
 mod awaited;
+mod complete;
 mod hearing;
 mod known;
 mod looking;
 mod names;
+mod places;
 mod references;
 mod secrets;
 mod told;
 mod values;
+mod waiting;
 
 pub use awaited::Awaited;
 pub use secrets::expand;

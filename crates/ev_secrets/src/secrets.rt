@@ -3,21 +3,22 @@ ghost use Rattle.std.specs.Str.{bytes_eq};
 ghost use Rattle.serde_json.specs.View.{view};
 ghost use Rattle.ev_expand.specs.Expanding.{IsExpanded};
 ghost use Rattle.indexmap.specs.IndexSet.{contains};
-ghost use Rattle.ev_secrets.specs.Looking.{AreMarks, marks_of};
+ghost use Rattle.ev_secrets.specs.Looking.{AreMarks};
 ghost use Rattle.ev_secrets.specs.Marking.{is_marked, is_place};
 ghost use Rattle.ev_secrets.specs.Sealing.{tls_rules};
 ghost use Rattle.ev_secrets.specs.State.{IsBehind};
 
-use crate::hearing::{hear, is_quiet, open_after};
+use crate::complete::{Complete, insert_place};
+use crate::hearing::{News, hear, is_quiet, open_after};
 use crate::known::{Told, Values};
-use crate::looking::{Found, Marked, look};
+use crate::looking::{Marked, look};
 use crate::references::{body_in, body_key, own_endpoints, references_of};
+use crate::waiting::Waiting;
 use ev_expand::{Due, ExpandError, Expansion, Key, Numbers, expand_with};
 use ev_types::{Event, Item, Name};
 use indexmap::IndexSet;
 use serde_json::Value;
 use std::alloc::{AllocError, Global};
-use std::mem;
 
 // What is known behind the lines so far.
 #[derive(Drop)]
@@ -28,8 +29,10 @@ pub(crate) struct Secrets {
     pub told: Told,
     // The last value of each name of endpoints.
     pub values: Values,
-    // What is complete, by place.
-    pub complete: Vec<bool>,
+    // What the places that aren't complete wait for.
+    pub waiting: Waiting,
+    // The complete places.
+    pub complete: Complete,
 }
 
 impl Secrets {
@@ -41,7 +44,8 @@ impl Secrets {
             connected: false,
             told: Told::new(alloc),
             values: Values::new(alloc),
-            complete: Vec::new(alloc),
+            waiting: Waiting::new(alloc),
+            complete: Complete::new(alloc),
         }
     }
 }
@@ -87,48 +91,35 @@ impl Expansion for Secrets {
         }
         let was_open = self.connected;
         self.connected = open_after(was_open, event);
-        let given = hear(
-            alloc,
-            &mut self.told,
-            &mut self.values,
-            self.connected,
-            line,
-            event,
-        )?;
-        let was = mem::replace(&mut self.complete, Vec::new(alloc));
-        let marks = marks(alloc, was_open, self.connected, was, items, given)?;
-        let found = look(alloc, numbers, &self.told, &self.values, &marks)?;
-        let Found { due, complete } = found;
-        self.complete = complete;
+        let News { told, values } = hear(alloc, self.connected, line, event)?;
+        let finished = self.waiting.go_on(alloc, &mut self.told, told, numbers)?;
+        let given = self.values.take_all(alloc, values)?;
+        let marks = marks(alloc, was_open, self.connected, finished, items, given)?;
+        let due = look(alloc, numbers, &self.values, &self.complete, &marks)?;
+        self.complete.enter_all(alloc, numbers, &marks.finished)?;
         Ok(due)
     }
 }
 
-// What a look has to know.
+// What a look has to know of the line.
 fn marks(
     alloc: Global,
     was_open: bool,
     connected: bool,
-    was: Vec<bool>,
+    finished: IndexSet<usize>,
     items: &[Option<usize>],
     given: IndexSet<Name>,
 ) -> Result<Marked, AllocError>
-    ensures { IfOk result (λ marks. AreMarks was_open connected was.items items.now (contains bytes_eq given) (marks_of marks)) }
+    ensures marks { IfOk result (λ marks. AreMarks was_open connected items.now (contains bytes_eq given) marks) }
+    ensures finished { IfOk result (λ marks. marks.finished ≡ finished) }
 {
     Ok(Marked {
         connected,
-        opened: opens(was_open, connected),
-        was,
+        opened: connected && !was_open,
+        finished,
         items: places_of(alloc, items)?,
         given,
     })
-}
-
-// Whether a stream is open that was not.
-fn opens(was_open: bool, connected: bool) -> bool
-    ensures { result ≡ (connected && not was_open) }
-{
-    connected && !was_open
 }
 
 // The set of the places that are given.
@@ -146,13 +137,10 @@ fn places_of(alloc: Global, items: &[Option<usize>]) -> Result<IndexSet<usize>, 
 fn put_place(set: &mut IndexSet<usize>, item: Option<usize>) -> Result<(), AllocError>
     ensures { OnOk result ((place : ℕ) → contains nat_eq set.new place ≡ (is_place item place || contains nat_eq set.old place)) }
 {
-    let Some(item) = item else {
-        return Ok(());
-    };
-    let Ok(_) = set.insert(item) else {
-        return Err(AllocError);
-    };
-    Ok(())
+    match item {
+        Some(place) => insert_place(set, place),
+        None => Ok(()),
+    }
 }
 
 /// The text of a script whose clusters wait for their secrets, by its header and its lines.

@@ -1,53 +1,77 @@
-use Rattle.std.proofs.Common.{◌≡◌, ℕ, Bool, List, [], ◌∷◌, ◌++◌, ◌||◌, ◌&&◌, not, map, flat_map, Vec, Global, sym, ap, ◌∙◌}
-use Rattle.std.specs.List.{list_any}
+use Rattle.std.proofs.Common.{ℕ, Bool, List, [], ◌∷◌, ◌++◌, ◌&&◌, not, map, nat_eq, sym, ap, ◌∙◌, subst}
+use Rattle.std.specs.Prelude.{slice_get}
+use Rattle.indexmap.specs.IndexSet.{contains}
 use Rattle.serde_json.specs.Data.{Data}
 use Rattle.serde_json.specs.View.{view}
 use Rattle.ev_expand.specs.Following.{due_shown}
-use Rattle.ev_expand.specs.Fronts.{stream_at}
-use Rattle.ev_expand.specs.Guarding.{Guarded, clusters_in, place_at}
+use Rattle.ev_expand.specs.Guarding.{Guarded, clusters_in, place_at, guarded_by}
 use Rattle.ev_expand.specs.Numbers.{guarded_so_far}
-use Rattle.ev_secrets.specs.declared.awaited.Awaited.{Awaited}
-use Rattle.ev_secrets.specs.Awaited.{awaited_same}
-use Rattle.ev_secrets.specs.Known.{has_told, shown_value, later_value, gives_to}
-use Rattle.ev_secrets.specs.Looking.{heard_now, marks_of, open_after, was_complete}
+use Rattle.ev_secrets.specs.declared.known.Told.{Told}
+use Rattle.ev_secrets.specs.declared.secrets.Secrets.{Secrets}
+use Rattle.ev_secrets.specs.Known.{gives_to, AddsAll}
+use Rattle.ev_secrets.specs.Looking.{marks_of}
 use Rattle.ev_secrets.specs.Marking.{is_marked}
 use Rattle.ev_secrets.specs.References.{by_secrets}
-use Rattle.ev_secrets.specs.Told.{told_by, is_told, is_complete, values_in, value_of}
-use Rattle.ev_secrets.proofs.StateLemmas.{AreMarksOf, stream_now, told_now, value_now, complete_now, due_found}
+use Rattle.ev_secrets.specs.Told.{value_shown}
+use Rattle.ev_secrets.specs.Waiting.{AreComplete, GoesOn, Grows, IsWaiting}
+use Rattle.ev_secrets.proofs.StateLemmas.{AreMarksOf, Hears, hears, completed_as, due_found, guarded_grows, was_as}
+use Rattle.ev_secrets.proofs.WaitingLemmas.{complete_here}
+use Rattle.ev_secrets.proofs.ProgressLemmas.{complete_after, complete_now, were_served}
 use Rattle.ev_secrets.proofs.QuietLemmas.{quiet_behind, quiet_due}
 use Rattle.ev_secrets.proofs.secrets.SecretsExpansion.due.Goals as goal
 
 pub returns-clause-due : goal.returns-clause-due
 returns-clause-due c = λ before behind kept.
     let line : Data = view c.args.line.now in
-    let connected : c.open_after-self.result ≡ stream_at (before ++ line ∷ []) = c.open_after-self.ensures ∙ (λ i. open_after (behind.stream i) (c.requires.event i)) ∙ stream_now before line in
-    let told : (a : Awaited) → has_told c.hear.new.told a ≡ is_told (before ++ line ∷ []) a = λ a.
-    c.in_ok-given.ensures.told a ∙ (λ i. behind.told a i || list_any (awaited_same a) (flat_map told_by (heard_now (connected i) line))) ∙ sym (told_now before line a) in
-    let values : (name : List ℕ) → shown_value c.hear.new.values name ≡ value_of (before ++ line ∷ []) name = λ name.
-    c.in_ok-given.ensures.values name ∙ (λ i. later_value name (behind.values name i) (flat_map values_in (heard_now (connected i) line))) ∙ sym (value_now before line name) in
-    let m = c.in_ok-marks.ensures in
-    let marks : AreMarksOf before line (marks_of c.in_ok-marks.marks) = record {
-      stream = m.stream ∙ connected;
-      opening = m.opening ∙ (λ i. connected i && not (behind.stream i));
-      had = λ n. m.had n ∙ ap (λ (w : List Bool). was_complete w n) (ap (λ (v : Vec Bool Global). v.items) c.replace-was.ensures.value ∙ behind.complete);
-      marked = λ n. m.marked n ∙ ap (λ xs. is_marked xs n) (c.requires.places.each ∙ ap (λ (gs : List Guarded). map (place_at by_secrets gs) (clusters_in line)) kept);
-      values = λ name. m.values name ∙ c.in_ok-given.ensures.names name ∙ ap (λ (b : Bool). gives_to name (flat_map values_in (heard_now b line))) connected;
+    let s : Secrets = c.args.self.now in
+    let news = c.in_ok-told.field-0 in
+    let new : Told = c.go_on.new.told in
+    let gs : List Guarded = guarded_by by_secrets before in
+    let all : List Guarded = guarded_so_far c.args.numbers.now in
+    let adds : AddsAll s.told new news.told.items = c.in_ok-finished.ensures.told in
+    let heard : Hears before line c.open_after-self.result (map value_shown news.values.items) new c.take_all.new.self =
+    hears before line s c.args.event.now c.open_after-self.result news.told.items (map value_shown news.values.items) new c.take_all.new.self behind c.requires.event c.open_after-self.ensures
+    c.in_ok-told.ensures.told c.in_ok-told.ensures.values adds c.in_ok-given.ensures.values in
+    let grows : Grows gs all = guarded_grows before line all kept in
+    let goes : GoesOn s.told new gs all c.go_on.new.self c.in_ok-marks.marks.finished =
+    subst (λ set. GoesOn s.told new gs all c.go_on.new.self set) (sym c.in_ok-marks.ensures.finished) (c.in_ok-finished.ensures.goes gs behind.waiting grows) in
+    let finished : ℕ → Bool = contains nat_eq c.in_ok-marks.marks.finished in
+    let m = c.in_ok-marks.ensures.marks in
+    let marks : AreMarksOf before line (marks_of s.complete c.in_ok-marks.marks) = record {
+      stream = m.stream ∙ heard.stream;
+      opening = m.opening ∙ (λ i. heard.stream i && not (behind.stream i));
+      had = λ n. behind.complete.places n ∙ was_as before s.told gs n behind.told;
+      now = λ n g at. complete_now s.told new news.told.items gs all s.complete finished adds grows behind.complete goes.finishes n
+          ∙ complete_here new all n g (ap (λ (xs : List Guarded). slice_get xs n) kept ∙ at) ∙ completed_as (before ++ line ∷ []) new g heard.tells;
+      marked = λ n. m.items n ∙ ap (λ xs. is_marked xs n) (c.requires.places.each ∙ ap (λ (xs : List Guarded). map (place_at by_secrets xs) (clusters_in line)) kept);
+      values = λ name. m.values name ∙ c.in_ok-given.ensures.names name ∙ ap (gives_to name) heard.given;
     } in
-    c.in_ok-found.ensures.due ∙ due_found before line c.hear.new.told c.hear.new.values (marks_of c.in_ok-marks.marks) (guarded_so_far c.args.numbers.now) told values marks kept
+    c.in_ok-due.ensures (were_served s.told new news.told.items gs all s.complete finished adds grows behind.complete goes.finishes)
+    ∙ due_found before line c.take_all.new.self (marks_of s.complete c.in_ok-marks.marks) all heard.shows marks kept
 
 pub returns-clause-behind : goal.returns-clause-behind
 returns-clause-behind c = λ before behind kept.
     let line : Data = view c.args.line.now in
-    let connected : c.open_after-self.result ≡ stream_at (before ++ line ∷ []) = c.open_after-self.ensures ∙ (λ i. open_after (behind.stream i) (c.requires.event i)) ∙ stream_now before line in
-    let told : (a : Awaited) → has_told c.hear.new.told a ≡ is_told (before ++ line ∷ []) a = λ a.
-    c.in_ok-given.ensures.told a ∙ (λ i. behind.told a i || list_any (awaited_same a) (flat_map told_by (heard_now (connected i) line))) ∙ sym (told_now before line a) in
+    let s : Secrets = c.args.self.now in
+    let news = c.in_ok-told.field-0 in
+    let new : Told = c.go_on.new.told in
+    let gs : List Guarded = guarded_by by_secrets before in
+    let all : List Guarded = guarded_so_far c.args.numbers.now in
+    let adds : AddsAll s.told new news.told.items = c.in_ok-finished.ensures.told in
+    let heard : Hears before line c.open_after-self.result (map value_shown news.values.items) new c.take_all.new.self =
+    hears before line s c.args.event.now c.open_after-self.result news.told.items (map value_shown news.values.items) new c.take_all.new.self behind c.requires.event c.open_after-self.ensures
+    c.in_ok-told.ensures.told c.in_ok-told.ensures.values adds c.in_ok-given.ensures.values in
+    let grows : Grows gs all = guarded_grows before line all kept in
+    let goes : GoesOn s.told new gs all c.go_on.new.self c.in_ok-marks.marks.finished =
+    subst (λ set. GoesOn s.told new gs all c.go_on.new.self set) (sym c.in_ok-marks.ensures.finished) (c.in_ok-finished.ensures.goes gs behind.waiting grows) in
     record {
-      stream = connected;
-      told = told;
-      values = λ name.
-          c.in_ok-given.ensures.values name ∙ (λ i. later_value name (behind.values name i) (flat_map values_in (heard_now (connected i) line))) ∙ sym (value_now before line name);
-      complete = c.in_ok-found.ensures.complete ∙ complete_now (before ++ line ∷ []) c.hear.new.told (guarded_so_far c.args.numbers.now) told
-          ∙ ap (map (λ (g : Guarded). is_complete (before ++ line ∷ []) g.key)) kept;
+      stream = heard.stream;
+      told = heard.tells;
+      values = heard.shows;
+      waiting = subst (λ (xs : List Guarded). IsWaiting new xs c.go_on.new.self) kept goes.waits;
+      complete = subst (λ (xs : List Guarded). AreComplete new xs c.enter_all.new.self) kept
+          (complete_after s.told new news.told.items gs all s.complete (contains nat_eq c.in_ok-marks.marks.finished) adds grows behind.complete goes.finishes c.enter_all.new.self
+          c.in_ok-enter_all.ensures);
     }
 
 pub returns-then-is_quiet-clause-due : goal.returns-then-is_quiet-clause-due
