@@ -7,4 +7,4 @@ mod SeenLemmas
 pub mod NumberLemmas
 pub mod DistinctLemmas
 mod PlaceLemmas
-mod GrowthLemmas
+pub mod GrowthLemmas
