@@ -1,8 +1,9 @@
 -- Places that are taken up among the complete ones.
 use Rattle.std.proofs.Common.{◌≡◌, ℕ, Bool, true, false, ◌||◌, ◌&&◌, List, [], ◌∷◌, ◌++◌, map, Some, nat_eq, refl, sym, ap, ap₂, ◌∙◌, Bor}
 use Rattle.std.specs.Prelude.{slice_get}
-use Rattle.std.specs.List.{list_any, list_all}
+use Rattle.std.specs.List.{list_any}
 use Rattle.std.specs.Map.Iter.{deref}
+use Rattle.std.proofs.Math.Bool.{or-false}
 use Rattle.std.proofs.lemmas.List.{map-append}
 use Rattle.std.proofs.lemmas.List.Folds.{list_any-append}
 use Rattle.indexmap.specs.IndexSet.{contains}
@@ -16,14 +17,11 @@ use Rattle.ev_secrets.specs.Awaited.{services_of}
 use Rattle.ev_secrets.specs.Places.{PlacesKept, stands_under, Enters}
 use Rattle.ev_secrets.specs.Waiting.{EntersAll, EntersOne, is_served}
 use Rattle.ev_secrets.proofs.PlaceLemmas.{number_swapped, stands_own}
+use Rattle.ev_secrets.proofs.TestLemmas.{all_so}
 
 and_true : (a : Bool) → (a && true) ≡ a
 and_true true = refl
 and_true false = refl
-
-or_none : (a : Bool) → (a || false) ≡ a
-or_none true = refl
-or_none false = refl
 
 -- a place that was put under its endpoints is served
 pub serves : (d : Discovery) (service copied : List ℕ) (limited : Bool) (place : ℕ) (before after : PlacesKept) → d ≡ Eds service limited → copied ≡ service → Enters (Endpoints copied) place before after
@@ -31,14 +29,6 @@ pub serves : (d : Discovery) (service copied : List ℕ) (limited : Bool) (place
 serves d service copied limited place before after is same enters =
     ap (is_served after place) is ∙ and_true (stands_under after (Endpoints service) place)
     ∙ ap (λ (name : List ℕ). stands_under after (Endpoints name) place) (sym same) ∙ stands_own (Endpoints copied) place before after enters
-
-pub all_so : {X : Type 0} (p q : X → Bool) → ((x : X) → p x ≡ true → q x ≡ true) → (xs : List X) → list_all p xs ≡ true → list_all q xs ≡ true
-all_so p q so [] h = h
-all_so p q so (x ∷ xs) h = by (p x) refl h (all_so p q so xs)
-  where
-    by : (t : Bool) → p x ≡ t → (t && list_all p xs) ≡ true → (list_all p xs ≡ true → list_all q xs ≡ true) → (q x && list_all q xs) ≡ true
-    by true at h' rest = ap₂ (λ (a b : Bool). a && b) (so x at) (rest h')
-    by false at h' rest = absurd (cc)
 
 swapped : (a b c : Bool) → (b || (a || c)) ≡ ((a || b) || c)
 swapped true true c = refl
@@ -49,7 +39,7 @@ swapped false false c = refl
 -- one more of those that a walk has seen
 pub seen_more : {A : Type 0} (p : A → Bool) (xs : List (Bor A)) (x : Bor A) → list_any p (map deref (xs ++ x ∷ [])) ≡ (list_any p (map deref xs) || p x.now)
 seen_more {A} p xs x =
-    ap (list_any p) (map-append (deref {X = A}) xs (x ∷ [])) ∙ list_any-append p (map deref xs) (x.now ∷ []) ∙ ap (λ (b : Bool). list_any p (map deref xs) || b) (or_none (p x.now))
+    ap (list_any p) (map-append (deref {X = A}) xs (x ∷ [])) ∙ list_any-append p (map deref xs) (x.now ∷ []) ∙ ap (λ (b : Bool). list_any p (map deref xs) || b) (or-false (p x.now))
 
 pub enters_more : (gs : List Guarded) (xs : List (Bor ℕ)) (x : Bor ℕ) (before mid after : Complete) → EntersAll gs (λ (n : ℕ). list_any (nat_eq n) (map deref xs)) before mid → EntersOne gs x.now mid after
     → EntersAll gs (λ (n : ℕ). list_any (nat_eq n) (map deref (xs ++ x ∷ []))) before after

@@ -1,3 +1,4 @@
+mod TestLemmas
 mod PushLemmas
 mod KnownLemmas
 mod PlaceLemmas

@@ -6,7 +6,8 @@ use Rattle.std.specs.List.{list_any, flat_map, enumerate_from, AllByRecursion}
 use Rattle.std.specs.List.Sorted.{IsStrictlySortedBy}
 use Rattle.std.specs.Ordering.{nat_cmp}
 use Rattle.std.specs.declared.cmp.Ordering.TheVariants.{Less}
-use Rattle.std.proofs.lemmas.Bool.{cases_lt}
+use Rattle.std.proofs.Math.Bool.{or-true}
+use Rattle.std.proofs.lemmas.Bool.{cases_lt, false_from_ne_true}
 use Rattle.std.proofs.lemmas.Bool.Decides.{nat_tests}
 use Rattle.std.specs.Str.{bytes_eq}
 use Rattle.indexmap.specs.IndexSet.{IndexSet, contains}
@@ -22,7 +23,7 @@ use Rattle.ev_secrets.specs.Awaited.{services_of}
 use Rattle.ev_secrets.specs.Looking.{Marks, due_among, due_by, due_one, due_parts, due_there, marks_of, may_be_due, stands_under_any, WereServed}
 use Rattle.ev_secrets.specs.Places.{PlacesKept, stands_under}
 use Rattle.ev_secrets.specs.Waiting.{is_served}
-use Rattle.ev_secrets.proofs.WaitingLemmas.{any_so}
+use Rattle.ev_secrets.proofs.TestLemmas.{any_so, both_ways}
 
 -- ascending from this one on
 abbrev pub Ascends : ℕ → List ℕ → Type 0
@@ -74,14 +75,6 @@ module _ {A D : Type 0} (is_due : ℕ × A → Bool) (part : ℕ × A → D) whe
   skips true x others found none h = absurd (cc)
   skips false x others found none h = h
 
-  false_where : (b : Bool) → (b ≡ true → ⊥) → b ≡ false
-  false_where true h = absurd (h refl)
-  false_where false h = refl
-
-  both_ways : (b : Bool) → b ≡ true → b ≡ false → ⊥
-  both_ways true h k = cc
-  both_ways false h k = cc
-
   last_of : (a b : Bool) → a ≡ false → (a || b) ≡ true → b ≡ true
   last_of true b h k = absurd (cc)
   last_of false b h k = k
@@ -107,7 +100,7 @@ module _ {A D : Type 0} (is_due : ℕ × A → Bool) (part : ℕ × A → D) whe
       → found_at at cs ≡ map part (filter is_due (enumerate_from m xs))
   looked at m [] cs is up holds = none_there at m cs (λ n h. let e : n ≡ m + (n - m) = omega (arith, h) in ap at e ∙ is (n - m)) up
   looked at m (x ∷ xs) [] is up holds =
-      skips (is_due (m, x)) (m, x) (filter is_due (enumerate_from (m + 1) xs)) [] (false_where (is_due (m, x)) (λ due. both_ways false (holds_first m x xs [] holds due) refl))
+      skips (is_due (m, x)) (m, x) (filter is_due (enumerate_from (m + 1) xs)) [] (false_from_ne_true (is_due (m, x)) (λ due. both_ways false (holds_first m x xs [] holds due) refl))
       (looked at (m + 1) xs [] (others_at at m x xs is) tt (holds_others m x xs [] holds))
   looked at m (x ∷ xs) (c ∷ cs) is up holds =
       by (cases_lt m c) (λ up'. looked at (m + 1) xs (c ∷ cs) (others_at at m x xs is) up' (holds_others m x xs (c ∷ cs) holds))
@@ -119,7 +112,7 @@ module _ {A D : Type 0} (is_due : ℕ × A → Bool) (part : ℕ × A → D) whe
       by (inl below) later now =
           let up' : Ascends (m + 1) (c ∷ cs) = (omega (arith, below), up.1) in
           skips (is_due (m, x)) (m, x) (filter is_due (enumerate_from (m + 1) xs)) (found_at at (c ∷ cs))
-          (false_where (is_due (m, x)) (λ due. both_ways (list_any (nat_eq m) (c ∷ cs)) (holds_first m x xs (c ∷ cs) holds due) (not_below m (m + 1) (c ∷ cs) (omega arith) up')))
+          (false_from_ne_true (is_due (m, x)) (λ due. both_ways (list_any (nat_eq m) (c ∷ cs)) (holds_first m x xs (c ∷ cs) holds due) (not_below m (m + 1) (c ∷ cs) (omega arith) up')))
           (later up')
       by (inr above) later now =
           let same : c ≡ m = omega (arith, above, up.0) in
@@ -178,11 +171,7 @@ covered c w true o i v s so h = refl
 covered false w false o i v s so h = absurd (cc)
 covered true false false o i v s so h = absurd (cc)
 covered true true false o true v s so h = refl
-covered true true false true false v s so h = or_true s
-  where
-    or_true : (b : Bool) → (b || true) ≡ true
-    or_true true = refl
-    or_true false = refl
+covered true true false true false v s so h = or-true s
 covered true true false false false v s so h = ap (λ (b : Bool). b || false) (so refl h)
 
 pub all_held : (complete : Complete) (marked : Marked) (gs : List Guarded) → WereServed complete gs → (n : ℕ) (g : Guarded) → slice_get gs n ≡ Some g → due_by (marks_of complete marked) (n, g) ≡ true

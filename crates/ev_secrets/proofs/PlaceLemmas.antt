@@ -2,31 +2,13 @@
 use Rattle.std.proofs.Common.{◌≡◌, ℕ, ◌+◌, ◌<◌, Bool, true, false, cond, ◌||◌, List, [], ◌∷◌, ◌++◌, length, get_or, take, nat_eq, refl, sym, ap, ◌∙◌}
 use Rattle.std.specs.List.{list_any}
 use Rattle.std.proofs.lemmas.Bool.Decides.{same_from_decides}
-use Rattle.std.proofs.lemmas.List.Folds.{list_any-append, list_any_more}
+use Rattle.std.proofs.lemmas.List.Folds.{list_any-append}
 use Rattle.ev_types.specs.Same.{numbers_decide}
 use Rattle.ev_secrets.specs.declared.awaited.Awaited.{Awaited}
 use Rattle.ev_secrets.specs.Awaited.{awaited_same, awaited_decides}
 use Rattle.ev_secrets.specs.Places.{PlacesKept, places_under, has_place, stands_under, Enters, Leaves}
 use Rattle.ev_secrets.specs.Waiting.{KeepsUnder, Wakes}
-
-pub or_first : (a b : Bool) → a ≡ true → (a || b) ≡ true
-or_first a b h = ap (λ t. t || b) h
-
-pub or_second : (a b : Bool) → b ≡ true → (a || b) ≡ true
-or_second true b h = refl
-or_second false b h = h
-
-pub or_left : (a b : Bool) → (a || b) ≡ false → a ≡ false
-or_left true b h = h
-or_left false b h = refl
-
-pub or_right : (a b : Bool) → (a || b) ≡ false → b ≡ false
-or_right true b h = absurd (cc)
-or_right false b h = h
-
--- one element more
-pub any_more : {A : Type 0} (p : A → Bool) (xs : List A) (i : ℕ) (d x : A) → i < length xs → x ≡ get_or xs i d → list_any p (take (i + 1) xs) ≡ (list_any p (take i xs) || p x)
-any_more {A} p xs i d x h is = list_any_more p xs i d h ∙ ap (λ (y : A). list_any p (take i xs) || p y) (sym is)
+use Rattle.ev_secrets.proofs.TestLemmas.{or_first, or_second, or_left, or_right, any_more}
 
 pub has_more : (xs ys : List ℕ) (n : ℕ) → has_place (xs ++ ys) n ≡ (has_place xs n || has_place ys n)
 has_more xs ys n = list_any-append (nat_eq n) xs ys

@@ -3,6 +3,7 @@ use Rattle.std.proofs.Common.{◌≡◌, ℕ, ◌<◌, ◌≤◌, ◌⊎◌, inl
 use Rattle.std.specs.Prelude.{slice_get}
 use Rattle.std.specs.List.{list_any, list_all}
 use Rattle.std.specs.Str.{bytes_eq}
+use Rattle.std.proofs.Math.Bool.{or-false, or_comm}
 use Rattle.std.proofs.lemmas.Bool.{cases_lt}
 use Rattle.std.proofs.lemmas.List.{get_or_past}
 use Rattle.std.proofs.lemmas.Option.{slice_get_within}
@@ -18,17 +19,8 @@ use Rattle.ev_secrets.specs.Known.{are_told, has_told, AddsAll}
 use Rattle.ev_secrets.specs.Looking.{WereServed}
 use Rattle.ev_secrets.specs.Places.{has_place, stands_under}
 use Rattle.ev_secrets.specs.Waiting.{completed, complete_at, is_waiting, is_served, Grows, HavePassed, IsWaiting, Wakes, Advances, Finishes, GoesOn, HasBetween, AreComplete, EntersAll}
-use Rattle.ev_secrets.proofs.PlaceLemmas.{or_first}
-use Rattle.ev_secrets.proofs.WaitingLemmas.{any_so, complete_here, some_same}
-use Rattle.ev_secrets.proofs.CompleteLemmas.{all_so}
-
-both_ways : (b : Bool) → b ≡ true → b ≡ false → ⊥
-both_ways true h k = cc
-both_ways false h k = cc
-
-and_second : (a b : Bool) → (a && b) ≡ true → b ≡ true
-and_second true b h = h
-and_second false b h = absurd (cc)
+use Rattle.ev_secrets.proofs.WaitingLemmas.{complete_here}
+use Rattle.ev_secrets.proofs.TestLemmas.{or_first, and_second, both_ways, some_same, any_so, all_so}
 
 -- ---- more was told of
 
@@ -156,12 +148,6 @@ joined false true c still sound whole = sym (sound refl)
 joined false false true still sound whole = whole refl refl
 joined false false false still sound whole = refl
 
-or_swapped : (a b : Bool) → (a || b) ≡ (b || a)
-or_swapped true true = refl
-or_swapped true false = refl
-or_swapped false true = refl
-or_swapped false false = refl
-
 module _ (old new : Told) (heard : List Awaited) (gs all : List Guarded) (before : Complete) (is_finished : ℕ → Bool) (adds : AddsAll old new heard) (grows : Grows gs all)
     (were : AreComplete old gs before) (finishes : Finishes (complete_at old gs) (complete_at new all) is_finished) where
   -- the complete places are those that were, and the finished ones
@@ -177,16 +163,12 @@ module _ (old new : Told) (heard : List Awaited) (gs all : List Guarded) (before
 
   pub complete_after : (after : Complete) → EntersAll all is_finished before after → AreComplete new all after
   complete_after after enters = record {
-    places = λ n. enters.places n ∙ or_swapped (is_finished n) (contains nat_eq before.places n) ∙ complete_now n;
+    places = λ n. enters.places n ∙ or_comm (is_finished n) (contains nat_eq before.places n) ∙ complete_now n;
     served = λ n g at done. by n g at (is_finished n) refl (complete_now n ∙ complete_here new all n g at ∙ done);
   }
     where
       was_complete : (n : ℕ) → is_finished n ≡ false → (contains nat_eq before.places n || is_finished n) ≡ true → contains nat_eq before.places n ≡ true
-      was_complete n none h = sym (ap (λ (b : Bool). contains nat_eq before.places n || b) none ∙ or_none (contains nat_eq before.places n)) ∙ h
-        where
-          or_none : (b : Bool) → (b || false) ≡ b
-          or_none true = refl
-          or_none false = refl
+      was_complete n none h = sym (ap (λ (b : Bool). contains nat_eq before.places n || b) none ∙ or-false (contains nat_eq before.places n)) ∙ h
 
       by : (n : ℕ) (g : Guarded) → slice_get all n ≡ Some g → (f : Bool) → is_finished n ≡ f → (contains nat_eq before.places n || is_finished n) ≡ true → is_served after.served n g.key.cluster.discovery ≡ true
       by n g at true now h = enters.served n g at now

@@ -2,6 +2,7 @@
 use Rattle.std.proofs.Common.{◌≡◌, ℕ, Bool, true, false, not, ◌&&◌, ◌||◌, List, [], ◌∷◌, ◌++◌, map, filter, filter_map, flat_map, Option, Some, None, option_and_then, unwrap_or, refl, sym, ap, ◌∙◌, subst}
 use Rattle.std.specs.List.{list_any, enumerate_from}
 use Rattle.std.specs.Str.{bytes_eq}
+use Rattle.std.proofs.Math.Bool.{or-false}
 use Rattle.std.proofs.lemmas.List.{append-nil}
 use Rattle.serde_json.specs.Data.{Data}
 use Rattle.ev_types.specs.declared.events.Event.{Event}
@@ -49,10 +50,6 @@ nothing_of : {A : Type 0} (f : Data → List A) (b : Bool) (line : Data) → f l
 nothing_of f true line h = append-nil (f line) ∙ h
 nothing_of f false line h = refl
 
-or_false : (b : Bool) → (b || false) ≡ b
-or_false true = refl
-or_false false = refl
-
 dead : (s c : Bool) → (s && c && ((s && not s) || false || not c || false)) ≡ false
 dead true true = refl
 dead true false = refl
@@ -69,7 +66,7 @@ none_any p (x ∷ xs) h = rw (h x) (none_any p xs h)
 
 stays_told : (before : List Data) (line : Data) (a : Awaited) → told_by line ≡ [] → is_told (before ++ line ∷ []) a ≡ is_told before a
 stays_told before line a h =
-    told_now before line a ∙ ap (λ (xs : List Awaited). is_told before a || list_any (awaited_same a) xs) (nothing_of told_by (stream_at (before ++ line ∷ [])) line h) ∙ or_false (is_told before a)
+    told_now before line a ∙ ap (λ (xs : List Awaited). is_told before a || list_any (awaited_same a) xs) (nothing_of told_by (stream_at (before ++ line ∷ [])) line h) ∙ or-false (is_told before a)
 
 stays_guarded : (before : List Data) (line : Data) → guarded_in by_secrets line ≡ [] → guarded_by by_secrets (before ++ line ∷ []) ≡ guarded_by by_secrets before
 stays_guarded before line h = guarded-push by_secrets before line ∙ ap (λ (xs : List Guarded). each_once (flat_map (guarded_in by_secrets) before ++ xs)) h ∙ ap each_once (append-nil (flat_map (guarded_in by_secrets) before))

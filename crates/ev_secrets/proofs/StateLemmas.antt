@@ -2,6 +2,7 @@
 use Rattle.std.proofs.Common.{◌≡◌, ℕ, suc, ◌+◌, ◌<◌, ◌≤◌, ◌⊎◌, inl, inr, Bool, true, false, not, cond, ◌&&◌, ◌||◌, List, [], ◌∷◌, ◌++◌, length, map, filter, filter_map, flat_map, Option, Some, None, option_map, option_and_then, unwrap_or, nat_eq, refl, sym, ap, ap₂, ◌∙◌, subst, arith, length-append}
 use Rattle.std.specs.Prelude.{slice_get}
 use Rattle.std.specs.List.{list_any, list_all, last_or, enumerate_from, cons_option}
+use Rattle.std.proofs.Math.Bool.{or-true}
 use Rattle.std.proofs.lemmas.Bool.{cases_lt}
 use Rattle.std.proofs.lemmas.Bool.Decides.{same_from_decides}
 use Rattle.std.proofs.lemmas.List.{append-nil}
@@ -107,10 +108,6 @@ marked_as guard gs n g (entry ∷ entries) distinct h =
     ap (λ (t : Bool). is_place (place_at guard gs entry) n || t) (marked_as guard gs n g entries distinct h)
     ∙ entry_marked guard gs n g entry (guard.key_of entry) (filter_map (guarded_of guard) entries) distinct h
 
-or_true : (b : Bool) → (b || true) ≡ true
-or_true true = refl
-or_true false = refl
-
 joined : (o i w v h k e : Bool) → (i || w) ≡ (h || k) → v ≡ e → (o || i || w || v) ≡ (o || h || k || e)
 joined true i w v h k e same last = refl
 joined false i w v h k e same last = ap₂ (λ (a b : Bool). a || b) same last
@@ -134,7 +131,7 @@ either_place old more new n g f m marked here among (inl within) =
 either_place old more new n g f m marked here among (inr past) =
     let there = behind_get old more n g past here in
     let fresh : list_any (guarded_same g) new ≡ true = among there.0 g there.1 in
-    ap (λ (b : Bool). m || not b) (was_at old n f None (slice_get_past old n past)) ∙ or_true m ∙ sym (ap (λ (b : Bool). b || not (f g)) fresh)
+    ap (λ (b : Bool). m || not b) (was_at old n f None (slice_get_past old n past)) ∙ or-true m ∙ sym (ap (λ (b : Bool). b || not (f g)) fresh)
 
 -- a cause by a resource or by what was not complete before
 cause_as : (before : List Data) (line : Data) (n : ℕ) (g : Guarded) → slice_get (guarded_by by_secrets (before ++ line ∷ [])) n ≡ Some g

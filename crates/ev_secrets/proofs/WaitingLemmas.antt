@@ -14,23 +14,8 @@ use Rattle.ev_secrets.specs.Known.{first_told, has_told, next_of}
 use Rattle.ev_secrets.specs.Places.{PlacesKept, has_place, stands_under, Enters}
 use Rattle.ev_secrets.specs.Waiting.{completed, complete_at, is_waiting, HavePassed, Advances, AdvancesOne}
 use Rattle.ev_secrets.proofs.KnownLemmas.{front_passes}
-use Rattle.ev_secrets.proofs.PlaceLemmas.{or_first, or_second, any_more, number_swapped, stands_own, stands_still}
-
-pub some_same : {A : Type 0} (x y : A) → Some x ≡ Some y → x ≡ y
-some_same x y h = cc
-
--- where one test is true for some, so is another
-pub any_so : {X : Type 0} (p q : X → Bool) → ((x : X) → p x ≡ true → q x ≡ true) → (xs : List X) → list_any p xs ≡ true → list_any q xs ≡ true
-any_so p q so [] h = h
-any_so p q so (x ∷ xs) h = by (p x) refl h (any_so p q so xs)
-  where
-    by : (t : Bool) → p x ≡ t → (t || list_any p xs) ≡ true → (list_any p xs ≡ true → list_any q xs ≡ true) → (q x || list_any q xs) ≡ true
-    by true at h' rest = or_first (q x) (list_any q xs) (so x at)
-    by false at h' rest = or_second (q x) (list_any q xs) (rest h')
-
-pub and_so : (a b c : Bool) → (b ≡ true → c ≡ true) → (a && b) ≡ true → (a && c) ≡ true
-and_so true b c so h = so h
-and_so false b c so h = h
+use Rattle.ev_secrets.proofs.PlaceLemmas.{number_swapped, stands_own, stands_still}
+use Rattle.ev_secrets.proofs.TestLemmas.{or_first, any_more, any_so, and_so, some_same}
 
 -- ---- the first that wasn't told of
 

@@ -1,6 +1,7 @@
 use Rattle.std.proofs.Common.{◌≡◌, ℕ, List, ◌++◌, ap, ◌∙◌, rules}
 use Rattle.ev_secrets.specs.Places.{has_place, places_under}
-use Rattle.ev_secrets.proofs.PlaceLemmas.{wakes_more, has_more, or_first}
+use Rattle.ev_secrets.proofs.PlaceLemmas.{wakes_more, has_more}
+use Rattle.ev_secrets.proofs.TestLemmas.{or_first}
 use Rattle.ev_secrets.proofs.waiting.wake.Goals as goal
 
 pub loop-awaited-preserved : goal.loop-awaited-preserved
