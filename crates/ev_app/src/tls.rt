@@ -36,7 +36,7 @@ pub(crate) fn make_tls<S: Source>(alloc: Global, source: &mut S) -> Result<Made,
 }
 
 // What answers the trees of a script, or why nothing does.
-#[tactic(auto, using(crate::proofs::TlsLemmas::tls_told, crate::proofs::TlsLemmas::tls_not_told))]
+#[tactic(auto, using(crate::proofs::TlsLemmas::tls_not_told))]
 fn tls_made(alloc: Global, trees: &ScriptTrees) -> Result<Made, ScriptFault>
     requires trees { (input : Input) × IsTreesAnswer plain_lines input (Ok trees.now) }
     ensures answer { IsTlsAnswer trees.now result }
