@@ -26,10 +26,6 @@ def explained_with_secrets(path):
     return ['--secrets', f'{path}.jsonl', f'{path}.out', f'{path}.journal.jsonl'], os.devnull
 
 
-def explained_replay(path):
-    return [f'{path}.out', f'{path}.journal.jsonl'], os.devnull
-
-
 def explained_dump(path):
     return ['--dump'], f'{path}.out'
 
@@ -40,7 +36,6 @@ COMMANDS = {
     'soak': None,
     'dump': explained_dump,
     'tls': explained_with_secrets,
-    'dns': explained_replay,
     'chains': None,
     'sotw': explained_whole,
 }
