@@ -24,7 +24,8 @@ use Rattle.ev_script.specs.ReadTrees.{IsTreesAnswer}
 use Rattle.ev_script.specs.Script.{script_of}
 use Rattle.ev_sotw_lines.specs.Deltas.{deltas_of}
 use Rattle.ev_sotw_lines.specs.Lines.{sotw_lines}
-use Rattle.ev_sotw_delta.specs.DeltaText.{lines_in, written_of, delta_script, input_of_text, FitsInput}
+use Rattle.ev_expand_laws.specs.Said.{lines_in, input_of_text}
+use Rattle.ev_sotw_delta.specs.DeltaText.{written_of, delta_script, FitsInput}
 use Rattle.ev_sotw_delta.proofs.LimitLemmas.{fits_front}
 use Rattle.ev_sotw.specs.Text.{stated_in, sotw_text}
 use Rattle.ev_sotw_laws.specs.SameWorld.{SameWorld}

@@ -12,7 +12,8 @@ use Rattle.ev_script.specs.declared.trees.ScriptTrees.{ScriptTrees}
 use Rattle.ev_script.specs.Faults.{Input}
 use Rattle.ev_script.specs.ReadTrees.{IsTreesAnswer}
 use Rattle.ev_sotw_lines.specs.Lines.{sotw_lines}
-use Rattle.ev_sotw_delta.specs.DeltaText.{lines_in, written_of, delta_script, input_of_text, FitsInput, IsFirstTooLarge}
+use Rattle.ev_expand_laws.specs.Said.{lines_in, input_of_text}
+use Rattle.ev_sotw_delta.specs.DeltaText.{written_of, delta_script, FitsInput, IsFirstTooLarge}
 use Rattle.ev_sotw.specs.Text.{stated_in, sotw_text}
 use Rattle.ev_sotw_laws.specs.SameWorld.{IsSameWorld}
 use Rattle.ev_app.specs.declared.status.Status.TheVariants.{Done}

@@ -1,4 +1,3 @@
 pub mod LimitLemmas
 pub mod DeltaLemmas
 pub mod ScriptLemmas
-pub mod FormLemmas

@@ -1,27 +1,33 @@
 -- What the lines become is a script.
-use Rattle.std.proofs.Common.{◌≡◌, ◌∙◌, ℕ, zero, suc, ◌+◌, ◌<◌, ◌≤◌, ◌&&◌, ◌==◌, not, Bool, true, false, cond, List, [], ◌∷◌, ◌++◌, length, map, get_or, codes, Option, None, Some, option_map, option_and_then, unwrap_or, option_to_list, refl, sym, ap, subst, arith}
-use Rattle.std.specs.Prelude.{All, ⊤}
+use Rattle.std.proofs.Common.{◌≡◌, ◌∙◌, ℕ, ◌+◌, ◌≤◌, ◌&&◌, ◌==◌, not, Bool, true, false, cond, List, [], ◌∷◌, ◌++◌, length, map, codes, Option, None, Some, option_map, option_and_then, unwrap_or, Ok, refl, sym, ap, subst, arith}
 use Rattle.std.proofs.lemmas.Bool.{false≢true}
 use Rattle.serde_json.specs.Data.{Data, string}
 use Rattle.serde_json.specs.Find.{get}
+use Rattle.serde_json.specs.View.{view}
 use Rattle.ev_types.specs.declared.events.Actor.TheVariants.{Stream}
 use Rattle.ev_types.specs.declared.events.Event.TheVariants.{Response}
-use Rattle.ev_types.specs.declared.events.Line.{Line}
 use Rattle.ev_tree.specs.Forms.{given_or, text_of}
 use Rattle.ev_wire.specs.Responses.{kind_with, response_kind, nonce_of, has_head, response_of}
 use Rattle.ev_script.specs.Members.{has_only, member_of}
 use Rattle.ev_script.specs.LineForms.{with_only, line_at}
 use Rattle.ev_script.specs.Lines.{line_of}
-use Rattle.ev_script.specs.Content.{is_above}
-use Rattle.ev_script.specs.Faults.{worker_of, plain_lines}
+use Rattle.ev_script.specs.declared.trees.ScriptTrees.{ScriptTrees}
+use Rattle.ev_script.specs.Faults.{Input, plain_lines, HasNoFault}
+use Rattle.ev_script.specs.ReadTrees.{IsTreesAnswer}
+use Rattle.ev_script.specs.Script.{script_of}
+use Rattle.ev_trees.specs.Trees.{text_of_trees}
+use Rattle.ev_expand.specs.declared.text_so_far.TextSoFar.{TextSoFar}
+use Rattle.ev_expand_laws.specs.Said.{HasLine, AllAt, lines_in, input_of_text}
+use Rattle.ev_expand_laws.proofs.FormLemmas.{HasForm, trees_have_forms, plain_line}
+use Rattle.ev_expand_laws.proofs.ScriptLemmas.{trees_said}
 use Rattle.ev_delta.specs.Discovery.{DiscoveryParts, is_discovery, has_parts_of, parts_in, discovery_of}
 use Rattle.ev_delta.specs.Delta.{delta_message}
 use Rattle.ev_delta.specs.Told.{IsDiscovery, response_told}
 use Rattle.ev_delta.proofs.ReadLemmas.{read_so}
 use Rattle.ev_sotw_lines.specs.Searches.{with_before}
-use Rattle.ev_sotw_lines.specs.Lines.{is_op, response_in, sotw_line}
-use Rattle.ev_sotw_lines.specs.Deltas.{removed_at, delta_line, delta_of}
-use Rattle.ev_sotw_delta.specs.DeltaText.{lines_said}
+use Rattle.ev_sotw_lines.specs.Lines.{is_op, response_in, sotw_lines}
+use Rattle.ev_sotw_lines.specs.Deltas.{removed_at, delta_line, delta_of, deltas_of}
+use Rattle.ev_sotw_delta.specs.DeltaText.{written_of, delta_script, IsWritten}
 use Rattle.ev_sotw_delta.proofs.DeltaLemmas.{placed_delta}
 
 -- ---- responses that lines bring
@@ -85,29 +91,6 @@ line_made at response removed is =
 
 -- ---- lines by their places
 
--- the tree is a line of a script of so many workers
-pub record HasLine (workers at : ℕ) (tree : Data) : Type 0 where
-  pub line : Line
-  pub is : line_of at tree ≡ Some line
-  pub below : is_above workers (worker_of line.actor) ≡ false
-
--- the tree is a line of a script of the state of the world
-pub record IsSotwLine (workers at : ℕ) (tree : Data) : Type 0 where
-  pub named : Option ℕ
-  pub reads : sotw_line at tree ≡ Some named
-  pub below : is_above workers named ≡ false
-
--- from this place on, one after another
-abbrev pub AllAt : (ℕ → Data → Type 0) → ℕ → List Data → Type 0
-AllAt P at [] = ⊤
-AllAt P at (tree ∷ trees) = P at tree × AllAt P (at + 1) trees
-
-plain_has : (workers at : ℕ) (line : Data) (named : Option ℕ) (found : Option Line) → line_of at line ≡ found
-    → option_map (λ (l : Line). worker_of l.actor) found ≡ Some named → is_above workers named ≡ false → HasLine workers at line
-plain_has workers at line named None is reads below = absurd (cc)
-plain_has workers at line named (Some l) is reads below =
-    record { line = l; is = is; below = ap (is_above workers) (some_is (worker_of l.actor) named reads) ∙ below }
-
 -- a response names none
 abbrev no_worker : DiscoveryParts → Option ℕ
 no_worker response = None
@@ -125,7 +108,7 @@ response_has workers at before line (Some response) named is reads =
     }
 
 -- what a line becomes is a line
-pub delta_has : (workers at : ℕ) (before : List Data) (line : Data) → IsSotwLine workers at line → HasLine workers at (delta_of before line)
+pub delta_has : (workers at : ℕ) (before : List Data) (line : Data) → HasForm sotw_lines workers at line → HasLine workers at (delta_of before line)
 delta_has workers at before line form = by (is_op (codes "response") line) refl form.reads
   where
     by : (b : Bool) → is_op (codes "response") line ≡ b
@@ -136,39 +119,23 @@ delta_has workers at before line form = by (is_op (codes "response") line) refl 
         ap (λ b. cond b (with_only (codes "message" ∷ []) line (member_of discovery_of (codes "message") line)) None) op in
         let same : delta_of before line ≡ line =
         ap (λ found. unwrap_or (option_map (λ r. delta_line (delta_message r (map string (removed_at before r)))) found) line) none in
-        subst (HasLine workers at) (sym same) (plain_has workers at line form.named (line_of at line) refl reads form.below)
+        subst (HasLine workers at) (sym same) (plain_line workers at line (record { named = form.named; reads = reads; below = form.below }))
 
-pub deltas_have : (workers at : ℕ) (before lines : List Data) → AllAt (IsSotwLine workers) at lines → AllAt (HasLine workers) at (map placed_delta (with_before before lines))
+pub deltas_have : (workers at : ℕ) (before lines : List Data) → AllAt (HasForm sotw_lines workers) at lines → AllAt (HasLine workers) at (map placed_delta (with_before before lines))
 deltas_have workers at before [] all = tt
 deltas_have workers at before (line ∷ lines) all = (delta_has workers at before line all.0, deltas_have workers (at + 1) (before ++ line ∷ []) lines all.1)
 
--- ---- the lines that are said
+-- ---- the text
 
-said_first : (workers at : ℕ) (tree : Data) (trees : List Data) (has : HasLine workers at tree) → lines_said at (tree ∷ trees) ≡ has.line ∷ lines_said (at + 1) trees
-said_first workers at tree trees has = ap (λ found. option_to_list found ++ lines_said (at + 1) trees) has.is
-
-pub said_count : (workers at : ℕ) (trees : List Data) → AllAt (HasLine workers) at trees → length (lines_said at trees) ≡ length trees
-said_count workers at [] all = refl
-said_count workers at (tree ∷ trees) all =
-    ap length (said_first workers at tree trees all.0) ∙ ap (λ n. suc n) (said_count workers (at + 1) trees all.1)
-
-pub said_each : (workers at : ℕ) (trees : List Data) → AllAt (HasLine workers) at trees → (i : ℕ) (tree : Data) (line : Line) → i < length trees
-    → line_of (at + i) (get_or trees i tree) ≡ Some (get_or (lines_said at trees) i line)
-said_each workers at [] all i tree line h = absurd (omega arith)
-said_each workers at (first ∷ trees) all zero tree line h =
-    let place : at + 0 ≡ at = omega arith in
-    ap (λ n. line_of n first) place ∙ all.0.is ∙ sym (ap (λ ls. Some (get_or ls 0 line)) (said_first workers at first trees all.0))
-said_each workers at (first ∷ trees) all (suc i) tree line h =
-    let place : at + suc i ≡ at + 1 + i = omega arith in
-    ap (λ n. line_of n (get_or trees i tree)) place ∙ said_each workers (at + 1) trees all.1 i tree line (omega arith)
-    ∙ sym (ap (λ ls. Some (get_or ls (suc i) line)) (said_first workers at first trees all.0))
-
-all_cons : {X : Type 0} (P : X → Type 0) (x : X) (xs : List X) → P x → All P xs → All P (x ∷ xs)
-all_cons P x xs here each zero other h = here
-all_cons P x xs here each (suc i) other h = each i other (omega arith)
-
-pub said_below : (workers at : ℕ) (trees : List Data) → AllAt (HasLine workers) at trees → All (λ (line : Line). is_above workers (worker_of line.actor) ≡ false) (lines_said at trees)
-said_below workers at [] all = λ i other h. absurd (omega arith)
-said_below workers at (tree ∷ trees) all =
-    subst (All (λ (line : Line). is_above workers (worker_of line.actor) ≡ false)) (sym (said_first workers at tree trees all.0))
-    (all_cons (λ (line : Line). is_above workers (worker_of line.actor) ≡ false) all.0.line (lines_said (at + 1) trees) all.0.below (said_below workers (at + 1) trees all.1))
+-- the text that was written is a script without fault, of the lines that the trees are
+pub text_is_script : (input : Input) (trees : ScriptTrees) (text : TextSoFar) → IsTreesAnswer sotw_lines input (Ok trees) → IsWritten (written_of trees) text
+    → HasNoFault plain_lines (input_of_text text.bytes.items) × (script_of false text.bytes.items ≡ Some (delta_script trees))
+text_is_script input trees text read written =
+    let workers : ℕ = trees.header.workers in
+    let deltas : List Data = deltas_of (lines_in trees) in
+    let all : AllAt (HasLine workers) 2 deltas = deltas_have workers 2 [] (lines_in trees) (trees_have_forms sotw_lines input trees (λ tree. refl) read) in
+    let script = trees_said trees.header (view trees.head) deltas read.1.header all written.read_back written.fits.limits in
+    let bytes : text.bytes.items ≡ text_of_trees (written_of trees) = written.text_is.bytes in (
+      subst (λ bs. HasNoFault plain_lines (input_of_text bs)) (sym bytes) script.0,
+      ap (script_of false) bytes ∙ script.1,
+    )

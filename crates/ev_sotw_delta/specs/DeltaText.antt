@@ -1,43 +1,28 @@
 -- The text of the incremental script that says what a script of the state of the world says.
-use Rattle.std.specs.Prelude.{◌≡◌, ℕ, ◌+◌, ◌<◌, ◌≤◌, List, [], ◌∷◌, ◌++◌, map, take, length, All, true, false, ⊤, option_to_list}
+use Rattle.std.specs.Prelude.{◌≡◌, ℕ, ◌+◌, ◌<◌, ◌≤◌, List, [], ◌∷◌, ◌++◌, map, take, length, All, ⊤}
 use Rattle.serde_json.specs.Data.{Data}
 use Rattle.serde_json.specs.View.{view}
 use Rattle.ev_types.specs.Scripts.{ScriptParts}
-use Rattle.ev_types.specs.declared.events.Line.{Line}
 use Rattle.ev_script.specs.declared.trees.ScriptTrees.{ScriptTrees}
-use Rattle.ev_script.specs.Faults.{Input}
-use Rattle.ev_script.specs.Lines.{line_of}
 use Rattle.ev_script.specs.ReadScript.{script_made}
 use Rattle.ev_expand.specs.Room.{IsTextSoFar}
 use Rattle.ev_expand.specs.declared.text_so_far.TextSoFar.{TextSoFar}
 use Rattle.ev_trees.specs.Floats.{whole}
 use Rattle.ev_trees.specs.Trees.{ReadsBack, IsReadable, AreWithinLimits}
+use Rattle.ev_expand_laws.specs.Said.{lines_in, lines_said}
 use Rattle.ev_sotw_lines.specs.Deltas.{deltas_of}
 use Rattle.ev_sotw_delta.specs.declared.outcome.DeltaError.{DeltaError}
 use Rattle.ev_sotw_delta.specs.declared.outcome.DeltaError.TheVariants.{Large, OutOfMemory}
 
 -- ---- what is written
 
--- the trees of the lines behind the header
-abbrev pub lines_in : ScriptTrees → List Data
-lines_in trees = map view trees.lines.items
-
 -- the trees that are written: the header's, and what the lines become, with -1 for each float
 abbrev pub written_of : ScriptTrees → List Data
 written_of trees = map whole (view trees.head ∷ deltas_of (lines_in trees))
 
--- the lines that trees are, from this place on
-abbrev pub lines_said : ℕ → List Data → List Line
-lines_said at [] = []
-lines_said at (tree ∷ trees) = option_to_list (line_of at tree) ++ lines_said (at + 1) trees
-
 -- the script that is written
 abbrev pub delta_script : ScriptTrees → ScriptParts
 delta_script trees = script_made trees.header (lines_said 2 (deltas_of (lines_in trees)))
-
--- a text as a whole input
-abbrev pub input_of_text : List ℕ → Input
-input_of_text text = record { bytes = text; ended = true; audit = false }
 
 -- ---- limits
 

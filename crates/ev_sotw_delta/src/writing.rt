@@ -6,10 +6,11 @@ ghost use Rattle.ev_script.specs.Script.{script_of};
 ghost use Rattle.ev_script.specs.ReadTrees.{IsTreesAnswer};
 ghost use Rattle.ev_trees.specs.Floats.{whole};
 ghost use Rattle.ev_trees.specs.Trees.{text_of_trees};
+ghost use Rattle.ev_expand_laws.specs.Said.{input_of_text};
 ghost use Rattle.ev_sotw_lines.specs.Lines.{sotw_lines};
 ghost use Rattle.ev_sotw_lines.specs.Deltas.{delta_of};
 ghost use Rattle.ev_sotw_lines.specs.Follows.{FollowsLines, GoesOnBy};
-ghost use Rattle.ev_sotw_delta.specs.DeltaText.{FitsInput, IsWritten, WritesOn, IsTooLargeFor, IsRefusal, written_of, delta_script, input_of_text};
+ghost use Rattle.ev_sotw_delta.specs.DeltaText.{FitsInput, IsWritten, WritesOn, IsTooLargeFor, IsRefusal, written_of, delta_script};
 
 use crate::outcome::DeltaError;
 use ev_delta::nests_within;

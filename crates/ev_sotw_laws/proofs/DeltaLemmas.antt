@@ -23,13 +23,14 @@ use Rattle.ev_delta.specs.Told.{item_told, told_with, response_told, IsDiscovery
 use Rattle.ev_delta.proofs.ReadLemmas.{read_so}
 use Rattle.ev_sotw_lines.specs.declared.names_so_far.NamesSoFar.{NamesSoFar}
 use Rattle.ev_sotw_lines.specs.Searches.{with_before}
-use Rattle.ev_sotw_lines.specs.Lines.{is_op, response_in}
+use Rattle.ev_sotw_lines.specs.Lines.{is_op, response_in, sotw_lines}
 use Rattle.ev_sotw_lines.specs.Deltas.{stream_said, removed_at, delta_line, delta_of}
 use Rattle.ev_sotw_lines.specs.Follows.{FollowsLines, removed_by_kind, after_kind, after_response, after_other}
 use Rattle.ev_sotw_lines.proofs.FollowLemmas.{follows_response, follows_other, removed_follows}
-use Rattle.ev_sotw_delta.specs.DeltaText.{lines_said}
+use Rattle.ev_expand_laws.specs.Said.{HasLine, AllAt, lines_said}
+use Rattle.ev_expand_laws.proofs.FormLemmas.{HasForm}
 use Rattle.ev_sotw_delta.proofs.DeltaLemmas.{placed_delta}
-use Rattle.ev_sotw_delta.proofs.ScriptLemmas.{HasLine, IsSotwLine, AllAt, response_is, line_made, delta_has}
+use Rattle.ev_sotw_delta.proofs.ScriptLemmas.{response_is, line_made, delta_has}
 use Rattle.ev_sotw_laws.proofs.EventLemmas.{Heard, item_names, heard_of, heard_after, FitsKind, FitsAt, AllFit, among_items, removed_so}
 use Rattle.ev_sotw_laws.proofs.StripLemmas.{line_events}
 use Rattle.ev_sotw_laws.proofs.RunLemmas.{connected_after}
@@ -203,7 +204,7 @@ not_responding line at named found none true h = absurd (no_some (sym (ap (optio
     no_some e = cc
 not_responding line at named found none false h = refl
 
-plain_next : (workers at : ℕ) (before : List Data) (line : Data) (heard : Heard) (names : NamesSoFar) → response_in line ≡ None → IsSotwLine workers at line
+plain_next : (workers at : ℕ) (before : List Data) (line : Data) (heard : Heard) (names : NamesSoFar) → response_in line ≡ None → HasForm sotw_lines workers at line
     → FollowsLines before names → Agrees heard names → NextFits at before line heard
 plain_next workers at before line heard names none form follows agrees =
     let has : HasLine workers at (delta_of before line) = delta_has workers at before line form in
@@ -221,7 +222,7 @@ plain_next workers at before line heard names none form follows agrees =
       agrees = plain_agrees line has.line.event heard names plain agrees;
     }
 
-next_fits : (workers at : ℕ) (before : List Data) (line : Data) (heard : Heard) (names : NamesSoFar) → IsSotwLine workers at line
+next_fits : (workers at : ℕ) (before : List Data) (line : Data) (heard : Heard) (names : NamesSoFar) → HasForm sotw_lines workers at line
     → FollowsLines before names → Agrees heard names → NextFits at before line heard
 next_fits workers at before line heard names form follows agrees = by (response_in line) refl
   where
@@ -229,7 +230,7 @@ next_fits workers at before line heard names form follows agrees = by (response_
     by None none = plain_next workers at before line heard names none form follows agrees
     by (Some response) is = response_fits at before line heard names response is follows agrees
 
-pub lines_fit : (workers at : ℕ) (before lines : List Data) (heard : Heard) (names : NamesSoFar) → AllAt (IsSotwLine workers) at lines
+pub lines_fit : (workers at : ℕ) (before lines : List Data) (heard : Heard) (names : NamesSoFar) → AllAt (HasForm sotw_lines workers) at lines
     → FollowsLines before names → Agrees heard names → AllFit heard (line_events (lines_said at (map placed_delta (with_before before lines))))
 lines_fit workers at before [] heard names all follows agrees = tt
 lines_fit workers at before (line ∷ lines) heard names all follows agrees =

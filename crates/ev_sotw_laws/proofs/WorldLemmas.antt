@@ -29,8 +29,9 @@ use Rattle.ev_stream_laws.proofs.HoldLemmas.{side_holds}
 use Rattle.ev_stream_laws.proofs.ToldLemmas.{told_stay}
 use Rattle.ev_sotw_lines.specs.declared.names_so_far.NamesSoFar.{NamesSoFar}
 use Rattle.ev_sotw_lines.specs.Lines.{sotw_lines}
-use Rattle.ev_sotw_delta.specs.DeltaText.{lines_in, delta_script}
-use Rattle.ev_sotw_delta.proofs.FormLemmas.{trees_have_forms}
+use Rattle.ev_expand_laws.specs.Said.{lines_in}
+use Rattle.ev_expand_laws.proofs.FormLemmas.{trees_have_forms}
+use Rattle.ev_sotw_delta.specs.DeltaText.{delta_script}
 use Rattle.ev_sotw_laws.specs.SameWorld.{is_replied, AnswersAt, SameWorld}
 use Rattle.ev_sotw_laws.proofs.EventLemmas.{Heard, nothing_heard, FitsKind, AllFit, is_told, told_fit, all_fit}
 use Rattle.ev_sotw_laws.proofs.StripLemmas.{line_events, entry_events, told_script, told_entries}
@@ -46,7 +47,7 @@ nothing_said = record { connected = false; clusters = []; listeners = [] }
 script_fits : (input : Input) (trees : ScriptTrees) → IsTreesAnswer sotw_lines input (Ok trees) → AllFit nothing_heard (line_events (delta_script trees).lines)
 unfolding nothing_said
 script_fits input trees read =
-    lines_fit trees.header.workers 2 [] (lines_in trees) nothing_heard nothing_said (trees_have_forms input trees read)
+    lines_fit trees.header.workers 2 [] (lines_in trees) nothing_heard nothing_said (trees_have_forms sotw_lines input trees (λ tree. refl) read)
     (record { connected = refl; clusters = refl; listeners = refl }) (record { connected = refl; clusters = λ name. refl; listeners = λ name. refl })
 
 -- the events of a run of a script are of the state of the world where those of its lines are

@@ -9,10 +9,11 @@ use Rattle.ev_trees.specs.Floats.{whole}
 use Rattle.ev_sotw_lines.specs.Searches.{with_before}
 use Rattle.ev_sotw_lines.specs.Deltas.{delta_of, deltas_of}
 use Rattle.ev_sotw_lines.specs.Follows.{FollowsLines}
-use Rattle.ev_sotw_delta.specs.DeltaText.{IsWritten, IsRefusal, lines_in, written_of}
+use Rattle.ev_expand_laws.specs.Said.{lines_in}
+use Rattle.ev_sotw_delta.specs.DeltaText.{IsWritten, IsRefusal, written_of}
 use Rattle.ev_sotw_delta.proofs.LimitLemmas.{refused, nothing_written}
 use Rattle.ev_sotw_delta.proofs.DeltaLemmas.{placed_delta, written_lines, written_more, written_front, viewed_more, viewed_parts}
-use Rattle.ev_sotw_delta.proofs.FormLemmas.{text_is_script}
+use Rattle.ev_sotw_delta.proofs.ScriptLemmas.{text_is_script}
 use Rattle.ev_sotw_delta.proofs.writing.to_delta.Goals as goal
 
 pub returns-in_err-push_tree-clause-large : goal.returns-in_err-push_tree-clause-large

@@ -1,31 +1,27 @@
--- Trees that were read of an input without fault have the forms of its lines.
+-- Trees that were read of an input without fault have the forms of its lines, and are no deeper than a reader goes.
 use Rattle.std.proofs.Common.{◌≡◌, ◌∙◌, ℕ, zero, suc, ◌+◌, ◌<◌, ◌≤◌, ◌⊎◌, inl, inr, Bool, true, false, cond, eqb, List, [], ◌∷◌, length, map, take, get_or, Option, None, Some, option_map, option_and_then, Ok, refl, sym, ap, subst, arith, eqb-true}
 use Rattle.std.specs.Prelude.{IsTrue, slice_index}
+use Rattle.std.specs.Str.{is_utf8}
+use Rattle.std.specs.List.{AllByRecursion}
 use Rattle.std.proofs.lemmas.Bool.{false≢true, leb-true}
-use Rattle.std.proofs.lemmas.List.{length-map, get_or-map}
-use Rattle.serde_json.specs.Data.{Data, null}
+use Rattle.serde_json.specs.Data.{Data}
+use Rattle.serde_json.specs.Read.{read}
 use Rattle.serde_json.specs.View.{view}
 use Rattle.serde_json.specs.declared.value.Value.{Value}
+use Rattle.serde_json.proofs.Nesting.{depth-read}
 use Rattle.ev_io.specs.Lines.{lines_of, onto_first, feeds_in}
+use Rattle.ev_types.specs.declared.events.Line.{Line}
 use Rattle.ev_script.specs.declared.header.Header.{Header}
 use Rattle.ev_script.specs.declared.trees.ScriptTrees.{ScriptTrees}
 use Rattle.ev_script.specs.declared.fault_kinds.FaultKind.TheVariants.{NotLine, NoSuchWorker}
 use Rattle.ev_script.specs.Members.{tree_of}
 use Rattle.ev_script.specs.Content.{is_above}
-use Rattle.ev_script.specs.Faults.{Input, plain_lines, index_at, EndsLine, EndsScriptLine, tree_at, workers_in, HasNoFault}
-use Rattle.ev_script.specs.ReadTrees.{IsTreesAnswer}
+use Rattle.ev_script.specs.Faults.{LineForms, Input, plain_lines, worker_of, index_at, EndsLine, EndsScriptLine, tree_at, workers_in, HasNoFault}
 use Rattle.ev_script.specs.Lines.{line_of}
-use Rattle.ev_script.specs.Script.{script_of}
-use Rattle.ev_trees.specs.Floats.{whole}
-use Rattle.ev_trees.specs.Trees.{text_of_trees}
-use Rattle.ev_trees.specs.Scripts.{AreScript}
-use Rattle.ev_trees.proofs.ScriptLemmas.{script_is}
-use Rattle.ev_whole_laws.proofs.LineForms.{one_form}
-use Rattle.ev_expand.specs.declared.text_so_far.TextSoFar.{TextSoFar}
-use Rattle.ev_sotw_lines.specs.Lines.{sotw_line, sotw_lines}
-use Rattle.ev_sotw_lines.specs.Deltas.{deltas_of}
-use Rattle.ev_sotw_delta.specs.DeltaText.{lines_in, written_of, lines_said, delta_script, input_of_text, IsWritten}
-use Rattle.ev_sotw_delta.proofs.ScriptLemmas.{HasLine, IsSotwLine, AllAt, deltas_have, said_count, said_each, said_below}
+use Rattle.ev_script.specs.ReadScript.{HeadsScripts}
+use Rattle.ev_script.specs.ReadTrees.{IsTreesAnswer}
+use Rattle.ev_trees.specs.Trees.{IsReadable}
+use Rattle.ev_expand_laws.specs.Said.{lines_in, HasLine, AllAt}
 
 -- ---- where lines end
 
@@ -112,6 +108,12 @@ line_ends (byte ∷ bytes) i h = by (λ j k. line_ends bytes j k) (eqb byte 10) 
 
 -- ---- the forms
 
+-- at this place the tree has the form of a line, of a script of so many workers
+pub record HasForm (forms : LineForms) (workers at : ℕ) (tree : Data) : Type 0 where
+  pub named : Option ℕ
+  pub reads : forms.lines at tree ≡ Some named
+  pub below : is_above workers named ≡ false
+
 -- a worker that is none of the script's would be a fault
 below_by : (workers : ℕ) (named : Option ℕ) → ((worker : ℕ) → named ≡ Some worker → workers ≤ worker → ⊥) → is_above workers named ≡ false
 below_by workers None never = refl
@@ -121,29 +123,29 @@ below_by workers (Some worker) never = by (is_above workers (Some worker)) refl
     by true h = absurd (never worker refl (leb-true workers worker h))
     by false h = refl
 
-form_by : (workers at : ℕ) (tree : Data) (found : Option (Option ℕ)) → sotw_line at tree ≡ found → (found ≡ None → ⊥)
-    → ((worker : ℕ) → found ≡ Some (Some worker) → workers ≤ worker → ⊥) → IsSotwLine workers at tree
-form_by workers at tree None is some below = absurd (some refl)
-form_by workers at tree (Some named) is some below =
+form_by : (forms : LineForms) (workers at : ℕ) (tree : Data) (found : Option (Option ℕ)) → forms.lines at tree ≡ found → (found ≡ None → ⊥)
+    → ((worker : ℕ) → found ≡ Some (Some worker) → workers ≤ worker → ⊥) → HasForm forms workers at tree
+form_by forms workers at tree None is some below = absurd (some refl)
+form_by forms workers at tree (Some named) is some below =
     record { named = named; reads = is; below = below_by workers named (λ worker e above. below worker (ap Some e) above) }
 
 -- the form of a line of an input without fault
-line_form : (input : Input) (workers : ℕ) (i : ℕ) (tree : Data) → input.audit ≡ false → IsTrue input.ended → HasNoFault sotw_lines input
-    → workers_in sotw_lines (lines_of input.bytes) ≡ Some workers → suc i < length (lines_of input.bytes)
-    → tree_of (get_or (lines_of input.bytes) (suc i) []) ≡ Some tree → IsSotwLine workers (i + 2) tree
-line_form input workers i tree whole ended sound heads within is =
+line_form : (forms : LineForms) (input : Input) (workers : ℕ) (i : ℕ) (tree : Data) → input.audit ≡ false → IsTrue input.ended → HasNoFault forms input
+    → workers_in forms (lines_of input.bytes) ≡ Some workers → suc i < length (lines_of input.bytes)
+    → tree_of (get_or (lines_of input.bytes) (suc i) []) ≡ Some tree → HasForm forms workers (i + 2) tree
+line_form forms input workers i tree whole ended sound heads within is =
     let found = line_ends input.bytes (suc i) within in
     let place : ℕ = found.place in
     let here : tree_at input place ≡ Some tree = ap (λ n. tree_of (get_or (lines_of input.bytes) n [])) found.index ∙ is in
     let at : index_at input place + 1 ≡ i + 2 = omega (arith, found.index) in
-    let reads : option_and_then (sotw_lines.lines (index_at input place + 1)) (tree_at input place) ≡ sotw_line (i + 2) tree =
-    (λ j. option_and_then (sotw_lines.lines (at j)) (here j)) in
+    let reads : option_and_then (forms.lines (index_at input place + 1)) (tree_at input place) ≡ forms.lines (i + 2) tree =
+    (λ j. option_and_then (forms.lines (at j)) (here j)) in
     let line : EndsScriptLine input place = record {
       ends = ends_at found.ends;
       before = λ start h begins. false≢true (sym whole ∙ begins.audit);
     } in
     let later : 0 < index_at input place = omega (arith, found.index) in
-    form_by workers (i + 2) tree (sotw_line (i + 2) tree) refl
+    form_by forms workers (i + 2) tree (forms.lines (i + 2) tree) refl
     (λ none. sound place NotLine (line, later, reads ∙ none))
     (λ worker names above. sound place NoSuchWorker (line, later, record { worker = worker; workers = workers; names = reads ∙ names; heads = heads; above = above }))
   where
@@ -159,44 +161,56 @@ by_places P at (value ∷ values) each = (
 )
 
 -- the trees that were read have the forms
-pub trees_have_forms : (input : Input) (trees : ScriptTrees) → IsTreesAnswer sotw_lines input (Ok trees) → AllAt (IsSotwLine trees.header.workers) 2 (map view trees.lines.items)
-trees_have_forms input trees read =
-    by_places (IsSotwLine trees.header.workers) 2 trees.lines.items
-    (λ i other h. subst (λ n. IsSotwLine trees.header.workers n (view (get_or trees.lines.items i other))) (omega arith)
-    (line_form input trees.header.workers i (view (get_or trees.lines.items i other)) read.0.script read.0.ended read.0.sound
-    (ap (option_and_then sotw_lines.heads) read.1.head ∙ ap (option_map (λ (header : Header). header.workers)) read.1.header)
-    (omega (arith, read.0.lines))
-    (ap (λ n. tree_of (get_or (lines_of input.bytes) n [])) (omega arith) ∙ read.1.lines i other h)))
+pub trees_have_forms : (forms : LineForms) (input : Input) (trees : ScriptTrees) → HeadsScripts forms → IsTreesAnswer forms input (Ok trees)
+    → AllAt (HasForm forms trees.header.workers) 2 (lines_in trees)
+trees_have_forms forms input trees heads answer =
+    by_places (HasForm forms trees.header.workers) 2 trees.lines.items
+    (λ i other h. subst (λ n. HasForm forms trees.header.workers n (view (get_or trees.lines.items i other))) (omega arith)
+    (line_form forms input trees.header.workers i (view (get_or trees.lines.items i other)) answer.0.script answer.0.ended answer.0.sound
+    (ap (option_and_then forms.heads) answer.1.head ∙ heads (view trees.head) ∙ ap (option_map (λ (header : Header). header.workers)) answer.1.header)
+    (omega (arith, answer.0.lines))
+    (ap (λ n. tree_of (get_or (lines_of input.bytes) n [])) (omega arith) ∙ answer.1.lines i other h)))
 
--- ---- the text is a script
+-- ---- lines of scripts
 
-some_tree : Data
-some_tree = null
+some_is : {A : Type 0} (x y : A) → Some x ≡ Some y → x ≡ y
+some_is x y h = cc
 
--- the text that was written is a script without fault, of the lines that the trees are
-pub text_is_script : (input : Input) (trees : ScriptTrees) (text : TextSoFar) → IsTreesAnswer sotw_lines input (Ok trees) → IsWritten (written_of trees) text
-    → HasNoFault plain_lines (input_of_text text.bytes.items) × (script_of false text.bytes.items ≡ Some (delta_script trees))
-text_is_script input trees text read written =
-    let workers : ℕ = trees.header.workers in
-    let deltas : List Data = deltas_of (lines_in trees) in
-    let all : AllAt (HasLine workers) 2 deltas = deltas_have workers 2 [] (lines_in trees) (trees_have_forms input trees read) in
-    let count : length (map whole deltas) ≡ length deltas = length-map deltas whole in
-    let are : AreScript trees.header (lines_said 2 deltas) (whole (view trees.head)) (map whole deltas) = record {
-      read_back = written.read_back;
-      limits = written.fits.limits;
-      heads = (one_form (view trees.head)).header ∙ read.1.header;
-      count = count ∙ sym (said_count workers 2 deltas all);
-      says = λ i tree line h.
-          let within : i < length deltas = omega (arith, h, said_count workers 2 deltas all) in
-          let place : i + 2 ≡ 2 + i = omega arith in
-          ap (line_of (i + 2)) (get_or-map whole deltas i some_tree tree within)
-          ∙ (one_form (get_or deltas i some_tree)).line (i + 2)
-          ∙ ap (λ n. line_of n (get_or deltas i some_tree)) place
-          ∙ said_each workers 2 deltas all i some_tree line within;
-      below = said_below workers 2 deltas all;
-    } in
-    let script = script_is trees.header (lines_said 2 deltas) (whole (view trees.head)) (map whole deltas) are in
-    let bytes : text.bytes.items ≡ text_of_trees (written_of trees) = written.text_is.bytes in (
-      subst (λ bs. HasNoFault plain_lines (input_of_text bs)) (sym bytes) script.0,
-      ap (script_of false) bytes ∙ script.1,
-    )
+line_by : (workers at : ℕ) (tree : Data) (named : Option ℕ) (found : Option Line) → line_of at tree ≡ found
+    → option_map (λ (line : Line). worker_of line.actor) found ≡ Some named → is_above workers named ≡ false → HasLine workers at tree
+line_by workers at tree named None is reads below = absurd (cc)
+line_by workers at tree named (Some line) is reads below =
+    record { line = line; is = is; below = ap (is_above workers) (some_is (worker_of line.actor) named reads) ∙ below }
+
+-- what has the plain form is a line
+pub plain_line : (workers at : ℕ) (tree : Data) → HasForm plain_lines workers at tree → HasLine workers at tree
+plain_line workers at tree form = line_by workers at tree form.named (line_of at tree) refl form.reads form.below
+
+plain_at : (workers at : ℕ) (trees : List Data) → AllAt (HasForm plain_lines workers) at trees → AllAt (HasLine workers) at trees
+plain_at workers at [] all = tt
+plain_at workers at (tree ∷ trees) all = (plain_line workers at tree all.0, plain_at workers (at + 1) trees all.1)
+
+-- the trees of a script's lines are lines at their places
+pub trees_have_lines : (input : Input) (trees : ScriptTrees) → IsTreesAnswer plain_lines input (Ok trees) → AllAt (HasLine trees.header.workers) 2 (lines_in trees)
+trees_have_lines input trees answer = plain_at trees.header.workers 2 (lines_in trees) (trees_have_forms plain_lines input trees (λ tree. refl) answer)
+
+-- ---- how deep they are
+
+read_by : (b : Bool) (found : Option Data) (tree : Data) → cond b found None ≡ Some tree → found ≡ Some tree
+read_by true found tree h = h
+read_by false found tree h = absurd (cc)
+
+read_within : (text : List ℕ) (tree : Data) → tree_of text ≡ Some tree → IsReadable tree
+read_within text tree h = depth-read text tree (read_by (is_utf8 text) (read text) tree h)
+
+each_value : (P : Data → Type 0) (values : List Value) → ((i : ℕ) (other : Value) → i < length values → P (view (get_or values i other))) → AllByRecursion P (map view values)
+each_value P [] each = tt
+each_value P (value ∷ values) each = (each 0 value (omega arith), each_value P values (λ i other h. each (suc i) other (omega arith)))
+
+-- trees that were read are no deeper than a reader goes
+pub trees_are_readable : (forms : LineForms) (input : Input) (trees : ScriptTrees) → IsTreesAnswer forms input (Ok trees) → AllByRecursion IsReadable (view trees.head ∷ lines_in trees)
+trees_are_readable forms input trees answer = (
+  read_within (get_or (lines_of input.bytes) 0 []) (view trees.head) answer.1.head,
+  each_value IsReadable trees.lines.items
+      (λ i other h. read_within (get_or (lines_of input.bytes) (i + 1) []) (view (get_or trees.lines.items i other)) (answer.1.lines i other h)),
+)

@@ -1,0 +1,11 @@
+pub mod FieldLemmas
+pub mod WaitLemmas
+pub mod ItemLemmas
+pub mod LineLemmas
+pub mod FollowLemmas
+pub mod ReadLemmas
+pub mod DepthLemmas
+pub mod SaidLemmas
+pub mod FormLemmas
+pub mod GivenLemmas
+pub mod ScriptLemmas

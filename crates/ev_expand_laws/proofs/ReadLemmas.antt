@@ -1,0 +1,114 @@
+-- What the lines that a command makes are read as.
+use Rattle.std.proofs.Common.{◌≡◌, ◌∙◌, ℕ, inl, inr, Bool, true, false, cond, List, [], ◌∷◌, map, filter_map, Option, Some, None, is_some, option_map, codes, refl, sym, ap, ap₂}
+use Rattle.std.specs.List.{list_all}
+use Rattle.serde_json.specs.Data.{Data, string}
+use Rattle.ev_types.specs.Items.{ItemParts, ResponseParts}
+use Rattle.ev_types.specs.declared.contents.Kind.{Kind}
+use Rattle.ev_types.specs.declared.contents.Kind.TheVariants.{Cds}
+use Rattle.ev_types.specs.declared.events.Actor.TheVariants.{Stream}
+use Rattle.ev_types.specs.declared.events.Event.TheVariants.{Response}
+use Rattle.ev_tree.specs.Forms.{is_object}
+use Rattle.ev_wire.specs.Responses.{entry_name, is_entry, item_of, entries_of, response_of}
+use Rattle.ev_script.specs.LineForms.{line_at}
+use Rattle.ev_script.specs.Lines.{line_of}
+use Rattle.ev_expand.specs.declared.keys.Key.{Key}
+use Rattle.ev_expand.specs.Editing.{with_value}
+use Rattle.ev_expand.specs.Fronts.{event_of, message_of}
+use Rattle.ev_expand.specs.Guarding.{Guard, Guarded, kind_of, listed_as, clusters_in, place_in, place_at, private_name, body_in, waiting_body, waiting_entry, waiting_entries, waiting_line, response_tree}
+use Rattle.ev_expand.specs.Following.{DueParts}
+use Rattle.ev_expand.proofs.EventLemmas.{response_read}
+use Rattle.ev_expand_laws.specs.Waiting.{IsOfCluster, static_body, waiting_item, waiting_response, has_guarded, name_with, following_response, ResourcesWait, LinesWait, LinesFollow}
+use Rattle.ev_expand_laws.proofs.FieldLemmas.{object_with}
+use Rattle.ev_expand_laws.proofs.WaitLemmas.{typed_keeps}
+use Rattle.ev_expand_laws.proofs.ItemLemmas.{kept_entry_name, item_waits, keeps_itself}
+use Rattle.ev_expand_laws.proofs.LineLemmas.{all_made, entry_with, entries_objects, entries_right, message_with, response_becomes, line_made, IsOfClusters, line_of_clusters}
+use Rattle.ev_expand_laws.proofs.FollowLemmas.{following_message, message_read, names_given}
+
+-- ---- guarded resources
+
+-- a guarded resource waits: it is read as its cluster, with endpoints by its private name and without limit
+pub guarded_item : ResourcesWait
+guarded_item guard prefix gs entry key clusters short is =
+    ap (λ (found : Option Key). item_of Cds (waiting_entry prefix (option_map (place_in gs) found) entry)) is ∙ by (clusters entry key is)
+  where
+    by : IsOfCluster entry key.cluster → item_of Cds (waiting_entry prefix (Some (place_in gs key)) entry) ≡ waiting_item prefix (place_in gs key) key.cluster entry
+    by (inl good) = item_waits prefix (place_in gs key) entry (body_in entry) key.cluster short (keeps_itself (body_in entry)) good
+    by (inr good) = item_waits prefix (place_in gs key) entry (static_body (body_in entry)) key.cluster short (typed_keeps (string (codes "STATIC")) (body_in entry)) good
+
+-- another one stays as it is
+pub other_item : (guard : Guard) (prefix : List ℕ) (gs : List Guarded) (entry : Data) → guard.key_of entry ≡ None → waiting_entry prefix (place_at guard gs entry) entry ≡ entry
+other_item guard prefix gs entry is = ap (λ (key : Option Key). waiting_entry prefix (option_map (place_in gs) key) entry) is
+
+item_name : (entry : Data) → (item_of Cds entry).name ≡ entry_name entry
+unfolding item_of
+item_name entry = refl
+
+name_waits : (prefix : List ℕ) (place : Option ℕ) (entry : Data) → (item_of Cds (waiting_entry prefix place entry)).name ≡ (item_of Cds entry).name
+name_waits prefix None entry = refl
+name_waits prefix (Some place) entry =
+    let body : Data = waiting_body (private_name prefix place) (body_in entry) in
+    item_name (with_value (codes "resource") body entry) ∙ kept_entry_name body entry ∙ sym (item_name entry)
+
+names_wait : (prefix : List ℕ) (place : Data → Option ℕ) (entries : List Data)
+    → map (λ (item : ItemParts). item.name) (map (item_of Cds) (map (λ (entry : Data). waiting_entry prefix (place entry) entry) entries))
+    ≡ map (λ (item : ItemParts). item.name) (map (item_of Cds) entries)
+names_wait prefix place [] = refl
+names_wait prefix place (entry ∷ entries) = ap₂ (λ (n : List ℕ) (ns : List (List ℕ)). n ∷ ns) (name_waits prefix (place entry) entry) (names_wait prefix place entries)
+
+-- each resource has its name still
+pub waiting_names : (prefix : List ℕ) (guard : Guard) (gs : List Guarded) (line : Data)
+    → map (λ (item : ItemParts). item.name) (map (item_of Cds) (waiting_entries prefix guard gs line))
+    ≡ map (λ (item : ItemParts). item.name) (map (item_of Cds) (clusters_in line))
+waiting_names prefix guard gs line = names_wait prefix (place_at guard gs) (clusters_in line)
+
+-- ---- lines with guarded resources
+
+entry_object : (prefix : List ℕ) (place : Option ℕ) (entry : Data) → is_object entry ≡ true → is_object (waiting_entry prefix place entry) ≡ true
+entry_object prefix None entry h = h
+entry_object prefix (Some place) entry h = object_with (codes "resource") (waiting_body (private_name prefix place) (body_in entry)) entry ∙ h
+
+entry_right : (prefix : List ℕ) (place : Option ℕ) (entry : Data) → is_entry entry ≡ true → is_entry (waiting_entry prefix place entry) ≡ true
+entry_right prefix None entry h = h
+entry_right prefix (Some place) entry h = entry_with (waiting_body (private_name prefix place) (body_in entry)) entry ∙ h
+
+-- a line that has some waits: it is the response that it was, with these as they wait
+pub waiting_reads : LinesWait
+waiting_reads prefix guard gs line some =
+    let is : IsOfClusters (event_of line) = line_of_clusters (λ (entry : Data). is_some (guard.key_of entry)) line some in
+    let message : Data = message_of line in
+    let entries : List Data = clusters_in line in
+    let made : List Data = waiting_entries prefix guard gs line in
+    let read : response_of message ≡ Some is.response = response_read line is.response is.is in
+    let listed : entries ≡ entries_of message = ap (λ (k : Option Kind). listed_as k message) (ap kind_of is.is ∙ is.kind) in
+    let objects : list_all is_object entries ≡ true = ap (list_all is_object) listed ∙ entries_objects message in
+    let right : list_all is_entry entries ≡ true = ap (list_all is_entry) listed ∙ entries_right Cds message is.response read is.kind in
+    let waits = λ (entry : Data). waiting_entry prefix (place_at guard gs entry) entry in
+    let response : response_of (message_with made message) ≡ Some (waiting_response prefix guard gs line is.response) =
+    response_becomes Cds made message is.response read is.kind
+    (all_made is_object waits (λ entry h. entry_object prefix (place_at guard gs entry) entry h) entries objects)
+    (all_made is_entry waits (λ entry h. entry_right prefix (place_at guard gs entry) entry h) entries right) in
+    record {
+      response = is.response;
+      event = is.is;
+      kind = is.kind;
+      reads = λ at.
+          ap (λ (b : Bool). line_of at (cond b (response_tree (message_with made message)) line)) some ∙ line_made at (message_with made message)
+          ∙ ap (λ (found : Option ResponseParts). line_at at Stream (option_map (λ r. Response r) found)) response;
+    }
+
+-- another one stays as it is
+pub waiting_stays : (prefix : List ℕ) (guard : Guard) (gs : List Guarded) (line : Data) → has_guarded guard line ≡ false → waiting_line prefix guard gs line ≡ line
+waiting_stays prefix guard gs line none = ap (λ (b : Bool). cond b (response_tree (message_with (waiting_entries prefix guard gs line) (message_of line))) line) none
+
+-- ---- lines that follow
+
+-- a line that follows is a response of endpoints, by private names, in order
+pub following_reads : LinesFollow
+following_reads prefix nonce version due at some =
+    line_made at (following_message prefix nonce version due)
+    ∙ ap (λ (found : Option ResponseParts). line_at at Stream (option_map (λ r. Response r) found)) (message_read prefix nonce version due some)
+
+-- its resources have the names of the places that have endpoints
+pub following_names : (prefix nonce version : List ℕ) (due : List DueParts)
+    → map (λ (item : ItemParts). item.name) (following_response prefix nonce version due).items ≡ filter_map (name_with prefix) due
+following_names prefix nonce version due = names_given prefix version due

@@ -1,0 +1,336 @@
+-- A cluster that waits for a name is read as one whose endpoints come by it, without limit.
+use Rattle.std.proofs.Common.{◌≡◌, ◌∙◌, ℕ, ◌≤◌, Bool, true, false, not, ◌&&◌, ◌||◌, ◌==◌, nat_lt, cond, List, [], ◌∷◌, length, Option, Some, None, Ok, codes, refl, sym, ap, arith, ne_eqb}
+use Rattle.std.specs.Str.{bytes_eq}
+use Rattle.serde_json.specs.Data.{Data, string, object, no_members, put}
+use Rattle.serde_json.specs.Find.{get}
+use Rattle.ev_types.specs.declared.clusters.Cluster.{Cluster}
+use Rattle.ev_types.specs.declared.clusters.Discovery.TheVariants.{Static, Eds}
+use Rattle.ev_tree.specs.declared.broken.BrokenRules.{BrokenRules}
+use Rattle.ev_tree.specs.declared.limits.TheConstants.{MAX_NAME_BYTES}
+use Rattle.ev_tree.specs.declared.outcome.Found.{Found}
+use Rattle.ev_tree.specs.declared.outcome.Found.TheVariants.{Given}
+use Rattle.ev_tree.specs.declared.tables.EnumTable.TheVariants.{Discovery as DiscoveryTable}
+use Rattle.ev_tree.specs.Scalars.{enum_in, named_in, span_of, before_unit, signed_span, seconds_span, whole_span}
+use Rattle.ev_tree.specs.Spelling.{camel_of}
+use Rattle.ev_tree.specs.Forms.{in_form, object_in, is_object, is_wrong, is_given, is_absent, given_or, inside, listed, present_member, either_spelling, field_of, text_of, duration_of, object_of, objects_of, enumeration_of}
+use Rattle.ev_tree.specs.Rules.{judged, is_name}
+use Rattle.ev_tree.specs.Broken.{none_broken, either_broken, broken_where, least_of}
+use Rattle.ev_tree.specs.Spans.{is_not_positive}
+use Rattle.ev_tree.specs.Sources.{source_broken, source_is_limited}
+use Rattle.ev_tree.proofs.Unions.{least_none}
+use Rattle.ev_cluster_json.specs.declared.parts.TheConstants.{STATIC, EDS}
+use Rattle.ev_cluster_json.specs.Assignments.{rows_of}
+use Rattle.ev_cluster_json.specs.Clusters.{name_of, type_of, eds_of, eds_source_of, service_name_of, service_with, service_of, load_assignment_of, is_checked, own_broken, eds_broken, load_assignment_broken, cluster_broken, discovery_of, cluster_of, cluster_reading}
+use Rattle.ev_cluster_json.proofs.RowsMade.{left_false, right_false}
+use Rattle.ev_expand.specs.Editing.{without, with_value}
+use Rattle.ev_expand.specs.Guarding.{waiting_config, stripped_body, waiting_body}
+use Rattle.ev_expand_laws.specs.Waiting.{waiting_cluster}
+use Rattle.ev_expand_laws.proofs.FieldLemmas.{IsOther, get_with, get_with_other, get_without, field_with, field_with_other, field_without_other, text_by, duration_by, object_by, objects_by, object_with, object_without}
+
+-- ---- fields that stay
+
+-- a field that a body keeps when it waits
+pub record IsKept (field : List ℕ) : Type 0 where
+  pub config : IsOther field (codes "edsClusterConfig")
+  pub type : IsOther field (codes "type")
+  pub other_config : IsOther field (codes "eds_cluster_config")
+  pub assignment : IsOther field (codes "load_assignment")
+  pub other_assignment : IsOther field (codes "loadAssignment")
+
+field_kept : (field name : List ℕ) (body : Data) → IsKept field → field_of field (waiting_body name body) ≡ field_of field body
+field_kept field name body is =
+    field_with_other field (codes "edsClusterConfig") _ _ is.config ∙ field_with_other field (codes "type") _ _ is.type
+    ∙ field_without_other field (codes "eds_cluster_config") _ is.other_config ∙ field_without_other field (codes "load_assignment") _ is.assignment
+    ∙ field_without_other field (codes "loadAssignment") _ is.other_assignment
+
+pub keeps_name : IsKept (codes "name")
+unfolding camel_of
+keeps_name = record {
+  config = record { plain = refl; camel = refl };
+  type = record { plain = refl; camel = refl };
+  other_config = record { plain = refl; camel = refl };
+  assignment = record { plain = refl; camel = refl };
+  other_assignment = record { plain = refl; camel = refl };
+}
+
+pub keeps_own_type : IsKept (codes "@type")
+unfolding camel_of
+keeps_own_type = record {
+  config = record { plain = refl; camel = refl };
+  type = record { plain = refl; camel = refl };
+  other_config = record { plain = refl; camel = refl };
+  assignment = record { plain = refl; camel = refl };
+  other_assignment = record { plain = refl; camel = refl };
+}
+
+keeps_cluster_type : IsKept (codes "cluster_type")
+unfolding camel_of
+keeps_cluster_type = record {
+  config = record { plain = refl; camel = refl };
+  type = record { plain = refl; camel = refl };
+  other_config = record { plain = refl; camel = refl };
+  assignment = record { plain = refl; camel = refl };
+  other_assignment = record { plain = refl; camel = refl };
+}
+
+keeps_connect_timeout : IsKept (codes "connect_timeout")
+unfolding camel_of
+keeps_connect_timeout = record {
+  config = record { plain = refl; camel = refl };
+  type = record { plain = refl; camel = refl };
+  other_config = record { plain = refl; camel = refl };
+  assignment = record { plain = refl; camel = refl };
+  other_assignment = record { plain = refl; camel = refl };
+}
+
+keeps_health_checks : IsKept (codes "health_checks")
+unfolding camel_of
+keeps_health_checks = record {
+  config = record { plain = refl; camel = refl };
+  type = record { plain = refl; camel = refl };
+  other_config = record { plain = refl; camel = refl };
+  assignment = record { plain = refl; camel = refl };
+  other_assignment = record { plain = refl; camel = refl };
+}
+
+-- another tree has the same fields of those that a body keeps
+pub record KeepsFields (tree made : Data) : Type 0 where
+  pub object : is_object made ≡ is_object tree
+  pub fields : (field : List ℕ) → IsKept field → field_of field made ≡ field_of field tree
+
+pub waiting_keeps : (name : List ℕ) (body : Data) → KeepsFields body (waiting_body name body)
+waiting_keeps name body = record {
+  object =
+      object_with (codes "edsClusterConfig") _ _ ∙ object_with (codes "type") _ _ ∙ object_without (codes "eds_cluster_config") _
+      ∙ object_without (codes "load_assignment") _ ∙ object_without (codes "loadAssignment") _;
+  fields = λ field is. field_kept field name body is;
+}
+
+-- with another type
+pub typed_keeps : (type body : Data) → KeepsFields body (with_value (codes "type") type body)
+typed_keeps type body = record {
+  object = object_with (codes "type") type body;
+  fields = λ field is. field_with_other field (codes "type") type body is.type;
+}
+
+-- both of one tree
+pub keeps_both : (tree a b : Data) → KeepsFields tree a → KeepsFields tree b → KeepsFields a b
+keeps_both tree a b first second =
+    record { object = second.object ∙ sym first.object; fields = λ field is. second.fields field is ∙ sym (first.fields field is) }
+
+kept_name : (tree made : Data) → KeepsFields tree made → name_of made ≡ name_of tree
+unfolding name_of
+kept_name tree made keeps = ap (given_or []) (text_by (codes "name") tree made (keeps.fields (codes "name") keeps_name))
+
+kept_checked : (tree made : Data) → KeepsFields tree made → is_checked made ≡ is_checked tree
+unfolding is_checked
+kept_checked tree made keeps =
+    ap (λ (found : Found (List Data)). not (length (listed found) == 0)) (objects_by (codes "health_checks") tree made (keeps.fields (codes "health_checks") keeps_health_checks))
+
+-- ---- a body that waits
+
+waits_stripped : (body : Data) → is_object body ≡ true → is_object (stripped_body body) ≡ true
+waits_stripped body is =
+    object_without (codes "eds_cluster_config") _ ∙ object_without (codes "load_assignment") _ ∙ object_without (codes "loadAssignment") _ ∙ is
+
+typed : (body : Data) → is_object body ≡ true → is_object (with_value (codes "type") (string (codes "EDS")) (stripped_body body)) ≡ true
+typed body is = object_with (codes "type") _ _ ∙ waits_stripped body is
+
+other_type : IsOther (codes "type") (codes "edsClusterConfig")
+unfolding camel_of
+other_type = record { plain = refl; camel = refl }
+
+one_spelling : bytes_eq (camel_of (codes "type")) (codes "type") ≡ true
+unfolding camel_of
+one_spelling = refl
+
+type_given : (name : List ℕ) (body : Data) → is_object body ≡ true → field_of (codes "type") (waiting_body name body) ≡ Given (string (codes "EDS"))
+type_given name body is =
+    field_with_other (codes "type") (codes "edsClusterConfig") _ _ other_type
+    ∙ field_with (codes "type") (string (codes "EDS")) (stripped_body body) one_spelling (waits_stripped body is)
+
+type_read : (tree : Data) → field_of (codes "type") tree ≡ Given (string (codes "EDS")) → enumeration_of (codes "type") DiscoveryTable tree ≡ Given EDS
+unfolding enumeration_of enum_in named_in
+type_read tree is = ap (in_form (enum_in DiscoveryTable)) is
+
+config_given : (name : List ℕ) (body : Data) → is_object body ≡ true → field_of (codes "eds_cluster_config") (waiting_body name body) ≡ Given (waiting_config name)
+unfolding field_of camel_of
+config_given name body is = λ i. either_spelling (present_member (none i)) (present_member (some i))
+  where
+    typed_body : Data
+    typed_body = with_value (codes "type") (string (codes "EDS")) (stripped_body body)
+
+    none : get (codes "eds_cluster_config") (waiting_body name body) ≡ None
+    none =
+        get_with_other (codes "eds_cluster_config") (codes "edsClusterConfig") (waiting_config name) typed_body refl
+        ∙ get_with_other (codes "eds_cluster_config") (codes "type") (string (codes "EDS")) (stripped_body body) refl
+        ∙ get_without (codes "eds_cluster_config") (without (codes "load_assignment") (without (codes "loadAssignment") body))
+
+    some : get (codes "edsClusterConfig") (waiting_body name body) ≡ Some (waiting_config name)
+    some = get_with (codes "edsClusterConfig") (waiting_config name) typed_body (typed body is)
+
+source : Data
+source = object (put (codes "ads") (object no_members) (put (codes "initialFetchTimeout") (string (codes "0s")) no_members))
+
+source_right : source_broken source ≡ none_broken
+unfolding source source_broken object_of duration_of field_of camel_of span_of before_unit signed_span seconds_span whole_span
+source_right = refl
+
+source_unlimited : source_is_limited source ≡ false
+unfolding source source_is_limited object_of duration_of field_of camel_of span_of before_unit signed_span seconds_span whole_span
+source_unlimited = refl
+
+config_source : (name : List ℕ) → object_of (codes "eds_config") (waiting_config name) ≡ Given source
+unfolding source object_of field_of camel_of
+config_source name = refl
+
+config_service : (name : List ℕ) → text_of (codes "service_name") (waiting_config name) ≡ Given name
+unfolding text_of field_of camel_of
+config_service name = refl
+
+-- ---- what it is read as
+
+waits_type : (name : List ℕ) (body : Data) → is_object body ≡ true → type_of (waiting_body name body) ≡ EDS
+unfolding type_of
+waits_type name body is = ap (given_or STATIC) (type_read (waiting_body name body) (type_given name body is))
+
+waits_config : (name : List ℕ) (body : Data) → is_object body ≡ true → object_of (codes "eds_cluster_config") (waiting_body name body) ≡ Given (waiting_config name)
+unfolding object_of
+waits_config name body is = ap (in_form object_in) (config_given name body is)
+
+waits_eds : (name : List ℕ) (body : Data) → is_object body ≡ true → eds_of (waiting_body name body) ≡ waiting_config name
+unfolding eds_of
+waits_eds name body is = ap inside (waits_config name body is)
+
+waits_source : (name : List ℕ) (body : Data) → is_object body ≡ true → eds_source_of (waiting_body name body) ≡ source
+unfolding eds_source_of
+waits_source name body is =
+    ap (λ (eds : Data). inside (object_of (codes "eds_config") eds)) (waits_eds name body is) ∙ ap inside (config_source name)
+
+waits_service : (name : List ℕ) (body : Data) → is_object body ≡ true → service_name_of (waiting_body name body) ≡ name
+unfolding service_name_of
+waits_service name body is =
+    ap (λ (eds : Data). given_or [] (text_of (codes "service_name") eds)) (waits_eds name body is) ∙ ap (given_or []) (config_service name)
+
+some_bytes : (own name : List ℕ) → 1 ≤ length name → service_with own name ≡ name
+some_bytes own [] some = absurd (omega arith)
+some_bytes own (x ∷ xs) some = ap (λ (b : Bool). cond b own (x ∷ xs)) (ne_eqb (length (x ∷ xs)) 0 (λ e. omega arith))
+
+waits_discovery : (name : List ℕ) (body : Data) → is_object body ≡ true → 1 ≤ length name → discovery_of (waiting_body name body) ≡ Eds name false
+unfolding discovery_of source_is_limited
+waits_discovery name body is some =
+    ap (λ (type : ℕ). cond (type == STATIC) (Static (rows_of (load_assignment_of (waiting_body name body)))) (Eds (service_of (waiting_body name body)) (source_is_limited (eds_source_of (waiting_body name body))))) (waits_type name body is)
+    ∙ (λ i. Eds (service_with (name_of (waiting_body name body)) (waits_service name body is i)) (source_is_limited (waits_source name body is i)))
+    ∙ (λ i. Eds (some_bytes (name_of (waiting_body name body)) name some i) (source_unlimited i))
+
+waits_cluster : (name : List ℕ) (body tree : Data) → is_object body ≡ true → KeepsFields tree (waiting_body name body) → 1 ≤ length name
+    → cluster_of (waiting_body name body) ≡ waiting_cluster name (cluster_of tree)
+waits_cluster name body tree is keeps some = λ i. record {
+  name = kept_name tree (waiting_body name body) keeps i;
+  discovery = waits_discovery name body is some i;
+  checked = kept_checked tree (waiting_body name body) keeps i;
+}
+
+-- ---- what it breaks
+
+-- the fields of a cluster that it keeps break no rule
+pub record HasSoundFields (tree : Data) : Type 0 where
+  pub named : is_wrong (text_of (codes "name") tree) ≡ false
+  pub name : (not (is_wrong (text_of (codes "name") tree)) && not (is_name (name_of tree))) ≡ false
+  pub custom : is_wrong (object_of (codes "cluster_type") tree) ≡ false
+  pub none_custom : is_given (object_of (codes "cluster_type") tree) ≡ false
+  pub timeout : is_wrong (duration_of (codes "connect_timeout") tree) ≡ false
+  pub positive : is_not_positive (duration_of (codes "connect_timeout") tree) ≡ false
+  pub checks : is_wrong (objects_of (codes "health_checks") tree) ≡ false
+
+clear_sound : (tree : Data) → cluster_broken tree ≡ none_broken → HasSoundFields tree
+unfolding cluster_broken own_broken
+clear_sound tree clear =
+    let v6 = left_false _ _ (ap (λ (b : BrokenRules). b.v6) clear) in
+    let v7 = left_false _ _ (ap (λ (b : BrokenRules). b.v7) clear) in
+    record {
+      named = left_false _ _ (left_false _ _ (left_false _ _ (left_false _ _ v6)));
+      name = left_false _ _ (ap (λ (b : BrokenRules). b.v3) clear);
+      custom = right_false _ _ (left_false _ _ (left_false _ _ v6));
+      none_custom = right_false _ _ v7;
+      timeout = right_false _ _ (left_false _ _ v6);
+      positive = left_false _ _ (ap (λ (b : BrokenRules). b.v11) clear);
+      checks = right_false _ _ v6;
+    }
+
+-- nothing but a name that is too long for one
+abbrev pub broken_by_length : List ℕ → BrokenRules
+broken_by_length name = record none_broken { v2 = nat_lt MAX_NAME_BYTES (length name) }
+
+wrong_type : (name : List ℕ) (body : Data) → is_object body ≡ true → is_wrong (enumeration_of (codes "type") DiscoveryTable (waiting_body name body)) ≡ false
+wrong_type name body is = ap is_wrong (type_read (waiting_body name body) (type_given name body is))
+
+waits_own : (name : List ℕ) (body tree : Data) → is_object body ≡ true → KeepsFields tree (waiting_body name body) → HasSoundFields tree
+    → own_broken (waiting_body name body) ≡ none_broken
+unfolding own_broken
+waits_own name body tree is keeps sound =
+    let made : Data = waiting_body name body in
+    let text : text_of (codes "name") made ≡ text_of (codes "name") tree = text_by (codes "name") tree made (keeps.fields (codes "name") keeps_name) in
+    let custom : object_of (codes "cluster_type") made ≡ object_of (codes "cluster_type") tree =
+    object_by (codes "cluster_type") tree made (keeps.fields (codes "cluster_type") keeps_cluster_type) in
+    let timeout : duration_of (codes "connect_timeout") made ≡ duration_of (codes "connect_timeout") tree =
+    duration_by (codes "connect_timeout") tree made (keeps.fields (codes "connect_timeout") keeps_connect_timeout) in
+    let checks : objects_of (codes "health_checks") made ≡ objects_of (codes "health_checks") tree =
+    objects_by (codes "health_checks") tree made (keeps.fields (codes "health_checks") keeps_health_checks) in
+    let named : is_wrong (text_of (codes "name") made) ≡ false = ap is_wrong text ∙ sound.named in
+    let own : (not (is_wrong (text_of (codes "name") made)) && not (is_name (name_of made))) ≡ false =
+    (λ i. not (is_wrong (text i)) && not (is_name (kept_name tree made keeps i))) ∙ sound.name in
+    let none_custom : is_given (object_of (codes "cluster_type") made) ≡ false = ap is_given custom ∙ sound.none_custom in
+    let custom_right : is_wrong (object_of (codes "cluster_type") made) ≡ false = ap is_wrong custom ∙ sound.custom in
+    let timeout_right : is_wrong (duration_of (codes "connect_timeout") made) ≡ false = ap is_wrong timeout ∙ sound.timeout in
+    let positive : is_not_positive (duration_of (codes "connect_timeout") made) ≡ false = ap is_not_positive timeout ∙ sound.positive in
+    let checks_right : is_wrong (objects_of (codes "health_checks") made) ≡ false = ap is_wrong checks ∙ sound.checks in
+    λ i. record none_broken {
+      v3 = own i;
+      v6 = named i || wrong_type name body is i || custom_right i || timeout_right i || checks_right i;
+      v7 = not (waits_type name body is i == STATIC || waits_type name body is i == EDS) || none_custom i;
+      v11 = positive i;
+    }
+
+waits_broken : (name : List ℕ) (body : Data) → is_object body ≡ true → eds_broken true (waiting_body name body) ≡ broken_by_length name
+unfolding eds_broken
+waits_broken name body is =
+    let made : Data = waiting_body name body in
+    let config = waits_config name body is in
+    let service : text_of (codes "service_name") (eds_of made) ≡ Given name = ap (text_of (codes "service_name")) (waits_eds name body is) ∙ config_service name in
+    let eds : object_of (codes "eds_config") (eds_of made) ≡ Given source = ap (object_of (codes "eds_config")) (waits_eds name body is) ∙ config_source name in
+    (λ i. either_broken (broken_where (is_given (config i)) (source_broken (waits_source name body is i))) (record none_broken {
+      v2 = nat_lt MAX_NAME_BYTES (length (waits_service name body is i));
+      v6 = is_wrong (config i) || is_wrong (eds i) || is_wrong (service i);
+      v8 = is_absent (config i);
+      v9 = false;
+    }))
+    ∙ (λ i. either_broken (source_right i) (broken_by_length name))
+
+waits_rules : (name : List ℕ) (body tree : Data) → is_object body ≡ true → KeepsFields tree (waiting_body name body) → HasSoundFields tree
+    → cluster_broken (waiting_body name body) ≡ broken_by_length name
+unfolding cluster_broken
+waits_rules name body tree is keeps sound =
+    let made : Data = waiting_body name body in
+    let type : type_of made ≡ EDS = waits_type name body is in
+    (λ i. either_broken (waits_own name body tree is keeps sound i) (either_broken (eds_broken (type i == EDS) made) (broken_where (type i == STATIC) (load_assignment_broken made))))
+    ∙ (λ i. either_broken none_broken (either_broken (waits_broken name body is i) none_broken))
+    ∙ or_nothing (nat_lt MAX_NAME_BYTES (length name))
+  where
+    or_nothing : (long : Bool) → either_broken none_broken (either_broken (record none_broken { v2 = long }) none_broken) ≡ record none_broken { v2 = long }
+    or_nothing true = refl
+    or_nothing false = refl
+
+judged_ok : {A : Type 0} (found : Option ℕ) (value other : A) → judged found value ≡ Ok other → (found ≡ None) × (value ≡ other)
+judged_ok None value other h = (refl, cc)
+judged_ok (Some rule) value other h = absurd (cc)
+
+-- a body of the same fields as one that reads as a cluster reads as the cluster that waits
+pub waits_read : (name : List ℕ) (body tree : Data) (cluster : Cluster) → is_object body ≡ true → KeepsFields tree (waiting_body name body)
+    → 1 ≤ length name → nat_lt MAX_NAME_BYTES (length name) ≡ false → cluster_reading tree ≡ Ok cluster
+    → cluster_reading (waiting_body name body) ≡ Ok (waiting_cluster name cluster)
+waits_read name body tree cluster is keeps some short reads =
+    let parts = judged_ok (least_of (cluster_broken tree)) (cluster_of tree) cluster reads in
+    let sound : HasSoundFields tree = clear_sound tree (least_none (cluster_broken tree) parts.0) in
+    (λ i. judged (least_of (waits_rules name body tree is keeps sound i)) (waits_cluster name body tree is keeps some i))
+    ∙ (λ i. judged (least_of (record none_broken { v2 = short i })) (waiting_cluster name (parts.1 i)))

@@ -1,0 +1,121 @@
+-- What the lines that a command makes are read as: clusters that wait, and endpoints by private names.
+use Rattle.std.specs.Prelude.{◌≡◌, ℕ, ◌+◌, ◌≤◌, ◌⊎◌, Bool, true, false, List, ◌++◌, length, map, filter_map, Option, None, Some, is_some, option_map, codes}
+use Rattle.std.specs.List.{list_any}
+use Rattle.serde_json.specs.Data.{Data, string}
+use Rattle.ev_types.specs.Items.{ItemParts, ResponseParts}
+use Rattle.ev_types.specs.declared.clusters.Cluster.{Cluster}
+use Rattle.ev_types.specs.declared.clusters.Discovery.TheVariants.{Eds as by_name}
+use Rattle.ev_types.specs.declared.contents.Kind.TheVariants.{Cds, Eds}
+use Rattle.ev_types.specs.declared.contents.Content.TheVariants.{Cluster as a_cluster}
+use Rattle.ev_types.specs.declared.contents.Body.{Body}
+use Rattle.ev_types.specs.declared.contents.Body.TheVariants.{Good}
+use Rattle.ev_types.specs.declared.events.Actor.TheVariants.{Stream}
+use Rattle.ev_types.specs.declared.events.Event.TheVariants.{Response}
+use Rattle.ev_types.specs.declared.events.Line.{Line}
+use Rattle.ev_tree.specs.declared.limits.TheConstants.{MAX_NAME_BYTES}
+use Rattle.ev_wire.specs.Bodies.{resource_of}
+use Rattle.ev_wire.specs.Responses.{entry_name, ttl_of, item_of}
+use Rattle.ev_script.specs.Lines.{line_of}
+use Rattle.ev_expand.specs.declared.keys.Key.{Key}
+use Rattle.ev_expand.specs.Editing.{with_value}
+use Rattle.ev_expand.specs.Fronts.{event_of}
+use Rattle.ev_expand.specs.Guarding.{Guard, Guarded, clusters_in, place_in, place_at, private_name, body_in, waiting_entry, waiting_entries, waiting_line}
+use Rattle.ev_expand.specs.Following.{DueParts, entry_due, following_line}
+
+-- ---- clusters that wait
+
+-- the cluster, waiting for this name without limit
+abbrev pub waiting_cluster : List ℕ → Cluster → Cluster
+waiting_cluster name cluster = record { name = cluster.name; discovery = by_name name false; checked = cluster.checked }
+
+-- the item of a resource, with the cluster as it waits by the number of this place
+abbrev pub waiting_item : List ℕ → ℕ → Cluster → Data → ItemParts
+waiting_item prefix place cluster entry = record (item_of Cds entry) { body = Good (a_cluster (waiting_cluster (private_name prefix place) cluster)) }
+
+-- a body with the type STATIC
+abbrev pub static_body : Data → Data
+static_body body = with_value (codes "type") (string (codes "STATIC")) body
+
+-- what a resource's body is read as, with this tree in its place
+abbrev pub body_read : Data → Data → Body
+body_read entry tree = resource_of Cds (entry_name entry) (ttl_of entry) tree
+
+-- with this tree as its body the resource is the cluster
+abbrev pub IsClusterWith : Data → Cluster → Data → Type 0
+IsClusterWith entry cluster tree = body_read entry tree ≡ Good (a_cluster cluster)
+
+-- the resource is the cluster, or would be with the type STATIC
+abbrev pub IsOfCluster : Data → Cluster → Type 0
+IsOfCluster entry cluster = IsClusterWith entry cluster (body_in entry) ⊎ IsClusterWith entry cluster (static_body (body_in entry))
+
+-- what is guarded is of its key's cluster
+abbrev pub GuardsClusters : Guard → Type 0
+GuardsClusters guard = (entry : Data) (key : Key) → guard.key_of entry ≡ Some key → IsOfCluster entry key.cluster
+
+-- the prefix leaves room for the longest number in a name
+abbrev pub IsShortPrefix : List ℕ → Type 0
+IsShortPrefix prefix = length prefix + 64 ≤ MAX_NAME_BYTES
+
+-- a guarded resource is read as its cluster, which waits by the number of its key
+abbrev pub ResourcesWait : Type 0
+ResourcesWait =
+    (guard : Guard) (prefix : List ℕ) (guarded : List Guarded) (entry : Data) (key : Key)
+    → GuardsClusters guard → IsShortPrefix prefix → guard.key_of entry ≡ Some key
+    → item_of Cds (waiting_entry prefix (place_at guard guarded entry) entry) ≡ waiting_item prefix (place_in guarded key) key.cluster entry
+
+-- ---- lines
+
+-- a line of the stream with this response
+abbrev pub stream_line : ℕ → ResponseParts → Line
+stream_line at response = record { at = at; actor = Stream; event = Response response }
+
+-- a response of clusters, with the guarded ones as they wait
+abbrev pub waiting_response : List ℕ → Guard → List Guarded → Data → ResponseParts → ResponseParts
+waiting_response prefix guard guarded line response = record response { items = map (item_of Cds) (waiting_entries prefix guard guarded line) }
+
+-- the tree is a line of the stream with this response
+abbrev pub IsStreamLine : Data → ResponseParts → ℕ → Type 0
+IsStreamLine tree response at = line_of at tree ≡ Some (stream_line at response)
+
+-- the line is a response of clusters, and as it waits it is that response with the guarded ones as they wait
+pub record WaitsAsSaid (prefix : List ℕ) (guard : Guard) (guarded : List Guarded) (line : Data) : Type 0 where
+  pub response : ResponseParts
+  pub event : event_of line ≡ Some (Response response)
+  pub kind : response.kind ≡ Some Cds
+  pub reads : (at : ℕ) → IsStreamLine (waiting_line prefix guard guarded line) (waiting_response prefix guard guarded line response) at
+
+-- some resource of clusters of the line is guarded
+abbrev pub has_guarded : Guard → Data → Bool
+has_guarded guard line = list_any (λ entry. is_some (guard.key_of entry)) (clusters_in line)
+
+-- a line with guarded resources is the response that it was, with these as they wait
+abbrev pub LinesWait : Type 0
+LinesWait =
+    (prefix : List ℕ) (guard : Guard) (guarded : List Guarded) (line : Data)
+    → has_guarded guard line ≡ true → WaitsAsSaid prefix guard guarded line
+
+-- the name of a place that is due, where it has endpoints, and where it has none
+abbrev pub name_with : List ℕ → DueParts → Option (List ℕ)
+name_with prefix due = option_map (λ endpoints. private_name prefix due.place) due.endpoints
+
+abbrev pub bare_name : List ℕ → Option Data → Option (List ℕ)
+bare_name name None = Some name
+bare_name name (Some endpoints) = None
+
+abbrev pub name_left : List ℕ → DueParts → Option (List ℕ)
+name_left prefix due = bare_name (private_name prefix due.place) due.endpoints
+
+-- the response of endpoints that the line is which follows one of this version, where these are due
+abbrev pub following_response : List ℕ → List ℕ → List ℕ → List DueParts → ResponseParts
+following_response prefix nonce version due = record {
+  kind = Some Eds;
+  nonce = nonce ++ version;
+  items = map (item_of Eds) (filter_map (entry_due prefix version) due);
+  removed = filter_map (name_left prefix) due;
+}
+
+-- a line that follows is a response of endpoints: those of the places that are due and have some, by their private names
+abbrev pub LinesFollow : Type 0
+LinesFollow =
+    (prefix nonce version : List ℕ) (due : List DueParts) (at : ℕ) → 1 ≤ length nonce
+    → IsStreamLine (following_line prefix nonce version due) (following_response prefix nonce version due) at

@@ -1,0 +1,3 @@
+pub mod ShallowLemmas
+pub mod GuardLemmas
+pub mod SealLemmas

@@ -1,0 +1,46 @@
+-- The text whose clusters wait for their secrets is a script.
+use Rattle.std.proofs.Common.{◌≡◌, ℕ, ◌+◌, false, List, [], ◌∷◌, Some, Result, Ok, Err, Vec, IfOk, arith}
+use Rattle.std.specs.declared.alloc.Global.{Global}
+use Rattle.std.specs.List.{AllByRecursion}
+use Rattle.std.proofs.lemmas.List.Elements.{All-from_recursion}
+use Rattle.serde_json.specs.Data.{Data}
+use Rattle.serde_json.specs.View.{view}
+use Rattle.ev_script.specs.declared.trees.ScriptTrees.{ScriptTrees}
+use Rattle.ev_script.specs.Faults.{Input, plain_lines, HasNoFault}
+use Rattle.ev_script.specs.ReadTrees.{IsTreesAnswer}
+use Rattle.ev_script.specs.Script.{script_of}
+use Rattle.ev_trees.specs.Trees.{IsReadable}
+use Rattle.ev_expand.specs.declared.outcome.ExpandError.{ExpandError}
+use Rattle.ev_expand.specs.Expanding.{IsExpanded}
+use Rattle.ev_expand_laws.specs.Said.{lines_in, HasLine, AllAt, input_of_text, expanded_script}
+use Rattle.ev_expand_laws.specs.Scripts.{IsLineIfWritten, IsExpandable}
+use Rattle.ev_expand_laws.proofs.FormLemmas.{trees_have_lines, trees_are_readable}
+use Rattle.ev_expand_laws.proofs.ScriptLemmas.{text_is_script}
+use Rattle.ev_secrets.specs.Sealing.{tls_rules}
+use Rattle.ev_tls.proofs.ShallowLemmas.{lines_shallow}
+
+lines_written : (workers at : ℕ) (lines : List Data) → AllAt (HasLine workers) at lines → AllAt (IsLineIfWritten tls_rules workers) at lines
+lines_written workers at [] all = tt
+lines_written workers at (line ∷ lines) all = (λ is. all.0, lines_written workers (at + 1) lines all.1)
+
+-- trees that were read of a script can be sealed
+trees_expandable : (input : Input) (trees : ScriptTrees) → IsTreesAnswer plain_lines input (Ok trees) → IsExpandable tls_rules trees
+trees_expandable input trees answer =
+    let readable : AllByRecursion IsReadable (view trees.head ∷ lines_in trees) = trees_are_readable plain_lines input trees answer in
+    record {
+      heads = answer.1.header;
+      written = lines_written trees.header.workers 2 (lines_in trees) (trees_have_lines input trees answer);
+      readable = All-from_recursion IsReadable (view trees.head ∷ lines_in trees) readable;
+      shallow = lines_shallow (lines_in trees) readable.1;
+      nonce = omega arith;
+    }
+
+pub sealed_sound : (input : Input) (trees : ScriptTrees) (result : Result (Vec ℕ Global) ExpandError) → IsTreesAnswer plain_lines input (Ok trees)
+    → IsExpanded tls_rules (view trees.head) (lines_in trees) result → IfOk result (λ text. HasNoFault plain_lines (input_of_text text.items))
+sealed_sound input trees (Ok text) answer expanded = (text_is_script tls_rules trees text (trees_expandable input trees answer) expanded).sound
+sealed_sound input trees (Err error) answer expanded = tt
+
+pub sealed_script : (input : Input) (trees : ScriptTrees) (result : Result (Vec ℕ Global) ExpandError) → IsTreesAnswer plain_lines input (Ok trees)
+    → IsExpanded tls_rules (view trees.head) (lines_in trees) result → IfOk result (λ text. script_of false text.items ≡ Some (expanded_script tls_rules trees))
+sealed_script input trees (Ok text) answer expanded = (text_is_script tls_rules trees text (trees_expandable input trees answer) expanded).script
+sealed_script input trees (Err error) answer expanded = tt

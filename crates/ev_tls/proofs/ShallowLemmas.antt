@@ -1,0 +1,147 @@
+-- The endpoints that are sent stood in a line that was read, at least as deep as in the line that sends them.
+use Rattle.std.proofs.Common.{ℕ, ◌+◌, ◌≤◌, Bool, true, false, cond, List, [], ◌∷◌, filter_map, flat_map, Option, None, Some, option_map, codes, arith}
+use Rattle.std.specs.Prelude.{All, IfSome}
+use Rattle.std.specs.List.{AllByRecursion, cons_option, last_or}
+use Rattle.std.proofs.lemmas.List.Elements.{All-from_recursion}
+use Rattle.serde_json.specs.Data.{Data, array, no_items, depth}
+use Rattle.ev_types.specs.Items.{ResponseParts}
+use Rattle.ev_types.specs.declared.clusters.Discovery.{Discovery}
+use Rattle.ev_types.specs.declared.clusters.Discovery.TheVariants.{Static, Eds as by_name}
+use Rattle.ev_types.specs.declared.contents.Kind.{Kind}
+use Rattle.ev_types.specs.declared.contents.Kind.TheVariants.{Cds, Eds, Lds, Rds}
+use Rattle.ev_types.specs.declared.events.Event.{Event}
+use Rattle.ev_types.specs.declared.events.Event.TheVariants.{Response}
+use Rattle.ev_tree.specs.declared.outcome.Found.{Found}
+use Rattle.ev_tree.specs.declared.outcome.Found.TheVariants.{Absent, Wrong, Given}
+use Rattle.ev_tree.specs.Forms.{given_or, field_of}
+use Rattle.ev_cluster_json.specs.Clusters.{load_assignment_of}
+use Rattle.ev_trees.specs.Trees.{IsReadable}
+use Rattle.ev_wire.specs.Responses.{entries_of, item_of}
+use Rattle.ev_expand.specs.declared.keys.Key.{Key}
+use Rattle.ev_expand.specs.Fronts.{Front, event_of, message_of, up_to, fronts, behind, stream_at, heard}
+use Rattle.ev_expand.specs.Guarding.{Guarded, clusters_in, body_in, guarded_in, each_once, guarded_by}
+use Rattle.ev_expand_laws.specs.Scripts.{IsShallow, AreShallowAt}
+use Rattle.ev_expand_laws.proofs.DepthLemmas.{IsWithin, field_within, object_within, entries_within, message_within, body_within, clusters_within}
+use Rattle.ev_expand_laws.proofs.GivenLemmas.{each_so, each_mapped, each_flat, each_kept, each_front}
+use Rattle.ev_secrets.specs.References.{endpoints_in, by_secrets}
+use Rattle.ev_secrets.specs.Told.{gives_value, value_given, given_as, given_with, values_in, value_of}
+use Rattle.ev_secrets.specs.Sealing.{endpoints_by, tls_rules}
+
+-- ---- endpoints in a line
+
+default_within : (n : ℕ) (found : Found Data) → 1 ≤ n → IsWithin n found → depth (given_or (array no_items) found) ≤ n
+default_within n Absent some h = omega arith
+default_within n Wrong some h = omega arith
+default_within n (Given tree) some h = h
+
+endpoints_within : (assignment : Data) (n : ℕ) → 1 ≤ n → depth assignment ≤ n + 1 → depth (endpoints_in assignment) ≤ n
+endpoints_within assignment n some h = default_within n (field_of (codes "endpoints") assignment) some (field_within (codes "endpoints") assignment n h)
+
+assignment_within : (body : Data) (n : ℕ) → depth body ≤ n + 1 → depth (load_assignment_of body) ≤ n
+unfolding load_assignment_of
+assignment_within body n h = object_within (codes "load_assignment") body n h
+
+-- those of the first resource of a key
+own_shallow : (entry : Data) → depth entry ≤ 124 → IsShallow (by_secrets.own_of entry)
+own_shallow entry h =
+    omega (arith, endpoints_within (load_assignment_of (body_in entry)) 121 (omega arith) (assignment_within (body_in entry) 122 (body_within entry 123 h)))
+
+-- those of a resource of endpoints
+value_shallow : (entry : Data) → depth entry ≤ 124 → IsShallow (endpoints_in (body_in entry))
+value_shallow entry h = omega (arith, endpoints_within (body_in entry) 122 (omega arith) (body_within entry 123 h))
+
+-- ---- what is guarded
+
+some_put : {Y : Type 0} (P : Y → Type 0) (found : Option Y) (ys : List Y) → IfSome found P → AllByRecursion P ys → AllByRecursion P (cons_option found ys)
+some_put P None ys h all = all
+some_put P (Some y) ys h all = (h, all)
+
+each_found : {X Y : Type 0} (P : X → Type 0) (Q : Y → Type 0) (f : X → Option Y) (xs : List X) → ((x : X) → P x → IfSome (f x) Q) → AllByRecursion P xs → AllByRecursion Q (filter_map f xs)
+each_found P Q f [] so all = tt
+each_found P Q f (x ∷ xs) so all = some_put Q (f x) (filter_map f xs) (so x all.0) (each_found P Q f xs so all.1)
+
+-- its own endpoints are shallow
+abbrev OwnIsShallow : Guarded → Type 0
+OwnIsShallow g = IsShallow g.own
+
+guarded_own : (key : Option Key) (own : Data) → IsShallow own → IfSome (option_map (λ (k : Key). record { key = k; own = own }) key) OwnIsShallow
+guarded_own None own h = tt
+guarded_own (Some key) own h = h
+
+line_own : (line : Data) → IsReadable line → AllByRecursion OwnIsShallow (guarded_in by_secrets line)
+line_own line readable =
+    each_found (λ (entry : Data). depth entry ≤ 124) OwnIsShallow _ (clusters_in line)
+    (λ entry h. guarded_own (by_secrets.key_of entry) (by_secrets.own_of entry) (own_shallow entry h)) (clusters_within line 124 readable)
+
+each_distinct : (P : Guarded → Type 0) (gs : List Guarded) → AllByRecursion P gs → AllByRecursion P (each_once gs)
+each_distinct P [] all = tt
+each_distinct P (g ∷ gs) all = (all.0, each_kept P _ (each_once gs) (each_distinct P gs all.1))
+
+lines_own : (lines : List Data) → AllByRecursion IsReadable lines → AllByRecursion OwnIsShallow (guarded_by by_secrets lines)
+lines_own lines readable =
+    each_distinct OwnIsShallow (flat_map (guarded_in by_secrets) lines)
+    (each_flat OwnIsShallow (guarded_in by_secrets) lines (each_so IsReadable _ lines line_own readable))
+
+-- ---- values
+
+-- the value is shallow
+abbrev ValueIsShallow : List ℕ × Data → Type 0
+ValueIsShallow value = IsShallow value.1
+
+value_by : (b : Bool) (name : List ℕ) (value : Data) → IsShallow value → IfSome (cond b (Some (name, value)) None) ValueIsShallow
+value_by true name value h = h
+value_by false name value h = tt
+
+listed_values : (kind : Option Kind) (response : ResponseParts) (message : Data) → depth message ≤ 126 → AllByRecursion ValueIsShallow (given_as kind response message)
+listed_values None response message h = tt
+listed_values (Some Cds) response message h = tt
+listed_values (Some Eds) response message h =
+    each_found (λ (entry : Data). depth entry ≤ 124) ValueIsShallow (value_given response) (entries_of message)
+    (λ entry k. value_by (gives_value response (item_of Eds entry)) (item_of Eds entry).name (endpoints_in (body_in entry)) (value_shallow entry k))
+    (entries_within message 124 h)
+listed_values (Some Lds) response message h = tt
+listed_values (Some Rds) response message h = tt
+
+event_values : (event : Option Event) (message : Data) → depth message ≤ 126 → AllByRecursion ValueIsShallow (given_with event message)
+event_values None message h = tt
+event_values (Some (Response response)) message h = listed_values response.kind response message h
+event_values (Some event) message h = tt
+
+line_values : (line : Data) → IsReadable line → AllByRecursion ValueIsShallow (values_in line)
+line_values line readable = event_values (event_of line) (message_of line) (message_within line 126 readable)
+
+last_so : (P : Data → Type 0) (found : Option Data) (values : List Data) → IfSome found P → AllByRecursion P values → IfSome (last_or found values) P
+last_so P found [] h all = h
+last_so P found (value ∷ values) h all = last_so P (Some value) values all.0 all.1
+
+value_of_shallow : (lines : List Data) (name : List ℕ) → AllByRecursion IsReadable lines → IfSome (value_of lines name) IsShallow
+value_of_shallow lines name readable =
+    let told = each_mapped IsReadable (λ (front : Front). front.line) _
+    (each_kept (λ (front : Front). IsReadable front.line) (λ front. stream_at (up_to front)) (fronts lines) (each_front IsReadable lines readable)) in
+    let values = each_flat ValueIsShallow values_in (heard lines) (each_so IsReadable _ (heard lines) line_values told) in
+    last_so IsShallow None _ tt (each_mapped IsShallow (λ (v : List ℕ × Data). v.1) _ (each_kept ValueIsShallow _ (flat_map values_in (heard lines)) values))
+
+-- ---- each line
+
+endpoints_shallow : (discovery : Discovery) (lines : List Data) (g : Guarded) → AllByRecursion IsReadable lines → OwnIsShallow g
+    → IfSome (endpoints_by discovery lines g) IsShallow
+endpoints_shallow (Static rows) lines g readable own = own
+endpoints_shallow (by_name service limited) lines g readable own = value_of_shallow lines service readable
+
+front_shallow : (front : Front) → AllByRecursion IsReadable (up_to front) → AreShallowAt tls_rules front
+front_shallow front readable =
+    All-from_recursion _ (guarded_by by_secrets (up_to front))
+    (each_so OwnIsShallow _ (guarded_by by_secrets (up_to front)) (λ g own. endpoints_shallow g.key.cluster.discovery (up_to front) g readable own) (lines_own (up_to front) readable))
+
+each_up_to : (P : Data → Type 0) (lines : List Data) → AllByRecursion P lines → AllByRecursion (λ (front : Front). AllByRecursion P (up_to front)) (fronts lines)
+each_up_to P [] all = tt
+each_up_to P (first ∷ lines) all = (
+  (all.0, tt),
+  each_mapped (λ (front : Front). AllByRecursion P (up_to front)) (behind first) (fronts lines)
+      (each_so (λ (front : Front). AllByRecursion P (up_to front)) _ (fronts lines) (λ front h. (all.0, h)) (each_up_to P lines all.1)),
+)
+
+-- the endpoints of all that is guarded in lines that were read are shallow
+pub lines_shallow : (lines : List Data) → AllByRecursion IsReadable lines → All (AreShallowAt tls_rules) (fronts lines)
+lines_shallow lines readable =
+    All-from_recursion (AreShallowAt tls_rules) (fronts lines) (each_so _ (AreShallowAt tls_rules) (fronts lines) front_shallow (each_up_to IsReadable lines readable))

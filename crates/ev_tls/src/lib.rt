@@ -1,0 +1,36 @@
+//! The command `tls`: of the trees of a script's lines the text of a script in which clusters wait for their secrets.
+//!
+//! # Choices
+//!
+//! - The text is made by `ev_secrets`; that it is a script is the law of `ev_expand_laws`, whose premises are proved here: trees
+//!   that were read are lines of a script, and the endpoints that are sent stood in such a line at least as deep.
+#![tactic(auto)]
+
+ghost use Rattle.std.specs.Prelude.{◌≡◌, false, Some, Ok, IfOk};
+ghost use Rattle.serde_json.specs.View.{view};
+ghost use Rattle.ev_script.specs.Faults.{Input, plain_lines, HasNoFault};
+ghost use Rattle.ev_script.specs.ReadTrees.{IsTreesAnswer};
+ghost use Rattle.ev_script.specs.Script.{script_of};
+ghost use Rattle.ev_expand.specs.Expanding.{IsExpanded};
+ghost use Rattle.ev_expand_laws.specs.Said.{lines_in, input_of_text, expanded_script};
+ghost use Rattle.ev_secrets.specs.Sealing.{tls_rules};
+
+use ev_expand::ExpandError;
+use ev_script::ScriptTrees;
+use ev_secrets::expand;
+use std::alloc::Global;
+
+/// The text of a script whose clusters wait for their secrets, by the trees of a script's lines. It is a script without fault.
+///
+/// # Errors
+/// `Private` exactly for the first line that uses a name that begins with `tls/` for endpoints. `Large` where there is none,
+/// exactly for the line with whose output the text goes above a limit of inputs. `OutOfMemory` without memory, and for 2^32
+/// lines and more.
+pub fn seal(alloc: Global, trees: &ScriptTrees) -> Result<Vec<u8>, ExpandError>
+    requires read { (input : Input) × IsTreesAnswer plain_lines input (Ok trees.now) }
+    ensures expanded { IsExpanded tls_rules (view trees.now.head) (lines_in trees.now) result }
+    ensures sound { IfOk result (λ text. HasNoFault plain_lines (input_of_text text.items)) }
+    ensures script { IfOk result (λ text. script_of false text.items ≡ Some (expanded_script tls_rules trees.now)) }
+{
+    expand(alloc, &trees.head, &trees.lines)
+}
