@@ -1,0 +1,11 @@
+pub mod ListLemmas
+pub mod NamedLemmas
+pub mod OrderLemmas
+pub mod SaidLemmas
+pub mod FrontLemmas
+pub mod ToldLemmas
+pub mod UsedLemmas
+pub mod CountLemmas
+pub mod TextLemmas
+pub mod TellingLemmas
+pub mod SealedLemmas

@@ -1,0 +1,194 @@
+-- What is accepted at a cluster that waits for its secrets is accepted behind the telling of each of them.
+use Rattle.std.proofs.Common.{◌≡◌, ◌∙◌, ℕ, ◌+◌, ◌<◌, ◌≤◌, ◌==◌, nat_lt, true, false, ◌&&◌, List, length, take, decimal, Some, None, codes, refl, sym, ap, subst, arith}
+use Rattle.std.specs.Prelude.{slice_get, option_and_then, Contains}
+use Rattle.std.proofs.lemmas.Bool.{or_left}
+use Rattle.std.proofs.lemmas.Bool.Decides.{nat_tests}
+use Rattle.std.proofs.lemmas.Option.{slice_get_within}
+use Rattle.serde_json.specs.Data.{Data}
+use Rattle.ev_types.specs.Events.{IsMainSide, IsStream, IsTimer, MayMake}
+use Rattle.ev_types.specs.Scripts.{IsScript}
+use Rattle.ev_types.specs.declared.contents.Kind.TheVariants.{Eds}
+use Rattle.ev_types.specs.declared.events.Actor.{Actor}
+use Rattle.ev_types.specs.declared.events.Actor.TheVariants.{Stream, Health as health, Timer, Main, Worker}
+use Rattle.ev_types.specs.declared.events.Entry.{Entry}
+use Rattle.ev_types.specs.declared.events.Event.{Event}
+use Rattle.ev_types.specs.declared.events.Event.TheVariants.{Response, FetchTimeout}
+use Rattle.ev_types.specs.declared.events.Line.{Line}
+use Rattle.ev_types.specs.declared.journals.Format.{Format}
+use Rattle.ev_types.specs.declared.limits.TheConstants.{ITEM_LIMIT}
+use Rattle.ev_model.specs.Entries.{last_settled}
+use Rattle.ev_model.specs.Laws.{Told, WasWarm}
+use Rattle.ev_model.specs.Operations.{IsRunOf, Operation, is_earlier, line_operation, operation_of, operations_of, entries_of}
+use Rattle.ev_model.specs.Watching.{dependency_of, discovery_dependency}
+use Rattle.ev_model_laws.proofs.PlaceLemmas.{entry_answered}
+use Rattle.ev_model_laws.proofs.WarmedLemmas.{runs_warmed}
+use Rattle.ev_stream_laws.proofs.HoldLemmas.{side_holds}
+use Rattle.ev_script.specs.declared.trees.ScriptTrees.{ScriptTrees}
+use Rattle.ev_expand.specs.Expanding.{due_at}
+use Rattle.ev_expand.specs.Fronts.{event_of, stream_at, up_to}
+use Rattle.ev_expand.specs.Guarding.{Guarded, guarded_by, private_name}
+use Rattle.ev_expand.specs.Private.{first_use}
+use Rattle.ev_expand_laws.specs.Said.{given_lines, lines_in}
+use Rattle.ev_secrets.specs.declared.awaited.Awaited.TheVariants.{Secret}
+use Rattle.ev_secrets.specs.References.{by_secrets}
+use Rattle.ev_secrets.specs.Sealing.{tls_rules}
+use Rattle.ev_secrets.specs.Told.{is_told, told_by}
+use Rattle.ev_sealed.specs.Sealed.{IsSealed, NamesSecret, Sealed, StandsBefore, WasTold, place_given, run_told, sealed_script}
+use Rattle.ev_sealed.proofs.CountLemmas.{guarded_few, places_same}
+use Rattle.ev_sealed.proofs.FrontLemmas.{IsFrontAt, front_at, given_before, given_rises, up_to_at}
+use Rattle.ev_sealed.proofs.ListLemmas.{in_contains}
+use Rattle.ev_sealed.proofs.NamedLemmas.{NamedBefore, NamesEndpoints, warmed_named}
+use Rattle.ev_sealed.proofs.OrderLemmas.{DoneBefore, IsOfLine, done_before, entry_in, is_behind, line_in, of_line}
+use Rattle.ev_sealed.proofs.SaidLemmas.{IsSaid, line_place, said_is}
+use Rattle.ev_sealed.proofs.TellingLemmas.{IsOwnLine, telling_line}
+use Rattle.ev_sealed.proofs.TextLemmas.{FollowsDue, IsDueName, text_follows}
+use Rattle.ev_sealed.proofs.ToldLemmas.{IsDueAt, IsToldAt, complete_told, due_complete, guarded_stays, told_at}
+
+-- ---- who names endpoints
+
+stream_main : (actor : Actor) → IsStream actor → IsMainSide actor
+stream_main Stream is = tt
+stream_main health is = absurd is
+stream_main Timer is = absurd is
+stream_main Main is = absurd is
+stream_main (Worker worker) is = absurd is
+
+timer_main : (actor : Actor) → IsTimer actor → IsMainSide actor
+timer_main Stream is = absurd is
+timer_main health is = absurd is
+timer_main Timer is = tt
+timer_main Main is = absurd is
+timer_main (Worker worker) is = absurd is
+
+names_main : (workers : ℕ) (name : List ℕ) (actor : Actor) (event : Event) → NamesEndpoints name event → MayMake workers actor event → IsMainSide actor
+names_main workers name actor (Response response) names may = stream_main actor may
+names_main workers name actor (FetchTimeout timeout) names may = timer_main actor may
+names_main workers name actor event names may = absurd names
+
+names_own : (name : List ℕ) (event : Event) → NamesEndpoints name event → is_behind event ≡ false
+names_own name (Response response) names = refl
+names_own name (FetchTimeout timeout) names = refl
+names_own name event names = absurd names
+
+-- ---- in a run
+
+module _ (trees : ScriptTrees) (format : Format) (journal : List Entry) (kept : IsScript (sealed_script trees)) (run : IsRunOf format (sealed_script trees) journal) where
+  -- the line of the text by which an entry names endpoints
+  record IsNamedBy (name : List ℕ) (entry : Entry) : Type 0 where
+    line : Line
+    does : line_operation line ≡ operation_of entry
+    said : IsSaid 2 (given_lines tls_rules (lines_in trees)) line
+    names : NamesEndpoints name line.event
+
+  named_by : (k : ℕ) (name : List ℕ) (named : NamedBefore journal k name) → IsNamedBy name named.entry
+  named_by k name named =
+      let entry : Entry = named.entry in
+      let may : MayMake (sealed_script trees).workers entry.actor entry.event =
+      (entry_answered (run_told format (sealed_script trees) journal) named.place entry run.run.answers named.there).may in
+      let main : IsMainSide entry.actor = names_main (sealed_script trees).workers name entry.actor entry.event named.names may in
+      let holds : entries_of journal entry.actor ≡ operations_of (sealed_script trees) entry.actor =
+      side_holds format (sealed_script trees) journal entry.actor kept main run in
+      let own : IsOfLine (sealed_script trees) (operation_of entry) =
+      of_line (sealed_script trees) (operation_of entry)
+      (entry_in (sealed_script trees) journal entry.actor named.place entry holds named.there refl) (names_own name entry.event named.names) in
+      record {
+        line = own.line;
+        does = own.is;
+        said = said_is 2 (given_lines tls_rules (lines_in trees)) own.line own.among;
+        names = subst (λ (o : Operation). NamesEndpoints name o.event) (sym own.is) named.names;
+      }
+
+  below : (n m : ℕ) → n < m → nat_lt n m ≡ true
+  below n m h = grind (arith, nat_tests)
+
+  earlier_at : (a b : Operation) → a.at < b.at → is_earlier a b ≡ true
+  earlier_at a b h = or_left (nat_lt a.at b.at) ((a.at == b.at) && nat_lt a.step b.step) (below a.at b.at h)
+
+  -- what a line became is done before an entry of the stream behind it
+  own_before : (index : ℕ) (tree : Data) (own : IsOwnLine trees index tree) (q : ℕ) (entry : Entry) → slice_get journal q ≡ Some entry → entry.actor ≡ Stream
+      → place_given tls_rules (lines_in trees) index < entry.at → DoneBefore journal q (line_operation own.line)
+  own_before index tree own q entry there by less =
+      done_before (sealed_script trees) journal Stream q entry (line_operation own.line) kept
+      (side_holds format (sealed_script trees) journal Stream kept tt run) there by
+      (line_in (sealed_script trees) Stream own.line own.among own.by)
+      (earlier_at (line_operation own.line) (operation_of entry) (omega (arith, own.at, less)))
+
+  stands : (k index : ℕ) (tree : Data) (own : IsOwnLine trees index tree) (q : ℕ) → slice_get (lines_in trees) index ≡ Some tree → q < k
+      → DoneBefore journal q (line_operation own.line) → StandsBefore journal k (lines_in trees) index
+  stands k index tree own q there less done = record {
+    place = done.place;
+    earlier = omega (arith, done.earlier, less);
+    entry = done.entry;
+    there = done.there;
+    by = ap (λ (o : Operation). o.actor) done.does ∙ own.by;
+    at = ap (λ (o : Operation). o.at) done.does ∙ own.at;
+    own = ap (λ (o : Operation). o.step) done.does;
+    says = ap (option_and_then event_of) there ∙ own.says ∙ sym (ap (λ (o : Operation). Some o.event) done.does);
+  }
+
+  -- a line that tells of a secret was done before the entry of a line that follows one not before it
+  told_before : (k index place : ℕ) (secret : List ℕ) → IsToldAt (lines_in trees) (index + 1) (Secret secret) → (q : ℕ) (entry : Entry)
+      → slice_get journal q ≡ Some entry → entry.actor ≡ Stream → entry.at ≡ 2 + place → given_before tls_rules (lines_in trees) index < place → q < k
+      → WasTold journal k (lines_in trees) secret
+  told_before k index place secret told q entry there by at behind less =
+      let here : IsFrontAt (lines_in trees) told.index told.front = front_at (lines_in trees) told.index told.front told.there in
+      let own : IsOwnLine trees told.index told.front.line = telling_line trees told.index told.front secret kept told.there told.tells in
+      let rises : given_before tls_rules (lines_in trees) told.index ≤ given_before tls_rules (lines_in trees) index =
+      given_rises tls_rules (lines_in trees) told.index index told.front told.within told.there in
+      let done : DoneBefore journal q (line_operation own.line) =
+      own_before told.index told.front.line own q entry there by (omega (arith, rises, behind, at)) in
+      record {
+        index = told.index;
+        told = record {
+          line = told.front.line;
+          there = here.here;
+          connected = subst (λ ls. stream_at ls ≡ true) (up_to_at (lines_in trees) told.index told.front told.there) told.connected;
+          tells = in_contains (told_by told.front.line) (Secret secret) told.tells;
+        };
+        before = stands k told.index told.front.line own q here.here less done;
+      }
+
+  -- where the place of a guarded key is due each secret that it names was told of
+  due_told : (n place : ℕ) (line : Line) (secret : List ℕ) (behind : FollowsDue (lines_in trees) n (private_name (codes "tls/") place) line)
+      → NamesSecret (lines_in trees) place secret → IsToldAt (lines_in trees) (behind.index + 1) (Secret secret)
+  due_told n place line secret behind names =
+      let due : IsDueName (due_at tls_rules behind.front) (private_name (codes "tls/") place) = behind.due.names in
+      let complete : IsDueAt behind.front due.parts.place = due_complete behind.front due.parts due.among in
+      let up_to_is : up_to behind.front ≡ take (behind.index + 1) (lines_in trees) = up_to_at (lines_in trees) behind.index behind.front behind.there in
+      let here : slice_get (guarded_by by_secrets (lines_in trees)) due.parts.place ≡ Some complete.guarded =
+      guarded_stays by_secrets (lines_in trees) (behind.index + 1) due.parts.place complete.guarded
+      (subst (λ ls. slice_get (guarded_by by_secrets ls) due.parts.place ≡ Some complete.guarded) up_to_is complete.there) in
+      let few : length (guarded_by by_secrets (lines_in trees)) < ITEM_LIMIT = guarded_few (lines_in trees) kept.few_items in
+      let same : place ≡ due.parts.place =
+      places_same (codes "tls/") place due.parts.place
+      (omega (arith, slice_get_within (guarded_by by_secrets (lines_in trees)) place names.guarded names.there, few))
+      (omega (arith, slice_get_within (guarded_by by_secrets (lines_in trees)) due.parts.place complete.guarded here, few)) due.named in
+      let one : complete.guarded ≡ names.guarded = some_same (sym here ∙ ap (slice_get (guarded_by by_secrets (lines_in trees))) (sym same) ∙ names.there) in
+      let heard : is_told (up_to behind.front) (Secret secret) ≡ true =
+      complete_told (up_to behind.front) complete.guarded.key secret complete.complete (subst (λ (g : Guarded). Contains g.key.names secret) (sym one) names.named) in
+      told_at (lines_in trees) (behind.index + 1) (Secret secret) (subst (λ ls. is_told ls (Secret secret) ≡ true) up_to_is heard)
+    where
+      some_same : {X : Type 0} {x y : X} → Some x ≡ Some y → x ≡ y
+      some_same e = cc
+
+  -- what is accepted at a cluster that asks by the private name of a place was warm, so that name's endpoints were told of before
+  sealed_run : first_use (codes "tls/") (lines_in trees) ≡ None → IsSealed format trees journal
+  sealed_run unused k worker number place secret accepts asks names =
+      let told : Told = run_told format (sealed_script trees) journal in
+      let warm : WasWarm told number (last_settled (take k journal) worker) k = runs_warmed told run.run.answers k worker number accepts in
+      let name : List ℕ = private_name (codes "tls/") place in
+      let depends : dependency_of asks.row.content ≡ Some (record { kind = Eds; name = name }) =
+      ap dependency_of asks.content ∙ ap discovery_dependency asks.asks in
+      let named : NamedBefore journal k name =
+      warmed_named told k number (last_settled (take k journal) worker) asks.row name warm asks.made depends in
+      let by_line : IsNamedBy name named.entry = named_by k name named in
+      let at : ℕ = by_line.said.index in
+      let behind : FollowsDue (lines_in trees) at name by_line.line =
+      text_follows (lines_in trees) at (2 + at) by_line.said.tree by_line.line (decimal (place + 1)) unused by_line.said.there by_line.said.is by_line.names in
+      told_before k behind.index at secret (due_told at place by_line.line secret behind names) named.place named.entry named.there
+      (sym (ap (λ (o : Operation). o.actor) by_line.does) ∙ behind.due.by)
+      (sym (ap (λ (o : Operation). o.at) by_line.does) ∙ line_place (2 + at) by_line.said.tree by_line.line by_line.said.is)
+      behind.behind named.earlier
+
+pub sealed : Sealed
+sealed trees format journal unused kept run = sealed_run trees format journal kept run unused
