@@ -1,0 +1,7 @@
+mod PairLemmas
+mod TemplateLemmas
+mod OnceLemmas
+mod HostLemmas
+mod OrderLemmas
+mod AnswerLemmas
+mod StateLemmas

@@ -1,0 +1,86 @@
+ghost use Rattle.std.specs.Prelude.{◌≡◌, ◌||◌, ℕ, [], List, false, if◌then◌else◌, IfOk, OnOk};
+ghost use Rattle.std.specs.Str.{bytes_eq};
+ghost use Rattle.indexmap.specs.IndexMap.{get};
+ghost use Rattle.ev_dns.specs.Answers.{each_once};
+ghost use Rattle.ev_dns.specs.Known.{Takes, has_all, has_answer, known_addresses};
+
+use crate::lines::Resolution;
+use crate::templates::rows_of;
+use ev_expand::Key;
+use ev_types::{Name, Seq};
+use indexmap::{IndexMap, IndexSet};
+use std::alloc::{AllocError, Global};
+
+/// The host names that were answered, each with the addresses of its last success.
+#[derive(Drop)]
+pub(crate) struct Answers {
+    pub by_name: IndexMap<Name, IndexSet<Name>>,
+}
+
+impl Answers {
+    /// No name was answered. It takes no memory.
+    pub(crate) fn new(alloc: Global) -> Answers
+        ensures answered { (name : List ℕ) → has_answer result name ≡ false }
+        ensures addresses { (name : List ℕ) → known_addresses result name ≡ [] }
+    {
+        Answers {
+            by_name: IndexMap::new(alloc),
+        }
+    }
+
+    /// Takes a resolution.
+    pub(crate) fn take(&mut self, alloc: Global, resolution: Resolution) -> Result<(), AllocError>
+        ensures { OnOk result (Takes self.old self.new resolution) }
+    {
+        let Resolution { name, addresses } = resolution;
+        match addresses {
+            Some(addresses) => self.put(name, each_once(alloc, addresses)?),
+            None => self.note(alloc, name),
+        }
+    }
+
+    // Puts the addresses of a name in the place of those of before.
+    fn put(&mut self, name: Name, addresses: IndexSet<Name>) -> Result<(), AllocError>
+        ensures answered { OnOk result ((other : List ℕ) → has_answer self.new other ≡ (bytes_eq name other || has_answer self.old other)) }
+        ensures addresses { OnOk result ((other : List ℕ) → known_addresses self.new other
+            ≡ (if bytes_eq name other then addresses.keys else known_addresses self.old other)) }
+    {
+        let Ok(_) = self.by_name.insert(name, addresses) else {
+            return Err(AllocError);
+        };
+        Ok(())
+    }
+
+    // Notes that a name was answered, and keeps its addresses.
+    fn note(&mut self, alloc: Global, name: Name) -> Result<(), AllocError>
+        ensures answered { OnOk result ((other : List ℕ) → has_answer self.new other ≡ (bytes_eq name other || has_answer self.old other)) }
+        ensures addresses { OnOk result ((other : List ℕ) → known_addresses self.new other ≡ known_addresses self.old other) }
+    {
+        if self.by_name.contains_key(&name) {
+            return Ok(());
+        }
+        self.put(name, IndexSet::new(alloc))
+    }
+
+    /// Whether all host names of a template were answered.
+    pub(crate) fn has_all(&self, key: &Key) -> bool
+        ensures { result ≡ has_all self.now key.now }
+    {
+        rows_of(key)
+            .iter()
+            .all(|row| self.by_name.contains_key(&row.host.address))
+    }
+}
+
+// Each of these names once, in the order of first appearance.
+fn each_once(alloc: Global, names: Seq<Name>) -> Result<IndexSet<Name>, AllocError>
+    ensures { IfOk result (λ set. set.keys ≡ each_once names) }
+{
+    let mut set = IndexSet::new(alloc);
+    for name in names.into_vec() {
+        let Ok(_) = set.insert(name) else {
+            return Err(AllocError);
+        };
+    }
+    Ok(set)
+}
