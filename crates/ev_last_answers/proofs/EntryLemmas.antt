@@ -28,7 +28,7 @@ use Rattle.ev_last_answers.proofs.AnswerLemmas.{taken_parts}
 
 -- ---- how many lines are given
 
-of_fronts : (rules : Rules) (lines : List Data) (n : ℕ) → given_before rules lines n ≡ length (flat_map (gives rules) (take n (fronts lines)))
+pub of_fronts : (rules : Rules) (lines : List Data) (n : ℕ) → given_before rules lines n ≡ length (flat_map (gives rules) (take n (fronts lines)))
 of_fronts rules lines n = ap (λ fs. length (flat_map (gives rules) fs)) (fronts_taken lines n)
 
 -- a line gives its own behind those of the lines before it

@@ -5,3 +5,7 @@ pub mod OrderLemmas
 pub mod EntryLemmas
 pub mod UnusedLemmas
 pub mod NameLemmas
+pub mod MakerLemmas
+pub mod GuardLemmas
+pub mod WatchLemmas
+pub mod StreamLemmas

@@ -21,12 +21,12 @@ rising_either (x ∷ os) a b rises (inr is) (inl f) = inr (inr (subst (λ o. is_
 rising_either (x ∷ os) a b rises (inr is) (inr other) = rising_either os a b rises.1 is other
 
 -- of those that pass a test and rise, each is earlier than those behind it
-first_at : (mine : Operation → Bool) (os : List Operation) (a b : Operation) (test : Bool) → mine a ≡ test → test ≡ true
+pub first_at : (mine : Operation → Bool) (os : List Operation) (a b : Operation) (test : Bool) → mine a ≡ test → test ≡ true
     → IsRising (cond test (a ∷ filter mine os) (filter mine os)) → IsIn b (filter mine os) → is_earlier a b ≡ true
 first_at mine os a b true is passes rises among = at_in (λ o. is_earlier a o ≡ true) b (filter mine os) rises.0 among
 first_at mine os a b false is passes rises among = absurd (false≢true passes)
 
-rest_rises : (mine : Operation → Bool) (os : List Operation) (x : Operation) (test : Bool) → IsRising (cond test (x ∷ filter mine os) (filter mine os)) → IsRising (filter mine os)
+pub rest_rises : (mine : Operation → Bool) (os : List Operation) (x : Operation) (test : Bool) → IsRising (cond test (x ∷ filter mine os) (filter mine os)) → IsRising (filter mine os)
 rest_rises mine os x true rises = rises.1
 rest_rises mine os x false rises = rises
 
