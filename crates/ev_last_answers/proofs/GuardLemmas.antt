@@ -51,7 +51,7 @@ further : {Y : Type 0} (found : Option Y) (y : Y) (ys : List Y) → IsIn y ys �
 further None y ys is = is
 further (Some w) y ys is = inr is
 
-found_in : {X Y : Type 0} (f : X → Option Y) (xs : List X) (x : X) (y : Y) → IsIn x xs → f x ≡ Some y → IsIn y (filter_map f xs)
+pub found_in : {X Y : Type 0} (f : X → Option Y) (xs : List X) (x : X) (y : Y) → IsIn x xs → f x ≡ Some y → IsIn y (filter_map f xs)
 found_in f [] x y is h = absurd is
 found_in f (z ∷ xs) x y (inl e) h = subst (λ o. IsIn y (cons_option o (filter_map f xs))) (sym (ap f e ∙ h)) (inl refl)
 found_in f (z ∷ xs) x y (inr is) h = further (f z) y (filter_map f xs) (found_in f xs x y is h)
@@ -63,7 +63,7 @@ guarded_there line entry key is h =
     found_in (guarded_of by_names) (clusters_in line) entry (record { key = key; own = by_names.own_of entry }) is
     (ap (option_map (λ (k : Key). record { key = k; own = by_names.own_of entry })) h)
 
-once_has : (key : Key) (gs : List Guarded) → list_any (λ (g : Guarded). key_same key g.key) gs ≡ true → list_any (λ (g : Guarded). key_same key g.key) (each_once gs) ≡ true
+pub once_has : (key : Key) (gs : List Guarded) → list_any (λ (g : Guarded). key_same key g.key) gs ≡ true → list_any (λ (g : Guarded). key_same key g.key) (each_once gs) ≡ true
 once_has key [] h = h
 once_has key (first ∷ gs) h =
     let test : Guarded → Bool = λ g. key_same key g.key in
@@ -88,12 +88,12 @@ within_at : (b : Bool) (n m : ℕ) → (b ≡ false → n < m) → cond (not b) 
 within_at true n m less = omega arith
 within_at false n m less = omega (arith, less refl)
 
-place_within : (key : Key) (gs : List Guarded) → list_any (λ (g : Guarded). key_same key g.key) gs ≡ true → place_in gs key < length gs
+pub place_within : (key : Key) (gs : List Guarded) → list_any (λ (g : Guarded). key_same key g.key) gs ≡ true → place_in gs key < length gs
 place_within key [] h = absurd (cc)
 place_within key (g ∷ gs) h =
     within_at (key_same key g.key) (place_in gs key) (length gs) (λ none. place_within key gs (sym (ap (λ b. b || list_any (λ (x : Guarded). key_same key x.key) gs) none) ∙ h))
 
-got : {X : Type 0} (xs : List X) (i : ℕ) → i < length xs → (x : X) × (slice_get xs i ≡ Some x)
+pub got : {X : Type 0} (xs : List X) (i : ℕ) → i < length xs → (x : X) × (slice_get xs i ≡ Some x)
 got [] i h = absurd (omega (arith, h))
 got (x ∷ xs) zero h = (x, refl)
 got (x ∷ xs) (suc i) h = got xs i (omega (arith, h))

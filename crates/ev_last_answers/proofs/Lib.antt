@@ -9,3 +9,5 @@ pub mod MakerLemmas
 pub mod GuardLemmas
 pub mod WatchLemmas
 pub mod StreamLemmas
+pub mod PlaceLemmas
+pub mod KeptLemmas

@@ -70,13 +70,6 @@ given_is front inner tree there = by (split_get own rest inner tree there)
     by (inl here) = inl (own_is front inner tree (is_written front.line) refl here)
     by (inr back) = inr (follower_is front inner back.place tree (due_at dns_rules front) refl back.at back.there)
 
--- where something is due the line that follows is given
-pub record HasFollower (front : Front) : Type 0 where
-  pub inner : ℕ
-  pub tree : Data
-  pub among : slice_get (gives dns_rules front) inner ≡ Some tree
-  pub follows : IsFollower front inner tree
-
 -- ---- what they say
 
 -- the response of the line that follows
