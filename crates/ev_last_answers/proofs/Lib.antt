@@ -11,3 +11,4 @@ pub mod WatchLemmas
 pub mod StreamLemmas
 pub mod PlaceLemmas
 pub mod KeptLemmas
+pub mod RunLemmas
