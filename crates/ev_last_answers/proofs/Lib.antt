@@ -12,3 +12,4 @@ pub mod StreamLemmas
 pub mod PlaceLemmas
 pub mod KeptLemmas
 pub mod RunLemmas
+pub mod LastLemmas

@@ -1,8 +1,10 @@
 -- The places that are due at a line.
 use Rattle.std.proofs.Common.{◌≡◌, ◌∙◌, inl, inr, ℕ, zero, suc, ◌+◌, ◌<◌, ◌≤◌, Bool, true, false, cond, List, [], ◌∷◌, ◌++◌, length, map, take, filter, filter_map, flat_map, decimal, Option, Some, None, codes, refl, sym, ap, subst, arith, length-append}
-use Rattle.std.specs.Prelude.{slice_get}
+use Rattle.std.specs.Prelude.{drop, slice_get}
 use Rattle.std.specs.List.{enumerate_from, list_any}
 use Rattle.std.specs.Str.{bytes_eq}
+use Rattle.std.proofs.lemmas.Grind.{flat_map-append}
+use Rattle.std.proofs.lemmas.List.{take-append-drop}
 use Rattle.std.proofs.lemmas.Option.{slice_get_within}
 use Rattle.serde_json.specs.Data.{Data}
 use Rattle.ev_types.specs.Same.{bytes_decide}
@@ -13,9 +15,9 @@ use Rattle.ev_expand.specs.declared.keys.Key.{Key}
 use Rattle.ev_expand.specs.Expanding.{due_at, gives, guarded_at, lines_due, place_of, written_line}
 use Rattle.ev_expand.specs.Following.{DueParts, following_line}
 use Rattle.ev_expand.specs.Fronts.{Front, fronts, up_to}
-use Rattle.ev_expand.specs.Guarding.{Guarded, guarded_by, guarded_in, place_in}
+use Rattle.ev_expand.specs.Guarding.{Guarded, each_once, guarded_by, guarded_in, place_in}
 use Rattle.ev_expand.specs.Keys.{key_decides, key_same}
-use Rattle.ev_expand.proofs.DistinctLemmas.{once_distinct, own_place, place_has}
+use Rattle.ev_expand.proofs.DistinctLemmas.{IsExtended, once_distinct, once_extends, own_place, place_has}
 use Rattle.ev_sealed.proofs.CountLemmas.{places_same}
 use Rattle.ev_sealed.proofs.FrontLemmas.{up_to_at}
 use Rattle.ev_sealed.proofs.ListLemmas.{back_get, get_in, in_get, in_kept, in_map, map_in}
@@ -52,6 +54,16 @@ guarded_early lines n place g there seen =
     let at : place_in first g.key ≡ place = sym other ∙ ap (place_in all) (sym same) ∙ own in
     let one : found.0 ≡ g = some_same (sym later ∙ ap (slice_get all) at ∙ there) in
     ap (slice_get first) (sym at) ∙ found.1 ∙ ap (λ (x : Guarded). Some x) one
+
+-- no more was guarded so far than in all lines
+pub guarded_fewer : (lines : List Data) (n : ℕ) → length (guarded_by by_names (take n lines)) ≤ length (guarded_by by_names lines)
+guarded_fewer lines n =
+    let first : List Guarded = flat_map (guarded_in by_names) (take n lines) in
+    let rest : List Guarded = flat_map (guarded_in by_names) (drop n lines) in
+    let extended : IsExtended (each_once first) (each_once (first ++ rest)) rest = once_extends first rest in
+    let joined : first ++ rest ≡ flat_map (guarded_in by_names) lines =
+    sym (flat_map-append (guarded_in by_names) (take n lines) (drop n lines)) ∙ ap (flat_map (guarded_in by_names)) (take-append-drop n lines) in
+    omega (arith, ap (λ gs. length (each_once gs)) joined, ap length extended.grown, length-append (each_once first) extended.more)
 
 -- ---- what is due
 
