@@ -13,3 +13,4 @@ pub mod PlaceLemmas
 pub mod KeptLemmas
 pub mod RunLemmas
 pub mod LastLemmas
+pub mod CountLemmas

@@ -264,10 +264,13 @@ resolved_silent : (line : Data) (found : Option (List ℕ)) → is_word (codes "
 resolved_silent line None h = refl
 resolved_silent line (Some op) h = ap (λ word. line_by word 0 line) ((bytes_decide op (codes "resolved")).0 h)
 
+-- a line that isn't written has no event
+pub unwritten_none : (line : Data) → is_written line ≡ false → event_of line ≡ None
+unwritten_none line h =
+    ap (option_map (λ (l : Line). l.event)) (resolved_silent line (member_of as_str (codes "op") line) (not-false (is_op (codes "resolved") line) h))
+
 unwritten_silent : (line : Data) → is_written line ≡ false → said_by line ≡ None
-unwritten_silent line h =
-    ap (λ (found : Option Line). option_and_then stream_said (option_map (λ (l : Line). l.event) found))
-    (resolved_silent line (member_of as_str (codes "op") line) (not-false (is_op (codes "resolved") line) h))
+unwritten_silent line h = ap (option_and_then stream_said) (unwritten_none line h)
 
 response_silent : (tree : Data) (response : ResponseParts) → event_of tree ≡ Some (Response response) → said_by tree ≡ None
 response_silent tree response is = ap (option_and_then stream_said) is
