@@ -14,3 +14,4 @@ pub mod KeptLemmas
 pub mod RunLemmas
 pub mod LastLemmas
 pub mod CountLemmas
+pub mod EndpointLemmas
