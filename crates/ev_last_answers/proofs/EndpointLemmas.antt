@@ -13,7 +13,7 @@ use Rattle.ev_types.specs.Hosts.{HostRowParts}
 use Rattle.ev_types.specs.Same.{bytes_decide}
 use Rattle.ev_types.specs.declared.limits.TheConstants.{ITEM_LIMIT, MAX_WEIGHT_SUM}
 use Rattle.ev_types.specs.declared.contents.Kind.TheVariants.{Eds}
-use Rattle.ev_types.specs.declared.contents.Body.TheVariants.{Beat, Good, Bad}
+use Rattle.ev_types.specs.declared.contents.Body.TheVariants.{Bad, Good}
 use Rattle.ev_types.specs.declared.contents.Content.TheVariants.{Assignment as an_assignment}
 use Rattle.ev_tree.specs.declared.broken.BrokenRules.{BrokenRules}
 use Rattle.ev_tree.specs.declared.limits.TheConstants.{MAX_NAME_BYTES, MAX_PORT}
@@ -22,13 +22,14 @@ use Rattle.ev_tree.specs.declared.outcome.Found.TheVariants.{Absent, Given}
 use Rattle.ev_tree.specs.declared.tables.EnumTable.TheVariants.{Health}
 use Rattle.ev_tree.specs.Addresses.{address_broken, address_text_of, is_port, port_of, port_or_none, socket_of}
 use Rattle.ev_tree.specs.Broken.{any_broken, either_broken, least_of, none_broken}
-use Rattle.ev_tree.specs.Forms.{enumeration_of, field_of, given_or, in_form, inside, is_object, is_wrong, listed, number_of, object_of, objects_in, objects_of, text_of, value_or_wrong}
+use Rattle.ev_tree.specs.Forms.{duration_of, enumeration_of, field_of, given_or, in_form, inside, is_object, is_wrong, listed, number_of, object_of, objects_in, objects_of, text_of, value_or_wrong}
 use Rattle.ev_tree.specs.Rules.{is_name, judged}
 use Rattle.ev_tree.specs.Scalars.{enum_in, list_in, named_in, u32_in}
 use Rattle.ev_tree.specs.Spelling.{camel_of}
 use Rattle.ev_cluster_json.specs.declared.groups.TheConstants.{MAX_PRIORITY}
 use Rattle.ev_cluster_json.specs.Assignments.{assignment_broken, assignment_reading, endpoint_of, group_broken, group_rows, groups_of, host_broken, hosts_of, is_usable, is_usable_status, priority_of, row_of, rows_of, weight_of}
-use Rattle.ev_wire.specs.Bodies.{body_of, body_with, content_of, content_with, is_heartbeat, own_broken, breaks_v1, breaks_v3, is_of_type, resource_of}
+use Rattle.ev_wire.specs.Bodies.{body_of, body_with, breaks_v3, content_of, content_with, is_of_type, own_broken, resource_of}
+use Rattle.ev_wire.specs.Requests.{type_url}
 use Rattle.ev_wire.specs.Responses.{entry_name, item_of, ttl_of}
 use Rattle.ev_expand.specs.Following.{endpoints_body, endpoints_entry}
 use Rattle.ev_expand_laws.proofs.LineLemmas.{objects_given}
@@ -233,3 +234,54 @@ module _ (name : List ℕ) (rows : List HostRowParts) where
   -- the endpoints are read as these hosts
   reads : ByRecursion IsGoodHost rows → assignment_reading body ≡ Ok rows
   reads good = ap (λ broken. judged (least_of broken) (rows_of body)) (assignment_good good) ∙ ap (λ rs. Ok rs) (rows_are good)
+
+-- ---- the resource
+
+short_name : (place : ℕ) → place < ITEM_LIMIT → is_name (name_of_place place) ≡ true
+short_name place small =
+    let some : 0 < length (decimal (place + 1)) = decimal_nonempty (place + 1) (omega (arith, small)) in
+    let few : length (decimal (place + 1)) ≤ 20 = length-decimal-le 20 (place + 1) (omega arith) (omega (arith, small)) (omega (arith, small)) in
+    let joined : length (name_of_place place) ≡ 4 + length (decimal (place + 1)) = length-append (codes "dns/") (decimal (place + 1)) in
+    and_from (nat_le 1 (length (name_of_place place))) (nat_le (length (name_of_place place)) MAX_NAME_BYTES)
+    (within 1 (length (name_of_place place)) (omega (arith, some, joined)))
+    (within (length (name_of_place place)) MAX_NAME_BYTES (omega (arith, few, joined)))
+
+module _ (version name : List ℕ) (endpoints : Data) where
+  abbrev entry : Data
+  entry = endpoints_entry version name endpoints
+
+  entry_named : entry_name entry ≡ name
+  unfolding text_of field_of camel_of
+  entry_named = refl
+
+  no_ttl : ttl_of entry ≡ Absent
+  unfolding ttl_of duration_of field_of camel_of
+  no_ttl = refl
+
+  body_found : field_of (codes "resource") entry ≡ Given (endpoints_body name endpoints)
+  unfolding field_of camel_of
+  body_found = refl
+
+  typed : is_of_type Eds (endpoints_body name endpoints) ≡ true
+  unfolding is_of_type text_of field_of camel_of
+  typed = (bytes_decide (type_url Eds) (type_url Eds)).1 refl
+
+  inner_name : breaks_v3 Eds name (endpoints_body name endpoints) ≡ false
+  unfolding breaks_v3 text_of field_of camel_of
+  inner_name = ap not ((bytes_decide name name).1 refl)
+
+  own_good : is_name name ≡ true → own_broken Eds name Absent (endpoints_body name endpoints) ≡ none_broken
+  own_good named = λ i. record none_broken { v1 = not (typed i); v2 = not (named i); v3 = inner_name i }
+
+-- the written endpoints of a place are read as their hosts
+pub item_reads : (version : List ℕ) (place : ℕ) (rows : List HostRowParts) → place < ITEM_LIMIT → ByRecursion IsGoodHost rows
+    → (item_of Eds (endpoints_entry version (name_of_place place) (endpoints_tree rows))).body ≡ Good (an_assignment rows)
+unfolding item_of body_of resource_of content_of
+item_reads version place rows small good =
+    let name : List ℕ = name_of_place place in
+    let tree : Data = endpoints_body name (endpoints_tree rows) in
+    let own = ap least_of (own_good version name (endpoints_tree rows) (short_name place small)) in
+    (λ i. body_of Eds (entry_named version name (endpoints_tree rows) i) (no_ttl version name (endpoints_tree rows) i) (body_found version name (endpoints_tree rows) i))
+    ∙ ap (λ b. cond (not b) (Bad 1) (body_with (least_of (own_broken Eds name Absent tree)) (content_with an_assignment (assignment_reading tree)))) (typed version name (endpoints_tree rows))
+    ∙ ap (λ rule. body_with rule (content_with an_assignment (assignment_reading tree))) own
+    ∙ ap (λ read. body_with None (content_with an_assignment read)) (reads name rows good)

@@ -15,3 +15,4 @@ pub mod RunLemmas
 pub mod LastLemmas
 pub mod CountLemmas
 pub mod EndpointLemmas
+pub mod HostLemmas
