@@ -1,6 +1,6 @@
 -- What is known of a template stays where a line answers none of its names, and what is complete stays complete.
-use Rattle.std.proofs.Common.{◌≡◌, ◌∙◌, ℕ, zero, suc, ◌+◌, ◌≤◌, Bool, true, false, cond, ◌&&◌, ◌||◌, List, [], ◌∷◌, ◌++◌, map, take, filter_map, Option, Some, None, refl, sym, ap, ap₂, arith}
-use Rattle.std.specs.Prelude.{drop, unwrap_or}
+use Rattle.std.proofs.Common.{◌≡◌, ◌∙◌, ℕ, ◌≤◌, Bool, true, false, cond, ◌&&◌, ◌||◌, List, [], ◌∷◌, ◌++◌, map, take, filter_map, Option, Some, None, refl, sym, ap, ap₂}
+use Rattle.std.specs.Prelude.{unwrap_or}
 use Rattle.std.specs.List.{list_any, list_all, last_or, cons_option}
 use Rattle.std.specs.Str.{bytes_eq}
 use Rattle.std.specs.Cmp.{first_so, second_so}
@@ -18,7 +18,8 @@ use Rattle.ev_dns.specs.Lines.{resolution_in}
 use Rattle.ev_dns.specs.Answers.{addresses_of, each_once, is_answered, is_complete, is_of, last_success, resolutions_in, success_of}
 use Rattle.ev_dns.specs.Hosts.{resolved_rows, with_address}
 use Rattle.ev_dns.specs.Resolving.{answers_name, answers_one, hosts_of}
-use Rattle.ev_dns.specs.Templates.{has_name, rows_of}
+use Rattle.ev_last_answers.proofs.ListLemmas.{taken_parts}
+use Rattle.ev_dns.specs.Templates.{rows_of}
 
 -- ---- one line more
 
@@ -124,13 +125,6 @@ rows_answered lines more (row ∷ rows) h =
 
 pub complete_more : (lines more : List Data) (key : Key) → is_complete lines key ≡ true → is_complete (lines ++ more) key ≡ true
 complete_more lines more key h = rows_answered lines more (rows_of key) h
-
--- the first n, and those from there to the m-th
-pub taken_parts : {X : Type 0} (n m : ℕ) (xs : List X) → n ≤ m → (more : List X) × (take m xs ≡ take n xs ++ more)
-taken_parts zero m xs h = (take m xs, refl)
-taken_parts (suc n) zero xs h = absurd (omega arith)
-taken_parts (suc n) (suc m) [] h = ([], refl)
-taken_parts (suc n) (suc m) (x ∷ xs) h = let rest = taken_parts n m xs (omega arith) in (rest.0, ap (λ ys. x ∷ ys) rest.1)
 
 -- what is complete by the first lines is so by more of them
 pub complete_later : (lines : List Data) (n m : ℕ) (key : Key) → n ≤ m → is_complete (take n lines) key ≡ true → is_complete (take m lines) key ≡ true

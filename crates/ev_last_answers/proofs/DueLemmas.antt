@@ -1,18 +1,18 @@
 -- Where a template is complete and a stream is open it was due at some line, and nothing of it has changed behind the last such line.
-use Rattle.std.proofs.Common.{◌≡◌, ◌∙◌, ◌⊎◌, inl, inr, ℕ, zero, suc, ◌+◌, ◌<◌, ◌≤◌, Bool, true, false, ◌&&◌, ◌||◌, not, List, [], ◌∷◌, ◌++◌, length, take, Option, Some, option_map, refl, sym, ap, subst, arith}
+use Rattle.std.proofs.Common.{◌≡◌, ◌∙◌, ◌⊎◌, inl, inr, ℕ, zero, suc, ◌+◌, ◌<◌, ◌≤◌, Bool, true, false, ◌&&◌, ◌||◌, not, List, [], ◌∷◌, ◌++◌, length, take, Some, option_map, refl, sym, ap, subst, arith}
 use Rattle.std.specs.Prelude.{slice_get}
 use Rattle.std.specs.List.{list_any}
-use Rattle.std.proofs.lemmas.Bool.{and_from, both_ways, cases_lt, false≢true, or_parts}
+use Rattle.std.proofs.lemmas.Bool.{both_ways, cases_lt, false≢true, or_parts}
 use Rattle.std.proofs.lemmas.Option.{slice_get-map}
 use Rattle.serde_json.specs.Data.{Data}
 use Rattle.ev_model_laws.proofs.AnyLemmas.{any_behind}
-use Rattle.ev_model_laws.proofs.PlaceLemmas.{take_one}
 use Rattle.ev_expand.specs.declared.keys.Key.{Key}
 use Rattle.ev_expand.specs.Fronts.{Front, behind, fronts, opens, stream_at, up_to}
 use Rattle.ev_expand.specs.Guarding.{Guarded}
 use Rattle.ev_sealed.proofs.FrontLemmas.{IsFrontAt, front_at, up_to_at}
 use Rattle.ev_dns.specs.Answers.{is_complete}
 use Rattle.ev_dns.specs.Resolving.{answers_name, has_guarded, hosts_of, is_due}
+use Rattle.ev_last_answers.proofs.ListLemmas.{some_same}
 use Rattle.ev_last_answers.proofs.AnswerLemmas.{StaysKnown, stays_known}
 
 -- there is a front at each line
@@ -92,9 +92,6 @@ module _ (lines : List Data) (g : Guarded) where
       → (i : ℕ) (later : Front) → last.index < i → i < n + 1 → slice_get (fronts lines) i ≡ Some later → (has_guarded later.line g.key ≡ false) × (is_due later g ≡ false)
   more_quiet n front there last undue none i later above below at = by (cases_lt i n)
     where
-      some_same : {X : Type 0} {x y : X} → Some x ≡ Some y → x ≡ y
-      some_same e = cc
-
       by : (i < n) ⊎ (n ≤ i) → (has_guarded later.line g.key ≡ false) × (is_due later g ≡ false)
       by (inl less) = last.quiet i later above less at
       by (inr past) =

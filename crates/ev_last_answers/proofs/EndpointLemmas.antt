@@ -1,14 +1,12 @@
 -- Good hosts that are written as endpoints are read again.
-use Rattle.std.proofs.Common.{◌≡◌, ◌∙◌, ℕ, ◌+◌, ◌<◌, ◌≤◌, ◌^◌, ◌==◌, Bool, true, false, cond, not, ◌&&◌, ◌||◌, nat_lt, nat_le, List, [], ◌∷◌, ◌++◌, length, map, flat_map, decimal, Option, Some, None, codes, refl, sym, ap, ap₂, arith, ne_eqb, length-append}
-use Rattle.std.specs.Prelude.{Result, Ok}
-use Rattle.std.specs.List.{AllByRecursion as ByRecursion, list_all, list_any, sum_by}
-use Rattle.std.specs.Str.{bytes_eq}
+use Rattle.std.proofs.Common.{◌≡◌, ◌∙◌, ℕ, ◌+◌, ◌<◌, ◌≤◌, ◌^◌, ◌==◌, Bool, true, false, cond, not, ◌||◌, nat_lt, nat_le, List, [], ◌∷◌, ◌++◌, length, map, flat_map, decimal, Some, None, codes, refl, ap, ap₂, arith, ne_eqb, length-append}
+use Rattle.std.specs.Prelude.{Ok}
+use Rattle.std.specs.List.{AllByRecursion as ByRecursion, list_all, sum_by}
 use Rattle.std.proofs.lemmas.Bool.{and_from}
 use Rattle.std.proofs.lemmas.Bool.Decides.{nat_tests}
 use Rattle.std.proofs.lemmas.Fmt.{decimal_nonempty, length-decimal-le}
 use Rattle.std.proofs.lemmas.List.Sums.{sum_by-cons}
-use Rattle.serde_json.specs.Data.{Data, string, array, object, no_members, put}
-use Rattle.serde_json.specs.View.{items_of}
+use Rattle.serde_json.specs.Data.{Data, string, object, no_members, put}
 use Rattle.ev_types.specs.Hosts.{HostRowParts}
 use Rattle.ev_types.specs.Same.{bytes_decide}
 use Rattle.ev_types.specs.declared.limits.TheConstants.{ITEM_LIMIT, MAX_WEIGHT_SUM}
@@ -22,7 +20,7 @@ use Rattle.ev_tree.specs.declared.outcome.Found.TheVariants.{Absent, Given}
 use Rattle.ev_tree.specs.declared.tables.EnumTable.TheVariants.{Health}
 use Rattle.ev_tree.specs.Addresses.{address_broken, address_text_of, is_port, port_of, port_or_none, socket_of}
 use Rattle.ev_tree.specs.Broken.{any_broken, either_broken, least_of, none_broken}
-use Rattle.ev_tree.specs.Forms.{duration_of, enumeration_of, field_of, given_or, in_form, inside, is_object, is_wrong, listed, number_of, object_of, objects_in, objects_of, text_of, value_or_wrong}
+use Rattle.ev_tree.specs.Forms.{duration_of, enumeration_of, field_of, given_or, in_form, inside, is_object, is_wrong, listed, number_of, object_of, objects_of, text_of, value_or_wrong}
 use Rattle.ev_tree.specs.Rules.{is_name, judged}
 use Rattle.ev_tree.specs.Scalars.{enum_in, list_in, named_in, u32_in}
 use Rattle.ev_tree.specs.Spelling.{camel_of}

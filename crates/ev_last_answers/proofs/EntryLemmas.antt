@@ -1,5 +1,5 @@
 -- The entries of a run by the lines of the input.
-use Rattle.std.proofs.Common.{◌≡◌, ◌∙◌, ◌⊎◌, inl, inr, ℕ, ◌+◌, ◌<◌, ◌≤◌, Bool, true, false, List, [], ◌∷◌, ◌++◌, length, take, flat_map, Some, refl, sym, ap, subst, arith, length-append}
+use Rattle.std.proofs.Common.{◌≡◌, ◌∙◌, ◌⊎◌, inl, inr, ℕ, ◌+◌, ◌<◌, ◌≤◌, false, List, [], ◌∷◌, ◌++◌, length, take, flat_map, Some, refl, sym, ap, arith, length-append}
 use Rattle.std.specs.Prelude.{slice_get}
 use Rattle.std.proofs.lemmas.Bool.{cases_lt}
 use Rattle.std.proofs.lemmas.List.{append-nil}
@@ -11,7 +11,7 @@ use Rattle.ev_types.specs.Scripts.{IsScript}
 use Rattle.ev_types.specs.declared.events.Entry.{Entry}
 use Rattle.ev_types.specs.declared.events.Line.{Line}
 use Rattle.ev_types.specs.declared.journals.Format.{Format}
-use Rattle.ev_model.specs.Operations.{IsRunOf, Operation, entries_of, line_operation, operation_of, operations_of}
+use Rattle.ev_model.specs.Operations.{IsRunOf, Operation, entries_of, operation_of, operations_of}
 use Rattle.ev_model_laws.proofs.PlaceLemmas.{take_one}
 use Rattle.ev_stream_laws.proofs.HoldLemmas.{side_holds}
 use Rattle.ev_script.specs.Lines.{line_of}
@@ -24,7 +24,7 @@ use Rattle.ev_sealed.proofs.OrderLemmas.{IsOfLine, entry_in, is_behind, of_line}
 use Rattle.ev_sealed.proofs.SaidLemmas.{IsSaid, line_place, said_is}
 use Rattle.ev_dns.specs.Resolving.{dns_rules}
 use Rattle.ev_last_answers.specs.LastAnswers.{answered_script}
-use Rattle.ev_last_answers.proofs.AnswerLemmas.{taken_parts}
+use Rattle.ev_last_answers.proofs.ListLemmas.{taken_parts}
 
 -- ---- how many lines are given
 

@@ -1,10 +1,9 @@
 -- A guarded key stands at its place among what is guarded; templates are of their keys' clusters.
-use Rattle.std.proofs.Common.{◌≡◌, ◌∙◌, ◌⊎◌, inl, inr, ℕ, zero, suc, ◌+◌, ◌<◌, Bool, true, false, cond, not, ◌||◌, List, [], ◌∷◌, ◌++◌, length, take, filter, filter_map, flat_map, Option, Some, None, option_map, refl, sym, ap, subst, arith}
+use Rattle.std.proofs.Common.{◌≡◌, ◌∙◌, inl, inr, ℕ, suc, ◌+◌, ◌<◌, Bool, true, false, cond, not, ◌||◌, List, [], ◌∷◌, length, filter, flat_map, Some, None, option_map, refl, sym, ap, subst, arith}
 use Rattle.std.specs.Prelude.{slice_get}
-use Rattle.std.specs.List.{list_any, cons_option}
+use Rattle.std.specs.List.{list_any}
 use Rattle.std.proofs.lemmas.Bool.{or_left, or_right}
 use Rattle.serde_json.specs.Data.{Data}
-use Rattle.ev_types.specs.declared.clusters.Cluster.{Cluster}
 use Rattle.ev_types.specs.declared.contents.Content.TheVariants.{Cluster as a_cluster, Assignment as an_assignment, Listener as a_listener, Routes as routes}
 use Rattle.ev_types.specs.declared.contents.Body.{Body}
 use Rattle.ev_types.specs.declared.contents.Body.TheVariants.{Good, Bad, Beat}
@@ -20,6 +19,7 @@ use Rattle.ev_sealed.proofs.FrontLemmas.{up_to_at}
 use Rattle.ev_sealed.proofs.ListLemmas.{flat_in, in_any, in_kept}
 use Rattle.ev_sealed.proofs.ToldLemmas.{guarded_stays}
 use Rattle.ev_dns.specs.Resolving.{has_guarded}
+use Rattle.ev_last_answers.proofs.ListLemmas.{found_in, got}
 use Rattle.ev_dns.specs.Templates.{body_key, by_names, is_strict_dns, read_static}
 
 -- ---- templates
@@ -46,15 +46,6 @@ pub guards_clusters : GuardsClusters by_names
 guards_clusters entry key is = inr (template_reads entry key is)
 
 -- ---- places
-
-further : {Y : Type 0} (found : Option Y) (y : Y) (ys : List Y) → IsIn y ys → IsIn y (cons_option found ys)
-further None y ys is = is
-further (Some w) y ys is = inr is
-
-pub found_in : {X Y : Type 0} (f : X → Option Y) (xs : List X) (x : X) (y : Y) → IsIn x xs → f x ≡ Some y → IsIn y (filter_map f xs)
-found_in f [] x y is h = absurd is
-found_in f (z ∷ xs) x y (inl e) h = subst (λ o. IsIn y (cons_option o (filter_map f xs))) (sym (ap f e ∙ h)) (inl refl)
-found_in f (z ∷ xs) x y (inr is) h = further (f z) y (filter_map f xs) (found_in f xs x y is h)
 
 -- a guarded resource's key is guarded in its line
 guarded_there : (line entry : Data) (key : Key) → IsIn entry (clusters_in line) → by_names.key_of entry ≡ Some key
@@ -92,11 +83,6 @@ pub place_within : (key : Key) (gs : List Guarded) → list_any (λ (g : Guarded
 place_within key [] h = absurd (cc)
 place_within key (g ∷ gs) h =
     within_at (key_same key g.key) (place_in gs key) (length gs) (λ none. place_within key gs (sym (ap (λ b. b || list_any (λ (x : Guarded). key_same key x.key) gs) none) ∙ h))
-
-pub got : {X : Type 0} (xs : List X) (i : ℕ) → i < length xs → (x : X) × (slice_get xs i ≡ Some x)
-got [] i h = absurd (omega (arith, h))
-got (x ∷ xs) zero h = (x, refl)
-got (x ∷ xs) (suc i) h = got xs i (omega (arith, h))
 
 -- the key of a guarded resource of a line stands at its place in the whole input
 pub record IsGuardedAt (lines : List Data) (place : ℕ) (key : Key) : Type 0 where

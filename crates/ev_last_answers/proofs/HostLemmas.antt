@@ -1,10 +1,10 @@
 -- The hosts of a template are good: its rows are those of a good cluster, and its addresses are names.
-use Rattle.std.proofs.Common.{◌≡◌, ◌∙◌, inl, inr, ℕ, ◌≤◌, ◌<◌, ◌^◌, ◌==◌, Bool, true, false, cond, not, ◌&&◌, ◌||◌, nat_lt, nat_le, List, [], ◌∷◌, map, filter, filter_map, flat_map, length, Option, Some, None, IfSome, codes, refl, sym, ap, subst, arith}
+use Rattle.std.proofs.Common.{◌≡◌, inl, inr, ℕ, ◌≤◌, ◌<◌, ◌^◌, ◌==◌, Bool, true, false, cond, not, ◌&&◌, nat_lt, nat_le, List, [], ◌∷◌, map, filter, filter_map, flat_map, length, Option, Some, None, IfSome, codes, refl, sym, ap, subst, arith}
 use Rattle.std.specs.Prelude.{Result, Ok, Err, option_and_then, option_map, slice_get, unwrap_or}
-use Rattle.std.specs.List.{AllByRecursion as ByRecursion, cons_option, last_or, list_any}
+use Rattle.std.specs.List.{AllByRecursion as ByRecursion, last_or, list_any}
 use Rattle.std.specs.Str.{bytes_eq}
 use Rattle.std.specs.Str.Parse.{digits_value}
-use Rattle.std.proofs.lemmas.Bool.{eqb-false, leb-true, ltb-false, ltb-true}
+use Rattle.std.proofs.lemmas.Bool.{leb-true, ltb-false, ltb-true}
 use Rattle.std.proofs.lemmas.Bool.Decides.{nat_tests}
 use Rattle.serde_json.specs.Data.{unsigned, negative, float, Data, null, boolean, number, string, array, object}
 use Rattle.serde_json.specs.Find.{as_str, get}
@@ -14,10 +14,9 @@ use Rattle.ev_types.specs.declared.clusters.Discovery.{Discovery}
 use Rattle.ev_types.specs.declared.clusters.Discovery.TheVariants.{Static}
 use Rattle.ev_types.specs.declared.contents.Kind.{Kind}
 use Rattle.ev_types.specs.declared.contents.Kind.TheVariants.{Cds}
-use Rattle.ev_types.specs.declared.contents.Body.{Body}
 use Rattle.ev_types.specs.declared.contents.Body.TheVariants.{Bad, Good}
 use Rattle.ev_types.specs.declared.contents.Content.{Content}
-use Rattle.ev_types.specs.declared.contents.Content.TheVariants.{Cluster as a_cluster, Assignment as an_assignment}
+use Rattle.ev_types.specs.declared.contents.Content.TheVariants.{Cluster as a_cluster}
 use Rattle.ev_types.specs.declared.limits.TheConstants.{ITEM_LIMIT, MAX_NAME_LENGTH, MAX_WEIGHT_SUM}
 use Rattle.ev_tree.specs.declared.broken.BrokenRules.{BrokenRules}
 use Rattle.ev_tree.specs.declared.limits.TheConstants.{MAX_PORT, MAX_U32_DIGITS}
@@ -36,20 +35,18 @@ use Rattle.ev_cluster_json.specs.Clusters.{cluster_broken, cluster_of, cluster_r
 use Rattle.ev_cluster_json.proofs.RowsMade.{left_false, right_false}
 use Rattle.ev_wire.specs.Bodies.{body_with, breaks_v1, content_of, content_with, own_broken, resource_of}
 use Rattle.ev_wire.specs.Responses.{entry_name, ttl_of}
-use Rattle.ev_script.specs.LineForms.{with_only}
 use Rattle.ev_script.specs.Members.{has_only, member_of, name_of, or_default}
-use Rattle.ev_model_laws.proofs.OperationLists.{IsIn, at_in, each_flat, in_filter}
+use Rattle.ev_model_laws.proofs.OperationLists.{IsIn, at_in, each_flat, each_in, in_filter}
 use Rattle.ev_expand.specs.declared.keys.Key.{Key}
-use Rattle.ev_expand.specs.Expanding.{guarded_at}
-use Rattle.ev_expand.specs.Fronts.{Front, up_to}
+use Rattle.ev_expand.specs.Fronts.{up_to}
 use Rattle.ev_expand.specs.Guarding.{Guarded, body_in, clusters_in, each_once, guarded_by, guarded_in, guarded_of, guarded_same}
 use Rattle.ev_sealed.proofs.ListLemmas.{in_flat, in_found, in_get}
 use Rattle.ev_dns.specs.declared.lines.Resolution.{Resolution}
 use Rattle.ev_dns.specs.Answers.{addresses_of, each_once as once_each, is_of, last_success, resolutions_in, success_of}
 use Rattle.ev_dns.specs.Hosts.{with_address}
-use Rattle.ev_dns.specs.Lines.{addresses_at, all_names, given_addresses, is_op, names_of, resolution_in, resolution_of}
-use Rattle.ev_dns.specs.Resolving.{dns_rules, hosts_of as hosts_by}
-use Rattle.ev_dns.specs.Templates.{by_names, read_static, rows_in, rows_of as template_rows, static_body}
+use Rattle.ev_dns.specs.Lines.{addresses_at, all_names, given_addresses, is_op, resolution_in, resolution_of}
+use Rattle.ev_dns.specs.Resolving.{hosts_of as hosts_by}
+use Rattle.ev_dns.specs.Templates.{by_names, rows_in, rows_of as template_rows, static_body}
 use Rattle.ev_last_answers.proofs.EndpointLemmas.{IsGoodHost, item_reads}
 use Rattle.ev_last_answers.proofs.GuardLemmas.{template_reads}
 use Rattle.ev_last_answers.proofs.LastLemmas.{ReadsHosts}
@@ -266,33 +263,19 @@ resolution_named line = by (is_op (codes "resolved") line) (has_only (codes "op"
 
 -- ---- lists
 
-found_each : {X Y : Type 0} (P : Y → Type 0) (f : X → Option Y) (xs : List X) → ByRecursion (λ x. IfSome (f x) P) xs → ByRecursion P (filter_map f xs)
-found_each P f [] each = tt
-found_each P f (x ∷ xs) each = by (f x) each.0 (found_each P f xs each.1)
-  where
-    by : (found : Option _) → IfSome found P → ByRecursion P (filter_map f xs) → ByRecursion P (cons_option found (filter_map f xs))
-    by None h rest = rest
-    by (Some y) h rest = (h, rest)
-
-each_of : {X : Type 0} (P : X → Type 0) (xs : List X) → ((x : X) → P x) → ByRecursion P xs
-each_of P [] each = tt
-each_of P (x ∷ xs) each = (each x, each_of P xs each)
-
-each_so : {X : Type 0} (P Q : X → Type 0) (xs : List X) → ((x : X) → P x → Q x) → ByRecursion P xs → ByRecursion Q xs
-each_so P Q [] so each = tt
-each_so P Q (x ∷ xs) so each = (so x each.0, each_so P Q xs so each.1)
-
-kept_each : {X : Type 0} (P : X → Type 0) (test : X → Bool) (xs : List X) → ByRecursion P xs → ByRecursion P (filter test xs)
-kept_each P test [] each = tt
-kept_each P test (x ∷ xs) each = by (test x) each.0 (kept_each P test xs each.1)
-  where
-    by : (b : Bool) → P x → ByRecursion P (filter test xs) → ByRecursion P (cond b (x ∷ filter test xs) (filter test xs))
-    by true h rest = (h, rest)
-    by false h rest = rest
+-- what holds of all that is found of each holds of all that is found
+found_each : {X Y : Type 0} (P : Y → Type 0) (f : X → Option Y) (xs : List X) → ((x : X) → IsIn x xs → IfSome (f x) P) → ByRecursion P (filter_map f xs)
+found_each P f xs each =
+    each_in P (filter_map f xs) (λ y is. let found = in_found f xs y is in subst (λ o. IfSome o P) found.2 (each found.0 found.1))
 
 once_named : (names : List (List ℕ)) → AreNames names → AreNames (once_each names)
 once_named [] each = tt
-once_named (first ∷ others) each = (each.0, kept_each IsName (λ other. not (bytes_eq other first)) (once_each others) (once_named others each.1))
+once_named (first ∷ others) each =
+    let test : List ℕ → Bool = λ other. not (bytes_eq other first) in (
+      each.0,
+      each_in IsName (filter test (once_each others))
+          (λ name is. at_in IsName name (once_each others) (once_named others each.1) (in_filter test name (once_each others) is).0),
+    )
 
 last_if : {X : Type 0} (P : X → Type 0) (first : Option X) (xs : List X) → IfSome first P → ByRecursion P xs → IfSome (last_or first xs) P
 last_if P first [] h each = h
@@ -311,10 +294,9 @@ success_named name resolution says = by (is_of name resolution)
 known_named : (lines : List Data) (name : List ℕ) → AreNames (addresses_of lines name)
 known_named lines name =
     let said : ByRecursion SaysNames (resolutions_in lines) =
-    found_each SaysNames resolution_in lines (each_of (λ line. IfSome (resolution_in line) SaysNames) lines resolution_named) in
+    found_each SaysNames resolution_in lines (λ line is. resolution_named line) in
     let successes : ByRecursion AreNames (filter_map (success_of name) (resolutions_in lines)) =
-    found_each AreNames (success_of name) (resolutions_in lines)
-    (each_so SaysNames (λ r. IfSome (success_of name r) AreNames) (resolutions_in lines) (λ r says. success_named name r says) said) in
+    found_each AreNames (success_of name) (resolutions_in lines) (λ r is. success_named name r (at_in SaysNames r (resolutions_in lines) said is)) in
     by (last_success name (resolutions_in lines)) (last_if AreNames None (filter_map (success_of name) (resolutions_in lines)) tt successes)
   where
     by : (found : Option (List (List ℕ))) → IfSome found AreNames → AreNames (once_each (unwrap_or found []))
@@ -332,8 +314,8 @@ row_hosts row (address ∷ addresses) good each = (
 all_hosts : (lines : List Data) (key : Key) → ByRecursion IsGoodRow (template_rows key) → ByRecursion IsGoodHost (hosts_by lines key)
 all_hosts lines key good =
     each_flat IsGoodHost (λ (row : HostRowParts). map (with_address row) (addresses_of lines row.host.address)) (template_rows key)
-    (each_so IsGoodRow (λ (row : HostRowParts). ByRecursion IsGoodHost (map (with_address row) (addresses_of lines row.host.address))) (template_rows key)
-    (λ row h. row_hosts row (addresses_of lines row.host.address) h (known_named lines row.host.address)) good)
+    (each_in (λ (row : HostRowParts). ByRecursion IsGoodHost (map (with_address row) (addresses_of lines row.host.address))) (template_rows key)
+    (λ row is. row_hosts row (addresses_of lines row.host.address) (at_in IsGoodRow row (template_rows key) good is) (known_named lines row.host.address)))
 
 -- ---- what is guarded is a template
 

@@ -1,5 +1,5 @@
 -- What the line that follows says of a watched place that is due is kept.
-use Rattle.std.proofs.Common.{◌≡◌, ◌∙◌, ℕ, zero, suc, ◌+◌, ◌<◌, ◌≤◌, Bool, true, false, cond, not, ◌&&◌, nat_le, List, [], ◌∷◌, length, map, filter, filter_map, decimal, Option, Some, None, codes, refl, sym, ap, subst, arith}
+use Rattle.std.proofs.Common.{◌≡◌, ◌∙◌, ℕ, zero, suc, ◌<◌, ◌≤◌, Bool, true, false, cond, not, ◌&&◌, nat_le, List, [], ◌∷◌, length, map, filter, filter_map, decimal, Some, None, codes, refl, sym, ap, arith}
 use Rattle.std.specs.Prelude.{slice_get}
 use Rattle.std.specs.List.{enumerate_from}
 use Rattle.std.specs.Str.{bytes_eq}
@@ -33,7 +33,7 @@ use Rattle.ev_sealed.proofs.ListLemmas.{get_in, map_in}
 use Rattle.ev_dns.specs.Hosts.{endpoints_tree}
 use Rattle.ev_dns.specs.Resolving.{dns_rules, hosts_of, is_due}
 use Rattle.ev_last_answers.specs.LastAnswers.{name_of_place}
-use Rattle.ev_last_answers.proofs.GuardLemmas.{found_in}
+use Rattle.ev_last_answers.proofs.ListLemmas.{found_in}
 use Rattle.ev_last_answers.proofs.PlaceLemmas.{among_due, due_once, parts_of}
 use Rattle.ev_last_answers.proofs.TextLemmas.{due_response}
 
@@ -86,9 +86,6 @@ pub record Keeps (response : ResponseParts) (lives : List Live) (versions : List
   pub good : item.body ≡ Good content
 
 module _ (front : Front) where
-  version : List ℕ
-  version = decimal (place_of front)
-
   nothing_removed : (due_response front).removed ≡ []
   nothing_removed = by (filter (λ (p : ℕ × Guarded). is_due front p.1) (enumerate_from 0 (guarded_at dns_rules front)))
     where

@@ -1,21 +1,18 @@
 -- Behind the last line that a line of the input gave, a watched place is told of exactly where its template is complete.
-use Rattle.std.proofs.Common.{◌≡◌, ◌∙◌, ◌⊎◌, inl, inr, ℕ, zero, suc, ◌+◌, ◌<◌, ◌≤◌, ◌==◌, Bool, true, false, cond, ◌&&◌, ◌||◌, nat_lt, List, [], ◌∷◌, length, take, filter_map, decimal, Option, Some, None, codes, refl, sym, ap, subst, arith}
+use Rattle.std.proofs.Common.{◌≡◌, ◌∙◌, ◌⊎◌, inl, inr, ℕ, ◌+◌, ◌<◌, ◌≤◌, ◌==◌, Bool, true, false, ◌&&◌, ◌||◌, nat_lt, List, [], ◌∷◌, length, take, filter_map, decimal, Some, None, codes, refl, sym, ap, subst, arith}
 use Rattle.std.specs.Prelude.{slice_get, unwrap_or}
 use Rattle.std.specs.List.{cons_option, last_or}
-use Rattle.std.proofs.lemmas.Bool.{both_ways, cases_lt, false≢true}
+use Rattle.std.proofs.lemmas.Bool.{both_ways, cases_lt}
 use Rattle.std.proofs.lemmas.Bool.Decides.{nat_tests}
 use Rattle.std.proofs.lemmas.Option.{slice_get_within}
 use Rattle.serde_json.specs.Data.{Data}
-use Rattle.ev_types.specs.Items.{ItemParts, ResponseParts}
-use Rattle.ev_types.specs.Scripts.{IsScript, ScriptParts}
+use Rattle.ev_types.specs.Scripts.{IsScript}
 use Rattle.ev_types.specs.declared.contents.Kind.TheVariants.{Eds}
 use Rattle.ev_types.specs.declared.contents.Body.TheVariants.{Good}
 use Rattle.ev_types.specs.declared.contents.Content.{Content}
 use Rattle.ev_types.specs.declared.contents.Content.TheVariants.{Assignment as an_assignment}
-use Rattle.ev_types.specs.declared.events.Actor.{Actor}
 use Rattle.ev_types.specs.declared.events.Actor.TheVariants.{Stream}
 use Rattle.ev_types.specs.declared.events.Entry.{Entry}
-use Rattle.ev_types.specs.declared.events.Event.{Event}
 use Rattle.ev_types.specs.declared.events.Event.TheVariants.{Response}
 use Rattle.ev_types.specs.declared.events.Line.{Line}
 use Rattle.ev_types.specs.declared.journals.Format.{Format}
@@ -23,7 +20,7 @@ use Rattle.ev_types.specs.declared.limits.TheConstants.{ITEM_LIMIT}
 use Rattle.ev_model.specs.World.{World}
 use Rattle.ev_model.specs.Laws.{Told, world_told}
 use Rattle.ev_model.specs.Live.{lives_of}
-use Rattle.ev_model.specs.Operations.{IsRunOf, Operation, is_earlier, line_operation, operation_of, operations_of}
+use Rattle.ev_model.specs.Operations.{IsRunOf, Operation, is_earlier, line_operation, operation_of}
 use Rattle.ev_model.specs.Step.{step}
 use Rattle.ev_model.specs.Warming.{is_told, value_of}
 use Rattle.ev_model.specs.Watching.{is_watched}
@@ -35,12 +32,12 @@ use Rattle.ev_stream_laws.proofs.StreamLemmas.{stream_after}
 use Rattle.ev_script.specs.Lines.{line_of}
 use Rattle.ev_script.specs.declared.trees.ScriptTrees.{ScriptTrees}
 use Rattle.ev_wire.specs.Responses.{item_of}
-use Rattle.ev_expand.specs.Expanding.{due_at, gives, guarded_at, place_of}
+use Rattle.ev_expand.specs.Expanding.{due_at, guarded_at, place_of}
 use Rattle.ev_expand.specs.Following.{endpoints_entry, entry_due}
 use Rattle.ev_expand.specs.Fronts.{Front, fronts, stream_at, up_to}
 use Rattle.ev_expand.specs.Guarding.{Guarded, guarded_by}
 use Rattle.ev_expand.specs.Private.{first_use}
-use Rattle.ev_expand_laws.specs.Said.{given_lines, lines_in, lines_said}
+use Rattle.ev_expand_laws.specs.Said.{given_lines, lines_in}
 use Rattle.ev_expand_laws.specs.Waiting.{stream_line}
 use Rattle.ev_expand_laws.proofs.ReadLemmas.{following_reads}
 use Rattle.ev_sealed.proofs.FrontLemmas.{front_at, given_at, given_before, up_to_at}
@@ -51,35 +48,21 @@ use Rattle.ev_dns.specs.Answers.{is_complete}
 use Rattle.ev_dns.specs.Hosts.{endpoints_tree}
 use Rattle.ev_dns.specs.Resolving.{dns_rules, has_guarded, hosts_of, is_due}
 use Rattle.ev_dns.specs.Templates.{by_names}
-use Rattle.ev_last_answers.specs.LastAnswers.{HasLastAnswers, IsLastEntry, answered_script, last_number, name_of_place}
+use Rattle.ev_last_answers.specs.LastAnswers.{HasLastAnswers, IsLastEntry, answered_script, name_of_place}
 use Rattle.ev_last_answers.proofs.AnswerLemmas.{complete_later}
 use Rattle.ev_last_answers.proofs.DueLemmas.{IsDueLast, due_last, due_parts, front_there, was_guarded}
 use Rattle.ev_last_answers.proofs.EntryLemmas.{IsBy, IsWithin, given_grows, given_next, index_rises, within_own}
 use Rattle.ev_last_answers.proofs.KeptLemmas.{Keeps, due_kept}
 use Rattle.ev_last_answers.proofs.OrderLemmas.{IsDoneBy, done_by, entries_rise}
 use Rattle.ev_last_answers.proofs.PlaceLemmas.{HasFollower, among_due, follower_there, guarded_early, guarded_fewer, parts_of}
-use Rattle.ev_last_answers.proofs.RunLemmas.{Began, Begins, IsQuiet, Stays, TellsDue, WasTold, begins, has_begun, holds, numbers_rise, stays, was_told_by}
+use Rattle.ev_last_answers.proofs.RunLemmas.{Began, Begins, IsQuiet, Stays, WasTold, begins, has_begun, holds, numbers_rise, stays, was_told_by}
 use Rattle.ev_last_answers.proofs.StreamLemmas.{stream_agrees}
 use Rattle.ev_last_answers.proofs.TextLemmas.{due_response}
 use Rattle.ev_last_answers.proofs.WatchLemmas.{endpoints_ask}
 use Rattle.ev_sealed.specs.Sealed.{run_told}
-
-some_same : {X : Type 0} {x y : X} → Some x ≡ Some y → x ≡ y
-some_same e = cc
+use Rattle.ev_last_answers.proofs.ListLemmas.{get_taken, some_same, taken_all}
 
 -- ---- lists and numbers
-
-taken_all : {X : Type 0} (n : ℕ) (xs : List X) → length xs ≤ n → take n xs ≡ xs
-taken_all zero [] h = refl
-taken_all (suc n) [] h = refl
-taken_all zero (x ∷ xs) h = absurd (omega (arith, h))
-taken_all (suc n) (x ∷ xs) h = ap (λ ys. x ∷ ys) (taken_all n xs (omega (arith, h)))
-
-get_taken : {X : Type 0} (xs : List X) (n i : ℕ) (x : X) → i < n → slice_get xs i ≡ Some x → slice_get (take n xs) i ≡ Some x
-get_taken [] n i x less h = absurd (cc)
-get_taken (y ∷ xs) zero i x less h = absurd (omega (arith, less))
-get_taken (y ∷ xs) (suc n) zero x less h = h
-get_taken (y ∷ xs) (suc n) (suc i) x less h = get_taken xs n i x (omega (arith, less)) h
 
 -- a line that gives something is one of the input
 gives_within : (lines : List Data) (index : ℕ) → given_before dns_rules lines index < given_before dns_rules lines (index + 1) → index < length lines

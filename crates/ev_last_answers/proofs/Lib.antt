@@ -1,3 +1,4 @@
+pub mod ListLemmas
 pub mod AnswerLemmas
 pub mod DueLemmas
 pub mod TextLemmas
@@ -16,3 +17,4 @@ pub mod LastLemmas
 pub mod CountLemmas
 pub mod EndpointLemmas
 pub mod HostLemmas
+pub mod LawLemmas

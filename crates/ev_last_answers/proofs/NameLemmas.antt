@@ -1,19 +1,18 @@
 -- An entry that names the endpoints of a place is by the line that follows one at which the place is due.
-use Rattle.std.proofs.Common.{◌≡◌, ◌∙◌, ◌⊎◌, inl, inr, ℕ, ◌+◌, Bool, true, false, ◌&&◌, List, ◌++◌, filter_map, decimal, Option, Some, None, option_map, codes, refl, sym, ap, subst}
-use Rattle.std.specs.Prelude.{slice_get, unwrap_or}
+use Rattle.std.proofs.Common.{◌≡◌, ◌∙◌, ◌⊎◌, inl, inr, ℕ, ◌+◌, true, List, ◌++◌, filter_map, decimal, Option, Some, None, option_map, codes, sym, ap, subst}
+use Rattle.std.specs.Prelude.{slice_get}
 use Rattle.std.specs.List.{list_any}
 use Rattle.std.specs.Str.{bytes_eq}
 use Rattle.std.specs.Cmp.{first_so, second_so}
-use Rattle.std.proofs.lemmas.Bool.{and_from, both_ways, false≢true}
+use Rattle.std.proofs.lemmas.Bool.{and_from, false≢true}
 use Rattle.serde_json.specs.Data.{Data}
 use Rattle.ev_types.specs.Items.{ItemParts, ResponseParts}
-use Rattle.ev_types.specs.Kinds.{kind_decides, kind_same}
+use Rattle.ev_types.specs.Kinds.{kind_same}
 use Rattle.ev_types.specs.Same.{bytes_decide}
-use Rattle.ev_types.specs.declared.contents.Kind.{Kind}
 use Rattle.ev_types.specs.declared.contents.Kind.TheVariants.{Cds, Eds}
 use Rattle.ev_types.specs.declared.events.Entry.{Entry}
 use Rattle.ev_types.specs.declared.events.Event.{Event}
-use Rattle.ev_types.specs.declared.events.Event.TheVariants.{FetchTimeout, Response, TtlExpired}
+use Rattle.ev_types.specs.declared.events.Event.TheVariants.{Response, TtlExpired}
 use Rattle.ev_types.specs.declared.events.Line.{Line}
 use Rattle.ev_model.specs.Verdicts.{is_among}
 use Rattle.ev_model_laws.proofs.AnyLemmas.{or_so}
@@ -23,8 +22,7 @@ use Rattle.ev_stream_laws.specs.Told.{ends_name}
 use Rattle.ev_expand.specs.Expanding.{due_at, guarded_at, place_of}
 use Rattle.ev_expand.specs.Following.{DueParts}
 use Rattle.ev_expand.specs.Fronts.{Front, event_of, fronts}
-use Rattle.ev_expand.specs.Guarding.{private_name}
-use Rattle.ev_expand.specs.Private.{event_uses, first_use, is_private, line_uses, named_uses}
+use Rattle.ev_expand.specs.Private.{event_uses, first_use, is_private}
 use Rattle.ev_expand_laws.specs.Waiting.{bare_name, following_response, name_left, name_with, stream_line, waiting_response}
 use Rattle.ev_expand_laws.proofs.ReadLemmas.{following_names}
 use Rattle.ev_sealed.proofs.FrontLemmas.{front_at}
@@ -35,7 +33,7 @@ use Rattle.ev_dns.specs.Resolving.{dns_rules}
 use Rattle.ev_dns.specs.Templates.{by_names}
 use Rattle.ev_last_answers.specs.LastAnswers.{name_of_place}
 use Rattle.ev_last_answers.proofs.EntryLemmas.{IsBy}
-use Rattle.ev_last_answers.proofs.UnusedLemmas.{event_unused}
+use Rattle.ev_last_answers.proofs.UnusedLemmas.{event_unused, private_begins}
 use Rattle.ev_last_answers.proofs.TextLemmas.{IsFollower, IsOwn, IsWaiting, due_response, follower_says, given_is, own_line, own_says}
 
 -- ---- names that are due
@@ -102,10 +100,8 @@ waiting_silent name r clusters (inr ends) = false≢true ends
 ended_used : (prefix rest : List ℕ) (event : Event) → ends_name Eds (prefix ++ rest) event ≡ true → event_uses prefix event ≡ true
 ended_used prefix rest (TtlExpired kind name) ends =
     let same : name ≡ prefix ++ rest = (bytes_decide name (prefix ++ rest)).0 (second_so (kind_same kind Eds) (bytes_eq name (prefix ++ rest)) ends) in
-    let begins : is_private prefix (prefix ++ rest) ≡ true =
-    named_used prefix rest (FetchTimeout (record { kind = Eds; name = Some (prefix ++ rest) })) (refl, refl) in
     and_from (kind_same kind Eds) (is_private prefix name) (first_so (kind_same kind Eds) (bytes_eq name (prefix ++ rest)) ends)
-    (ap (is_private prefix) same ∙ begins)
+    (ap (is_private prefix) same ∙ private_begins prefix rest)
 ended_used prefix rest event ends = absurd (false≢true ends)
 
 speaks_used : (prefix rest : List ℕ) (event : Event) → SpeaksOf (prefix ++ rest) event → event_uses prefix event ≡ true

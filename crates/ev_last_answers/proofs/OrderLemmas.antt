@@ -1,5 +1,5 @@
 -- Which of two entries of an actor stands first.
-use Rattle.std.proofs.Common.{◌≡◌, ◌∙◌, ◌⊎◌, inl, inr, ℕ, zero, suc, ◌+◌, ◌<◌, ◌≤◌, Bool, true, false, cond, List, [], ◌∷◌, map, filter, Option, Some, refl, sym, ap, subst, arith}
+use Rattle.std.proofs.Common.{◌≡◌, ◌∙◌, ◌⊎◌, inl, inr, ℕ, zero, suc, ◌<◌, ◌≤◌, Bool, true, false, cond, List, [], ◌∷◌, map, filter, Some, refl, sym, ap, subst, arith}
 use Rattle.std.specs.Prelude.{slice_get, option_map}
 use Rattle.std.proofs.lemmas.Bool.{both_ways, false≢true}
 use Rattle.std.proofs.lemmas.Option.{slice_get-map}
@@ -7,7 +7,7 @@ use Rattle.ev_types.specs.Scripts.{IsScript, ScriptParts}
 use Rattle.ev_types.specs.declared.events.Actor.{Actor}
 use Rattle.ev_types.specs.declared.events.Entry.{Entry}
 use Rattle.ev_model.specs.Operations.{Operation, actor_same, actor_decides, entries_of, is_earlier, operation_of, operations_of}
-use Rattle.ev_model_laws.proofs.OperationLists.{IsIn, at_in, in_filter}
+use Rattle.ev_model_laws.proofs.OperationLists.{IsIn, at_in}
 use Rattle.ev_model_laws.proofs.RisingOperations.{IsRising, operations_rise}
 use Rattle.ev_sealed.proofs.ListLemmas.{in_get, in_kept, map_in}
 use Rattle.ev_sealed.proofs.OrderLemmas.{DoneBefore, done_before}

@@ -1,5 +1,5 @@
 -- The places that are due at a line.
-use Rattle.std.proofs.Common.{◌≡◌, ◌∙◌, inl, inr, ℕ, zero, suc, ◌+◌, ◌<◌, ◌≤◌, Bool, true, false, cond, List, [], ◌∷◌, ◌++◌, length, map, take, filter, filter_map, flat_map, decimal, Option, Some, None, codes, refl, sym, ap, subst, arith, length-append}
+use Rattle.std.proofs.Common.{◌≡◌, ◌∙◌, inl, inr, ℕ, zero, suc, ◌+◌, ◌<◌, ◌≤◌, Bool, true, false, cond, List, [], ◌∷◌, ◌++◌, length, map, take, filter, flat_map, decimal, Some, codes, refl, sym, ap, subst, arith, length-append}
 use Rattle.std.specs.Prelude.{drop, slice_get}
 use Rattle.std.specs.List.{enumerate_from, list_any}
 use Rattle.std.specs.Str.{bytes_eq}
@@ -11,7 +11,6 @@ use Rattle.ev_types.specs.Same.{bytes_decide}
 use Rattle.ev_types.specs.declared.limits.TheConstants.{ITEM_LIMIT}
 use Rattle.ev_model_laws.proofs.AnyLemmas.{any_flat}
 use Rattle.ev_model_laws.proofs.OperationLists.{IsIn, in_filter}
-use Rattle.ev_expand.specs.declared.keys.Key.{Key}
 use Rattle.ev_expand.specs.Expanding.{due_at, gives, guarded_at, lines_due, place_of, written_line}
 use Rattle.ev_expand.specs.Following.{DueParts, following_line}
 use Rattle.ev_expand.specs.Fronts.{Front, fronts, up_to}
@@ -20,19 +19,17 @@ use Rattle.ev_expand.specs.Keys.{key_decides, key_same}
 use Rattle.ev_expand.proofs.DistinctLemmas.{IsExtended, once_distinct, once_extends, own_place, place_has}
 use Rattle.ev_sealed.proofs.CountLemmas.{places_same}
 use Rattle.ev_sealed.proofs.FrontLemmas.{up_to_at}
-use Rattle.ev_sealed.proofs.ListLemmas.{back_get, get_in, in_get, in_kept, in_map, map_in}
+use Rattle.ev_sealed.proofs.ListLemmas.{back_get, in_kept, in_map, map_in}
 use Rattle.ev_sealed.proofs.ToldLemmas.{guarded_stays}
 use Rattle.ev_dns.specs.Hosts.{endpoints_tree}
 use Rattle.ev_dns.specs.Resolving.{dns_rules, hosts_of, is_due}
 use Rattle.ev_dns.specs.Templates.{by_names}
 use Rattle.ev_last_answers.specs.LastAnswers.{name_of_place}
 use Rattle.ev_last_answers.proofs.DueLemmas.{was_guarded}
-use Rattle.ev_last_answers.proofs.GuardLemmas.{got, once_has, place_within}
+use Rattle.ev_last_answers.proofs.GuardLemmas.{once_has, place_within}
 use Rattle.ev_last_answers.proofs.NameLemmas.{IsDueName}
 use Rattle.ev_last_answers.proofs.TextLemmas.{IsFollower}
-
-some_same : {X : Type 0} {x y : X} → Some x ≡ Some y → x ≡ y
-some_same e = cc
+use Rattle.ev_last_answers.proofs.ListLemmas.{got, some_same}
 
 -- ---- places so far
 
@@ -200,8 +197,11 @@ module _ (test : ℕ × Guarded → Bool) (place : ℕ) (below : place < ITEM_LI
           → counted (map (λ (p : ℕ × Guarded). name_of_place p.0) (cond b ((n, g) ∷ filter test (enumerate_from (n + 1) gs)) (filter test (enumerate_from (n + 1) gs)))) ≤ 1
       by false c is rest = rest
       by true true is rest =
-          omega (arith, one_more true (name_of_place n) (names_from test (n + 1) gs) is,
-          none_named (n + 1) gs (omega (arith, named_as n (omega (arith, within)) is)) (omega (arith, within)))
+          omega (
+            arith,
+            one_more true (name_of_place n) (names_from test (n + 1) gs) is,
+            none_named (n + 1) gs (omega (arith, named_as n (omega (arith, within)) is)) (omega (arith, within)),
+          )
       by true false is rest = omega (arith, rest, one_more false (name_of_place n) (names_from test (n + 1) gs) is)
 
 -- no name of a place is due twice

@@ -1,24 +1,19 @@
 -- In a run the endpoints of a watched place are told of by the line that follows the last one at which it was due.
-use Rattle.std.proofs.Common.{◌≡◌, ◌∙◌, ◌⊎◌, inl, inr, ℕ, zero, suc, ◌+◌, ◌<◌, ◌≤◌, ◌==◌, Bool, true, false, cond, ◌&&◌, ◌||◌, nat_lt, List, [], ◌∷◌, length, map, filter, filter_map, take, decimal, Option, Some, None, codes, refl, sym, ap, subst, arith}
-use Rattle.std.specs.Prelude.{slice_get, unwrap_or}
-use Rattle.std.specs.List.{last_or, list_any, All}
+use Rattle.std.proofs.Common.{◌≡◌, ◌∙◌, inl, inr, ℕ, ◌+◌, ◌<◌, ◌≤◌, ◌==◌, Bool, true, false, cond, ◌&&◌, ◌||◌, nat_lt, List, length, filter, take, Some, None, codes, refl, sym, ap, subst, arith}
+use Rattle.std.specs.Prelude.{slice_get}
 use Rattle.std.specs.Str.{bytes_eq}
 use Rattle.std.specs.Cmp.{first_so, second_so}
-use Rattle.std.proofs.lemmas.Bool.{both_ways, cases_Bool, cases_lt, false≢true, or_left}
+use Rattle.std.proofs.lemmas.Bool.{false≢true, or_left}
 use Rattle.std.proofs.lemmas.Bool.Decides.{nat_tests}
 use Rattle.std.proofs.lemmas.List.Elements.{recursion_from_All}
-use Rattle.std.proofs.lemmas.Option.{slice_get_within}
 use Rattle.serde_json.specs.Data.{Data}
-use Rattle.ev_types.specs.Events.{IsMainSide, IsStream, IsTimer, MayMake}
+use Rattle.ev_types.specs.Events.{IsMainSide, IsTimer, MayMake}
 use Rattle.ev_types.specs.Items.{ResponseParts}
 use Rattle.ev_types.specs.Kinds.{kind_decides, kind_same}
 use Rattle.ev_types.specs.Same.{bytes_decide}
-use Rattle.ev_types.specs.Scripts.{IsScript, ScriptParts}
+use Rattle.ev_types.specs.Scripts.{IsScript}
 use Rattle.ev_types.specs.declared.contents.Kind.{Kind}
 use Rattle.ev_types.specs.declared.contents.Kind.TheVariants.{Eds}
-use Rattle.ev_types.specs.declared.contents.Body.TheVariants.{Good}
-use Rattle.ev_types.specs.declared.contents.Content.{Content}
-use Rattle.ev_types.specs.declared.contents.Content.TheVariants.{Assignment as an_assignment}
 use Rattle.ev_types.specs.declared.events.Actor.{Actor}
 use Rattle.ev_types.specs.declared.events.Actor.TheVariants.{Stream, Health as health, Timer, Main, Worker}
 use Rattle.ev_types.specs.declared.events.Answer.{Answer}
@@ -28,27 +23,23 @@ use Rattle.ev_types.specs.declared.events.Event.TheVariants.{Response, TtlExpire
 use Rattle.ev_types.specs.declared.events.Line.{Line}
 use Rattle.ev_types.specs.declared.journals.Format.{Format}
 use Rattle.ev_types.specs.declared.limits.TheConstants.{ITEM_LIMIT}
-use Rattle.ev_types.specs.declared.rows.Arrival.{Arrival}
 use Rattle.ev_model.specs.World.{Arrived, World}
 use Rattle.ev_model.specs.Entries.{tells_of_name}
 use Rattle.ev_model.specs.Laws.{Told, world_told}
 use Rattle.ev_model.specs.Live.{lives_of}
-use Rattle.ev_model.specs.Operations.{IsRunOf, Operation, entries_of, is_earlier, line_operation, operation_of, operations_of}
+use Rattle.ev_model.specs.Operations.{IsRunOf, Operation, entries_of, is_earlier, operation_of, operations_of}
 use Rattle.ev_model.specs.Step.{step}
 use Rattle.ev_model.specs.Warming.{came_for, is_told, is_word, value_of}
 use Rattle.ev_model.specs.Watching.{is_watched}
 use Rattle.ev_model_laws.specs.Kept.{ComesByEntries, has_come_by, was_timed, was_told}
-use Rattle.ev_model_laws.proofs.OperationLists.{IsIn, at_in, in_filter}
+use Rattle.ev_model_laws.proofs.OperationLists.{at_in, in_filter}
 use Rattle.ev_model_laws.proofs.PlaceLemmas.{IsAnswered, entry_answered, over_places, world_next}
 use Rattle.ev_model_laws.proofs.RunParts.{parts_kept}
 use Rattle.ev_stream_laws.specs.Told.{HasSameValue, ends_name}
 use Rattle.ev_stream_laws.proofs.HoldLemmas.{side_holds}
-use Rattle.ev_stream_laws.proofs.KeptLemmas.{kept_value}
 use Rattle.ev_stream_laws.proofs.LiveLemmas.{watches_begin}
-use Rattle.ev_stream_laws.proofs.StreamLemmas.{stream_after}
 use Rattle.ev_stream_laws.proofs.ToldLemmas.{told_stay}
 use Rattle.ev_script.specs.declared.trees.ScriptTrees.{ScriptTrees}
-use Rattle.ev_expand.specs.Fronts.{Front, fronts}
 use Rattle.ev_expand.specs.Guarding.{Guarded, guarded_by}
 use Rattle.ev_expand.specs.Private.{first_use}
 use Rattle.ev_expand_laws.specs.Said.{lines_in}
@@ -57,16 +48,16 @@ use Rattle.ev_sealed.proofs.ListLemmas.{get_in, in_any, in_map, taken_get}
 use Rattle.ev_sealed.proofs.NamedLemmas.{NamesEndpoints, wait_named}
 use Rattle.ev_sealed.proofs.OrderLemmas.{is_behind}
 use Rattle.ev_sealed.proofs.SaidLemmas.{stream_is}
-use Rattle.ev_dns.specs.Resolving.{dns_rules, has_guarded, is_due}
+use Rattle.ev_dns.specs.Resolving.{has_guarded, is_due}
 use Rattle.ev_dns.specs.Templates.{by_names}
 use Rattle.ev_last_answers.specs.LastAnswers.{answered_script, name_of_place}
-use Rattle.ev_last_answers.proofs.EntryLemmas.{IsBy, IsWithin, entry_by, within_own}
+use Rattle.ev_last_answers.proofs.EntryLemmas.{IsBy, entry_by}
 use Rattle.ev_last_answers.proofs.MakerLemmas.{IsMaker, maker_of}
-use Rattle.ev_last_answers.proofs.NameLemmas.{SpeaksDue, SpeaksOf, speaks_due}
+use Rattle.ev_last_answers.proofs.NameLemmas.{SpeaksDue, speaks_due}
 use Rattle.ev_last_answers.proofs.OrderLemmas.{entries_rise}
 use Rattle.ev_last_answers.proofs.PlaceLemmas.{named_due}
 use Rattle.ev_last_answers.proofs.TextLemmas.{follower_says}
-use Rattle.ev_last_answers.proofs.WatchLemmas.{Guards, makes_guard}
+use Rattle.ev_last_answers.proofs.WatchLemmas.{makes_guard}
 
 -- ---- who speaks
 

@@ -1,5 +1,5 @@
 -- Behind an entry of the stream a stream is open exactly where it is behind the input's lines up to the entry's own.
-use Rattle.std.proofs.Common.{◌≡◌, ◌∙◌, ◌⊎◌, inl, inr, ℕ, zero, suc, ◌+◌, ◌<◌, ◌≤◌, ◌==◌, Bool, true, false, cond, not, ◌&&◌, ◌||◌, nat_le, nat_lt, List, [], ◌∷◌, ◌++◌, length, map, take, filter, filter_map, flat_map, Option, Some, None, codes, decimal, refl, sym, ap, ap₂, subst, arith, length-append, append_assoc}
+use Rattle.std.proofs.Common.{◌≡◌, ◌∙◌, ℕ, zero, suc, ◌+◌, ◌<◌, ◌≤◌, ◌==◌, Bool, true, false, cond, not, ◌&&◌, ◌||◌, nat_le, nat_lt, List, [], ◌∷◌, ◌++◌, length, map, take, filter, filter_map, flat_map, Option, Some, None, codes, decimal, refl, sym, ap, ap₂, subst, arith, length-append, append_assoc}
 use Rattle.std.specs.Prelude.{slice_get, option_and_then, option_map, option_to_list, unwrap_or}
 use Rattle.std.specs.List.{AllByRecursion as ByRecursion, cons_option, last_or, range_with_len}
 use Rattle.std.proofs.lemmas.Bool.{both_ways, not-false}
@@ -49,7 +49,7 @@ use Rattle.ev_dns.specs.Templates.{by_names}
 use Rattle.ev_last_answers.specs.LastAnswers.{answered_script}
 use Rattle.ev_last_answers.proofs.EntryLemmas.{IsWithin, given_grows, of_fronts}
 use Rattle.ev_last_answers.proofs.TextLemmas.{own_line}
-use Rattle.ev_last_answers.proofs.OrderLemmas.{first_at, rest_rises}
+use Rattle.ev_last_answers.proofs.OrderLemmas.{first_at}
 
 -- ---- what operations say of the stream
 

@@ -1,5 +1,5 @@
 -- The lines of the text: each is what a line of the input itself becomes, or the line that follows it.
-use Rattle.std.proofs.Common.{◌≡◌, ◌∙◌, ◌⊎◌, inl, inr, ℕ, zero, suc, ◌+◌, Bool, true, false, cond, List, [], ◌∷◌, ◌++◌, length, decimal, Option, Some, None, codes, refl, sym, ap, arith, length-append}
+use Rattle.std.proofs.Common.{◌≡◌, ◌∙◌, ◌⊎◌, inl, inr, ℕ, zero, suc, ◌+◌, Bool, true, false, cond, List, [], ◌∷◌, length, decimal, Some, codes, refl, sym, ap, arith, length-append}
 use Rattle.std.specs.Prelude.{slice_get}
 use Rattle.serde_json.specs.Data.{Data}
 use Rattle.ev_types.specs.Items.{ResponseParts}
@@ -17,9 +17,7 @@ use Rattle.ev_sealed.proofs.ListLemmas.{IsBehind, split_get}
 use Rattle.ev_sealed.proofs.SaidLemmas.{line_event}
 use Rattle.ev_dns.specs.Resolving.{dns_rules, is_written}
 use Rattle.ev_dns.specs.Templates.{by_names}
-
-some_same : {X : Type 0} {x y : X} → Some x ≡ Some y → x ≡ y
-some_same e = cc
+use Rattle.ev_last_answers.proofs.ListLemmas.{some_same}
 
 -- what a line itself becomes
 abbrev pub own_line : Front → Data

@@ -1,8 +1,8 @@
 -- A watch of a place's endpoints begins at what a line with a guarded resource of the place's key becomes.
-use Rattle.std.proofs.Common.{◌≡◌, ◌∙◌, ◌⊎◌, inl, inr, ℕ, ◌+◌, ◌<◌, Bool, true, false, List, [], ◌++◌, length, map, filter_map, decimal, Option, Some, None, codes, refl, sym, ap, subst, arith}
+use Rattle.std.proofs.Common.{◌≡◌, ◌∙◌, ◌⊎◌, inl, inr, ℕ, ◌+◌, ◌<◌, true, false, List, [], ◌++◌, length, map, filter_map, decimal, Option, Some, None, codes, refl, sym, ap, subst, arith}
 use Rattle.std.specs.Prelude.{slice_get}
 use Rattle.std.specs.List.{list_any}
-use Rattle.std.proofs.lemmas.Bool.{false≢true, or_left}
+use Rattle.std.proofs.lemmas.Bool.{or_left}
 use Rattle.std.proofs.lemmas.Option.{slice_get_within}
 use Rattle.serde_json.specs.Data.{Data}
 use Rattle.ev_types.specs.Items.{ItemParts, ResponseParts}
@@ -13,12 +13,11 @@ use Rattle.ev_types.specs.declared.contents.Kind.{Kind}
 use Rattle.ev_types.specs.declared.contents.Kind.TheVariants.{Cds, Eds}
 use Rattle.ev_types.specs.declared.contents.Content.{Content}
 use Rattle.ev_types.specs.declared.contents.Content.TheVariants.{Cluster as a_cluster}
-use Rattle.ev_types.specs.declared.contents.Body.{Body}
 use Rattle.ev_types.specs.declared.contents.Body.TheVariants.{Good}
 use Rattle.ev_types.specs.declared.events.Answer.{Answer}
 use Rattle.ev_types.specs.declared.events.Entry.{Entry}
 use Rattle.ev_types.specs.declared.events.Event.{Event}
-use Rattle.ev_types.specs.declared.events.Event.TheVariants.{FetchTimeout, Response}
+use Rattle.ev_types.specs.declared.events.Event.TheVariants.{Response}
 use Rattle.ev_types.specs.declared.events.Line.{Line}
 use Rattle.ev_types.specs.declared.limits.TheConstants.{ITEM_LIMIT}
 use Rattle.ev_model.specs.Entries.{made_in}
@@ -29,16 +28,15 @@ use Rattle.ev_wire.specs.Responses.{entries_of, item_of}
 use Rattle.ev_expand.specs.declared.keys.Key.{Key}
 use Rattle.ev_expand.specs.Expanding.{due_at, guarded_at, place_of}
 use Rattle.ev_expand.specs.Following.{entry_due}
-use Rattle.ev_expand.specs.Fronts.{Front, event_of, fronts, message_of, up_to}
-use Rattle.ev_expand.specs.Guarding.{Guarded, clusters_in, guarded_by, place_at, place_in, private_name, waiting_entries, waiting_entry}
-use Rattle.ev_expand.specs.Private.{body_uses, event_uses, first_use, is_private, item_uses, named_uses, response_uses}
+use Rattle.ev_expand.specs.Fronts.{Front, event_of, fronts, message_of}
+use Rattle.ev_expand.specs.Guarding.{Guarded, clusters_in, guarded_by, place_at, place_in, waiting_entries, waiting_entry}
+use Rattle.ev_expand.specs.Private.{body_uses, event_uses, first_use, item_uses, named_uses, response_uses}
 use Rattle.ev_expand.proofs.EventLemmas.{cluster_items_read, items_read}
-use Rattle.ev_expand_laws.specs.Waiting.{stream_line, waiting_cluster, waiting_item}
+use Rattle.ev_expand_laws.specs.Waiting.{waiting_cluster, waiting_item}
 use Rattle.ev_expand_laws.proofs.ReadLemmas.{guarded_item, other_item}
 use Rattle.ev_sealed.proofs.CountLemmas.{places_same}
 use Rattle.ev_sealed.proofs.FrontLemmas.{front_at}
 use Rattle.ev_sealed.proofs.ListLemmas.{in_map, map_in}
-use Rattle.ev_sealed.proofs.UsedLemmas.{named_used}
 use Rattle.ev_dns.specs.Resolving.{dns_rules, has_guarded}
 use Rattle.ev_dns.specs.Templates.{by_names}
 use Rattle.ev_last_answers.specs.LastAnswers.{name_of_place}
@@ -46,19 +44,17 @@ use Rattle.ev_last_answers.proofs.EntryLemmas.{IsBy}
 use Rattle.ev_last_answers.proofs.GuardLemmas.{IsGuardedAt, guarded_at_place, guards_clusters, line_guards}
 use Rattle.ev_last_answers.proofs.MakerLemmas.{IsAsking, IsMaker, asking_kind, maker_of}
 use Rattle.ev_last_answers.proofs.TextLemmas.{IsFollower, IsOwn, IsWaiting, due_response, follower_says, given_is, own_says}
-use Rattle.ev_last_answers.proofs.UnusedLemmas.{event_unused}
+use Rattle.ev_last_answers.proofs.UnusedLemmas.{event_unused, private_begins}
+use Rattle.ev_last_answers.proofs.ListLemmas.{some_same}
 
 -- ---- a line that uses a private name
-
-begins : (prefix rest : List ℕ) → is_private prefix (prefix ++ rest) ≡ true
-begins prefix rest = named_used prefix rest (FetchTimeout (record { kind = Eds; name = Some (prefix ++ rest) })) (refl, refl)
 
 -- a cluster that asks by a private name uses it
 item_used : (prefix rest : List ℕ) (item : ItemParts) (content : Content) → item.body ≡ Good content → IsAsking (prefix ++ rest) content → item_uses prefix Cds item ≡ true
 item_used prefix rest item content good asks =
     ap (body_uses prefix) (good ∙ ap (λ c. Good c) asks.is)
     ∙ ap (λ (d : Discovery). body_uses prefix (Good (a_cluster (record { name = asks.cluster.name; discovery = d; checked = asks.cluster.checked })))) asks.asks
-    ∙ begins prefix rest
+    ∙ private_begins prefix rest
 
 response_used : (prefix rest : List ℕ) (response : ResponseParts) (item : ItemParts) (content : Content) → response.kind ≡ Some Cds → IsIn item response.items
     → item.body ≡ Good content → IsAsking (prefix ++ rest) content → event_uses prefix (Response response) ≡ true
@@ -68,9 +64,6 @@ response_used prefix rest response item content typed among good asks =
     (any_at (item_uses prefix Cds) item response.items among (item_used prefix rest item content good asks))
 
 -- ---- the resource that begins it
-
-some_same : {X : Type 0} {x y : X} → Some x ≡ Some y → x ≡ y
-some_same e = cc
 
 -- the names by which two clusters ask are one
 asked_same : (name other : List ℕ) (cluster : Cluster) (content : Content) → content ≡ a_cluster (waiting_cluster other cluster) → IsAsking name content → other ≡ name

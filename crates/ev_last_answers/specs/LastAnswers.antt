@@ -28,7 +28,8 @@ answered_script trees = expanded_script dns_rules trees
 
 -- the world behind the entry at place k of a run of it
 abbrev pub world_behind : Format → ScriptTrees → List Entry → ℕ → World
-world_behind format trees journal k = world_at format (answered_script trees).workers (answered_script trees).node journal (k + 1)
+world_behind format trees journal k =
+    world_at format (answered_script trees).workers (answered_script trees).node journal (k + 1)
 
 -- the number of the last line of the text that the header and these lines of the input give
 abbrev pub last_number : List Data → ℕ
@@ -50,7 +51,8 @@ name_of_place place = private_name (codes "dns/") place
 -- the endpoints of a place are told of exactly where its template is complete by these lines, and are then its hosts
 pub record HasLastAnswers (world : World) (lines : List Data) (place : ℕ) (key : Key) : Type 0 where
   pub told : is_told world Eds (name_of_place place) ≡ is_complete lines key
-  pub hosts : is_complete lines key ≡ true → value_of world Eds (name_of_place place) ≡ Some (an_assignment (hosts_of lines key))
+  pub hosts : is_complete lines key ≡ true
+      → value_of world Eds (name_of_place place) ≡ Some (an_assignment (hosts_of lines key))
 
 -- so it is of each place that is watched, behind an entry which leaves the stream open and is its input line's last
 abbrev pub AreLastAnswers : Format → ScriptTrees → List Entry → Type 0
