@@ -1,7 +1,8 @@
 -- How deep the lines that a command makes nest.
 use Rattle.std.proofs.Common.{◌≡◌, ℕ, zero, suc, ◌+◌, ◌≤◌, max, Bool, true, false, cond, List, [], ◌∷◌, ◌++◌, length, map, filter_map, Option, Some, None, is_some, option_map, option_and_then, unwrap_or, Ordering, Less, Equal, Greater, codes, ◌==◌, refl, ap, arith}
-use Rattle.std.specs.Prelude.{IfSome}
-use Rattle.std.specs.List.{AllByRecursion, list_any, list_all, cons_option}
+use Rattle.std.specs.Prelude.{All, IfSome}
+use Rattle.std.specs.List.{list_any, list_all, cons_option}
+use Rattle.std.proofs.lemmas.List.Elements.{All-nil, All-cons, All-head, All-tail, All-map, All-weaker}
 use Rattle.std.specs.Ordering.{match_ordering, nat_cmp}
 use Rattle.std.specs.Cmp.Lexicographic.{slice_cmp}
 use Rattle.std.specs.Str.{bytes_eq}
@@ -105,11 +106,14 @@ object_within name tree n h = inside_within n (in_form object_in (field_of name 
 
 -- each of these trees is no deeper than this
 abbrev pub AreWithin : ℕ → List Data → Type 0
-AreWithin n trees = AllByRecursion (λ (tree : Data). depth tree ≤ n) trees
+AreWithin n trees = All (λ (tree : Data). depth tree ≤ n) trees
+
+none_within : (n : ℕ) → AreWithin n []
+none_within n = All-nil (λ (tree : Data). depth tree ≤ n)
 
 elements_within : (n : ℕ) (ds : Items) → items_depth ds ≤ n → AreWithin n (elements_of ds)
-elements_within n no_items h = tt
-elements_within n (item d ds) h = (omega arith, elements_within n ds (omega arith))
+elements_within n no_items h = none_within n
+elements_within n (item d ds) h = All-cons (λ (tree : Data). depth tree ≤ n) d (elements_of ds) (omega arith) (elements_within n ds (omega arith))
 
 list_within : (n : ℕ) (tree : Data) → depth tree ≤ n + 1 → IfSome (list_in tree) (AreWithin n)
 unfolding list_in
@@ -122,15 +126,15 @@ list_within n (object ms) h = tt
 
 tested_list : (n : ℕ) (b : Bool) (trees : List Data) → AreWithin n trees → AreWithin n (listed (value_or_wrong (cond b (Some trees) None)))
 tested_list n true trees h = h
-tested_list n false trees h = tt
+tested_list n false trees h = none_within n
 
 some_list : (n : ℕ) (found : Option (List Data)) → IfSome found (AreWithin n) → AreWithin n (listed (value_or_wrong (option_and_then (λ ds. cond (list_all is_object ds) (Some ds) None) found)))
-some_list n None h = tt
+some_list n None h = none_within n
 some_list n (Some trees) h = tested_list n (list_all is_object trees) trees h
 
 found_list : (n : ℕ) (found : Found Data) → IsWithin (n + 1) found → AreWithin n (listed (in_form objects_in found))
-found_list n Absent h = tt
-found_list n Wrong h = tt
+found_list n Absent h = none_within n
+found_list n Wrong h = none_within n
 found_list n (Given tree) h = some_list n (list_in tree) (list_within n tree h)
 
 -- the elements of a list of objects are less deep than the list
@@ -193,11 +197,12 @@ without_depth name (object ms) (suc n) h = omega (arith, members_left name ms n 
 
 pub items_within : (n : ℕ) (trees : List Data) → AreWithin n trees → items_depth (items_of trees) ≤ n
 items_within n [] h = omega arith
-items_within n (tree ∷ trees) h = omega (arith, h.0, items_within n trees h.1)
+items_within n (tree ∷ trees) h =
+    omega (arith, All-head (λ (tree : Data). depth tree ≤ n) tree trees h, items_within n trees (All-tail (λ (tree : Data). depth tree ≤ n) tree trees h))
 
 made_within : (n : ℕ) (make : Data → Data) → ((tree : Data) → depth tree ≤ n → depth (make tree) ≤ n) → (trees : List Data) → AreWithin n trees → AreWithin n (map make trees)
-made_within n make each [] h = tt
-made_within n make each (tree ∷ trees) h = (each tree h.0, made_within n make each trees h.1)
+made_within n make each trees h =
+    All-map (λ (tree : Data). depth tree ≤ n) make trees (All-weaker (λ (tree : Data). depth tree ≤ n) (λ (tree : Data). depth (make tree) ≤ n) each trees h)
 
 -- ---- lines with guarded resources
 
@@ -222,11 +227,11 @@ response_depth : (message : Data) → depth (response_tree message) ≤ depth me
 response_depth message = omega arith
 
 listed_within : (kind : Option Kind) (message : Data) (n : ℕ) → depth message ≤ n + 2 → AreWithin n (listed_as kind message)
-listed_within None message n h = tt
+listed_within None message n h = none_within n
 listed_within (Some Cds) message n h = entries_within message n h
-listed_within (Some Eds) message n h = tt
-listed_within (Some Lds) message n h = tt
-listed_within (Some Rds) message n h = tt
+listed_within (Some Eds) message n h = none_within n
+listed_within (Some Lds) message n h = none_within n
+listed_within (Some Rds) message n h = none_within n
 
 -- the resources of clusters of a line are less deep than it by three
 pub clusters_within : (line : Data) (n : ℕ) → depth line ≤ n + 3 → AreWithin n (clusters_in line)
@@ -263,24 +268,27 @@ due_depth version name endpoints = omega arith
 
 -- the endpoints of each of these are no deeper than this
 abbrev pub DueWithin : ℕ → List DueParts → Type 0
-DueWithin n due = AllByRecursion (λ (d : DueParts). IfSome d.endpoints (λ endpoints. depth endpoints ≤ n)) due
+DueWithin n due = All (λ (d : DueParts). IfSome d.endpoints (λ endpoints. depth endpoints ≤ n)) due
 
 due_put : (n : ℕ) (version name : List ℕ) (found : Option Data) (trees : List Data) → IfSome found (λ endpoints. depth endpoints ≤ n) → AreWithin (n + 2) trees
     → AreWithin (n + 2) (cons_option (option_map (endpoints_entry version name) found) trees)
 due_put n version name None trees h all = all
-due_put n version name (Some endpoints) trees h all = (omega (arith, due_depth version name endpoints, h), all)
+due_put n version name (Some endpoints) trees h all =
+    All-cons (λ (tree : Data). depth tree ≤ n + 2) (endpoints_entry version name endpoints) trees (omega (arith, due_depth version name endpoints, h)) all
 
 due_within : (n : ℕ) (prefix version : List ℕ) (due : List DueParts) → DueWithin n due → AreWithin (n + 2) (filter_map (entry_due prefix version) due)
-due_within n prefix version [] h = tt
+due_within n prefix version [] h = none_within (n + 2)
 due_within n prefix version (d ∷ due) h =
-    due_put n version (private_name prefix d.place) d.endpoints (filter_map (entry_due prefix version) due) h.0 (due_within n prefix version due h.1)
+    let P : DueParts → Type 0 = λ d. IfSome d.endpoints (λ endpoints. depth endpoints ≤ n) in
+    due_put n version (private_name prefix d.place) d.endpoints (filter_map (entry_due prefix version) due) (All-head P d due h)
+    (due_within n prefix version due (All-tail P d due h))
 
 name_put : (n : ℕ) (name : List ℕ) (found : Option Data) (trees : List Data) → AreWithin n trees → AreWithin n (cons_option (name_without name found) trees)
-name_put n name None trees all = (omega arith, all)
+name_put n name None trees all = All-cons (λ (tree : Data). depth tree ≤ n) (string name) trees (omega arith) all
 name_put n name (Some endpoints) trees all = all
 
 names_within : (n : ℕ) (prefix : List ℕ) (due : List DueParts) → AreWithin n (filter_map (name_due prefix) due)
-names_within n prefix [] = tt
+names_within n prefix [] = none_within n
 names_within n prefix (d ∷ due) = name_put n (private_name prefix d.place) d.endpoints (filter_map (name_due prefix) due) (names_within n prefix due)
 
 -- a line that follows is deeper than the endpoints in it by five

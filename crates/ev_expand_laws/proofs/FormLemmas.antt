@@ -1,9 +1,9 @@
 -- Trees that were read of an input without fault have the forms of its lines, and are no deeper than a reader goes.
 use Rattle.std.proofs.Common.{◌≡◌, ◌∙◌, ℕ, zero, suc, ◌+◌, ◌<◌, ◌≤◌, ◌⊎◌, inl, inr, Bool, true, false, cond, eqb, List, [], ◌∷◌, length, map, take, get_or, Option, None, Some, option_map, option_and_then, Ok, refl, sym, ap, subst, arith, eqb-true}
-use Rattle.std.specs.Prelude.{IsTrue, slice_index}
+use Rattle.std.specs.Prelude.{All, IsTrue, slice_index}
 use Rattle.std.specs.Str.{is_utf8}
-use Rattle.std.specs.List.{AllByRecursion}
 use Rattle.std.proofs.lemmas.Bool.{false≢true, leb-true}
+use Rattle.std.proofs.lemmas.List.Elements.{All-nil, All-cons}
 use Rattle.serde_json.specs.Data.{Data}
 use Rattle.serde_json.specs.Read.{read}
 use Rattle.serde_json.specs.View.{view}
@@ -203,14 +203,14 @@ read_by false found tree h = absurd (cc)
 read_within : (text : List ℕ) (tree : Data) → tree_of text ≡ Some tree → IsReadable tree
 read_within text tree h = depth-read text tree (read_by (is_utf8 text) (read text) tree h)
 
-each_value : (P : Data → Type 0) (values : List Value) → ((i : ℕ) (other : Value) → i < length values → P (view (get_or values i other))) → AllByRecursion P (map view values)
-each_value P [] each = tt
-each_value P (value ∷ values) each = (each 0 value (omega arith), each_value P values (λ i other h. each (suc i) other (omega arith)))
+each_value : (P : Data → Type 0) (values : List Value) → ((i : ℕ) (other : Value) → i < length values → P (view (get_or values i other))) → All P (map view values)
+each_value P [] each = All-nil P
+each_value P (value ∷ values) each =
+    All-cons P (view value) (map view values) (each 0 value (omega arith)) (each_value P values (λ i other h. each (suc i) other (omega arith)))
 
 -- trees that were read are no deeper than a reader goes
-pub trees_are_readable : (forms : LineForms) (input : Input) (trees : ScriptTrees) → IsTreesAnswer forms input (Ok trees) → AllByRecursion IsReadable (view trees.head ∷ lines_in trees)
-trees_are_readable forms input trees answer = (
-  read_within (get_or (lines_of input.bytes) 0 []) (view trees.head) answer.1.head,
-  each_value IsReadable trees.lines.items
-      (λ i other h. read_within (get_or (lines_of input.bytes) (i + 1) []) (view (get_or trees.lines.items i other)) (answer.1.lines i other h)),
-)
+pub trees_are_readable : (forms : LineForms) (input : Input) (trees : ScriptTrees) → IsTreesAnswer forms input (Ok trees) → All IsReadable (view trees.head ∷ lines_in trees)
+trees_are_readable forms input trees answer =
+    All-cons IsReadable (view trees.head) (lines_in trees) (read_within (get_or (lines_of input.bytes) 0 []) (view trees.head) answer.1.head)
+    (each_value IsReadable trees.lines.items
+    (λ i other h. read_within (get_or (lines_of input.bytes) (i + 1) []) (view (get_or trees.lines.items i other)) (answer.1.lines i other h)))

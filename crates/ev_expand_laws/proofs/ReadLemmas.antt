@@ -1,5 +1,5 @@
 -- What the lines that a command makes are read as.
-use Rattle.std.proofs.Common.{◌≡◌, ◌∙◌, ℕ, inl, inr, Bool, true, false, cond, List, [], ◌∷◌, map, filter_map, Option, Some, None, is_some, option_map, codes, refl, sym, ap, ap₂}
+use Rattle.std.proofs.Common.{◌≡◌, ◌∙◌, ℕ, ◌≤◌, inl, inr, Bool, true, false, cond, List, [], ◌∷◌, length, map, filter_map, Option, Some, None, is_some, option_map, codes, refl, sym, ap, ap₂}
 use Rattle.std.specs.List.{list_all}
 use Rattle.serde_json.specs.Data.{Data, string}
 use Rattle.ev_types.specs.Items.{ItemParts, ResponseParts}
@@ -15,9 +15,9 @@ use Rattle.ev_expand.specs.declared.keys.Key.{Key}
 use Rattle.ev_expand.specs.Editing.{with_value}
 use Rattle.ev_expand.specs.Fronts.{event_of, message_of}
 use Rattle.ev_expand.specs.Guarding.{Guard, Guarded, kind_of, listed_as, clusters_in, place_in, place_at, private_name, body_in, waiting_body, waiting_entry, waiting_entries, waiting_line, response_tree}
-use Rattle.ev_expand.specs.Following.{DueParts}
-use Rattle.ev_expand.proofs.EventLemmas.{response_read}
-use Rattle.ev_expand_laws.specs.Waiting.{IsOfCluster, static_body, waiting_item, waiting_response, has_guarded, name_with, following_response, ResourcesWait, LinesWait, LinesFollow}
+use Rattle.ev_expand.specs.Following.{DueParts, following_line}
+use Rattle.ev_expand.proofs.EventLemmas.{response_read, cluster_items_read}
+use Rattle.ev_expand_laws.specs.Waiting.{IsOfCluster, static_body, waiting_item, waiting_response, has_guarded, name_with, following_response, names_in, IsStreamLine, ResourcesWait, LinesWait, LinesFollow}
 use Rattle.ev_expand_laws.proofs.FieldLemmas.{object_with}
 use Rattle.ev_expand_laws.proofs.WaitLemmas.{typed_keeps}
 use Rattle.ev_expand_laws.proofs.ItemLemmas.{kept_entry_name, item_waits, keeps_itself}
@@ -57,8 +57,7 @@ names_wait prefix place (entry ∷ entries) = ap₂ (λ (n : List ℕ) (ns : Lis
 
 -- each resource has its name still
 pub waiting_names : (prefix : List ℕ) (guard : Guard) (gs : List Guarded) (line : Data)
-    → map (λ (item : ItemParts). item.name) (map (item_of Cds) (waiting_entries prefix guard gs line))
-    ≡ map (λ (item : ItemParts). item.name) (map (item_of Cds) (clusters_in line))
+    → names_in (map (item_of Cds) (waiting_entries prefix guard gs line)) ≡ names_in (map (item_of Cds) (clusters_in line))
 waiting_names prefix guard gs line = names_wait prefix (place_at guard gs) (clusters_in line)
 
 -- ---- lines with guarded resources
@@ -94,6 +93,7 @@ waiting_reads prefix guard gs line some =
       reads = λ at.
           ap (λ (b : Bool). line_of at (cond b (response_tree (message_with made message)) line)) some ∙ line_made at (message_with made message)
           ∙ ap (λ (found : Option ResponseParts). line_at at Stream (option_map (λ r. Response r) found)) response;
+      names = waiting_names prefix guard gs line ∙ ap names_in (sym (cluster_items_read line is.response is.is is.kind));
     }
 
 -- another one stays as it is
@@ -103,12 +103,19 @@ waiting_stays prefix guard gs line none = ap (λ (b : Bool). cond b (response_tr
 -- ---- lines that follow
 
 -- a line that follows is a response of endpoints, by private names, in order
-pub following_reads : LinesFollow
+pub following_reads : (prefix nonce version : List ℕ) (due : List DueParts) (at : ℕ) → 1 ≤ length nonce
+    → IsStreamLine (following_line prefix nonce version due) (following_response prefix nonce version due) at
 following_reads prefix nonce version due at some =
     line_made at (following_message prefix nonce version due)
     ∙ ap (λ (found : Option ResponseParts). line_at at Stream (option_map (λ r. Response r) found)) (message_read prefix nonce version due some)
 
 -- its resources have the names of the places that have endpoints
 pub following_names : (prefix nonce version : List ℕ) (due : List DueParts)
-    → map (λ (item : ItemParts). item.name) (following_response prefix nonce version due).items ≡ filter_map (name_with prefix) due
+    → names_in (following_response prefix nonce version due).items ≡ filter_map (name_with prefix) due
 following_names prefix nonce version due = names_given prefix version due
+
+pub lines_follow : LinesFollow
+lines_follow prefix nonce version due some = record {
+  reads = λ at. following_reads prefix nonce version due at some;
+  names = following_names prefix nonce version due;
+}

@@ -1,9 +1,8 @@
 -- The text that a command makes is a script, of the lines that it makes.
 use Rattle.std.proofs.Common.{◌≡◌, ◌∙◌, ℕ, ◌+◌, ◌<◌, false, List, ◌∷◌, length, map, get_or, Some, sym, ap, subst, arith}
 use Rattle.std.specs.Prelude.{All}
-use Rattle.std.specs.List.{AllByRecursion}
 use Rattle.std.proofs.lemmas.List.{length-map, get_or-map}
-use Rattle.std.proofs.lemmas.List.Elements.{All-map, All-from_recursion, recursion_from_All}
+use Rattle.std.proofs.lemmas.List.Elements.{All-cons, All-head, All-tail, All-map}
 use Rattle.serde_json.specs.Data.{Data, null}
 use Rattle.serde_json.specs.View.{view}
 use Rattle.ev_script.specs.declared.header.Header.{Header}
@@ -58,9 +57,10 @@ text_is_script rules trees text able expanded =
     let workers : ℕ = trees.header.workers in
     let head : Data = view trees.head in
     let given : List Data = given_lines rules (lines_in trees) in
-    let taken = recursion_from_All IsReadable (head ∷ lines_in trees) able.readable in
-    let each : AllByRecursion (IsGiven workers) given = lines_given rules workers (lines_in trees) able.nonce able.written taken.1 able.shallow in
-    let readable : All IsReadable (head ∷ given) = All-from_recursion IsReadable (head ∷ given) (taken.0, given_readable workers given each) in
+    let each : All (IsGiven workers) given =
+    lines_given rules workers (lines_in trees) able.nonce able.written (All-tail IsReadable head (lines_in trees) able.readable) able.shallow in
+    let readable : All IsReadable (head ∷ given) =
+    All-cons IsReadable head given (All-head IsReadable head (lines_in trees) able.readable) (given_readable workers given each) in
     let script = trees_said trees.header head given able.heads (given_have workers given each) (back_so (head ∷ given) expanded.2 readable) expanded.1 in
     let bytes : text.items ≡ text_of_trees (map whole (head ∷ given)) = expanded.3 in
     record {

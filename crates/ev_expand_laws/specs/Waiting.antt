@@ -30,7 +30,8 @@ waiting_cluster name cluster = record { name = cluster.name; discovery = by_name
 
 -- the item of a resource, with the cluster as it waits by the number of this place
 abbrev pub waiting_item : List ℕ → ℕ → Cluster → Data → ItemParts
-waiting_item prefix place cluster entry = record (item_of Cds entry) { body = Good (a_cluster (waiting_cluster (private_name prefix place) cluster)) }
+waiting_item prefix place cluster entry =
+    record (item_of Cds entry) { body = Good (a_cluster (waiting_cluster (private_name prefix place) cluster)) }
 
 -- a body with the type STATIC
 abbrev pub static_body : Data → Data
@@ -71,18 +72,24 @@ stream_line at response = record { at = at; actor = Stream; event = Response res
 
 -- a response of clusters, with the guarded ones as they wait
 abbrev pub waiting_response : List ℕ → Guard → List Guarded → Data → ResponseParts → ResponseParts
-waiting_response prefix guard guarded line response = record response { items = map (item_of Cds) (waiting_entries prefix guard guarded line) }
+waiting_response prefix guard guarded line response =
+    record response { items = map (item_of Cds) (waiting_entries prefix guard guarded line) }
 
 -- the tree is a line of the stream with this response
 abbrev pub IsStreamLine : Data → ResponseParts → ℕ → Type 0
 IsStreamLine tree response at = line_of at tree ≡ Some (stream_line at response)
 
--- the line is a response of clusters, and as it waits it is that response with the guarded ones as they wait
+-- the names of items
+abbrev pub names_in : List ItemParts → List (List ℕ)
+names_in items = map (λ (item : ItemParts). item.name) items
+
+-- the line is a response of clusters, and as it waits it is that response with the guarded ones as they wait, under their names
 pub record WaitsAsSaid (prefix : List ℕ) (guard : Guard) (guarded : List Guarded) (line : Data) : Type 0 where
   pub response : ResponseParts
   pub event : event_of line ≡ Some (Response response)
   pub kind : response.kind ≡ Some Cds
   pub reads : (at : ℕ) → IsStreamLine (waiting_line prefix guard guarded line) (waiting_response prefix guard guarded line response) at
+  pub names : names_in (waiting_response prefix guard guarded line response).items ≡ names_in response.items
 
 -- some resource of clusters of the line is guarded
 abbrev pub has_guarded : Guard → Data → Bool
@@ -114,8 +121,11 @@ following_response prefix nonce version due = record {
   removed = filter_map (name_left prefix) due;
 }
 
--- a line that follows is a response of endpoints: those of the places that are due and have some, by their private names
+-- the line that follows is that response, at any place, and the names of its items are those of the places that have endpoints
+pub record FollowsAsSaid (prefix nonce version : List ℕ) (due : List DueParts) : Type 0 where
+  pub reads : (at : ℕ) → IsStreamLine (following_line prefix nonce version due) (following_response prefix nonce version due) at
+  pub names : names_in (following_response prefix nonce version due).items ≡ filter_map (name_with prefix) due
+
+-- a line that follows is a response of endpoints by private names
 abbrev pub LinesFollow : Type 0
-LinesFollow =
-    (prefix nonce version : List ℕ) (due : List DueParts) (at : ℕ) → 1 ≤ length nonce
-    → IsStreamLine (following_line prefix nonce version due) (following_response prefix nonce version due) at
+LinesFollow = (prefix nonce version : List ℕ) (due : List DueParts) → 1 ≤ length nonce → FollowsAsSaid prefix nonce version due

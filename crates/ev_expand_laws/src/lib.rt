@@ -20,12 +20,13 @@ pub fn resources_wait()
     ensures { ResourcesWait }
 {}
 
-/// A law: a line with guarded resources is read as the response that it was, with these as they wait. It does nothing.
+/// A law: a line with guarded resources is read as the response that it was, with these as they wait under the names that they
+/// had. It does nothing.
 pub fn lines_wait()
     ensures { LinesWait }
 {}
 
-/// A law: a line that follows is read as a response of endpoints, those of what is due. It does nothing.
+/// A law: a line that follows is read as a response of endpoints, those of what is due, by private names. It does nothing.
 pub fn lines_follow()
     ensures { LinesFollow }
 {}

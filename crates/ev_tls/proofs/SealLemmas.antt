@@ -1,8 +1,8 @@
 -- The text whose clusters wait for their secrets is a script.
 use Rattle.std.proofs.Common.{◌≡◌, ℕ, ◌+◌, false, List, [], ◌∷◌, Some, Result, Ok, Err, Vec, IfOk, arith}
 use Rattle.std.specs.declared.alloc.Global.{Global}
-use Rattle.std.specs.List.{AllByRecursion}
-use Rattle.std.proofs.lemmas.List.Elements.{All-from_recursion}
+use Rattle.std.specs.Prelude.{All}
+use Rattle.std.proofs.lemmas.List.Elements.{All-tail}
 use Rattle.serde_json.specs.Data.{Data}
 use Rattle.serde_json.specs.View.{view}
 use Rattle.ev_script.specs.declared.trees.ScriptTrees.{ScriptTrees}
@@ -26,12 +26,12 @@ lines_written workers at (line ∷ lines) all = (λ is. all.0, lines_written wor
 -- trees that were read of a script can be sealed
 trees_expandable : (input : Input) (trees : ScriptTrees) → IsTreesAnswer plain_lines input (Ok trees) → IsExpandable tls_rules trees
 trees_expandable input trees answer =
-    let readable : AllByRecursion IsReadable (view trees.head ∷ lines_in trees) = trees_are_readable plain_lines input trees answer in
+    let readable : All IsReadable (view trees.head ∷ lines_in trees) = trees_are_readable plain_lines input trees answer in
     record {
       heads = answer.1.header;
       written = lines_written trees.header.workers 2 (lines_in trees) (trees_have_lines input trees answer);
-      readable = All-from_recursion IsReadable (view trees.head ∷ lines_in trees) readable;
-      shallow = lines_shallow (lines_in trees) readable.1;
+      readable = readable;
+      shallow = lines_shallow (lines_in trees) (All-tail IsReadable (view trees.head) (lines_in trees) readable);
       nonce = omega arith;
     }
 

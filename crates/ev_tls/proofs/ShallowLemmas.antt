@@ -1,8 +1,9 @@
 -- The endpoints that are sent stood in a line that was read, at least as deep as in the line that sends them.
-use Rattle.std.proofs.Common.{ℕ, ◌+◌, ◌≤◌, Bool, true, false, cond, List, [], ◌∷◌, filter_map, flat_map, Option, None, Some, option_map, codes, arith}
+use Rattle.std.proofs.Common.{ℕ, ◌+◌, ◌≤◌, not, Bool, true, false, cond, List, [], ◌∷◌, map, filter, filter_map, flat_map, Option, None, Some, option_map, codes, arith}
 use Rattle.std.specs.Prelude.{All, IfSome}
-use Rattle.std.specs.List.{AllByRecursion, cons_option, last_or}
-use Rattle.std.proofs.lemmas.List.Elements.{All-from_recursion}
+use Rattle.std.specs.List.{cons_option, last_or}
+use Rattle.std.specs.Str.{bytes_eq}
+use Rattle.std.proofs.lemmas.List.Elements.{All-nil, All-cons, All-head, All-tail, All-map, All-weaker, All-filter}
 use Rattle.serde_json.specs.Data.{Data, array, no_items, depth}
 use Rattle.ev_types.specs.Items.{ResponseParts}
 use Rattle.ev_types.specs.declared.clusters.Discovery.{Discovery}
@@ -19,10 +20,10 @@ use Rattle.ev_trees.specs.Trees.{IsReadable}
 use Rattle.ev_wire.specs.Responses.{entries_of, item_of}
 use Rattle.ev_expand.specs.declared.keys.Key.{Key}
 use Rattle.ev_expand.specs.Fronts.{Front, event_of, message_of, up_to, fronts, behind, stream_at, heard}
-use Rattle.ev_expand.specs.Guarding.{Guarded, clusters_in, body_in, guarded_in, each_once, guarded_by}
+use Rattle.ev_expand.specs.Guarding.{Guarded, guarded_same, clusters_in, body_in, guarded_in, each_once, guarded_by}
 use Rattle.ev_expand_laws.specs.Scripts.{IsShallow, AreShallowAt}
 use Rattle.ev_expand_laws.proofs.DepthLemmas.{IsWithin, field_within, object_within, entries_within, message_within, body_within, clusters_within}
-use Rattle.ev_expand_laws.proofs.GivenLemmas.{each_so, each_mapped, each_flat, each_kept, each_front}
+use Rattle.ev_expand_laws.proofs.GivenLemmas.{all_given, all_fronts}
 use Rattle.ev_secrets.specs.References.{endpoints_in, by_secrets}
 use Rattle.ev_secrets.specs.Told.{gives_value, value_given, given_as, given_with, values_in, value_of}
 use Rattle.ev_secrets.specs.Sealing.{endpoints_by, tls_rules}
@@ -52,13 +53,13 @@ value_shallow entry h = omega (arith, endpoints_within (body_in entry) 122 (omeg
 
 -- ---- what is guarded
 
-some_put : {Y : Type 0} (P : Y → Type 0) (found : Option Y) (ys : List Y) → IfSome found P → AllByRecursion P ys → AllByRecursion P (cons_option found ys)
+some_put : {Y : Type 0} (P : Y → Type 0) (found : Option Y) (ys : List Y) → IfSome found P → All P ys → All P (cons_option found ys)
 some_put P None ys h all = all
-some_put P (Some y) ys h all = (h, all)
+some_put P (Some y) ys h all = All-cons P y ys h all
 
-each_found : {X Y : Type 0} (P : X → Type 0) (Q : Y → Type 0) (f : X → Option Y) (xs : List X) → ((x : X) → P x → IfSome (f x) Q) → AllByRecursion P xs → AllByRecursion Q (filter_map f xs)
-each_found P Q f [] so all = tt
-each_found P Q f (x ∷ xs) so all = some_put Q (f x) (filter_map f xs) (so x all.0) (each_found P Q f xs so all.1)
+all_found : {X Y : Type 0} (P : X → Type 0) (Q : Y → Type 0) (f : X → Option Y) (xs : List X) → ((x : X) → P x → IfSome (f x) Q) → All P xs → All Q (filter_map f xs)
+all_found P Q f [] so all = All-nil Q
+all_found P Q f (x ∷ xs) so all = some_put Q (f x) (filter_map f xs) (so x (All-head P x xs all)) (all_found P Q f xs so (All-tail P x xs all))
 
 -- its own endpoints are shallow
 abbrev OwnIsShallow : Guarded → Type 0
@@ -68,19 +69,20 @@ guarded_own : (key : Option Key) (own : Data) → IsShallow own → IfSome (opti
 guarded_own None own h = tt
 guarded_own (Some key) own h = h
 
-line_own : (line : Data) → IsReadable line → AllByRecursion OwnIsShallow (guarded_in by_secrets line)
+line_own : (line : Data) → IsReadable line → All OwnIsShallow (guarded_in by_secrets line)
 line_own line readable =
-    each_found (λ (entry : Data). depth entry ≤ 124) OwnIsShallow _ (clusters_in line)
+    all_found (λ (entry : Data). depth entry ≤ 124) OwnIsShallow _ (clusters_in line)
     (λ entry h. guarded_own (by_secrets.key_of entry) (by_secrets.own_of entry) (own_shallow entry h)) (clusters_within line 124 readable)
 
-each_distinct : (P : Guarded → Type 0) (gs : List Guarded) → AllByRecursion P gs → AllByRecursion P (each_once gs)
-each_distinct P [] all = tt
-each_distinct P (g ∷ gs) all = (all.0, each_kept P _ (each_once gs) (each_distinct P gs all.1))
+all_once : (P : Guarded → Type 0) (gs : List Guarded) → All P gs → All P (each_once gs)
+all_once P [] all = All-nil P
+all_once P (g ∷ gs) all =
+    All-cons P g _ (All-head P g gs all) (All-filter (λ (other : Guarded). not (guarded_same other g)) P (each_once gs) (all_once P gs (All-tail P g gs all)))
 
-lines_own : (lines : List Data) → AllByRecursion IsReadable lines → AllByRecursion OwnIsShallow (guarded_by by_secrets lines)
+lines_own : (lines : List Data) → All IsReadable lines → All OwnIsShallow (guarded_by by_secrets lines)
 lines_own lines readable =
-    each_distinct OwnIsShallow (flat_map (guarded_in by_secrets) lines)
-    (each_flat OwnIsShallow (guarded_in by_secrets) lines (each_so IsReadable _ lines line_own readable))
+    all_once OwnIsShallow (flat_map (guarded_in by_secrets) lines)
+    (all_given OwnIsShallow (guarded_in by_secrets) lines (All-weaker IsReadable (λ (line : Data). All OwnIsShallow (guarded_in by_secrets line)) line_own lines readable))
 
 -- ---- values
 
@@ -92,56 +94,61 @@ value_by : (b : Bool) (name : List ℕ) (value : Data) → IsShallow value → I
 value_by true name value h = h
 value_by false name value h = tt
 
-listed_values : (kind : Option Kind) (response : ResponseParts) (message : Data) → depth message ≤ 126 → AllByRecursion ValueIsShallow (given_as kind response message)
-listed_values None response message h = tt
-listed_values (Some Cds) response message h = tt
+listed_values : (kind : Option Kind) (response : ResponseParts) (message : Data) → depth message ≤ 126 → All ValueIsShallow (given_as kind response message)
+listed_values None response message h = All-nil ValueIsShallow
+listed_values (Some Cds) response message h = All-nil ValueIsShallow
 listed_values (Some Eds) response message h =
-    each_found (λ (entry : Data). depth entry ≤ 124) ValueIsShallow (value_given response) (entries_of message)
+    all_found (λ (entry : Data). depth entry ≤ 124) ValueIsShallow (value_given response) (entries_of message)
     (λ entry k. value_by (gives_value response (item_of Eds entry)) (item_of Eds entry).name (endpoints_in (body_in entry)) (value_shallow entry k))
     (entries_within message 124 h)
-listed_values (Some Lds) response message h = tt
-listed_values (Some Rds) response message h = tt
+listed_values (Some Lds) response message h = All-nil ValueIsShallow
+listed_values (Some Rds) response message h = All-nil ValueIsShallow
 
-event_values : (event : Option Event) (message : Data) → depth message ≤ 126 → AllByRecursion ValueIsShallow (given_with event message)
-event_values None message h = tt
+event_values : (event : Option Event) (message : Data) → depth message ≤ 126 → All ValueIsShallow (given_with event message)
+event_values None message h = All-nil ValueIsShallow
 event_values (Some (Response response)) message h = listed_values response.kind response message h
-event_values (Some event) message h = tt
+event_values (Some event) message h = All-nil ValueIsShallow
 
-line_values : (line : Data) → IsReadable line → AllByRecursion ValueIsShallow (values_in line)
+line_values : (line : Data) → IsReadable line → All ValueIsShallow (values_in line)
 line_values line readable = event_values (event_of line) (message_of line) (message_within line 126 readable)
 
-last_so : (P : Data → Type 0) (found : Option Data) (values : List Data) → IfSome found P → AllByRecursion P values → IfSome (last_or found values) P
+last_so : (P : Data → Type 0) (found : Option Data) (values : List Data) → IfSome found P → All P values → IfSome (last_or found values) P
 last_so P found [] h all = h
-last_so P found (value ∷ values) h all = last_so P (Some value) values all.0 all.1
+last_so P found (value ∷ values) h all = last_so P (Some value) values (All-head P value values all) (All-tail P value values all)
 
-value_of_shallow : (lines : List Data) (name : List ℕ) → AllByRecursion IsReadable lines → IfSome (value_of lines name) IsShallow
+value_of_shallow : (lines : List Data) (name : List ℕ) → All IsReadable lines → IfSome (value_of lines name) IsShallow
 value_of_shallow lines name readable =
-    let told = each_mapped IsReadable (λ (front : Front). front.line) _
-    (each_kept (λ (front : Front). IsReadable front.line) (λ front. stream_at (up_to front)) (fronts lines) (each_front IsReadable lines readable)) in
-    let values = each_flat ValueIsShallow values_in (heard lines) (each_so IsReadable _ (heard lines) line_values told) in
-    last_so IsShallow None _ tt (each_mapped IsShallow (λ (v : List ℕ × Data). v.1) _ (each_kept ValueIsShallow _ (flat_map values_in (heard lines)) values))
+    let values : List (List ℕ × Data) = flat_map values_in (heard lines) in
+    let named : List (List ℕ × Data) = filter (λ (v : List ℕ × Data). bytes_eq v.0 name) values in
+    let told : All IsReadable (heard lines) =
+    All-map IsReadable (λ (front : Front). front.line) (filter (λ (front : Front). stream_at (up_to front)) (fronts lines))
+    (All-filter (λ (front : Front). stream_at (up_to front)) (λ (front : Front). IsReadable front.line) (fronts lines) (all_fronts IsReadable lines readable)) in
+    let each : All ValueIsShallow values =
+    all_given ValueIsShallow values_in (heard lines) (All-weaker IsReadable (λ (line : Data). All ValueIsShallow (values_in line)) line_values (heard lines) told) in
+    last_so IsShallow None (map (λ (v : List ℕ × Data). v.1) named) tt
+    (All-map IsShallow (λ (v : List ℕ × Data). v.1) named (All-filter (λ (v : List ℕ × Data). bytes_eq v.0 name) ValueIsShallow values each))
 
 -- ---- each line
 
-endpoints_shallow : (discovery : Discovery) (lines : List Data) (g : Guarded) → AllByRecursion IsReadable lines → OwnIsShallow g
-    → IfSome (endpoints_by discovery lines g) IsShallow
+endpoints_shallow : (discovery : Discovery) (lines : List Data) (g : Guarded) → All IsReadable lines → OwnIsShallow g → IfSome (endpoints_by discovery lines g) IsShallow
 endpoints_shallow (Static rows) lines g readable own = own
 endpoints_shallow (by_name service limited) lines g readable own = value_of_shallow lines service readable
 
-front_shallow : (front : Front) → AllByRecursion IsReadable (up_to front) → AreShallowAt tls_rules front
+front_shallow : (front : Front) → All IsReadable (up_to front) → AreShallowAt tls_rules front
 front_shallow front readable =
-    All-from_recursion _ (guarded_by by_secrets (up_to front))
-    (each_so OwnIsShallow _ (guarded_by by_secrets (up_to front)) (λ g own. endpoints_shallow g.key.cluster.discovery (up_to front) g readable own) (lines_own (up_to front) readable))
+    All-weaker OwnIsShallow (λ (g : Guarded). IfSome (tls_rules.endpoints_of (up_to front) g) IsShallow)
+    (λ g own. endpoints_shallow g.key.cluster.discovery (up_to front) g readable own) (guarded_by by_secrets (up_to front)) (lines_own (up_to front) readable)
 
-each_up_to : (P : Data → Type 0) (lines : List Data) → AllByRecursion P lines → AllByRecursion (λ (front : Front). AllByRecursion P (up_to front)) (fronts lines)
-each_up_to P [] all = tt
-each_up_to P (first ∷ lines) all = (
-  (all.0, tt),
-  each_mapped (λ (front : Front). AllByRecursion P (up_to front)) (behind first) (fronts lines)
-      (each_so (λ (front : Front). AllByRecursion P (up_to front)) _ (fronts lines) (λ front h. (all.0, h)) (each_up_to P lines all.1)),
-)
+all_up_to : (P : Data → Type 0) (lines : List Data) → All P lines → All (λ (front : Front). All P (up_to front)) (fronts lines)
+all_up_to P [] all = All-nil (λ (front : Front). All P (up_to front))
+all_up_to P (first ∷ lines) all =
+    let Q : Front → Type 0 = λ front. All P (up_to front) in
+    let here : P first = All-head P first lines all in
+    All-cons Q (record { before = []; line = first }) (map (behind first) (fronts lines)) (All-cons P first [] here (All-nil P))
+    (All-map Q (behind first) (fronts lines)
+    (All-weaker Q (λ (front : Front). Q (behind first front)) (λ front h. All-cons P first (up_to front) here h) (fronts lines) (all_up_to P lines (All-tail P first lines all))))
 
 -- the endpoints of all that is guarded in lines that were read are shallow
-pub lines_shallow : (lines : List Data) → AllByRecursion IsReadable lines → All (AreShallowAt tls_rules) (fronts lines)
+pub lines_shallow : (lines : List Data) → All IsReadable lines → All (AreShallowAt tls_rules) (fronts lines)
 lines_shallow lines readable =
-    All-from_recursion (AreShallowAt tls_rules) (fronts lines) (each_so _ (AreShallowAt tls_rules) (fronts lines) front_shallow (each_up_to IsReadable lines readable))
+    All-weaker (λ (front : Front). All IsReadable (up_to front)) (AreShallowAt tls_rules) front_shallow (fronts lines) (all_up_to IsReadable lines readable)

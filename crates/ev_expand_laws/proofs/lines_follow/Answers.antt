@@ -1,5 +1,5 @@
-use Rattle.ev_expand_laws.proofs.ReadLemmas.{following_reads}
+use Rattle.ev_expand_laws.proofs.ReadLemmas as read
 use Rattle.ev_expand_laws.proofs.lines_follow.Goals as goal
 
 pub returns : goal.returns
-returns c = following_reads
+returns c = read.lines_follow
