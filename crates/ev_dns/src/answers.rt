@@ -1,6 +1,7 @@
 ghost use Rattle.std.specs.Prelude.{◌≡◌, ◌||◌, ℕ, [], List, false, if◌then◌else◌, IfOk, OnOk};
 ghost use Rattle.std.specs.Str.{bytes_eq};
 ghost use Rattle.indexmap.specs.IndexMap.{get};
+ghost use Rattle.indexmap.specs.IndexSet.{insert_all};
 ghost use Rattle.ev_dns.specs.Answers.{each_once};
 ghost use Rattle.ev_dns.specs.Known.{Takes, has_all, has_answer, known_addresses};
 
@@ -77,10 +78,18 @@ fn each_once(alloc: Global, names: Seq<Name>) -> Result<IndexSet<Name>, AllocErr
     ensures { IfOk result (λ set. set.keys ≡ each_once names) }
 {
     let mut set = IndexSet::new(alloc);
+    put_once(&mut set, names)?;
+    Ok(set)
+}
+
+// Puts these names behind those of a set, each once.
+fn put_once(set: &mut IndexSet<Name>, names: Seq<Name>) -> Result<(), AllocError>
+    ensures { OnOk result (set.new.keys ≡ insert_all bytes_eq set.old.keys names) }
+{
     for name in names.into_vec() {
         let Ok(_) = set.insert(name) else {
             return Err(AllocError);
         };
     }
-    Ok(set)
+    Ok(())
 }
