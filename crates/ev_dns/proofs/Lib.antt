@@ -4,4 +4,6 @@ mod OnceLemmas
 mod HostLemmas
 mod OrderLemmas
 mod AnswerLemmas
+mod WaitingLemmas
+mod ProgressLemmas
 mod StateLemmas

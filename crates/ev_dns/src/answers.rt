@@ -1,14 +1,13 @@
-ghost use Rattle.std.specs.Prelude.{◌≡◌, ◌||◌, ℕ, [], List, false, if◌then◌else◌, IfOk, OnOk};
+ghost use Rattle.std.specs.Prelude.{◌≡◌, ◌||◌, ℕ, [], List, false, true, take, slice_get, if◌then◌else◌, IfOk, IfSome, OnOk};
+ghost use Rattle.std.specs.List.{list_all};
 ghost use Rattle.std.specs.Str.{bytes_eq};
 ghost use Rattle.indexmap.specs.IndexMap.{get};
 ghost use Rattle.indexmap.specs.IndexSet.{insert_all};
 ghost use Rattle.ev_dns.specs.Answers.{each_once};
-ghost use Rattle.ev_dns.specs.Known.{Takes, has_all, has_answer, known_addresses};
+ghost use Rattle.ev_dns.specs.Known.{Takes, has_answer, has_row, known_addresses};
 
 use crate::lines::Resolution;
-use crate::templates::rows_of;
-use ev_expand::Key;
-use ev_types::{Name, Seq};
+use ev_types::{HostRow, Name, Seq};
 use indexmap::{IndexMap, IndexSet};
 use std::alloc::{AllocError, Global};
 
@@ -63,13 +62,24 @@ impl Answers {
         self.put(name, IndexSet::new(alloc))
     }
 
-    /// Whether all host names of a template were answered.
-    pub(crate) fn has_all(&self, key: &Key) -> bool
-        ensures { result ≡ has_all self.now key.now }
+    /// The place of the first of these hosts, from one of them on, whose name wasn't answered, or their number.
+    pub(crate) fn first_unanswered(&self, rows: &[HostRow], from: usize) -> usize
+        ensures passed { list_all (has_row self.now) (take from rows.now) ≡ true → list_all (has_row self.now) (take result rows.now) ≡ true }
+        ensures next { IfSome (slice_get rows.now result) (λ row. has_row self.now row ≡ false) }
     {
-        rows_of(key)
-            .iter()
-            .all(|row| self.by_name.contains_key(&row.host.address))
+        for index in from..rows.len() {
+            if !self.has(&rows[index]) {
+                return index;
+            }
+        }
+        rows.len()
+    }
+
+    // Whether the name of a host was answered.
+    fn has(&self, row: &HostRow) -> bool
+        ensures { result ≡ has_row self.now row.now }
+    {
+        self.by_name.contains_key(&row.host.address)
     }
 }
 

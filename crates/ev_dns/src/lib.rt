@@ -7,11 +7,12 @@
 //! - Host names compare byte for byte. An address in the place of a host name waits for its resolution like any name.
 //! - A template is the cluster as it is read with the type STATIC: so the hosts, and what else tells two templates apart, are
 //!   those of the shared reader of clusters.
-//! - Each place stands under the names of its hosts, so a resolution looks only at the places of its name; a line that opens the
-//!   stream looks only at those that are complete. Whether a place is complete is found by a walk over its hosts.
+//! - Each place that isn't complete stands under the first host name that it still waits for, so a resolution wakes only the
+//!   places that wait for its name, and each of them goes on from where it was. The complete ones stand under all their host names.
 #![tactic(auto)]
 
 mod answers;
+mod complete;
 mod hosts;
 mod lines;
 mod looking;
@@ -21,6 +22,7 @@ mod places;
 mod resolutions;
 mod templates;
 mod touching;
+mod waiting;
 
 pub use lines::{DnsLines, Resolution, resolution_in};
 pub use resolutions::expand;

@@ -1,4 +1,4 @@
-use Rattle.std.proofs.Common.{◌≡◌, ℕ, List, Option, None, cond, sym, ap, ◌∙◌}
+use Rattle.std.proofs.Common.{ℕ, List, Option, None, cond, sym, ap, ◌∙◌}
 use Rattle.std.specs.Str.{bytes_eq}
 use Rattle.std.proofs.lemmas.Result.{on_ok_weaker}
 use Rattle.ev_dns.specs.Known.{known_addresses, later_addresses}
