@@ -4,7 +4,7 @@ ghost use Rattle.std.specs.Str.{bytes_eq};
 ghost use Rattle.indexmap.specs.IndexMap.{get};
 ghost use Rattle.indexmap.specs.IndexSet.{insert_all};
 ghost use Rattle.ev_dns.specs.Answers.{each_once};
-ghost use Rattle.ev_dns.specs.Known.{Takes, has_answer, has_row, known_addresses};
+ghost use Rattle.ev_dns.specs.Known.{AnswersOne, GivesOne, Takes, has_answer, has_row, known_addresses};
 
 use crate::lines::Resolution;
 use ev_types::{HostRow, Name, Seq};
@@ -41,9 +41,8 @@ impl Answers {
 
     // Puts the addresses of a name in the place of those of before.
     fn put(&mut self, name: Name, addresses: IndexSet<Name>) -> Result<(), AllocError>
-        ensures answered { OnOk result ((other : List ℕ) → has_answer self.new other ≡ (bytes_eq name other || has_answer self.old other)) }
-        ensures addresses { OnOk result ((other : List ℕ) → known_addresses self.new other
-            ≡ (if bytes_eq name other then addresses.keys else known_addresses self.old other)) }
+        ensures answered { OnOk result (AnswersOne self.old self.new name) }
+        ensures addresses { OnOk result (GivesOne self.old self.new name addresses.keys) }
     {
         let Ok(_) = self.by_name.insert(name, addresses) else {
             return Err(AllocError);
@@ -53,8 +52,9 @@ impl Answers {
 
     // Notes that a name was answered, and keeps its addresses.
     fn note(&mut self, alloc: Global, name: Name) -> Result<(), AllocError>
-        ensures answered { OnOk result ((other : List ℕ) → has_answer self.new other ≡ (bytes_eq name other || has_answer self.old other)) }
-        ensures addresses { OnOk result ((other : List ℕ) → known_addresses self.new other ≡ known_addresses self.old other) }
+        ensures answered { OnOk result (AnswersOne self.old self.new name) }
+        ensures addresses { OnOk result ((other : List ℕ)
+            → known_addresses self.new other ≡ known_addresses self.old other) }
     {
         if self.by_name.contains_key(&name) {
             return Ok(());
@@ -64,7 +64,8 @@ impl Answers {
 
     /// The place of the first of these hosts, from one of them on, whose name wasn't answered, or their number.
     pub(crate) fn first_unanswered(&self, rows: &[HostRow], from: usize) -> usize
-        ensures passed { list_all (has_row self.now) (take from rows.now) ≡ true → list_all (has_row self.now) (take result rows.now) ≡ true }
+        ensures passed { list_all (has_row self.now) (take from rows.now) ≡ true
+            → list_all (has_row self.now) (take result rows.now) ≡ true }
         ensures next { IfSome (slice_get rows.now result) (λ row. has_row self.now row ≡ false) }
     {
         for index in from..rows.len() {

@@ -1,8 +1,7 @@
-ghost use Rattle.std.specs.Prelude.{◌≡◌, ◌||◌, ℕ, ◌∷◌, [], nat_eq, OnOk};
-ghost use Rattle.std.specs.BTreeSet.{contains};
-ghost use Rattle.std.specs.Ordering.{nat_cmp};
+ghost use Rattle.std.specs.Prelude.{◌∷◌, [], nat_eq, OnOk};
 ghost use Rattle.ev_expand.specs.Numbers.{guarded_so_far};
 ghost use Rattle.ev_dns.specs.declared.answers.Answers.{Answers};
+ghost use Rattle.ev_dns.specs.Marking.{Gains};
 ghost use Rattle.ev_dns.specs.Waiting.{AreComplete, EntersComplete};
 
 use crate::places::Places;
@@ -59,7 +58,7 @@ impl Complete {
 
 /// Puts a place among others.
 pub(crate) fn put_place(set: &mut BTreeSet<usize>, place: usize) -> Result<(), AllocError>
-    ensures { OnOk result ((other : ℕ) → contains nat_cmp set.new other ≡ (contains nat_cmp set.old other || nat_eq place other)) }
+    ensures { OnOk result (Gains set.old set.new (nat_eq place)) }
 {
     let Ok(_) = set.insert(place) else {
         return Err(AllocError);

@@ -33,7 +33,8 @@ fn push_hosts(
     row: &HostRow,
 ) -> Result<(), AllocError>
     ensures { OnOk result (map view groups.new.items
-        ≡ map view groups.old.items ++ map (λ address. group_tree (with_address row.now address)) (known_addresses answers.now row.now.host.address)) }
+        ≡ map view groups.old.items
+        ++ map (λ a. group_tree (with_address row.now a)) (known_addresses answers.now row.now.host.address)) }
 {
     let Some(addresses) = answers.by_name.get(&row.host.address) else {
         return Ok(());

@@ -54,8 +54,8 @@ impl Forms for DnsLines {
     }
 }
 
-/// The resolution that a line brings, or none where it isn't such a line: a host name, and addresses unless it failed, each a
-/// text of 1 to 512 bytes.
+/// The resolution that a line brings, or none where it isn't such a line: a host name, and addresses unless it failed,
+/// each a text of 1 to 512 bytes.
 ///
 /// # Errors
 /// `AllocError` where there is no memory for it.

@@ -1,8 +1,9 @@
-ghost use Rattle.std.specs.Prelude.{◌≡◌, ◌&&◌, ◌++◌, ◌∷◌, [], map, slice_get, IfOk, OnOk};
+ghost use Rattle.std.specs.Prelude.{◌≡◌, ◌++◌, ◌∷◌, [], map, slice_get, IfOk, OnOk};
 ghost use Rattle.std.specs.BTreeSet.{contains, IsOrdered};
 ghost use Rattle.std.specs.Ordering.{nat_cmp};
 ghost use Rattle.ev_expand.specs.Following.{due_shown};
 ghost use Rattle.ev_expand.specs.Numbers.{guarded_so_far};
+ghost use Rattle.ev_dns.specs.Marking.{has_both};
 ghost use Rattle.ev_dns.specs.Known.{due_among, due_each, due_parts, due_there};
 
 use crate::answers::Answers;
@@ -30,7 +31,7 @@ pub(crate) fn due_among(
     set: &BTreeSet<usize>,
 ) -> Result<Vec<Due>, AllocError>
     ensures { IfOk result (λ due. map due_shown due.items
-        ≡ due_among answers.now (guarded_so_far numbers.now) (λ place. contains nat_cmp set.now place && contains nat_cmp complete.now place)) }
+        ≡ due_among answers.now (guarded_so_far numbers.now) (has_both set.now complete.now)) }
 {
     let places = in_order(alloc, set)?;
     due_each(alloc, numbers, answers, complete, places.as_slice())
@@ -44,7 +45,8 @@ fn due_each(
     complete: &BTreeSet<usize>,
     places: &[usize],
 ) -> Result<Vec<Due>, AllocError>
-    ensures { IfOk result (λ due. map due_shown due.items ≡ due_each answers.now (guarded_so_far numbers.now) (contains nat_cmp complete.now) places.now) }
+    ensures { IfOk result (λ due. map due_shown due.items
+        ≡ due_each answers.now (guarded_so_far numbers.now) (contains nat_cmp complete.now) places.now) }
 {
     let mut due = Vec::new(alloc);
     for place in places {
@@ -64,7 +66,8 @@ fn push_there(
     is_complete: bool,
 ) -> Result<(), AllocError>
     ensures { OnOk result (map due_shown due.new.items
-        ≡ map due_shown due.old.items ++ due_there answers.now is_complete place (slice_get (guarded_so_far numbers.now) place)) }
+        ≡ map due_shown due.old.items
+        ++ due_there answers.now is_complete place (slice_get (guarded_so_far numbers.now) place)) }
 {
     match numbers.get(place) {
         Some((key, _)) if is_complete => push_due(alloc, due, answers, place, key),
@@ -80,7 +83,8 @@ fn push_due(
     place: usize,
     key: &Key,
 ) -> Result<(), AllocError>
-    ensures { OnOk result (map due_shown due.new.items ≡ map due_shown due.old.items ++ due_parts answers.now place key.now ∷ []) }
+    ensures { OnOk result (map due_shown due.new.items
+        ≡ map due_shown due.old.items ++ due_parts answers.now place key.now ∷ []) }
 {
     let endpoints = Some(endpoints_value(alloc, answers, key)?);
     due.push(Due { place, endpoints })?;

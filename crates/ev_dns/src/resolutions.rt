@@ -12,7 +12,7 @@ ghost use Rattle.ev_dns.specs.Known.{TakesGiven, due_found};
 ghost use Rattle.ev_dns.specs.Lines.{resolution_in};
 ghost use Rattle.ev_dns.specs.Marking.{is_marked, open_after};
 ghost use Rattle.ev_dns.specs.Resolving.{dns_rules};
-ghost use Rattle.ev_dns.specs.State.{IsBehind, IsTouched};
+ghost use Rattle.ev_dns.specs.State.{FromBehind, IsBehind, IsTouched};
 ghost use Rattle.ev_dns.specs.Templates.{by_names};
 
 use crate::answers::Answers;
@@ -66,10 +66,10 @@ impl Resolutions {
     ) -> Result<BTreeSet<usize>, AllocError>
         requires event { event.now ≡ event_of (view line.now) }
         requires places { ArePlaces by_names (view line.now) (guarded_so_far numbers.now) items.now }
-        ensures touched { (before : List Data) → IsBehind self.old before → guarded_so_far numbers.now ≡ guarded_at dns_rules (front_of before (view line.now))
-            → IfOk result (λ set. IsTouched before (view line.now) self.new.complete.places set) }
-        ensures behind { (before : List Data) → IsBehind self.old before → guarded_so_far numbers.now ≡ guarded_at dns_rules (front_of before (view line.now))
-            → OnOk result (IsBehind self.new (before ++ view line.now ∷ [])) }
+        ensures touched { FromBehind self.old numbers.now (view line.now)
+            (λ before. IfOk result (λ set. IsTouched before (view line.now) self.new.complete.places set)) }
+        ensures behind { FromBehind self.old numbers.now (view line.now)
+            (λ before. OnOk result (IsBehind self.new (before ++ view line.now ∷ []))) }
     {
         self.connected = open_after(self.connected, event);
         let resolution = resolution_in(alloc, line)?;
@@ -94,7 +94,8 @@ impl Resolutions {
         touched: &BTreeSet<usize>,
     ) -> Result<Vec<Due>, AllocError>
         ensures due { IfOk result (λ due. map due_shown due.items
-            ≡ due_found self.now.answers (guarded_so_far numbers.now) self.now.connected was_open (contains nat_cmp touched.now) (contains nat_cmp self.now.complete.places)) }
+            ≡ due_found self.now.answers (guarded_so_far numbers.now) self.now.connected was_open
+            (contains nat_cmp touched.now) (contains nat_cmp self.now.complete.places)) }
     {
         if !self.connected {
             return Ok(Vec::new(alloc));
@@ -184,13 +185,13 @@ fn open_after(connected: bool, event: &Option<Event>) -> bool
     }
 }
 
-/// The text of a script whose clusters have names to be resolved, by its header and its lines: resolutions of host names are
-/// lines of their own.
+/// The text of a script whose clusters have names to be resolved, by its header and its lines: resolutions of host
+/// names are lines of their own.
 ///
 /// # Errors
-/// `Private` exactly for the first line that uses a name that begins with `dns/` for endpoints. `Large` where there is none,
-/// exactly for the line with whose output the text goes above a limit of inputs. `OutOfMemory` without memory, and for 2^32
-/// lines and more.
+/// `Private` exactly for the first line that uses a name that begins with `dns/` for endpoints. `Large` where there is
+/// none, exactly for the line with whose output the text goes above a limit of inputs. `OutOfMemory` without memory,
+/// and for 2^32 lines and more.
 pub fn expand(alloc: Global, head: &Value, lines: &[Value]) -> Result<Vec<u8>, ExpandError>
     ensures { IsExpanded dns_rules (view head.now) (map view lines.now) result }
 {

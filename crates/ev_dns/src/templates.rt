@@ -6,7 +6,7 @@ ghost use Rattle.ev_types.specs.declared.contents.Kind.TheVariants.{Cds};
 ghost use Rattle.ev_wire.specs.Bodies.{breaks_v1, breaks_v2, breaks_v3, differs, is_of_type, resource_of};
 ghost use Rattle.ev_wire.specs.Responses.{entry_name, ttl_of};
 ghost use Rattle.ev_expand.specs.Guarding.{body_in};
-ghost use Rattle.ev_dns.specs.Templates.{body_key, is_strict_dns, rows_in, rows_of, static_body, template_key};
+ghost use Rattle.ev_dns.specs.Templates.{body_key, breaks_own, is_strict_dns, rows_in, rows_of, static_body, template_key};
 
 use ev_cluster_json::read_cluster;
 use ev_expand::Key;
@@ -96,8 +96,7 @@ fn static_key(
 
 // Whether a resource breaks a rule by its type, its names or its time to live.
 fn breaks_own(alloc: Global, name: &str, ttl: Found<Span>, body: &Value) -> Result<bool, AllocError>
-    ensures { IfOk result (λ breaks. breaks
-        ≡ (breaks_v1 Cds (view body.now) || breaks_v2 name.now || breaks_v3 Cds name.now (view body.now) || is_wrong ttl || is_not_positive ttl)) }
+    ensures { IfOk result (λ breaks. breaks ≡ breaks_own name.now ttl (view body.now)) }
 {
     let is_cluster = is_cluster(alloc, body)?;
     let renamed = has_another_name(alloc, name, body)?;

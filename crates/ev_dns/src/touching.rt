@@ -2,7 +2,7 @@ ghost use Rattle.std.specs.Prelude.{◌≡◌, ◌||◌, ℕ, IfOk, OnOk};
 ghost use Rattle.std.specs.BTreeSet.{contains};
 ghost use Rattle.std.specs.Ordering.{nat_cmp};
 ghost use Rattle.ev_dns.specs.Known.{stands_named};
-ghost use Rattle.ev_dns.specs.Marking.{is_listed, is_marked, is_place};
+ghost use Rattle.ev_dns.specs.Marking.{Gains, is_listed, is_marked, is_place};
 
 use crate::complete::put_place;
 use crate::places::Places;
@@ -28,7 +28,7 @@ pub(crate) fn touched_by(
 
 // Puts those of these places that are given among others.
 fn put_items(set: &mut BTreeSet<usize>, items: &[Option<usize>]) -> Result<(), AllocError>
-    ensures { OnOk result ((place : ℕ) → contains nat_cmp set.new place ≡ (contains nat_cmp set.old place || is_marked items.now place)) }
+    ensures { OnOk result (Gains set.old set.new (is_marked items.now)) }
 {
     for item in items {
         put_item(set, *item)?;
@@ -38,7 +38,7 @@ fn put_items(set: &mut BTreeSet<usize>, items: &[Option<usize>]) -> Result<(), A
 
 // Puts a place among others, where one is given.
 fn put_item(set: &mut BTreeSet<usize>, item: Option<usize>) -> Result<(), AllocError>
-    ensures { OnOk result ((place : ℕ) → contains nat_cmp set.new place ≡ (contains nat_cmp set.old place || is_place item place)) }
+    ensures { OnOk result (Gains set.old set.new (is_place item)) }
 {
     match item {
         Some(place) => put_place(set, place),
@@ -52,8 +52,7 @@ fn put_named(
     places: &Places,
     name: &Option<Name>,
 ) -> Result<(), AllocError>
-    ensures { OnOk result ((place : ℕ) → contains nat_cmp set.new place
-        ≡ (contains nat_cmp set.old place || stands_named places.now name.now place)) }
+    ensures { OnOk result (Gains set.old set.new (stands_named places.now name.now)) }
 {
     match name {
         Some(name) => put_places(set, places.under(name)),
@@ -63,7 +62,7 @@ fn put_named(
 
 // Puts these places among others.
 fn put_places(set: &mut BTreeSet<usize>, places: &[usize]) -> Result<(), AllocError>
-    ensures { OnOk result ((place : ℕ) → contains nat_cmp set.new place ≡ (contains nat_cmp set.old place || is_listed places.now place)) }
+    ensures { OnOk result (Gains set.old set.new (is_listed places.now)) }
 {
     for place in places {
         put_place(set, *place)?;

@@ -1,9 +1,9 @@
-ghost use Rattle.std.specs.Prelude.{◌≡◌, ◌≤◌, ◌<◌, ◌++◌, ◌∷◌, ℕ, List, [], length, true, slice_index, slice_set, IfOk, OnOk};
+ghost use Rattle.std.specs.Prelude.{◌≡◌, ◌≤◌, ◌++◌, ◌∷◌, ℕ, List, [], length, true, slice_index, slice_set, IfOk, OnOk};
 ghost use Rattle.ev_expand.specs.Numbers.{guarded_so_far};
 ghost use Rattle.ev_dns.specs.declared.answers.Answers.{Answers as the_answers};
 ghost use Rattle.ev_dns.specs.Known.{Leaves, places_under};
 ghost use Rattle.ev_dns.specs.Marking.{is_listed};
-ghost use Rattle.ev_dns.specs.Waiting.{Advances, AdvancesOne, AreWaiting, HavePassed, Wakes};
+ghost use Rattle.ev_dns.specs.Waiting.{Advances, AdvancesOne, AreWaiting, CountsAs, HasFrom, HavePassed, Wakes};
 
 use crate::answers::Answers;
 use crate::places::Places;
@@ -32,8 +32,8 @@ impl Waiting {
         }
     }
 
-    /// Takes up the places that are new, up to a count, and takes those out that wait for a name, where there is one: both may
-    /// go on.
+    /// Takes up the places that are new, up to a count, and takes those out that wait for a name, where there is one:
+    /// both may go on.
     pub(crate) fn wake(
         &mut self,
         alloc: Global,
@@ -41,8 +41,8 @@ impl Waiting {
         name: &Option<Name>,
     ) -> Result<Vec<usize>, AllocError>
         ensures counted { length self.old.passed.items ≤ count → OnOk result (length self.new.passed.items ≡ count) }
-        ensures passed { OnOk result ((n : ℕ) → slice_index self.new.passed.items n ≡ slice_index self.old.passed.items n) }
-        ensures fresh { IfOk result (λ woken. (n : ℕ) → length self.old.passed.items ≤ n → n < count → is_listed woken.items n ≡ true) }
+        ensures passed { OnOk result (CountsAs self.old.passed.items self.new.passed.items) }
+        ensures fresh { IfOk result (λ woken. HasFrom (length self.old.passed.items) count woken.items) }
         ensures wakes { IfOk result (λ woken. Wakes name.now self.old.under self.new.under woken.items) }
     {
         let mut woken = take_up(alloc, &mut self.passed, count)?;
@@ -62,7 +62,8 @@ impl Waiting {
             → OnOk result (HavePassed answers.now (guarded_so_far numbers.now) self.new.passed.items) }
         ensures counted { length self.new.passed.items ≡ length self.old.passed.items }
         ensures advances { HavePassed answers.now (guarded_so_far numbers.now) self.old.passed.items
-            → IfOk result (λ finished. Advances answers.now (guarded_so_far numbers.now) places.now self.old.under self.new.under finished.items) }
+            → IfOk result (λ finished. Advances answers.now (guarded_so_far numbers.now) places.now
+            self.old.under self.new.under finished.items) }
     {
         let mut finished = Vec::new(alloc);
         for place in places {
@@ -84,7 +85,8 @@ impl Waiting {
             → OnOk result (HavePassed answers.now (guarded_so_far numbers.now) self.new.passed.items) }
         ensures counted { length self.new.passed.items ≡ length self.old.passed.items }
         ensures advances { HavePassed answers.now (guarded_so_far numbers.now) self.old.passed.items
-            → OnOk result (AdvancesOne answers.now (guarded_so_far numbers.now) place self.old.under self.new.under finished.old.items finished.new.items) }
+            → OnOk result (AdvancesOne answers.now (guarded_so_far numbers.now) place
+            self.old.under self.new.under finished.old.items finished.new.items) }
     {
         let Some((key, _)) = numbers.get(place) else {
             return Ok(());
@@ -102,8 +104,8 @@ impl Waiting {
 // Takes up the places that are new, up to a count, and gives them.
 fn take_up(alloc: Global, passed: &mut Vec<usize>, count: usize) -> Result<Vec<usize>, AllocError>
     ensures counted { length passed.old.items ≤ count → OnOk result (length passed.new.items ≡ count) }
-    ensures passed { OnOk result ((n : ℕ) → slice_index passed.new.items n ≡ slice_index passed.old.items n) }
-    ensures fresh { IfOk result (λ places. (n : ℕ) → length passed.old.items ≤ n → n < count → is_listed places.items n ≡ true) }
+    ensures passed { OnOk result (CountsAs passed.old.items passed.new.items) }
+    ensures fresh { IfOk result (λ places. HasFrom (length passed.old.items) count places.items) }
 {
     let mut places = Vec::new(alloc);
     for place in passed.len()..count {
