@@ -1,7 +1,6 @@
-ghost use Rattle.std.specs.Prelude.{◌≡◌, ◌||◌, ℕ, [], List, false, true, take, slice_get, if◌then◌else◌, IfOk, IfSome, OnOk};
+ghost use Rattle.std.specs.Prelude.{◌≡◌, ℕ, [], List, false, true, take, slice_get, if◌then◌else◌, IfOk, IfSome, OnOk};
 ghost use Rattle.std.specs.List.{list_all};
 ghost use Rattle.std.specs.Str.{bytes_eq};
-ghost use Rattle.indexmap.specs.IndexMap.{get};
 ghost use Rattle.indexmap.specs.IndexSet.{insert_all};
 ghost use Rattle.ev_dns.specs.Answers.{each_once};
 ghost use Rattle.ev_dns.specs.Known.{AnswersOne, GivesOne, Takes, has_answer, has_row, known_addresses};

@@ -1,6 +1,6 @@
 ghost use Rattle.std.specs.Prelude.{◌≡◌, ◌++◌, map, IfOk, OnOk};
 ghost use Rattle.serde_json.specs.View.{view};
-ghost use Rattle.ev_dns.specs.Hosts.{endpoints_tree, group_tree, hosts_with, resolved_rows, status_text, with_address};
+ghost use Rattle.ev_dns.specs.Hosts.{endpoints_tree, group_tree, hosts_with, status_text, with_address};
 ghost use Rattle.ev_dns.specs.Known.{known_addresses};
 
 use crate::answers::Answers;

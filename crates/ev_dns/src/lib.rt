@@ -1,5 +1,5 @@
-//! Clusters whose hosts are resolved names: a script in which each cluster of the type STRICT_DNS waits for endpoints by
-//! a private name, which are sent when each of its host names was answered, with the addresses of the last answers.
+//! Clusters whose hosts are resolved names: a script in which each cluster of the type STRICT_DNS waits for endpoints
+//! by a private name, which are sent when each of its host names was answered, with the addresses of the last answers.
 //!
 //! # Choices
 //!

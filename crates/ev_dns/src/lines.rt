@@ -1,4 +1,4 @@
-ghost use Rattle.std.specs.Prelude.{◌≡◌, ◌∷◌, option_map, codes, IfOk};
+ghost use Rattle.std.specs.Prelude.{◌≡◌, codes, IfOk};
 ghost use Rattle.serde_json.specs.View.{view};
 ghost use Rattle.ev_script.specs.Members.{member_of, name_of};
 ghost use Rattle.ev_dns.specs.Lines.{given_addresses, addresses_at, resolution_of, resolution_in};

@@ -1,12 +1,12 @@
-ghost use Rattle.std.specs.Prelude.{◌≡◌, ◌||◌, codes, IfOk};
+ghost use Rattle.std.specs.Prelude.{◌≡◌, ◌||◌, IfOk};
 ghost use Rattle.serde_json.specs.View.{view};
-ghost use Rattle.ev_tree.specs.Forms.{found_map, is_wrong, tree_of};
+ghost use Rattle.ev_tree.specs.Forms.{found_map};
 ghost use Rattle.ev_tree.specs.Spans.{is_not_positive};
 ghost use Rattle.ev_types.specs.declared.contents.Kind.TheVariants.{Cds};
-ghost use Rattle.ev_wire.specs.Bodies.{breaks_v1, breaks_v2, breaks_v3, differs, is_of_type, resource_of};
-ghost use Rattle.ev_wire.specs.Responses.{entry_name, ttl_of};
+ghost use Rattle.ev_wire.specs.Bodies.{breaks_v3, differs, is_of_type, resource_of};
+ghost use Rattle.ev_wire.specs.Responses.{ttl_of};
 ghost use Rattle.ev_expand.specs.Guarding.{body_in};
-ghost use Rattle.ev_dns.specs.Templates.{body_key, breaks_own, is_strict_dns, rows_in, rows_of, static_body, template_key};
+ghost use Rattle.ev_dns.specs.Templates.{body_key, breaks_own, is_strict_dns, rows_of, static_body, template_key};
 
 use ev_cluster_json::read_cluster;
 use ev_expand::Key;
