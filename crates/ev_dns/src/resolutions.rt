@@ -53,7 +53,7 @@ impl Resolutions {
         }
     }
 
-    // Takes a line, and answers which places it touches.
+    // Takes a line, and gives the places that it touches.
     fn hear(
         &mut self,
         alloc: Global,
@@ -73,7 +73,7 @@ impl Resolutions {
         let resolution = resolution_in(alloc, line)?;
         let name = name_of(alloc, &resolution)?;
         let woken = self.waiting.wake(alloc, numbers.len(), &name)?;
-        answer(alloc, &mut self.answers, resolution)?;
+        take_given(alloc, &mut self.answers, resolution)?;
         let answers = &self.answers;
         let finished = self
             .waiting
@@ -159,7 +159,7 @@ fn name_of(alloc: Global, resolution: &Option<Resolution>) -> Result<Option<Name
 }
 
 // Takes a resolution, where there is one.
-fn answer(
+fn take_given(
     alloc: Global,
     answers: &mut Answers,
     resolution: Option<Resolution>,

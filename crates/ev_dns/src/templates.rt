@@ -18,6 +18,9 @@ use std::alloc::{AllocError, Global};
 /// The number of the type STRICT_DNS.
 pub const STRICT_DNS: u32 = 1;
 
+// The number of the type STATIC, which a cluster has where none is given.
+const STATIC: u32 = 0;
+
 // The type of clusters.
 const CLUSTER: &str = "type.googleapis.com/envoy.config.cluster.v3.Cluster";
 
@@ -52,7 +55,7 @@ fn is_strict_dns(alloc: Global, body: &Value) -> Result<bool, AllocError>
     ensures { IfOk result (λ is. is ≡ is_strict_dns (view body.now)) }
 {
     let kind = member::enumeration(alloc, Some(body), "type", EnumTable::Discovery)?;
-    Ok(kind.given_or(0) == STRICT_DNS)
+    Ok(kind.given_or(STATIC) == STRICT_DNS)
 }
 
 // The same cluster with the type STATIC.
