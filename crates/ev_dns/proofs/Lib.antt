@@ -1,3 +1,4 @@
+mod LineLemmas
 mod PairLemmas
 mod TemplateLemmas
 mod OnceLemmas

@@ -28,5 +28,5 @@ mod templates;
 mod touching;
 mod waiting;
 
-pub use lines::{DnsLines, Resolution, resolution_in};
+pub use lines::{DnsLines, Resolution, resolution_in, script_lines_are_written};
 pub use resolutions::expand;
