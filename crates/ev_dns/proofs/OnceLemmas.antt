@@ -1,10 +1,10 @@
 -- Names, each once.
-use Rattle.std.proofs.Common.{◌≡◌, ℕ, Bool, true, false, not, cond, ◌||◌, List, [], ◌∷◌, ◌++◌, filter, refl, ap, ◌∙◌}
+use Rattle.std.proofs.Common.{◌≡◌, ℕ, Bool, true, false, not, cond, ◌||◌, List, [], ◌∷◌, ◌++◌, filter, refl, sym, ap, ◌∙◌, append_assoc}
 use Rattle.std.specs.List.{list_any}
 use Rattle.std.specs.Str.{bytes_eq}
 use Rattle.std.proofs.lemmas.List.{append-nil}
 use Rattle.std.proofs.lemmas.List.Elements.{filter-append}
-use Rattle.indexmap.specs.IndexSet.{insert_key}
+use Rattle.indexmap.specs.IndexSet.{insert_key, insert_all}
 use Rattle.ev_types.specs.Same.{bytes_decide}
 use Rattle.ev_dns.specs.Answers.{each_once}
 
@@ -40,3 +40,12 @@ once-push [] one = refl
 once-push (first ∷ names) one =
     ap (λ xs. first ∷ filter (λ other. not (bytes_eq other first)) xs) (once-push names one)
     ∙ once_at (bytes_eq one first) (list_any (bytes_eq one) (each_once names)) one first (each_once names) refl refl
+
+-- names that are put behind those of a set one after another stand there once
+once_behind : (names more : List (List ℕ)) → insert_all bytes_eq (each_once names) more ≡ each_once (names ++ more)
+once_behind names [] = ap each_once (sym (append-nil names))
+once_behind names (one ∷ more) =
+    ap (λ (xs : List (List ℕ)). insert_all bytes_eq xs more) (sym (once-push names one)) ∙ once_behind (names ++ one ∷ []) more ∙ ap each_once (append_assoc names (one ∷ []) more)
+
+pub once_all : (names : List (List ℕ)) → insert_all bytes_eq [] names ≡ each_once names
+once_all names = once_behind [] names

@@ -8,7 +8,7 @@ use Rattle.std.proofs.lemmas.Bool.{cases_lt}
 use Rattle.ev_expand.specs.Guarding.{Guarded}
 use Rattle.ev_expand.specs.Following.{DueParts}
 use Rattle.ev_dns.specs.declared.answers.Answers.{Answers}
-use Rattle.ev_dns.specs.Known.{has_all, due_parts, due_of, due_there, due_each, due_among}
+use Rattle.ev_dns.specs.Known.{due_parts, due_there, due_each, due_among}
 use Rattle.ev_dns.specs.Marking.{is_listed}
 use Rattle.ev_dns.proofs.PairLemmas.{any_same}
 
@@ -63,11 +63,11 @@ none_listed m n (k ∷ ks) h up = rw (apart n k (omega (arith, up.0))) (none_lis
 
 -- ---- what is due at places in order
 
-module _ (answers : Answers) where
+module _ (answers : Answers) (is_sent : ℕ → Bool) where
   abbrev parts : ℕ × Guarded → DueParts
   parts p = due_parts answers p.0 p.1.key
 
-  nothing_there : (m : ℕ) (ks : List ℕ) (at : ℕ → Option Guarded) → Ascend m ks → ((i : ℕ) → at (m + i) ≡ None) → flat_map (λ k. due_there answers k (at k)) ks ≡ []
+  nothing_there : (m : ℕ) (ks : List ℕ) (at : ℕ → Option Guarded) → Ascend m ks → ((i : ℕ) → at (m + i) ≡ None) → flat_map (λ k. due_there answers (is_sent k) k (at k)) ks ≡ []
   nothing_there m [] at up k = refl
   nothing_there m (n ∷ ks) at up k =
       let here : at n ≡ None = (let e : m + (n - m) ≡ n = omega (arith, up.0) in subst (λ (j : ℕ). at j ≡ None) e (k (n - m))) in
@@ -79,23 +79,23 @@ module _ (answers : Answers) where
 
   module _ (has : ℕ → Bool) (at : ℕ → Option Guarded) where
     abbrev passes : ℕ × Guarded → Bool
-    passes p = has p.0 && has_all answers p.1.key
+    passes p = has p.0 && is_sent p.0
 
     abbrev there : ℕ → List DueParts
-    there k = due_there answers k (at k)
+    there k = due_there answers (is_sent k) k (at k)
 
     abbrev Follows : ℕ → List (ℕ × Guarded) → List ℕ → Type 0
     Follows m xs ks = Ascend m ks → ((i : ℕ) → has (m + i) ≡ is_listed ks (m + i)) → flat_map there ks ≡ map parts (filter passes xs)
 
     skipped : (m : ℕ) (g : Guarded) (xs : List (ℕ × Guarded)) (ks : List ℕ) → has m ≡ false → flat_map there ks ≡ map parts (filter passes xs) → flat_map there ks ≡ map parts (filter passes ((m, g) ∷ xs))
-    skipped m g xs ks fails rest = rest ∙ ap (λ (b : Bool). map parts (cond (b && has_all answers g.key) ((m, g) ∷ filter passes xs) (filter passes xs))) (sym fails)
+    skipped m g xs ks fails rest = rest ∙ ap (λ (b : Bool). map parts (cond (b && is_sent m) ((m, g) ∷ filter passes xs) (filter passes xs))) (sym fails)
 
     taken : (m k : ℕ) (g : Guarded) (xs : List (ℕ × Guarded)) (ks : List ℕ) → k ≡ m → at m ≡ Some g → has m ≡ true → flat_map there ks ≡ map parts (filter passes xs)
         → flat_map there (k ∷ ks) ≡ map parts (filter passes ((m, g) ∷ xs))
     taken m k g xs ks e stands holds rest =
-        let first : there k ≡ due_of answers m g.key = ap there e ∙ ap (due_there answers m) stands in
-        (λ i. first i ++ rest i) ∙ given_front (has_all answers g.key) (m, g) (filter passes xs)
-        ∙ ap (λ (b : Bool). map parts (cond (b && has_all answers g.key) ((m, g) ∷ filter passes xs) (filter passes xs))) (sym holds)
+        let first : there k ≡ cond (is_sent m) (due_parts answers m g.key ∷ []) [] = ap there e ∙ ap (due_there answers (is_sent m) m) stands in
+        (λ i. first i ++ rest i) ∙ given_front (is_sent m) (m, g) (filter passes xs)
+        ∙ ap (λ (b : Bool). map parts (cond (b && is_sent m) ((m, g) ∷ filter passes xs) (filter passes xs))) (sym holds)
 
     later_listed : (m k : ℕ) (ks : List ℕ) → k ≤ m → ((i : ℕ) → has (m + i) ≡ is_listed (k ∷ ks) (m + i)) → (i : ℕ) → has (m + 1 + i) ≡ is_listed ks (m + 1 + i)
     later_listed m k ks le h i =
@@ -135,8 +135,8 @@ module _ (answers : Answers) where
       one_more has at m g (enumerate_from (m + 1) gs) ks (subst (λ (j : ℕ). at j ≡ Some g) zero_more (k 0))
       (λ more. picked (m + 1) gs more has at (λ i. let e : m + suc i ≡ m + 1 + i = omega arith in subst (λ (j : ℕ). at j ≡ slice_get gs i) e (k (suc i))))
 
-  -- what is due of a set's places, one after another, is what is due of them in order
-  pub each_among : (gs : List Guarded) (set : BTreeSet ℕ) → IsOrdered nat_cmp set → due_each answers gs set.keys ≡ due_among answers gs (contains nat_cmp set)
+  -- what is due of a set's places, one after another, is what is due of those that it has, in order
+  pub each_among : (gs : List Guarded) (set : BTreeSet ℕ) → IsOrdered nat_cmp set → due_each answers gs is_sent set.keys ≡ due_among answers gs (λ (n : ℕ). contains nat_cmp set n && is_sent n)
   each_among gs set ordered =
       let zero_first : (i : ℕ) → 0 + i ≡ i = λ i. omega arith in
       picked 0 gs set.keys (contains nat_cmp set) (slice_get gs) (λ i. ap (slice_get gs) (zero_first i)) (ascending set.keys ordered) (λ i. sym (listed_as set (0 + i)))

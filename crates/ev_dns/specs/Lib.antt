@@ -5,4 +5,5 @@ pub mod Hosts
 pub mod Resolving
 pub mod Marking
 pub mod Known
+pub mod Waiting
 pub mod State

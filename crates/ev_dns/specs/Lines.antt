@@ -44,11 +44,14 @@ resolution_of tree = option_and_then
 -- the resolution that a line brings, or none where it isn't such a line: it has no other members
 abbrev pub resolution_in : Data → Option Resolution
 resolution_in tree =
-    if is_op (codes "resolved") tree then with_only (codes "name" ∷ codes "addresses" ∷ []) tree (resolution_of tree) else None
+    if is_op (codes "resolved") tree then with_only (codes "name" ∷ codes "addresses" ∷ []) tree (resolution_of tree)
+    else None
 
 -- a line: a resolution names no worker, and all else is as in a script
 abbrev pub dns_line : ℕ → Data → Option (Option ℕ)
-dns_line at tree = if is_op (codes "resolved") tree then option_map (λ resolution. None) (resolution_in tree) else plain_lines.lines at tree
+dns_line at tree =
+    if is_op (codes "resolved") tree then option_map (λ resolution. None) (resolution_in tree)
+    else plain_lines.lines at tree
 
 -- the forms of the lines
 abbrev pub dns_lines : LineForms

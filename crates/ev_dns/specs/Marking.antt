@@ -1,6 +1,8 @@
 -- Which places are given, and whether a stream is open.
-use Rattle.std.specs.Prelude.{ℕ, Bool, false, nat_eq, List, Option, None, Some, option_map, option_and_then, slice_get, unwrap_or}
+use Rattle.std.specs.Prelude.{◌≡◌, ℕ, Bool, false, ◌&&◌, ◌||◌, nat_eq, List, Option, None, Some, option_map, option_and_then, slice_get, unwrap_or}
+use Rattle.std.specs.BTreeSet.{BTreeSet, contains}
 use Rattle.std.specs.List.{list_any}
+use Rattle.std.specs.Ordering.{nat_cmp}
 use Rattle.ev_types.specs.declared.events.Event.{Event}
 use Rattle.ev_expand.specs.Fronts.{stream_said}
 use Rattle.ev_expand.specs.Guarding.{Guarded}
@@ -17,6 +19,14 @@ is_marked items place = list_any (λ (item : Option ℕ). is_place item place) i
 -- the place is one of these
 abbrev pub is_listed : List ℕ → ℕ → Bool
 is_listed places place = list_any (λ (one : ℕ). nat_eq one place) places
+
+-- a set has gained the places that pass a test
+abbrev pub Gains : BTreeSet ℕ → BTreeSet ℕ → (ℕ → Bool) → Type 0
+Gains old new test = (place : ℕ) → contains nat_cmp new place ≡ (contains nat_cmp old place || test place)
+
+-- both sets have the place
+abbrev pub has_both : BTreeSet ℕ → BTreeSet ℕ → ℕ → Bool
+has_both first second place = contains nat_cmp first place && contains nat_cmp second place
 
 -- what stands at a place passes the test
 abbrev pub passes_at : (Guarded → Bool) → List Guarded → ℕ → Bool

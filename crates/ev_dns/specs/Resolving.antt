@@ -1,4 +1,5 @@
--- The text of the command: each template waits until all of its host names were answered, and its hosts are the last answers.
+-- The text of the command: each template waits until all of its host names were answered, and has the hosts of the last
+-- answers.
 use Rattle.std.specs.Prelude.{ℕ, Bool, false, not, ◌&&◌, ◌||◌, List, Option, Some, None, codes}
 use Rattle.std.specs.List.{list_any}
 use Rattle.serde_json.specs.Data.{Data}
@@ -31,8 +32,8 @@ answers_one (Some resolution) key = has_name resolution.name key
 abbrev pub answers_name : Data → Key → Bool
 answers_name line key = answers_one (resolution_in line) key
 
--- what is complete is due where a stream is open: at the line that opens it, at each guarded resource of it, and at each answer of
--- one of its host names
+-- what is complete is due where a stream is open: at the line that opens it, at each guarded resource of it, and at
+-- each answer of one of its host names
 abbrev pub is_due : Front → Guarded → Bool
 is_due front g =
     stream_at (up_to front) && is_complete (up_to front) g.key

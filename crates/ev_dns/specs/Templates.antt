@@ -1,6 +1,6 @@
--- Templates: clusters whose hosts are names to be resolved. They are of the type STRICT_DNS of Envoy's clusters, and are good with
--- the type STATIC in its place.
-use Rattle.std.specs.Prelude.{ℕ, ◌==◌, Bool, List, [], Option, Some, None, if◌then◌else◌, codes}
+-- Templates: clusters whose hosts are names to be resolved. They are of the type STRICT_DNS of Envoy's clusters, and
+-- are good with the type STATIC in its place.
+use Rattle.std.specs.Prelude.{ℕ, ◌==◌, ◌||◌, Bool, List, [], Option, Some, None, if◌then◌else◌, codes}
 use Rattle.std.specs.List.{list_any}
 use Rattle.std.specs.Str.{bytes_eq}
 use Rattle.serde_json.specs.Data.{Data, null, string}
@@ -12,8 +12,12 @@ use Rattle.ev_types.specs.declared.contents.Content.{Content}
 use Rattle.ev_types.specs.declared.contents.Content.TheVariants.{Cluster as a_cluster, Assignment as an_assignment, Listener as a_listener, Routes as routes}
 use Rattle.ev_types.specs.declared.clusters.Discovery.{Discovery}
 use Rattle.ev_types.specs.declared.clusters.Discovery.TheVariants.{Static, Eds}
+use Rattle.ev_tree.specs.declared.outcome.Found.{Found}
+use Rattle.ev_tree.specs.declared.span.Span.{Span}
+use Rattle.ev_tree.specs.Forms.{is_wrong}
+use Rattle.ev_tree.specs.Spans.{is_not_positive}
 use Rattle.ev_cluster_json.specs.Clusters.{type_of}
-use Rattle.ev_wire.specs.Bodies.{resource_of}
+use Rattle.ev_wire.specs.Bodies.{breaks_v1, breaks_v2, breaks_v3, resource_of}
 use Rattle.ev_wire.specs.Responses.{entry_name, ttl_of}
 use Rattle.ev_expand.specs.declared.keys.Key.{Key}
 use Rattle.ev_expand.specs.Editing.{with_value}
@@ -50,6 +54,11 @@ template_key entry = if is_strict_dns (body_in entry) then body_key (read_static
 -- a resource is guarded where it is a template. Nothing is kept of the first of a key: the key has its hosts.
 abbrev pub by_names : Guard
 by_names = record { key_of = template_key; own_of = λ entry. null }
+
+-- a resource breaks a rule by its type, its names or its time to live
+abbrev pub breaks_own : List ℕ → Found Span → Data → Bool
+breaks_own name ttl body =
+    breaks_v1 Cds body || breaks_v2 name || breaks_v3 Cds name body || is_wrong ttl || is_not_positive ttl
 
 -- ---- the hosts of a template
 

@@ -1,13 +1,12 @@
-ghost use Rattle.std.specs.Prelude.{◌≡◌, ◌||◌, ℕ, [], List, false, if◌then◌else◌, IfOk, OnOk};
+ghost use Rattle.std.specs.Prelude.{◌≡◌, ℕ, [], List, false, true, take, slice_get, if◌then◌else◌, IfOk, IfSome, OnOk};
+ghost use Rattle.std.specs.List.{list_all};
 ghost use Rattle.std.specs.Str.{bytes_eq};
-ghost use Rattle.indexmap.specs.IndexMap.{get};
+ghost use Rattle.indexmap.specs.IndexSet.{insert_all};
 ghost use Rattle.ev_dns.specs.Answers.{each_once};
-ghost use Rattle.ev_dns.specs.Known.{Takes, has_all, has_answer, known_addresses};
+ghost use Rattle.ev_dns.specs.Known.{AnswersOne, GivesOne, Takes, has_answer, has_row, known_addresses};
 
 use crate::lines::Resolution;
-use crate::templates::rows_of;
-use ev_expand::Key;
-use ev_types::{Name, Seq};
+use ev_types::{HostRow, Name, Seq};
 use indexmap::{IndexMap, IndexSet};
 use std::alloc::{AllocError, Global};
 
@@ -41,9 +40,8 @@ impl Answers {
 
     // Puts the addresses of a name in the place of those of before.
     fn put(&mut self, name: Name, addresses: IndexSet<Name>) -> Result<(), AllocError>
-        ensures answered { OnOk result ((other : List ℕ) → has_answer self.new other ≡ (bytes_eq name other || has_answer self.old other)) }
-        ensures addresses { OnOk result ((other : List ℕ) → known_addresses self.new other
-            ≡ (if bytes_eq name other then addresses.keys else known_addresses self.old other)) }
+        ensures answered { OnOk result (AnswersOne self.old self.new name) }
+        ensures addresses { OnOk result (GivesOne self.old self.new name addresses.keys) }
     {
         let Ok(_) = self.by_name.insert(name, addresses) else {
             return Err(AllocError);
@@ -53,8 +51,9 @@ impl Answers {
 
     // Notes that a name was answered, and keeps its addresses.
     fn note(&mut self, alloc: Global, name: Name) -> Result<(), AllocError>
-        ensures answered { OnOk result ((other : List ℕ) → has_answer self.new other ≡ (bytes_eq name other || has_answer self.old other)) }
-        ensures addresses { OnOk result ((other : List ℕ) → known_addresses self.new other ≡ known_addresses self.old other) }
+        ensures answered { OnOk result (AnswersOne self.old self.new name) }
+        ensures addresses { OnOk result ((other : List ℕ)
+            → known_addresses self.new other ≡ known_addresses self.old other) }
     {
         if self.by_name.contains_key(&name) {
             return Ok(());
@@ -62,13 +61,25 @@ impl Answers {
         self.put(name, IndexSet::new(alloc))
     }
 
-    /// Whether all host names of a template were answered.
-    pub(crate) fn has_all(&self, key: &Key) -> bool
-        ensures { result ≡ has_all self.now key.now }
+    /// The place of the first of these hosts, from one of them on, whose name wasn't answered, or their number.
+    pub(crate) fn first_unanswered(&self, rows: &[HostRow], from: usize) -> usize
+        ensures passed { list_all (has_row self.now) (take from rows.now) ≡ true
+            → list_all (has_row self.now) (take result rows.now) ≡ true }
+        ensures next { IfSome (slice_get rows.now result) (λ row. has_row self.now row ≡ false) }
     {
-        rows_of(key)
-            .iter()
-            .all(|row| self.by_name.contains_key(&row.host.address))
+        for index in from..rows.len() {
+            if !self.has(&rows[index]) {
+                return index;
+            }
+        }
+        rows.len()
+    }
+
+    // Whether the name of a host was answered.
+    fn has(&self, row: &HostRow) -> bool
+        ensures { result ≡ has_row self.now row.now }
+    {
+        self.by_name.contains_key(&row.host.address)
     }
 }
 
@@ -77,10 +88,18 @@ fn each_once(alloc: Global, names: Seq<Name>) -> Result<IndexSet<Name>, AllocErr
     ensures { IfOk result (λ set. set.keys ≡ each_once names) }
 {
     let mut set = IndexSet::new(alloc);
+    put_once(&mut set, names)?;
+    Ok(set)
+}
+
+// Puts these names behind those of a set, each once.
+fn put_once(set: &mut IndexSet<Name>, names: Seq<Name>) -> Result<(), AllocError>
+    ensures { OnOk result (set.new.keys ≡ insert_all bytes_eq set.old.keys names) }
+{
     for name in names.into_vec() {
         let Ok(_) = set.insert(name) else {
             return Err(AllocError);
         };
     }
-    Ok(set)
+    Ok(())
 }

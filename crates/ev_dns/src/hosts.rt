@@ -1,6 +1,6 @@
 ghost use Rattle.std.specs.Prelude.{◌≡◌, ◌++◌, map, IfOk, OnOk};
 ghost use Rattle.serde_json.specs.View.{view};
-ghost use Rattle.ev_dns.specs.Hosts.{endpoints_tree, group_tree, hosts_with, resolved_rows, status_text, with_address};
+ghost use Rattle.ev_dns.specs.Hosts.{endpoints_tree, group_tree, hosts_with, status_text, with_address};
 ghost use Rattle.ev_dns.specs.Known.{known_addresses};
 
 use crate::answers::Answers;
@@ -33,7 +33,8 @@ fn push_hosts(
     row: &HostRow,
 ) -> Result<(), AllocError>
     ensures { OnOk result (map view groups.new.items
-        ≡ map view groups.old.items ++ map (λ address. group_tree (with_address row.now address)) (known_addresses answers.now row.now.host.address)) }
+        ≡ map view groups.old.items
+        ++ map (λ a. group_tree (with_address row.now a)) (known_addresses answers.now row.now.host.address)) }
 {
     let Some(addresses) = answers.by_name.get(&row.host.address) else {
         return Ok(());

@@ -1,7 +1,10 @@
-ghost use Rattle.std.specs.Prelude.{◌≡◌, ◌∷◌, option_map, codes, IfOk};
+ghost use Rattle.std.specs.Prelude.{◌≡◌, ℕ, true, is_some, codes, IfOk};
+ghost use Rattle.serde_json.specs.Data.{Data};
 ghost use Rattle.serde_json.specs.View.{view};
 ghost use Rattle.ev_script.specs.Members.{member_of, name_of};
-ghost use Rattle.ev_dns.specs.Lines.{given_addresses, addresses_at, resolution_of, resolution_in};
+ghost use Rattle.ev_script.specs.Faults.{plain_lines};
+ghost use Rattle.ev_dns.specs.Resolving.{is_written};
+ghost use Rattle.ev_dns.specs.Lines.{dns_lines, given_addresses, addresses_at, resolution_of, resolution_in};
 
 use crate::members::{has_only, is_op};
 use crate::names::{read_name, read_names};
@@ -54,8 +57,8 @@ impl Forms for DnsLines {
     }
 }
 
-/// The resolution that a line brings, or none where it isn't such a line: a host name, and addresses unless it failed, each a
-/// text of 1 to 512 bytes.
+/// The resolution that a line brings, or none where it isn't such a line: a host name, and addresses unless it failed,
+/// each a text of 1 to 512 bytes.
 ///
 /// # Errors
 /// `AllocError` where there is no memory for it.
@@ -70,6 +73,13 @@ pub fn resolution_in(alloc: Global, tree: &Value) -> Result<Option<Resolution>, 
     }
     resolution_of(alloc, tree)
 }
+
+/// Each line of an input is written exactly where it is a line of a script: a law of the definitions.
+#[tactic(auto, using(crate::proofs::LineLemmas::written_where_plain))]
+pub fn script_lines_are_written()
+    ensures { (at : ℕ) (tree : Data) → is_some (dns_lines.lines at tree) ≡ true
+        → is_written tree ≡ is_some (plain_lines.lines at tree) }
+{}
 
 // A resolution, by its members.
 fn resolution_of(alloc: Global, tree: &Value) -> Result<Option<Resolution>, AllocError>

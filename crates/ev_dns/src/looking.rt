@@ -1,14 +1,13 @@
-ghost use Rattle.std.specs.Prelude.{◌≡◌, ◌&&◌, ◌||◌, ℕ, nat_eq, ◌++◌, map, slice_get, IfOk, OnOk};
+ghost use Rattle.std.specs.Prelude.{◌≡◌, ◌++◌, ◌∷◌, [], map, slice_get, IfOk, OnOk};
 ghost use Rattle.std.specs.BTreeSet.{contains, IsOrdered};
 ghost use Rattle.std.specs.Ordering.{nat_cmp};
 ghost use Rattle.ev_expand.specs.Following.{due_shown};
 ghost use Rattle.ev_expand.specs.Numbers.{guarded_so_far};
-ghost use Rattle.ev_dns.specs.Known.{due_among, due_each, due_of, due_there, has_all};
-ghost use Rattle.ev_dns.specs.Marking.{is_listed, passes_at};
+ghost use Rattle.ev_dns.specs.Marking.{has_both};
+ghost use Rattle.ev_dns.specs.Known.{due_among, due_each, due_parts, due_there};
 
 use crate::answers::Answers;
 use crate::hosts::endpoints_value;
-use crate::touching::put_place;
 use ev_expand::{Due, Key, Numbers};
 use std::alloc::{AllocError, Global};
 use std::collections::BTreeSet;
@@ -23,71 +22,19 @@ fn in_order(alloc: Global, set: &BTreeSet<usize>) -> Result<Vec<usize>, AllocErr
     set.iter().copied().collect(alloc)
 }
 
-// Puts those of the touched places that are complete among others.
-pub(crate) fn put_complete(
-    alloc: Global,
-    complete: &mut BTreeSet<usize>,
-    numbers: &Numbers,
-    answers: &Answers,
-    touched: &BTreeSet<usize>,
-) -> Result<(), AllocError>
-    ensures { OnOk result ((place : ℕ) → contains nat_cmp complete.new place
-        ≡ (contains nat_cmp complete.old place
-        || (contains nat_cmp touched.now place && passes_at (λ g. has_all answers.now g.key) (guarded_so_far numbers.now) place))) }
-{
-    let places = in_order(alloc, touched)?;
-    put_each(complete, numbers, answers, places.as_slice())
-}
-
-// Puts those of these places that are complete among others.
-fn put_each(
-    complete: &mut BTreeSet<usize>,
-    numbers: &Numbers,
-    answers: &Answers,
-    places: &[usize],
-) -> Result<(), AllocError>
-    ensures { OnOk result ((place : ℕ) → contains nat_cmp complete.new place
-        ≡ (contains nat_cmp complete.old place
-        || (is_listed places.now place && passes_at (λ g. has_all answers.now g.key) (guarded_so_far numbers.now) place))) }
-{
-    for place in places {
-        put_passing(complete, *place, is_complete(numbers, answers, *place))?;
-    }
-    Ok(())
-}
-
-// Puts a place among others, where it passes.
-fn put_passing(set: &mut BTreeSet<usize>, place: usize, passes: bool) -> Result<(), AllocError>
-    ensures { OnOk result ((other : ℕ) → contains nat_cmp set.new other
-        ≡ (contains nat_cmp set.old other || (nat_eq place other && passes))) }
-{
-    if passes {
-        return put_place(set, place);
-    }
-    Ok(())
-}
-
-// Whether what stands at a place is complete.
-fn is_complete(numbers: &Numbers, answers: &Answers, place: usize) -> bool
-    ensures { result ≡ passes_at (λ g. has_all answers.now g.key) (guarded_so_far numbers.now) place }
-{
-    match numbers.get(place) {
-        Some((key, _)) => answers.has_all(key),
-        None => false,
-    }
-}
-
-// What is due of the places of a set: those that are complete, with their endpoints.
+// What is due of the places of a set that are complete, with their endpoints.
 pub(crate) fn due_among(
     alloc: Global,
     numbers: &Numbers,
     answers: &Answers,
+    complete: &BTreeSet<usize>,
     set: &BTreeSet<usize>,
 ) -> Result<Vec<Due>, AllocError>
-    ensures { IfOk result (λ due. map due_shown due.items ≡ due_among answers.now (guarded_so_far numbers.now) (contains nat_cmp set.now)) }
+    ensures { IfOk result (λ due. map due_shown due.items
+        ≡ due_among answers.now (guarded_so_far numbers.now) (has_both set.now complete.now)) }
 {
     let places = in_order(alloc, set)?;
-    due_each(alloc, numbers, answers, places.as_slice())
+    due_each(alloc, numbers, answers, complete, places.as_slice())
 }
 
 // What is due of these places.
@@ -95,35 +42,40 @@ fn due_each(
     alloc: Global,
     numbers: &Numbers,
     answers: &Answers,
+    complete: &BTreeSet<usize>,
     places: &[usize],
 ) -> Result<Vec<Due>, AllocError>
-    ensures { IfOk result (λ due. map due_shown due.items ≡ due_each answers.now (guarded_so_far numbers.now) places.now) }
+    ensures { IfOk result (λ due. map due_shown due.items
+        ≡ due_each answers.now (guarded_so_far numbers.now) (contains nat_cmp complete.now) places.now) }
 {
     let mut due = Vec::new(alloc);
     for place in places {
-        push_there(alloc, &mut due, numbers, answers, *place)?;
+        let is_complete = complete.contains(place);
+        push_there(alloc, &mut due, numbers, answers, *place, is_complete)?;
     }
     Ok(due)
 }
 
-// Puts what is due at a place behind these.
+// Puts what stands at a place behind these, where it is complete.
 fn push_there(
     alloc: Global,
     due: &mut Vec<Due>,
     numbers: &Numbers,
     answers: &Answers,
     place: usize,
+    is_complete: bool,
 ) -> Result<(), AllocError>
     ensures { OnOk result (map due_shown due.new.items
-        ≡ map due_shown due.old.items ++ due_there answers.now place (slice_get (guarded_so_far numbers.now) place)) }
+        ≡ map due_shown due.old.items
+        ++ due_there answers.now is_complete place (slice_get (guarded_so_far numbers.now) place)) }
 {
     match numbers.get(place) {
-        Some((key, _)) => push_due(alloc, due, answers, place, key),
-        None => Ok(()),
+        Some((key, _)) if is_complete => push_due(alloc, due, answers, place, key),
+        _ => Ok(()),
     }
 }
 
-// Puts a template behind these, where it is complete.
+// Puts a template behind these, with its endpoints.
 fn push_due(
     alloc: Global,
     due: &mut Vec<Due>,
@@ -131,11 +83,9 @@ fn push_due(
     place: usize,
     key: &Key,
 ) -> Result<(), AllocError>
-    ensures { OnOk result (map due_shown due.new.items ≡ map due_shown due.old.items ++ due_of answers.now place key.now) }
+    ensures { OnOk result (map due_shown due.new.items
+        ≡ map due_shown due.old.items ++ due_parts answers.now place key.now ∷ []) }
 {
-    if !answers.has_all(key) {
-        return Ok(());
-    }
     let endpoints = Some(endpoints_value(alloc, answers, key)?);
     due.push(Due { place, endpoints })?;
     Ok(())

@@ -33,7 +33,8 @@ pub(crate) fn has_only(tree: &Value, names: &[&str]) -> bool
 
 // Whether each member has one of these names.
 fn are_among(members: &Map<String, Value>, names: &[&str]) -> bool
-    ensures { result ≡ list_all (λ key. list_any (λ name. bytes_eq (string_bytes key) name.now) names.now) (keys members.now) }
+    ensures { result
+        ≡ list_all (λ key. list_any (λ name. bytes_eq (string_bytes key) name.now) names.now) (keys members.now) }
 {
     members.keys().all(|key| is_among(key.as_str(), names))
 }

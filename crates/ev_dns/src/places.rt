@@ -1,31 +1,26 @@
-ghost use Rattle.std.specs.Prelude.{◌≡◌, ◌++◌, ℕ, [], List, length, OnOk};
-ghost use Rattle.ev_expand.specs.Numbers.{guarded_so_far};
-ghost use Rattle.ev_expand.specs.Guarding.{Guarded};
-ghost use Rattle.ev_dns.specs.Known.{Enters, EntersAll, places_under};
-ghost use Rattle.ev_dns.specs.State.{ArePlaced};
+ghost use Rattle.std.specs.Prelude.{◌≡◌, ℕ, [], List, OnOk};
+ghost use Rattle.std.specs.Option.{unwrap_or};
+ghost use Rattle.ev_dns.specs.Known.{Enters, EntersAll, Leaves, places_under};
 
 use crate::templates::rows_of;
-use ev_expand::{Key, Numbers};
+use ev_expand::Key;
 use ev_types::{Name, Seq, TryCopy};
 use indexmap::IndexMap;
 use std::alloc::{AllocError, Global};
 
-/// Places, under the names of their hosts.
+/// Places, under names.
 #[derive(Drop)]
 pub(crate) struct Places {
     pub by_name: IndexMap<Name, Seq<usize>>,
-    /// How many places there are.
-    pub count: usize,
 }
 
 impl Places {
     /// No place. It takes no memory.
     pub(crate) fn new(alloc: Global) -> Places
-        ensures { ArePlaced result [] }
+        ensures { (name : List ℕ) → places_under result name ≡ [] }
     {
         Places {
             by_name: IndexMap::new(alloc),
-            count: 0,
         }
     }
 
@@ -39,23 +34,13 @@ impl Places {
         }
     }
 
-    /// Takes the places that are new.
-    pub(crate) fn take_new(&mut self, alloc: Global, numbers: &Numbers) -> Result<(), AllocError>
-        ensures { (before more : List Guarded) → ArePlaced self.old before → guarded_so_far numbers.now ≡ before ++ more
-            → OnOk result (ArePlaced self.new (guarded_so_far numbers.now)) }
-    {
-        for place in self.count..numbers.len() {
-            let Some((key, _)) = numbers.get(place) else {
-                unreachable!();
-            };
-            self.put_all(alloc, key, place)?;
-        }
-        self.count = numbers.len();
-        Ok(())
-    }
-
-    // Puts a place under all host names of a template.
-    fn put_all(&mut self, alloc: Global, key: &Key, place: usize) -> Result<(), AllocError>
+    /// Puts a place under all host names of a template.
+    pub(crate) fn put_all(
+        &mut self,
+        alloc: Global,
+        key: &Key,
+        place: usize,
+    ) -> Result<(), AllocError>
         ensures { OnOk result (EntersAll self.old self.new key.now place) }
     {
         for row in rows_of(key) {
@@ -64,8 +49,8 @@ impl Places {
         Ok(())
     }
 
-    // Puts a place behind those under a name.
-    fn put(&mut self, alloc: Global, name: &Name, place: usize) -> Result<(), AllocError>
+    /// Puts a place behind those under a name.
+    pub(crate) fn put(&mut self, alloc: Global, name: &Name, place: usize) -> Result<(), AllocError>
         ensures { OnOk result (Enters self.old self.new name.now place) }
     {
         if let Some(places) = self.by_name.get_mut(name) {
@@ -77,5 +62,13 @@ impl Places {
             return Err(AllocError);
         };
         Ok(())
+    }
+
+    /// Takes the places under a name out, where there are some.
+    pub(crate) fn take(&mut self, name: &Name) -> Option<Seq<usize>>
+        ensures taken { unwrap_or result [] ≡ places_under self.old name.now }
+        ensures left { Leaves self.old self.new name.now }
+    {
+        self.by_name.swap_remove(name)
     }
 }

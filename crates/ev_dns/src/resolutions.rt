@@ -1,29 +1,28 @@
-ghost use Rattle.std.specs.Prelude.{◌≡◌, ◌∷◌, ◌++◌, ℕ, [], List, map, IfOk, OnOk};
-ghost use Rattle.std.specs.BTreeSet.{contains, IsOrdered};
+ghost use Rattle.std.specs.Prelude.{◌≡◌, ◌∷◌, ◌++◌, [], map, option_map, IfOk, OnOk};
+ghost use Rattle.std.specs.BTreeSet.{contains};
 ghost use Rattle.std.specs.Ordering.{nat_cmp};
-ghost use Rattle.serde_json.specs.Data.{Data};
 ghost use Rattle.serde_json.specs.View.{view};
-ghost use Rattle.ev_expand.specs.Expanding.{IsExpanded, guarded_at};
+ghost use Rattle.ev_expand.specs.Expanding.{IsExpanded};
 ghost use Rattle.ev_expand.specs.Following.{due_shown};
 ghost use Rattle.ev_expand.specs.Fronts.{event_of};
-ghost use Rattle.ev_expand.specs.Growing.{front_of};
 ghost use Rattle.ev_expand.specs.Numbers.{ArePlaces, guarded_so_far};
-ghost use Rattle.ev_dns.specs.Known.{TakesGiven, due_found, stands_answered};
+ghost use Rattle.ev_dns.specs.Known.{TakesGiven, due_found};
 ghost use Rattle.ev_dns.specs.Lines.{resolution_in};
-ghost use Rattle.ev_dns.specs.Marking.{is_marked, open_after};
+ghost use Rattle.ev_dns.specs.Marking.{open_after};
 ghost use Rattle.ev_dns.specs.Resolving.{dns_rules};
-ghost use Rattle.ev_dns.specs.State.{IsBehind, IsTouched};
+ghost use Rattle.ev_dns.specs.State.{FromBehind, IsBehind, IsTouched};
 ghost use Rattle.ev_dns.specs.Templates.{by_names};
 
 use crate::answers::Answers;
+use crate::complete::Complete;
 use crate::lines::{Resolution, resolution_in};
-use crate::looking::{due_among, put_complete};
+use crate::looking::due_among;
 use crate::members::is_op;
-use crate::places::Places;
 use crate::templates::template_key;
 use crate::touching::touched_by;
+use crate::waiting::Waiting;
 use ev_expand::{Due, ExpandError, Expansion, Key, Numbers, expand_with};
-use ev_types::{Event, Item};
+use ev_types::{Event, Item, Name, TryCopy};
 use serde_json::{Value, json};
 use std::alloc::{AllocError, Global};
 use std::collections::BTreeSet;
@@ -35,10 +34,10 @@ pub(crate) struct Resolutions {
     pub connected: bool,
     // The host names that were answered.
     pub answers: Answers,
-    // The places, by host name.
-    pub places: Places,
-    // The places that are complete.
-    pub complete: BTreeSet<usize>,
+    // What the places that aren't complete wait for.
+    pub waiting: Waiting,
+    // The complete places.
+    pub complete: Complete,
 }
 
 impl Resolutions {
@@ -49,12 +48,12 @@ impl Resolutions {
         Resolutions {
             connected: false,
             answers: Answers::new(alloc),
-            places: Places::new(alloc),
-            complete: BTreeSet::new(alloc),
+            waiting: Waiting::new(alloc),
+            complete: Complete::new(alloc),
         }
     }
 
-    // Takes a line, and answers which places it touches.
+    // Takes a line, and gives the places that it touches.
     fn hear(
         &mut self,
         alloc: Global,
@@ -65,18 +64,23 @@ impl Resolutions {
     ) -> Result<BTreeSet<usize>, AllocError>
         requires event { event.now ≡ event_of (view line.now) }
         requires places { ArePlaces by_names (view line.now) (guarded_so_far numbers.now) items.now }
-        ensures touched { (before : List Data) → IsBehind self.old before → guarded_so_far numbers.now ≡ guarded_at dns_rules (front_of before (view line.now))
-            → IfOk result (λ set. IsTouched before (view line.now) set) }
-        ensures behind { (before : List Data) → IsBehind self.old before → guarded_so_far numbers.now ≡ guarded_at dns_rules (front_of before (view line.now))
-            → OnOk result (IsBehind self.new (before ++ view line.now ∷ [])) }
+        ensures touched { FromBehind self.old numbers.now (view line.now)
+            (λ before. IfOk result (λ set. IsTouched before (view line.now) self.new.complete.places set)) }
+        ensures behind { FromBehind self.old numbers.now (view line.now)
+            (λ before. OnOk result (IsBehind self.new (before ++ view line.now ∷ []))) }
     {
         self.connected = open_after(self.connected, event);
         let resolution = resolution_in(alloc, line)?;
-        self.places.take_new(alloc, numbers)?;
-        let touched = touched_by(alloc, &self.places, items, &resolution)?;
-        answer(alloc, &mut self.answers, resolution)?;
-        put_complete(alloc, &mut self.complete, numbers, &self.answers, &touched)?;
-        Ok(touched)
+        let name = name_of(alloc, &resolution)?;
+        let woken = self.waiting.wake(alloc, numbers.len(), &name)?;
+        take_given(alloc, &mut self.answers, resolution)?;
+        let answers = &self.answers;
+        let finished = self
+            .waiting
+            .advance_all(alloc, answers, numbers, woken.as_slice())?;
+        self.complete
+            .enter_all(alloc, numbers, finished.as_slice())?;
+        touched_by(alloc, &self.complete.served, items, &name)
     }
 
     // What is due behind a line that touches these places, by whether a stream was open before it.
@@ -88,15 +92,17 @@ impl Resolutions {
         touched: &BTreeSet<usize>,
     ) -> Result<Vec<Due>, AllocError>
         ensures due { IfOk result (λ due. map due_shown due.items
-            ≡ due_found self.now.answers (guarded_so_far numbers.now) self.now.connected was_open (contains nat_cmp touched.now) (contains nat_cmp self.now.complete)) }
+            ≡ due_found self.now.answers (guarded_so_far numbers.now) self.now.connected was_open
+            (contains nat_cmp touched.now) (contains nat_cmp self.now.complete.places)) }
     {
         if !self.connected {
             return Ok(Vec::new(alloc));
         }
+        let complete = &self.complete.places;
         if was_open {
-            return due_among(alloc, numbers, &self.answers, touched);
+            return due_among(alloc, numbers, &self.answers, complete, touched);
         }
-        due_among(alloc, numbers, &self.answers, &self.complete)
+        due_among(alloc, numbers, &self.answers, complete, complete)
     }
 }
 
@@ -142,8 +148,18 @@ impl Expansion for Resolutions {
     }
 }
 
+// The host name that is resolved, where there is a resolution.
+fn name_of(alloc: Global, resolution: &Option<Resolution>) -> Result<Option<Name>, AllocError>
+    ensures { IfOk result (λ name. name ≡ option_map (λ r. r.name) resolution.now) }
+{
+    match resolution {
+        Some(resolution) => Ok(Some(resolution.name.copy(alloc)?)),
+        None => Ok(None),
+    }
+}
+
 // Takes a resolution, where there is one.
-fn answer(
+fn take_given(
     alloc: Global,
     answers: &mut Answers,
     resolution: Option<Resolution>,
@@ -167,13 +183,13 @@ fn open_after(connected: bool, event: &Option<Event>) -> bool
     }
 }
 
-/// The text of a script whose clusters have names to be resolved, by its header and its lines: resolutions of host names are
-/// lines of their own.
+/// The text of a script whose clusters have names to be resolved, by its header and its lines: resolutions of host
+/// names are lines of their own.
 ///
 /// # Errors
-/// `Private` exactly for the first line that uses a name that begins with `dns/` for endpoints. `Large` where there is none,
-/// exactly for the line with whose output the text goes above a limit of inputs. `OutOfMemory` without memory, and for 2^32
-/// lines and more.
+/// `Private` exactly for the first line that uses a name that begins with `dns/` for endpoints. `Large` where there is
+/// none, exactly for the line with whose output the text goes above a limit of inputs. `OutOfMemory` without memory,
+/// and for 2^32 lines and more.
 pub fn expand(alloc: Global, head: &Value, lines: &[Value]) -> Result<Vec<u8>, ExpandError>
     ensures { IsExpanded dns_rules (view head.now) (map view lines.now) result }
 {

@@ -1,12 +1,12 @@
-ghost use Rattle.std.specs.Prelude.{◌≡◌, ◌||◌, codes, IfOk};
+ghost use Rattle.std.specs.Prelude.{◌≡◌, ◌||◌, IfOk};
 ghost use Rattle.serde_json.specs.View.{view};
-ghost use Rattle.ev_tree.specs.Forms.{found_map, is_wrong, tree_of};
+ghost use Rattle.ev_tree.specs.Forms.{found_map};
 ghost use Rattle.ev_tree.specs.Spans.{is_not_positive};
 ghost use Rattle.ev_types.specs.declared.contents.Kind.TheVariants.{Cds};
-ghost use Rattle.ev_wire.specs.Bodies.{breaks_v1, breaks_v2, breaks_v3, differs, is_of_type, resource_of};
-ghost use Rattle.ev_wire.specs.Responses.{entry_name, ttl_of};
+ghost use Rattle.ev_wire.specs.Bodies.{breaks_v3, differs, is_of_type, resource_of};
+ghost use Rattle.ev_wire.specs.Responses.{ttl_of};
 ghost use Rattle.ev_expand.specs.Guarding.{body_in};
-ghost use Rattle.ev_dns.specs.Templates.{body_key, is_strict_dns, rows_in, rows_of, static_body, template_key};
+ghost use Rattle.ev_dns.specs.Templates.{body_key, breaks_own, is_strict_dns, rows_of, static_body, template_key};
 
 use ev_cluster_json::read_cluster;
 use ev_expand::Key;
@@ -17,6 +17,9 @@ use std::alloc::{AllocError, Global};
 
 /// The number of the type STRICT_DNS.
 pub const STRICT_DNS: u32 = 1;
+
+// The number of the type STATIC, which a cluster has where none is given.
+const STATIC: u32 = 0;
 
 // The type of clusters.
 const CLUSTER: &str = "type.googleapis.com/envoy.config.cluster.v3.Cluster";
@@ -52,7 +55,7 @@ fn is_strict_dns(alloc: Global, body: &Value) -> Result<bool, AllocError>
     ensures { IfOk result (λ is. is ≡ is_strict_dns (view body.now)) }
 {
     let kind = member::enumeration(alloc, Some(body), "type", EnumTable::Discovery)?;
-    Ok(kind.given_or(0) == STRICT_DNS)
+    Ok(kind.given_or(STATIC) == STRICT_DNS)
 }
 
 // The same cluster with the type STATIC.
@@ -96,8 +99,7 @@ fn static_key(
 
 // Whether a resource breaks a rule by its type, its names or its time to live.
 fn breaks_own(alloc: Global, name: &str, ttl: Found<Span>, body: &Value) -> Result<bool, AllocError>
-    ensures { IfOk result (λ breaks. breaks
-        ≡ (breaks_v1 Cds (view body.now) || breaks_v2 name.now || breaks_v3 Cds name.now (view body.now) || is_wrong ttl || is_not_positive ttl)) }
+    ensures { IfOk result (λ breaks. breaks ≡ breaks_own name.now ttl (view body.now)) }
 {
     let is_cluster = is_cluster(alloc, body)?;
     let renamed = has_another_name(alloc, name, body)?;

@@ -1,4 +1,5 @@
-use Rattle.std.proofs.Common.{ap, ◌∙◌}
+use Rattle.std.proofs.Common.{nat_cmp, ap, ◌∙◌}
+use Rattle.std.specs.BTreeSet.{contains}
 use Rattle.std.proofs.lemmas.Result.{IfOk-weaker}
 use Rattle.ev_expand.specs.Numbers.{guarded_so_far}
 use Rattle.ev_dns.specs.Known.{due_each}
@@ -8,6 +9,6 @@ use Rattle.ev_dns.proofs.looking.due_among.Goals as goal
 pub returns : goal.returns
 returns c =
     IfOk-weaker c.due_each.result _ _
-    (λ due h. h ∙ ap (due_each c.args.answers.now (guarded_so_far c.args.numbers.now)) (c.as_slice.ensures.value ∙ c.in_ok-places.ensures.places)
-    ∙ each_among c.args.answers.now (guarded_so_far c.args.numbers.now) c.args.set.now c.in_ok-places.ensures.ordered)
+    (λ due h. h ∙ ap (due_each c.args.answers.now (guarded_so_far c.args.numbers.now) (contains nat_cmp c.args.complete.now)) (c.as_slice.ensures.value ∙ c.in_ok-places.ensures.places)
+    ∙ each_among c.args.answers.now (contains nat_cmp c.args.complete.now) (guarded_so_far c.args.numbers.now) c.args.set.now c.in_ok-places.ensures.ordered)
     c.due_each.ensures

@@ -14,6 +14,6 @@ returns-clause-due c = λ before behind kept.
     let s = c.hear.new.self in
     IfOk-weaker c.find_due.result _ _
     (λ due h. h
-    ∙ ap (λ (gs : List Guarded). due_found s.answers gs s.connected c.args.self.now.connected (contains nat_cmp c.in_ok-touched.touched) (contains nat_cmp s.complete)) kept
-    ∙ due_now before (view c.args.line.now) s.answers c.in_ok-touched.touched s.complete s.connected c.args.self.now.connected now.stream behind.stream now.answers touched now.complete)
+    ∙ ap (λ (gs : List Guarded). due_found s.answers gs s.connected c.args.self.now.connected (contains nat_cmp c.in_ok-touched.touched) (contains nat_cmp s.complete.places)) kept
+    ∙ due_now before (view c.args.line.now) s.answers s.complete c.in_ok-touched.touched s.connected c.args.self.now.connected now.stream behind.stream now.answers now.complete touched)
     c.find_due.ensures.due
