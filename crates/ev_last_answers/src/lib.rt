@@ -6,8 +6,9 @@
 //! - The law is said of every run of the script that the command writes, in both formats, and so of one with threads.
 //! - It speaks of a template by the private name of its place, and of that name only where it is watched: of other names nothing
 //!   is kept.
-//! - It looks at the stream's entries by the last line that a line of the input gave, and where they leave the stream open: within
-//!   the lines of one, what is due is still on its way, and on a closed stream nothing is told, though resolutions count.
+//! - It looks at the stream's entries by the last line that a line of the input gave, what a script's `auto` does behind that line
+//!   too, and where they leave the stream open: within the lines of one, what is due is still on its way, and on a closed stream
+//!   nothing is told, though resolutions count.
 //! - What it says of the hosts depends on the last success of each name alone. So the order in which different names are answered
 //!   changes nothing in the end.
 //! - It is said of any trees, also of ones that weren't read from an input: the number of a line in the text is its place,
