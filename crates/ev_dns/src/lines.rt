@@ -16,6 +16,7 @@ use std::alloc::{AllocError, Global};
 /// What a line says of the resolution of a host name.
 #[derive(Drop)]
 pub struct Resolution {
+    /// The host name.
     pub name: Name,
     /// The addresses, or none where the resolution failed.
     pub addresses: Option<Seq<Name>>,
