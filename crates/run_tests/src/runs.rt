@@ -34,7 +34,7 @@ const SERVED: &str = r#"{"workers":1}
 "#;
 
 // A cluster that is published, and a worker that has nothing to do but settle.
-const PUBLISHED: &str = r#"{"workers":1}
+pub(crate) const PUBLISHED: &str = r#"{"workers":1}
 {"op":"connect"}
 {"op":"response","message":{"typeUrl":"type.googleapis.com/envoy.config.cluster.v3.Cluster","nonce":"1","resources":[{"name":"c","version":"v1","resource":{"@type":"type.googleapis.com/envoy.config.cluster.v3.Cluster","name":"c","type":"STATIC","loadAssignment":{"clusterName":"c","endpoints":[{"lbEndpoints":[{"endpoint":{"address":{"socketAddress":{"address":"10.0.0.1","portValue":80}}}}]}]}}}]}}
 {"op":"disconnect"}
@@ -49,7 +49,7 @@ const MAIN: Actor = Actor::Main;
 
 const WORKER: Actor = Actor::Worker(0);
 
-fn read(alloc: Global, text: &str) -> Result<Script, Fail> {
+pub(crate) fn read(alloc: Global, text: &str) -> Result<Script, Fail> {
     let mut lines = Lines::new(alloc)?;
     let text = text.as_bytes().to_vec(alloc)?;
     let mut source = MemSource::new(text, 65_536, Vec::new(alloc));
