@@ -1,5 +1,6 @@
 """The examples of commands but replay: a folder of examples/ each, in which NAME.jsonl is an input, NAME.out what the program writes of
-it, NAME.txt what tools/explain prints of that, and NAME.words the words, where they aren't the folder's name alone."""
+it, NAME.txt what tools/explain prints of that, NAME.words the words, where they aren't the folder's name alone, and NAME.journal.jsonl
+the journal of the replay of what is written, where that is a script."""
 import io
 import os
 import sys
@@ -21,6 +22,14 @@ def explained_whole(path):
     return ['--sotw', f'{path}.jsonl', f'{path}.out'], os.devnull
 
 
+def explained_with_secrets(path):
+    return ['--secrets', f'{path}.jsonl', f'{path}.out', f'{path}.journal.jsonl'], os.devnull
+
+
+def explained_replay(path):
+    return [f'{path}.out', f'{path}.journal.jsonl'], os.devnull
+
+
 def explained_dump(path):
     return ['--dump'], f'{path}.out'
 
@@ -30,6 +39,8 @@ COMMANDS = {
     'audit': explained_with_input,
     'soak': None,
     'dump': explained_dump,
+    'tls': explained_with_secrets,
+    'dns': explained_replay,
     'chains': None,
     'sotw': explained_whole,
 }

@@ -5,7 +5,7 @@ import tempfile
 
 from trials import TOP, called, content, loaded, written
 
-PLACE = f'{TOP}/tools/trials/expanded/tls/two_secrets'
+PLACE = f'{TOP}/examples/tls/two_secrets'
 EDS = 'type.googleapis.com/envoy.config.endpoint.v3.ClusterLoadAssignment'
 CDS = 'type.googleapis.com/envoy.config.cluster.v3.Cluster'
 
