@@ -1,7 +1,14 @@
-"""The program on inputs that are cut: each command that it has ends as the first fault of the cut input says, which the tools search too."""
+"""The program on inputs that are cut: each command that it has ends and writes as the definition of the cut input says, by the tools' own
+reckoning."""
+import concurrent.futures
+import os
+
 import trials
 from shared import script
-from shared.dumped import refusal
+from shared.dumped import dumped, refusal
+from shared.finding import LEGAL, walked
+from shared.json_text import compact
+from shared.replayed import replayed
 from trials import TOP, chained, content, expansions, ran
 
 INPUTS = {'replay': 'crates/worked_rows/data/realistic.in', 'run': 'crates/worked_rows/data/realistic.in', 'audit': 'examples/audit/legal.jsonl',
@@ -12,15 +19,24 @@ DUMPED = 10
 
 
 def run(check):
+    for command, path in INPUTS.items():
+        if command != 'run':
+            told = expected(command, content(f'{TOP}/{path}'))
+            check(told == (0, content(f'{TOP}/{path.rpartition(".")[0]}.out'), b''), f'{command} of {path} is reckoned otherwise: {told}')
+    try_cuts(check, cuts)
+
+
+def try_cuts(check, cuts_of):
+    """Tries the program on each command's input cut at these places of it."""
     path = trials.program()
     for command in trials.commands_of(path) if path else ():
         if command in INPUTS:
             words = [command] + [str(DUMPED)] * (command == 'dump')
             data = content(f'{TOP}/{INPUTS[command]}')
-            for cut in cuts(data):
-                status, errors = ended(command, data[:cut])
-                told = ran(path, *words, data=data[:cut])
-                check((told[0], told[2].decode().strip()) == (status, errors), f'{path} {command} at byte {cut} of {INPUTS[command]}: {told[0]} {told[2]}, wanted {status} {errors}')
+            with concurrent.futures.ThreadPoolExecutor(os.cpu_count()) as pool:
+                for cut, told in pool.map(lambda cut: (cut, ran(path, *words, data=data[:cut])), cuts_of(data)):
+                    wanted = expected(command, data[:cut])
+                    check(is_as_wanted(told, wanted, data[:cut]), f'{path} {command} at byte {cut} of {INPUTS[command]}: {told}, wanted {wanted}')
 
 
 def cuts(data):
@@ -32,17 +48,27 @@ def cuts(data):
     return sorted(found)
 
 
-def ended(command, data):
-    """(exit status, what stands on standard error) of a command on an input."""
+def expected(command, data):
+    """(exit status, output, what stands on standard error) of a command on an input; None as the output of one without fault of `run`."""
     if command == 'chains':
-        status, _, errors = chained.expected(data)
-        return status, errors.decode().strip()
+        return chained.expected(data)
     if command in ('tls', 'dns', 'sotw'):
-        status, _, errors = expansions.expected(command, data)
-        return status, errors.decode().strip()
+        return expansions.expected(command, data)
     reading = script.read_script(data, command in ('audit', 'dump'))
     if reading.faults:
-        return 3, f'line {reading.faults[0].line}: fault {reading.faults[0].kind}'
+        return 3, b'', f'line {reading.faults[0].line}: fault {reading.faults[0].kind}\n'.encode()
     if command == 'dump' and refusal(reading, DUMPED):
-        return 3, f'line {reading.count}: fault 12'
-    return 0, ''
+        return 3, b'', f'line {reading.count}: fault 12\n'.encode()
+    if command == 'dump':
+        return 0, compact(dumped(reading, DUMPED)) + b'\n', b''
+    if command == 'audit':
+        return 0, b'{"finding":"legal"}\n', b''
+    return 0, replayed(data) if command == 'replay' else None, b''
+
+
+def is_as_wanted(told, wanted, data):
+    """Whether a run ended so. Without an output that is wanted, the journal has to be legal for the script."""
+    if wanted[1] is not None:
+        return told == wanted
+    reading = script.read_script(data + b'\n' * (not data.endswith(b'\n')) + told[1], audit=True)
+    return (told[0], told[2]) == (wanted[0], wanted[2]) and not reading.faults and walked(reading).finding == LEGAL

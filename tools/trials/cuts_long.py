@@ -1,0 +1,6 @@
+"""The program on each command's input cut behind each of its bytes."""
+from trials import cuts
+
+
+def run(check):
+    cuts.try_cuts(check, lambda data: range(len(data) + 1))
