@@ -1,0 +1,10 @@
+mod LineLemmas
+mod PairLemmas
+mod TemplateLemmas
+mod OnceLemmas
+mod HostLemmas
+mod OrderLemmas
+mod AnswerLemmas
+mod WaitingLemmas
+mod ProgressLemmas
+mod StateLemmas

@@ -1,0 +1,126 @@
+ghost use Rattle.std.specs.Prelude.{◌≡◌, ℕ, true, is_some, codes, IfOk};
+ghost use Rattle.serde_json.specs.Data.{Data};
+ghost use Rattle.serde_json.specs.View.{view};
+ghost use Rattle.ev_script.specs.Members.{member_of, name_of};
+ghost use Rattle.ev_script.specs.Faults.{plain_lines};
+ghost use Rattle.ev_dns.specs.Resolving.{is_written};
+ghost use Rattle.ev_dns.specs.Lines.{dns_lines, given_addresses, addresses_at, resolution_of, resolution_in};
+
+use crate::members::{has_only, is_op};
+use crate::names::{read_name, read_names};
+use ev_script::{FormedLine, Forms, LineTrees};
+use ev_types::{Name, Seq};
+use serde_json::Value;
+use std::alloc::{AllocError, Global};
+
+/// What a line says of the resolution of a host name.
+#[derive(Drop)]
+pub struct Resolution {
+    /// The host name.
+    pub name: Name,
+    /// The addresses, or none where the resolution failed.
+    pub addresses: Option<Seq<Name>>,
+}
+
+/// The lines of a script with resolutions, each kept as its tree: all but the resolutions are as in a script.
+#[derive(Clone, Copy, Debug)]
+pub struct DnsLines;
+
+impl Forms for DnsLines {
+    ghost use Rattle.ev_dns.specs.Lines.{dns_lines};
+
+    type Kept = Value;
+
+    ghost forms = { dns_lines };
+
+    ghost keeps = { λ at tree kept. view kept ≡ tree };
+
+    fn read_head(&self, alloc: Global, tree: &Value) -> Result<Option<u32>, AllocError> {
+        LineTrees.read_head(alloc, tree)
+    }
+
+    fn read(
+        &self,
+        alloc: Global,
+        at: u32,
+        tree: Value,
+    ) -> Result<Option<FormedLine<Value>>, AllocError> {
+        if !is_op("resolved", &tree) {
+            return LineTrees.read(alloc, at, tree);
+        }
+        if resolution_in(alloc, &tree)?.is_none() {
+            return Ok(None);
+        }
+        Ok(Some(FormedLine {
+            kept: tree,
+            worker: None,
+        }))
+    }
+}
+
+/// The resolution that a line brings, or none where it isn't such a line: a host name, and addresses unless it failed,
+/// each a text of 1 to 512 bytes.
+///
+/// # Errors
+/// `AllocError` where there is no memory for it.
+pub fn resolution_in(alloc: Global, tree: &Value) -> Result<Option<Resolution>, AllocError>
+    ensures { IfOk result (λ found. found ≡ resolution_in (view tree.now)) }
+{
+    if !is_op("resolved", tree) {
+        return Ok(None);
+    }
+    if !has_only(tree, &["op", "name", "addresses"]) {
+        return Ok(None);
+    }
+    resolution_of(alloc, tree)
+}
+
+/// Each line of an input is written exactly where it is a line of a script: a law of the definitions.
+#[tactic(auto, using(crate::proofs::LineLemmas::written_where_plain))]
+pub fn script_lines_are_written()
+    ensures { (at : ℕ) (tree : Data) → is_some (dns_lines.lines at tree) ≡ true
+        → is_written tree ≡ is_some (plain_lines.lines at tree) }
+{}
+
+// A resolution, by its members.
+fn resolution_of(alloc: Global, tree: &Value) -> Result<Option<Resolution>, AllocError>
+    ensures { IfOk result (λ found. found ≡ resolution_of (view tree.now)) }
+{
+    let Some(name) = host_name(alloc, tree)? else {
+        return Ok(None);
+    };
+    match addresses_at(alloc, tree)? {
+        Some(addresses) => Ok(Some(Resolution { name, addresses })),
+        None => Ok(None),
+    }
+}
+
+// The host name of a resolution.
+fn host_name(alloc: Global, tree: &Value) -> Result<Option<Name>, AllocError>
+    ensures { IfOk result (λ name. name ≡ member_of name_of (codes "name") (view tree.now)) }
+{
+    match tree.get("name") {
+        Some(name) => read_name(alloc, name),
+        None => Ok(None),
+    }
+}
+
+// The addresses that a resolution gives; where the member is absent, it failed.
+fn addresses_at(alloc: Global, tree: &Value) -> Result<Option<Option<Seq<Name>>>, AllocError>
+    ensures { IfOk result (λ addresses. addresses ≡ addresses_at (view tree.now)) }
+{
+    match tree.get("addresses") {
+        Some(addresses) => given_addresses(alloc, addresses),
+        None => Ok(Some(None)),
+    }
+}
+
+// Addresses that are given.
+fn given_addresses(alloc: Global, tree: &Value) -> Result<Option<Option<Seq<Name>>>, AllocError>
+    ensures { IfOk result (λ addresses. addresses ≡ given_addresses (view tree.now)) }
+{
+    match read_names(alloc, tree)? {
+        Some(names) => Ok(Some(Some(names))),
+        None => Ok(None),
+    }
+}

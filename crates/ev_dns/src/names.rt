@@ -1,0 +1,57 @@
+ghost use Rattle.std.specs.Prelude.{◌≡◌, ◌≤◌, length, map, Some, IfOk};
+ghost use Rattle.serde_json.specs.View.{view};
+ghost use Rattle.ev_types.specs.declared.limits.TheConstants.{MAX_NAME_LENGTH};
+ghost use Rattle.ev_script.specs.Members.{name_of};
+ghost use Rattle.ev_dns.specs.Lines.{all_names, names_of};
+
+use ev_types::{MAX_NAME_LENGTH, Name, NameError, Seq};
+use serde_json::Value;
+use std::alloc::{AllocError, Global};
+
+// The elements of an array of names, or none where it isn't one.
+#[tactic(auto, using(ev_tree::proofs::Elements::the_elements), unfolding(ev_tree::specs::Scalars::list_in))]
+pub(crate) fn read_names(alloc: Global, tree: &Value) -> Result<Option<Seq<Name>>, AllocError>
+    ensures { IfOk result (λ names. names ≡ names_of (view tree.now)) }
+{
+    match tree.as_array() {
+        Some(elements) => read_all(alloc, elements.as_slice()),
+        None => Ok(None),
+    }
+}
+
+// Each of these trees as the name that it is, or none where one isn't a name.
+fn read_all(alloc: Global, elements: &[Value]) -> Result<Option<Seq<Name>>, AllocError>
+    ensures { IfOk result (λ names. names ≡ all_names (map view elements.now)) }
+{
+    let mut names = Vec::with_capacity(alloc, elements.len())?;
+    for element in elements {
+        match read_name(alloc, element)? {
+            Some(name) => names.push(name)?,
+            None => return Ok(None),
+        }
+    }
+    Ok(Some(Seq::from_vec(names)))
+}
+
+// The name that a value is: a text of 1 to 512 bytes.
+pub(crate) fn read_name(alloc: Global, tree: &Value) -> Result<Option<Name>, AllocError>
+    ensures { IfOk result (λ made. made ≡ name_of (view tree.now)) }
+{
+    match tree.as_str() {
+        Some(text) if 1 <= text.len() && text.len() <= MAX_NAME_LENGTH => made_name(alloc, text),
+        _ => Ok(None),
+    }
+}
+
+// The name of these bytes.
+fn made_name(alloc: Global, text: &str) -> Result<Option<Name>, AllocError>
+    requires low { 1 ≤ length text.now }
+    requires high { length text.now ≤ MAX_NAME_LENGTH }
+    ensures { IfOk result (λ made. made ≡ Some text.now) }
+{
+    match Name::new(alloc, text) {
+        Ok(name) => Ok(Some(name)),
+        Err(NameError::Length) => unreachable!(),
+        Err(NameError::OutOfMemory) => Err(AllocError),
+    }
+}
