@@ -5,6 +5,7 @@ use Rattle.std.specs.Map.{lookup}
 use Rattle.ev_secrets.specs.declared.awaited.Awaited.{Awaited}
 use Rattle.ev_secrets.specs.Awaited.{awaited_same}
 
+-- lists of places, each under what they wait for
 abbrev pub PlacesKept : Type 0
 PlacesKept = List (Awaited × List ℕ)
 
