@@ -13,6 +13,7 @@ use Rattle.ev_expand.specs.declared.outcome.ExpandError.TheVariants.{Private, La
 use Rattle.ev_expand_laws.specs.Said.{lines_in, input_of_text, expanded_script}
 use Rattle.ev_dns.specs.Lines.{dns_lines}
 use Rattle.ev_dns.specs.Resolving.{dns_rules}
+use Rattle.ev_last_answers.specs.LastAnswers.{LastAnswers}
 use Rattle.ev_app.specs.declared.commands.Command.TheVariants.{Dns}
 use Rattle.ev_app.specs.declared.made.Made.{Made}
 use Rattle.ev_app.specs.declared.status.Status.TheVariants.{Done}
@@ -25,13 +26,13 @@ use Rattle.ev_app.proofs.ExpandLemmas.{has_made, text_made, never_unmade}
 use Rattle.ev_app.proofs.TreeLemmas.{whole_trees}
 
 -- the text that was made
-pub dns_told : (trees : ScriptTrees) (text : Vec ℕ Global) (made : Made) → IsExpanded dns_rules (view trees.head) (lines_in trees) (Ok text)
+pub dns_told : (trees : ScriptTrees) (text : Vec ℕ Global) (made : Made) → LastAnswers → IsExpanded dns_rules (view trees.head) (lines_in trees) (Ok text)
     → HasNoFault plain_lines (input_of_text text.items) → script_of false text.items ≡ Some (expanded_script dns_rules trees)
     → made.status ≡ Done → made.text ≡ text → IsDnsAnswer trees (Ok made)
-dns_told trees text made told sound script done same = (
+dns_told trees text made law told sound script done same = (
   has_made dns_rules trees text told,
   done,
-  record { made = text_made dns_rules trees text made.text told sound script same },
+  record { made = text_made dns_rules trees text made.text told sound script same; last = λ format journal. law trees format journal told.0 },
 )
 
 -- why none was

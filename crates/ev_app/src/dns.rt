@@ -13,6 +13,7 @@ use crate::status::Status;
 use crate::trees::read_trees_of;
 use ev_dns::DnsLines;
 use ev_io::{ScriptFault, Source};
+use ev_last_answers::answers_are_last;
 use ev_resolved::resolve;
 use ev_script::ScriptTrees;
 use std::alloc::Global;
@@ -37,6 +38,8 @@ fn dns_made(alloc: Global, trees: &ScriptTrees) -> Result<Made, ScriptFault>
     ensures answer { IsDnsAnswer trees.now result }
     ensures read { result ≢ Err ScriptFault.Read }
 {
+    // what is told of endpoints in each run of a script that is written
+    answers_are_last();
     match resolve(alloc, trees) {
         Ok(text) => Ok(Made {
             text,
