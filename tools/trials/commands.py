@@ -26,6 +26,10 @@ def explained_with_secrets(path):
     return ['--secrets', f'{path}.jsonl', f'{path}.out', f'{path}.journal.jsonl'], os.devnull
 
 
+def explained_replay(path):
+    return [f'{path}.out', f'{path}.journal.jsonl'], os.devnull
+
+
 def explained_dump(path):
     return ['--dump'], f'{path}.out'
 
@@ -36,6 +40,7 @@ COMMANDS = {
     'soak': None,
     'dump': explained_dump,
     'tls': explained_with_secrets,
+    'dns': explained_replay,
     'chains': None,
     'sotw': explained_whole,
 }

@@ -13,6 +13,7 @@ from trials import TOP, chained, content, expansions, ran
 
 INPUTS = {'replay': 'crates/worked_rows/data/realistic.in', 'run': 'crates/worked_rows/data/realistic.in', 'audit': 'examples/audit/legal.jsonl',
           'dump': 'examples/dump/draining.jsonl', 'tls': 'examples/tls/two_secrets.jsonl',
+          'dns': 'examples/dns/two_names.jsonl',
           'chains': 'examples/chains/update_one.jsonl', 'sotw': 'examples/sotw/session.jsonl'}
 MOST = 400
 DUMPED = 10

@@ -170,7 +170,7 @@ def run(check):
     path = trials.program()
     built = trials.commands_of(path) if path else []
     for command in ('tls', 'dns', 'sotw'):
-        folder = f'{TOP}/examples/{command}' if os.path.isdir(f'{TOP}/examples/{command}') else f'{TOP}/tools/trials/expanded/{command}'
+        folder = f'{TOP}/examples/{command}'
         for name in sorted(os.listdir(folder)):
             if name.endswith('.out'):
                 data = content(f'{folder}/{name[:-4]}.jsonl')

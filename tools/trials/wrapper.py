@@ -24,7 +24,7 @@ read -r status || status=4
 exit "$status"
 '''
 HINT = b'warmgate: tools/why SCRIPT says'
-USAGE = b'usage: warmgate replay | run | audit | soak SEED COUNT | tls | chains | sotw | dump K\n'
+USAGE = b'usage: warmgate replay | run | audit | soak SEED COUNT | tls | dns | chains | sotw | dump K\n'
 
 # (words, status, what standard output begins with, what standard error has)
 WORDS = [
@@ -42,6 +42,7 @@ WORDS = [
     (['replay', 'my script.jsonl'], 2, b'', USAGE + b"warmgate: the input comes by standard input: ./warmgate replay < 'my script.jsonl'"),
     (['replay', 'a', 'b'], 2, b'', USAGE + b"warmgate: the input comes by standard input: ./warmgate replay < 'a'"),
     (['tls', 'script.jsonl'], 2, b'', USAGE + b"warmgate: the input comes by standard input: ./warmgate tls < 'script.jsonl'"),
+    (['dns', 'script.jsonl'], 2, b'', USAGE + b"warmgate: the input comes by standard input: ./warmgate dns < 'script.jsonl'"),
     (['soak'], 2, b'', USAGE + b'warmgate: a soak has a seed and a count'),
     (['soak', '1', '1', '1'], 2, b'', USAGE + b'warmgate: a soak has a seed and a count'),
     (['soak', '01', '5'], 2, b'', USAGE + b"warmgate: '01' is no seed"),
@@ -131,7 +132,7 @@ def statuses(check, trial):
         check((HINT in errors) == (wanted == 3) and bool(errors) == (wanted == 3), f'warmgate of a status {wanted} says {errors}')
     errors = trial.start('audit')[2]
     check(errors.startswith(b'warmgate: tools/why --audit BOTH says'), f'warmgate audit of a status 3 says {errors}')
-    for command, file in (('tls', 'SCRIPT'), ('chains', 'INPUT'), ('sotw', 'SCRIPT')):
+    for command, file in (('tls', 'SCRIPT'), ('dns', 'SCRIPT'), ('chains', 'INPUT'), ('sotw', 'SCRIPT')):
         errors = trial.start(command)[2]
         check(errors.startswith(f'warmgate: tools/why --for {command} {file} says'.encode()), f'warmgate {command} of a status 3 says {errors}')
     status, out, errors = trial.start('dump', '4294967295')

@@ -1,5 +1,5 @@
 -- The status that goes with an answer.
-use Rattle.std.proofs.Common.{◌≡◌, ℕ, List, ◌⊎◌, inl, inr, refl, sym, subst}
+use Rattle.std.proofs.Common.{◌≡◌, ℕ, List, ◌⊎◌, inl, inr, sym, subst}
 use Rattle.std.specs.Io.KnownBytes.{append_known}
 use Rattle.ev_types.specs.Scripts.{ScriptParts}
 use Rattle.ev_types.specs.declared.journals.Finding.{Finding}
@@ -10,7 +10,7 @@ use Rattle.ev_model.specs.Finding.{finding_of}
 use Rattle.ev_app.specs.Audits.{status_found}
 use Rattle.ev_app.specs.Dumps.{IsDumpText}
 use Rattle.ev_app.specs.declared.commands.Command.{Command}
-use Rattle.ev_app.specs.declared.commands.Command.TheVariants.{Replay, Run, Audit, Soak, Tls, Chains, Sotw, Dump}
+use Rattle.ev_app.specs.declared.commands.Command.TheVariants.{Replay, Run, Audit, Soak, Tls, Dns, Chains, Sotw, Dump}
 use Rattle.ev_app.specs.declared.status.Status.{Status}
 use Rattle.ev_app.specs.declared.status.Status.TheVariants.{Done, Illegal, OutOfMemory}
 use Rattle.ev_app.specs.Texts.{Answers, IsAnswered}
@@ -36,6 +36,7 @@ done_or_illegal Replay bytes status text is = inl is.0
 done_or_illegal Run bytes status text is = inl is.0
 done_or_illegal Audit bytes status text is = by_finding (finding_of is.format is.script is.rows) is.audited.goes
 done_or_illegal Tls bytes status text is = inl is.0
+done_or_illegal Dns bytes status text is = inl is.0
 done_or_illegal Chains bytes status text is = inl is.0
 done_or_illegal Sotw bytes status text is = inl is.0
 done_or_illegal (Dump entries) bytes status text is = by_dump is.dumped
@@ -47,6 +48,7 @@ answered Replay bytes status text is = inl is.0
 answered Run bytes status text is = inl is.0
 answered Audit bytes status text is = audit_answered (by_finding (finding_of is.format is.script is.rows) is.audited.goes)
 answered Tls bytes status text is = inl is.0
+answered Dns bytes status text is = inl is.0
 answered Chains bytes status text is = inl is.0
 answered Sotw bytes status text is = inl is.0
 answered (Dump entries) bytes status text is = audit_answered (by_dump is.dumped)

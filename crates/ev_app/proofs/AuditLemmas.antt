@@ -1,15 +1,15 @@
 -- What an audit makes of what was read.
-use Rattle.std.proofs.Common.{◌≡◌, ℕ, true, List, Option, Result, Ok, Err, inl, inr}
+use Rattle.std.proofs.Common.{ℕ, true, List, Option, Result, Ok, Err, inl}
 use Rattle.ev_io.specs.declared.faults.ScriptFault.{ScriptFault}
 use Rattle.ev_io.specs.declared.faults.ScriptFault.TheVariants.{Bad, Read, OutOfMemory as lacks_memory}
 use Rattle.ev_script.specs.Faults.{Input}
 use Rattle.ev_audit_input.specs.declared.audited.Audited.{Audited}
-use Rattle.ev_audit_input.specs.Faults.{IsFaultWithJournal, HasNoFaultWithJournal}
+use Rattle.ev_audit_input.specs.Faults.{IsFaultWithJournal}
 use Rattle.ev_audit_input.specs.Parts.{ReadsAuditInput}
 use Rattle.ev_app.specs.declared.commands.Command.TheVariants.{Audit, Dump}
 use Rattle.ev_app.specs.declared.made.Made.{Made}
 use Rattle.ev_app.specs.Audits.{IsAuditText}
-use Rattle.ev_app.specs.Faults.{IsFirstEarly, IsFaultFor, HasNoneFor, NoneEarly}
+use Rattle.ev_app.specs.Faults.{IsFirstEarly}
 use Rattle.ev_app.specs.Input.{TakesInput}
 use Rattle.ev_app.specs.Texts.{IsMadeBy}
 

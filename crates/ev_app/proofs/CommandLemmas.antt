@@ -4,9 +4,8 @@ use Rattle.std.specs.Fmt.{decimal}
 use Rattle.std.specs.Str.{bytes_eq}
 use Rattle.std.specs.Str.Parse.{digits_value}
 use Rattle.std.proofs.lemmas.Fmt.{decimal_injective, decimal_is_IsNumeral}
-use Rattle.ev_soak.specs.declared.soaking.TheConstants.{MAX_SOAK}
 use Rattle.ev_app.specs.declared.commands.Command.{Command}
-use Rattle.ev_app.specs.declared.commands.Command.TheVariants.{Replay, Run, Audit, Soak, Tls, Chains, Sotw, Dump}
+use Rattle.ev_app.specs.declared.commands.Command.TheVariants.{Replay, Run, Audit, Soak, Tls, Dns, Chains, Sotw, Dump}
 use Rattle.ev_app.specs.declared.status.Status.{Status}
 use Rattle.ev_app.specs.Commands.{Asks, IsSoak, IsWithin, words_of}
 use Rattle.ev_app.specs.Texts.{IsAnswered}
@@ -90,16 +89,17 @@ soak_has_three words seed count asks = ap length asks.words
 
 -- arguments that are no command's words ask for none
 pub none_asked : (words : List (List ℕ)) → (words ≡ codes "replay" ∷ [] → ⊥) → (words ≡ codes "run" ∷ [] → ⊥)
-    → (words ≡ codes "audit" ∷ [] → ⊥) → (words ≡ codes "tls" ∷ [] → ⊥) → (words ≡ codes "chains" ∷ [] → ⊥) → (words ≡ codes "sotw" ∷ [] → ⊥) → ((seed count : ℕ) → Asks words (Soak seed count) → ⊥) → ((entries : ℕ) → Asks words (Dump entries) → ⊥)
+    → (words ≡ codes "audit" ∷ [] → ⊥) → (words ≡ codes "tls" ∷ [] → ⊥) → (words ≡ codes "dns" ∷ [] → ⊥) → (words ≡ codes "chains" ∷ [] → ⊥) → (words ≡ codes "sotw" ∷ [] → ⊥) → ((seed count : ℕ) → Asks words (Soak seed count) → ⊥) → ((entries : ℕ) → Asks words (Dump entries) → ⊥)
     → (command : Command) → Asks words command → ⊥
-none_asked words no_replay no_run no_audit no_tls no_chains no_sotw no_soak no_dump Replay asks = no_replay asks.words
-none_asked words no_replay no_run no_audit no_tls no_chains no_sotw no_soak no_dump Run asks = no_run asks.words
-none_asked words no_replay no_run no_audit no_tls no_chains no_sotw no_soak no_dump Audit asks = no_audit asks.words
-none_asked words no_replay no_run no_audit no_tls no_chains no_sotw no_soak no_dump (Soak seed count) asks = no_soak seed count asks
-none_asked words no_replay no_run no_audit no_tls no_chains no_sotw no_soak no_dump Tls asks = no_tls asks.words
-none_asked words no_replay no_run no_audit no_tls no_chains no_sotw no_soak no_dump Chains asks = no_chains asks.words
-none_asked words no_replay no_run no_audit no_tls no_chains no_sotw no_soak no_dump Sotw asks = no_sotw asks.words
-none_asked words no_replay no_run no_audit no_tls no_chains no_sotw no_soak no_dump (Dump entries) asks = no_dump entries asks
+none_asked words no_replay no_run no_audit no_tls no_dns no_chains no_sotw no_soak no_dump Replay asks = no_replay asks.words
+none_asked words no_replay no_run no_audit no_tls no_dns no_chains no_sotw no_soak no_dump Run asks = no_run asks.words
+none_asked words no_replay no_run no_audit no_tls no_dns no_chains no_sotw no_soak no_dump Audit asks = no_audit asks.words
+none_asked words no_replay no_run no_audit no_tls no_dns no_chains no_sotw no_soak no_dump (Soak seed count) asks = no_soak seed count asks
+none_asked words no_replay no_run no_audit no_tls no_dns no_chains no_sotw no_soak no_dump Tls asks = no_tls asks.words
+none_asked words no_replay no_run no_audit no_tls no_dns no_chains no_sotw no_soak no_dump Dns asks = no_dns asks.words
+none_asked words no_replay no_run no_audit no_tls no_dns no_chains no_sotw no_soak no_dump Chains asks = no_chains asks.words
+none_asked words no_replay no_run no_audit no_tls no_dns no_chains no_sotw no_soak no_dump Sotw asks = no_sotw asks.words
+none_asked words no_replay no_run no_audit no_tls no_dns no_chains no_sotw no_soak no_dump (Dump entries) asks = no_dump entries asks
 
 -- ---- one command at most: it is read off its words
 
@@ -112,8 +112,8 @@ number_is n small = (decimal_is_IsNumeral n small).1
 
 -- the command of one word
 abbrev plain_command : List ℕ → Command
-plain_command word = if bytes_eq word (codes "run") then Run else if bytes_eq word (codes "audit") then Audit else if bytes_eq word (codes "tls") then Tls else if bytes_eq word (codes "chains") then Chains
-    else if bytes_eq word (codes "sotw") then Sotw else Replay
+plain_command word = if bytes_eq word (codes "run") then Run else if bytes_eq word (codes "audit") then Audit else if bytes_eq word (codes "tls") then Tls
+    else if bytes_eq word (codes "dns") then Dns else if bytes_eq word (codes "chains") then Chains else if bytes_eq word (codes "sotw") then Sotw else Replay
 
 -- the command of these words, if they ask for one
 abbrev command_told : List (List ℕ) → Command
@@ -128,6 +128,7 @@ told_by_words Run within = refl
 told_by_words Audit within = refl
 told_by_words (Soak seed count) within = λ i. Soak (number_is seed within.bits i) (number_is count (small_count seed count within) i)
 told_by_words Tls within = refl
+told_by_words Dns within = refl
 told_by_words Chains within = refl
 told_by_words Sotw within = refl
 told_by_words (Dump entries) within = λ i. Dump (number_is entries (wide_entries entries within) i)

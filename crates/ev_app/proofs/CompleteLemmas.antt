@@ -6,9 +6,10 @@ use Rattle.ev_script.specs.Faults.{Input, plain_lines}
 use Rattle.ev_script.proofs.PrefixLemmas.{stands_more}
 use Rattle.ev_audit_input.proofs.GrowLemmas.{stands_more_with}
 use Rattle.ev_chain_lines.specs.Lines.{chain_lines}
+use Rattle.ev_dns.specs.Lines.{dns_lines}
 use Rattle.ev_sotw_lines.specs.Lines.{sotw_lines}
 use Rattle.ev_app.specs.declared.commands.Command.{Command}
-use Rattle.ev_app.specs.declared.commands.Command.TheVariants.{Replay, Run, Audit, Soak, Tls, Chains, Sotw, Dump}
+use Rattle.ev_app.specs.declared.commands.Command.TheVariants.{Replay, Run, Audit, Soak, Tls, Dns, Chains, Sotw, Dump}
 use Rattle.ev_app.specs.Input.{has_journal, TakesInput, IsTakenFor}
 use Rattle.ev_io.specs.Outside.{Rose}
 use Rattle.ev_app.specs.Faults.{IsEarly, NoneEarly, IsLate, IsFirstEarly, IsFaultFor, HasNoneFor, IsCutOff}
@@ -25,6 +26,7 @@ early_more Run xs ys place kind early = stands_more plain_lines xs ys true false
 early_more Audit xs ys place kind early = stands_more_with xs ys true true place kind early
 early_more (Soak seed count) xs ys place kind early = early
 early_more Tls xs ys place kind early = stands_more plain_lines xs ys true false place kind early
+early_more Dns xs ys place kind early = stands_more dns_lines xs ys true false place kind early
 early_more Chains xs ys place kind early = stands_more chain_lines xs ys true false place kind early
 early_more Sotw xs ys place kind early = stands_more sotw_lines xs ys true false place kind early
 early_more (Dump entries) xs ys place kind early = stands_more_with xs ys true true place kind early
@@ -76,6 +78,7 @@ not_refused Replay outside line number input taken fault honest = not_refused_by
 not_refused Run outside line number input taken fault honest = not_refused_by Run outside line number input taken fault honest.told
 not_refused Audit outside line number input taken fault honest = not_refused_by Audit outside line number input taken fault honest.told
 not_refused Tls outside line number input taken fault honest = not_refused_by Tls outside line number input taken fault honest.told
+not_refused Dns outside line number input taken fault honest = not_refused_by Dns outside line number input taken fault honest.told
 not_refused Chains outside line number input taken fault honest = not_refused_by Chains outside line number input taken fault honest.told
 not_refused Sotw outside line number input taken fault honest = not_refused_by Sotw outside line number input taken fault honest.told
 not_refused (Dump entries) outside line number input taken fault honest = not_refused_by (Dump entries) outside line number input taken fault honest.told
@@ -87,6 +90,7 @@ not_cut_off Replay outside input taken cut rose honest = honest.told.no_read_fau
 not_cut_off Run outside input taken cut rose honest = honest.told.no_read_fault rose
 not_cut_off Audit outside input taken cut rose honest = honest.told.no_read_fault rose
 not_cut_off Tls outside input taken cut rose honest = honest.told.no_read_fault rose
+not_cut_off Dns outside input taken cut rose honest = honest.told.no_read_fault rose
 not_cut_off Chains outside input taken cut rose honest = honest.told.no_read_fault rose
 not_cut_off Sotw outside input taken cut rose honest = honest.told.no_read_fault rose
 not_cut_off (Dump entries) outside input taken cut rose honest = honest.told.no_read_fault rose

@@ -1,21 +1,18 @@
 -- What a dump makes of what was read.
-use Rattle.std.proofs.Common.{◌≡◌, ◌≢◌, ℕ, Bool, true, false, IsTrue, not, List, Option, Result, Ok, Err, ◌⊎◌, inl, inr, refl, sym, ap, subst, ◌∙◌}
+use Rattle.std.proofs.Common.{◌≡◌, ℕ, Bool, true, false, IsTrue, not, List, Option, Result, Ok, Err, inl, inr, sym, subst}
 use Rattle.ev_io.specs.declared.faults.ScriptFault.{ScriptFault}
 use Rattle.ev_io.specs.declared.faults.ScriptFault.TheVariants.{Bad, Read, OutOfMemory as lacks_memory}
 use Rattle.ev_types.specs.Scripts.{ScriptParts, IsScript}
-use Rattle.ev_types.specs.declared.journals.Finding.TheVariants.{Legal}
 use Rattle.ev_types.specs.declared.journals.Format.{Format}
 use Rattle.ev_types.specs.declared.journals.Row.{Row}
-use Rattle.ev_model.specs.Finding.{finding_of}
 use Rattle.ev_audit_input.specs.declared.audited.Audited.{Audited}
 use Rattle.ev_audit_input.specs.Parts.{IsParts, ReadsAuditInput}
-use Rattle.ev_dump.specs.Dumps.{IsDump, IsNoCommit}
+use Rattle.ev_dump.specs.Dumps.{IsNoCommit}
 use Rattle.ev_fronts.specs.Fronts.{ends_commit}
 use Rattle.ev_app.specs.declared.commands.Command.TheVariants.{Dump}
 use Rattle.ev_app.specs.declared.made.Made.{Made}
 use Rattle.ev_app.specs.declared.status.Status.{Status}
 use Rattle.ev_app.specs.Dumps.{IsDumpText, IsDumpAnswer, EndsNoCommit}
-use Rattle.ev_app.specs.Faults.{HasNoneFor}
 use Rattle.ev_app.specs.Texts.{IsMadeBy}
 use Rattle.ev_app.proofs.AuditLemmas.{taken, dump_fault}
 use Rattle.ev_app.proofs.PartsLemmas.{ArePartsOf, one_parts}

@@ -1,22 +1,37 @@
--- Where a text was made, no line uses a private name and none makes the text too large.
-use Rattle.std.proofs.Common.{◌≡◌, ℕ, ◌-◌, List, [], ◌∷◌, ◌++◌, take, drop, map, flat_map, Option, None, Some, ◌⊎◌, inl, inr, refl, sym, ap, subst, ◌∙◌}
+-- The text that rules make, and that where there is one no line uses a private name and none makes it too large.
+use Rattle.std.proofs.Common.{◌≡◌, ℕ, ◌-◌, false, List, [], ◌∷◌, ◌++◌, take, drop, map, flat_map, None, Some, Ok, Vec, inl, inr, refl, sym, ap, subst, ◌∙◌}
+use Rattle.std.specs.declared.alloc.Global.{Global}
 use Rattle.std.proofs.lemmas.List.{map-append, take-append-drop}
 use Rattle.std.proofs.lemmas.Grind.{flat_map-append}
 use Rattle.serde_json.specs.Data.{Data}
 use Rattle.serde_json.specs.View.{view}
 use Rattle.ev_script.specs.declared.trees.ScriptTrees.{ScriptTrees}
-use Rattle.ev_script.specs.Faults.{LineForms}
+use Rattle.ev_script.specs.Faults.{LineForms, HasNoFault, plain_lines}
+use Rattle.ev_script.specs.Script.{script_of}
 use Rattle.ev_trees.specs.Floats.{whole}
 use Rattle.ev_trees.specs.Trees.{AreWithinLimits}
-use Rattle.ev_expand.specs.Expanding.{Rules, gives, given_by, written_by}
+use Rattle.ev_expand.specs.Expanding.{Rules, gives, given_by, written_by, IsExpanded}
 use Rattle.ev_expand.specs.Fronts.{Front, fronts, behind}
 use Rattle.ev_expand.specs.Growing.{front_of}
 use Rattle.ev_expand.specs.Private.{first_use}
 use Rattle.ev_expand.proofs.GrowthLemmas.{within_front}
-use Rattle.ev_expand_laws.specs.Said.{lines_in}
-use Rattle.ev_app.specs.Expansions.{HasText, IsUnmade, MakesNoText}
+use Rattle.ev_expand_laws.specs.Said.{lines_in, input_of_text, expanded_script}
+use Rattle.ev_app.specs.Expansions.{IsTextBy, HasText, IsUnmade, MakesNoText}
 use Rattle.ev_app.specs.Trees.{AreTreesOf}
 use Rattle.ev_app.proofs.TreeLemmas.{same_heads, same_lines}
+
+-- there is a text
+pub has_made : (rules : Rules) (trees : ScriptTrees) (text : Vec ℕ Global) → IsExpanded rules (view trees.head) (lines_in trees) (Ok text) → HasText rules trees
+has_made rules trees text told = record { unused = told.0; limits = told.1 }
+
+-- it is that of the rules, and so is what is the same
+pub text_made : (rules : Rules) (trees : ScriptTrees) (text same : Vec ℕ Global) → IsExpanded rules (view trees.head) (lines_in trees) (Ok text)
+    → HasNoFault plain_lines (input_of_text text.items) → script_of false text.items ≡ Some (expanded_script rules trees) → same ≡ text → IsTextBy rules trees same.items
+text_made rules trees text same told sound script is = record {
+  is = ap (λ (t : Vec ℕ Global). t.items) is ∙ told.3;
+  sound = subst (λ (t : Vec ℕ Global). HasNoFault plain_lines (input_of_text t.items)) (sym is) sound;
+  script = ap (λ (t : Vec ℕ Global). script_of false t.items) is ∙ script;
+}
 
 -- what the first lines give is a front of what all give
 fronts_before : (lines more : List Data) → (rest : List Front) × (fronts (lines ++ more) ≡ fronts lines ++ rest)

@@ -12,4 +12,5 @@ pub mod ChainLemmas
 pub mod TreeLemmas
 pub mod ExpandLemmas
 pub mod TlsLemmas
+pub mod DnsLemmas
 pub mod SotwLemmas

@@ -1,5 +1,5 @@
 -- The text of a threaded run is that of one journal alone, which has the laws.
-use Rattle.std.proofs.Common.{◌≡◌, ℕ, List, Result, Ok, Err, IfOk, OnOk, ap, ◌∙◌}
+use Rattle.std.proofs.Common.{◌≡◌, ℕ, List, ◌∙◌}
 use Rattle.ev_types.specs.Scripts.{ScriptParts, IsScript}
 use Rattle.ev_types.specs.declared.events.Entry.{Entry}
 use Rattle.ev_types.specs.declared.journals.Format.TheVariants.{Two}

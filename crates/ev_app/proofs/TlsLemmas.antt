@@ -1,5 +1,5 @@
 -- What is made of a script whose clusters wait for their secrets.
-use Rattle.std.proofs.Common.{◌≡◌, ℕ, false, List, Option, None, Some, Result, Ok, Err, Vec, inl, inr, refl, sym, ap, subst, ◌∙◌}
+use Rattle.std.proofs.Common.{◌≡◌, ℕ, false, List, Option, Some, Result, Ok, Err, Vec, inl, inr, refl}
 use Rattle.std.specs.declared.alloc.Global.{Global}
 use Rattle.serde_json.specs.View.{view}
 use Rattle.ev_io.specs.declared.faults.ScriptFault.{ScriptFault}
@@ -21,7 +21,7 @@ use Rattle.ev_app.specs.Faults.{IsFirstEarly}
 use Rattle.ev_app.specs.Texts.{IsMadeBy}
 use Rattle.ev_app.specs.Tls.{IsTlsAnswer}
 use Rattle.ev_app.specs.Trees.{ReadsTrees}
-use Rattle.ev_app.proofs.ExpandLemmas.{never_unmade}
+use Rattle.ev_app.proofs.ExpandLemmas.{has_made, text_made, never_unmade}
 use Rattle.ev_app.proofs.TreeLemmas.{whole_trees}
 
 -- the text that was made
@@ -29,16 +29,9 @@ pub tls_told : (trees : ScriptTrees) (text : Vec ℕ Global) (made : Made) → S
     → HasNoFault plain_lines (input_of_text text.items) → script_of false text.items ≡ Some (expanded_script tls_rules trees)
     → made.status ≡ Done → made.text ≡ text → IsTlsAnswer trees (Ok made)
 tls_told trees text made law told sound script done same = (
-  record { unused = told.0; limits = told.1 },
+  has_made tls_rules trees text told,
   done,
-  record {
-    made = record {
-      is = ap (λ (t : Vec ℕ Global). t.items) same ∙ told.3;
-      sound = subst (λ (t : Vec ℕ Global). HasNoFault plain_lines (input_of_text t.items)) (sym same) sound;
-      script = ap (λ (t : Vec ℕ Global). script_of false t.items) same ∙ script;
-    };
-    sealed = λ format journal. law trees format journal told.0;
-  },
+  record { made = text_made tls_rules trees text made.text told sound script same; sealed = λ format journal. law trees format journal told.0 },
 )
 
 -- why none was

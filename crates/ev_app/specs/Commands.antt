@@ -1,7 +1,7 @@
 -- The commands, and the words that ask for each. A command has a line in each of these.
 use Rattle.std.specs.Prelude.{◌≡◌, ℕ, ◌<◌, ◌≤◌, ◌^◌, List, [], ◌∷◌, ⊤, codes, decimal}
 use Rattle.ev_app.specs.declared.commands.Command.{Command}
-use Rattle.ev_app.specs.declared.commands.Command.TheVariants.{Replay, Run, Audit, Soak, Tls, Chains, Sotw, Dump}
+use Rattle.ev_app.specs.declared.commands.Command.TheVariants.{Replay, Run, Audit, Soak, Tls, Dns, Chains, Sotw, Dump}
 use Rattle.ev_soak.specs.declared.soaking.TheConstants.{MAX_SOAK}
 
 -- the words of a command; the decimal of a number has no sign, and no zero before another digit
@@ -11,6 +11,7 @@ words_of Run = codes "run" ∷ []
 words_of Audit = codes "audit" ∷ []
 words_of (Soak seed count) = codes "soak" ∷ decimal seed ∷ decimal count ∷ []
 words_of Tls = codes "tls" ∷ []
+words_of Dns = codes "dns" ∷ []
 words_of Chains = codes "chains" ∷ []
 words_of Sotw = codes "sotw" ∷ []
 words_of (Dump entries) = codes "dump" ∷ decimal entries ∷ []
@@ -28,6 +29,7 @@ IsWithin Run = ⊤
 IsWithin Audit = ⊤
 IsWithin (Soak seed count) = IsSoak seed count
 IsWithin Tls = ⊤
+IsWithin Dns = ⊤
 IsWithin Chains = ⊤
 IsWithin Sotw = ⊤
 IsWithin (Dump entries) = entries < 2 ^ 32

@@ -6,8 +6,10 @@ use Rattle.ev_audit_input.specs.Faults.{StandsWithJournal, IsToldWithJournal}
 use Rattle.ev_chain_lines.specs.Lines.{chain_lines}
 use Rattle.ev_sotw_lines.specs.Lines.{sotw_lines}
 use Rattle.ev_app.specs.declared.commands.Command.{Command}
-use Rattle.ev_app.specs.declared.commands.Command.TheVariants.{Replay, Run, Audit, Soak, Tls, Chains, Sotw, Dump}
+use Rattle.ev_app.specs.declared.commands.Command.TheVariants.{Replay, Run, Audit, Soak, Tls, Dns, Chains, Sotw, Dump}
 use Rattle.ev_secrets.specs.Sealing.{tls_rules}
+use Rattle.ev_dns.specs.Lines.{dns_lines}
+use Rattle.ev_dns.specs.Resolving.{dns_rules}
 use Rattle.ev_app.specs.Expansions.{MakesNoText}
 use Rattle.ev_app.specs.Sotw.{GrowsTooLarge}
 use Rattle.ev_app.specs.Dumps.{EndsNoCommit}
@@ -21,6 +23,7 @@ IsEarly Run input place kind = Stands plain_lines input place kind
 IsEarly Audit input place kind = StandsWithJournal input place kind
 IsEarly (Soak seed count) input place kind = ⊥
 IsEarly Tls input place kind = Stands plain_lines input place kind
+IsEarly Dns input place kind = Stands dns_lines input place kind
 IsEarly Chains input place kind = Stands chain_lines input place kind
 IsEarly Sotw input place kind = Stands sotw_lines input place kind
 IsEarly (Dump entries) input place kind = StandsWithJournal input place kind
@@ -32,6 +35,7 @@ IsToldOn Run input place kind line = line ≡ fault_line input place kind
 IsToldOn Audit input place kind line = IsToldWithJournal input place kind line
 IsToldOn (Soak seed count) input place kind line = ⊥
 IsToldOn Tls input place kind line = line ≡ fault_line input place kind
+IsToldOn Dns input place kind line = line ≡ fault_line input place kind
 IsToldOn Chains input place kind line = line ≡ fault_line input place kind
 IsToldOn Sotw input place kind line = line ≡ fault_line input place kind
 IsToldOn (Dump entries) input place kind line = IsToldWithJournal input place kind line
@@ -58,6 +62,7 @@ IsLate Run bytes line number = ⊥
 IsLate Audit bytes line number = ⊥
 IsLate (Soak seed count) bytes line number = ⊥
 IsLate Tls bytes line number = MakesNoText tls_rules plain_lines bytes line number
+IsLate Dns bytes line number = MakesNoText dns_rules dns_lines bytes line number
 IsLate Chains bytes line number = ⊥
 IsLate Sotw bytes line number = GrowsTooLarge bytes line number
 IsLate (Dump entries) bytes line number = EndsNoCommit entries bytes line number

@@ -5,7 +5,7 @@ use Rattle.ev_io.specs.declared.limits.TheConstants.{MAX_INPUT_BYTES}
 use Rattle.ev_io.specs.Outside.{Takes}
 use Rattle.ev_script.specs.Faults.{Input}
 use Rattle.ev_app.specs.declared.commands.Command.{Command}
-use Rattle.ev_app.specs.declared.commands.Command.TheVariants.{Replay, Run, Audit, Soak, Tls, Chains, Sotw, Dump}
+use Rattle.ev_app.specs.declared.commands.Command.TheVariants.{Replay, Run, Audit, Soak, Tls, Dns, Chains, Sotw, Dump}
 
 -- these bytes were taken, at most one more than an input may have, to the end of the source where it gave that; whether a
 -- journal has to follow the script is `audit`
@@ -22,6 +22,7 @@ has_journal Run = false
 has_journal Audit = true
 has_journal (Soak seed count) = false
 has_journal Tls = false
+has_journal Dns = false
 has_journal Chains = false
 has_journal Sotw = false
 has_journal (Dump entries) = true
@@ -38,6 +39,7 @@ IsTakenFor Run before after input = TakesInput (has_journal Run) before after in
 IsTakenFor Audit before after input = TakesInput (has_journal Audit) before after input
 IsTakenFor (Soak seed count) before after input = TakesNothing before after input
 IsTakenFor Tls before after input = TakesInput (has_journal Tls) before after input
+IsTakenFor Dns before after input = TakesInput (has_journal Dns) before after input
 IsTakenFor Chains before after input = TakesInput (has_journal Chains) before after input
 IsTakenFor Sotw before after input = TakesInput (has_journal Sotw) before after input
 IsTakenFor (Dump entries) before after input = TakesInput (has_journal (Dump entries)) before after input

@@ -4,6 +4,7 @@ pub mod Scripts
 pub mod Trees
 pub mod Expansions
 pub mod Tls
+pub mod Dns
 pub mod Faults
 pub mod Replay
 pub mod Runs

@@ -4,7 +4,7 @@ use Rattle.std.specs.Io.KnownBytes.{append_known}
 use Rattle.ev_io.specs.Outside.{Rose, AppendsPrefix}
 use Rattle.ev_script.specs.Faults.{Input}
 use Rattle.ev_app.specs.declared.commands.Command.{Command}
-use Rattle.ev_app.specs.declared.commands.Command.TheVariants.{Replay, Run, Audit, Soak, Tls, Chains, Sotw, Dump}
+use Rattle.ev_app.specs.declared.commands.Command.TheVariants.{Replay, Run, Audit, Soak, Tls, Dns, Chains, Sotw, Dump}
 use Rattle.ev_app.specs.declared.status.Status.{Status}
 use Rattle.ev_app.specs.declared.status.Status.TheVariants.{Done, Illegal, Usage, BadScript, ReadFault, WriteFault, OutOfMemory}
 use Rattle.ev_app.specs.Input.{has_journal, IsTakenFor}
@@ -114,6 +114,7 @@ IsToldFor Run outside = TellsInput Run outside
 IsToldFor Audit outside = TellsInput Audit outside
 IsToldFor (Soak seed count) outside = ⊤
 IsToldFor Tls outside = TellsInput Tls outside
+IsToldFor Dns outside = TellsInput Dns outside
 IsToldFor Chains outside = TellsInput Chains outside
 IsToldFor Sotw outside = TellsInput Sotw outside
 IsToldFor (Dump entries) outside = TellsInput (Dump entries) outside

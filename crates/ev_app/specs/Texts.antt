@@ -4,7 +4,7 @@ use Rattle.ev_io.specs.declared.faults.ScriptFault.{ScriptFault}
 use Rattle.ev_io.specs.declared.faults.ScriptFault.TheVariants.{Bad, Read, OutOfMemory as lacks_memory}
 use Rattle.ev_script.specs.Faults.{Input}
 use Rattle.ev_app.specs.declared.commands.Command.{Command}
-use Rattle.ev_app.specs.declared.commands.Command.TheVariants.{Replay, Run, Audit, Soak, Tls, Chains, Sotw, Dump}
+use Rattle.ev_app.specs.declared.commands.Command.TheVariants.{Replay, Run, Audit, Soak, Tls, Dns, Chains, Sotw, Dump}
 use Rattle.ev_app.specs.declared.status.Status.{Status}
 use Rattle.ev_app.specs.declared.status.Status.TheVariants.{Done, Illegal, OutOfMemory}
 use Rattle.ev_app.specs.declared.made.Made.{Made}
@@ -14,6 +14,7 @@ use Rattle.ev_app.specs.Replay.{IsReplayOf}
 use Rattle.ev_app.specs.Runs.{IsTextOfRun}
 use Rattle.ev_app.specs.Audits.{IsAudited}
 use Rattle.ev_app.specs.Tls.{IsTls}
+use Rattle.ev_app.specs.Dns.{IsDns}
 use Rattle.ev_app.specs.Sotw.{IsSotw}
 use Rattle.ev_app.specs.Dumps.{IsDumped}
 use Rattle.ev_app.specs.Chains.{IsChained}
@@ -26,6 +27,7 @@ Answers Run bytes status text = (status ≡ Done) × IsTextOfRun bytes text
 Answers Audit bytes status text = IsAudited bytes status text
 Answers (Soak seed count) bytes status text = (status ≡ Done) × IsSoakText seed count text
 Answers Tls bytes status text = (status ≡ Done) × IsTls bytes text
+Answers Dns bytes status text = (status ≡ Done) × IsDns bytes text
 Answers Chains bytes status text = (status ≡ Done) × IsChained bytes text
 Answers Sotw bytes status text = (status ≡ Done) × IsSotw bytes text
 Answers (Dump entries) bytes status text = IsDumped entries bytes status text
@@ -37,6 +39,7 @@ IsAnswered Run status = (status ≡ Done) ⊎ (status ≡ OutOfMemory)
 IsAnswered Audit status = (status ≡ Done) ⊎ ((status ≡ Illegal) ⊎ (status ≡ OutOfMemory))
 IsAnswered (Soak seed count) status = (status ≡ Done) ⊎ (status ≡ OutOfMemory)
 IsAnswered Tls status = (status ≡ Done) ⊎ (status ≡ OutOfMemory)
+IsAnswered Dns status = (status ≡ Done) ⊎ (status ≡ OutOfMemory)
 IsAnswered Chains status = (status ≡ Done) ⊎ (status ≡ OutOfMemory)
 IsAnswered Sotw status = (status ≡ Done) ⊎ (status ≡ OutOfMemory)
 IsAnswered (Dump entries) status = (status ≡ Done) ⊎ ((status ≡ Illegal) ⊎ (status ≡ OutOfMemory))

@@ -1,6 +1,6 @@
 ghost use Rattle.std.specs.Prelude.{◌≡◌, ℕ, ◌<◌, ◌^◌, ◌↔◌, [], ◌∷◌, None, IsTrue, IfSome};
 ghost use Rattle.ev_app.specs.declared.commands.Command.{Command};
-ghost use Rattle.ev_app.specs.declared.commands.Command.TheVariants.{Replay, Run, Audit, Soak, Tls, Chains, Sotw, Dump};
+ghost use Rattle.ev_app.specs.declared.commands.Command.TheVariants.{Replay, Run, Audit, Soak, Tls, Dns, Chains, Sotw, Dump};
 ghost use Rattle.ev_app.specs.Commands.{Asks, IsSoak, IsWithin};
 
 use ev_numbers::number_of;
@@ -21,6 +21,8 @@ pub enum Command {
     Soak { seed: u64, count: u32 },
     /// `tls`: the script in which each cluster that names secrets waits for them.
     Tls,
+    /// `dns`: the script in which each cluster with host names waits for their addresses.
+    Dns,
     /// `chains`: the answers to versions of one listener with several filter chains, and to connections.
     Chains,
     /// `sotw`: the journal of a script whose responses are those of the state of the world, as one thread makes it.
@@ -46,6 +48,9 @@ pub(crate) fn command_of(arguments: &[Text]) -> Option<Command>
     }
     if is_word(arguments, "tls") {
         return Some(Command::Tls);
+    }
+    if is_word(arguments, "dns") {
+        return Some(Command::Dns);
     }
     if is_word(arguments, "chains") {
         return Some(Command::Chains);

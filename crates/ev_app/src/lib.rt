@@ -10,7 +10,9 @@
 mod audit;
 mod chains;
 mod commands;
+mod dns;
 mod dump;
+mod expansions;
 mod input;
 mod made;
 mod program;

@@ -6,6 +6,7 @@ ghost use Rattle.ev_app.specs.Texts.{IsMadeBy};
 use crate::audit::make_audit;
 use crate::chains::make_of_chains;
 use crate::commands::Command;
+use crate::dns::make_dns;
 use crate::dump::make_dump;
 use crate::replay::make_replay;
 use crate::run::make_run;
@@ -53,6 +54,7 @@ pub(crate) fn make<R: Threads + Wait + Sync, S: Source, P: Pace + Sync>(
             Err(_) => Err(ScriptFault::OutOfMemory),
         },
         Command::Tls => make_tls(alloc, source),
+        Command::Dns => make_dns(alloc, source),
         Command::Chains => make_of_chains(alloc, source),
         Command::Sotw => make_sotw(alloc, source),
         Command::Dump { entries } => make_dump(alloc, entries, source),

@@ -27,6 +27,8 @@ use std::thread::Threads;
 /// - `tls` reads a script and writes the script in which each cluster that names secrets waits until all of them, and its
 ///   endpoints, were told of. A line that uses one of the command's own names is a `BadScript` of kind 11, and a text that is too
 ///   large for an input one of kind 10.
+/// - `dns` reads a script with resolutions of host names, and writes the script in which each cluster with host names waits until
+///   all of them were answered, and has the addresses of the last answers. Its faults are those of `tls`.
 /// - `chains` reads versions of one listener with several filter chains, and connections, and writes the answer to each.
 /// - `sotw` reads a script whose responses are those of the state of the world, replays the incremental script that says the
 ///   same, and writes its journal with the requests of the state of the world. Where that script is too large for an input, it is

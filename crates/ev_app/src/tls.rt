@@ -3,25 +3,18 @@ ghost use Rattle.ev_io.specs.Outside.{Rose};
 ghost use Rattle.ev_script.specs.Faults.{Input, plain_lines};
 ghost use Rattle.ev_script.specs.ReadTrees.{IsTreesAnswer};
 ghost use Rattle.ev_app.specs.declared.commands.Command.TheVariants.{Tls};
-ghost use Rattle.ev_app.specs.Expansions.{fault_of};
 ghost use Rattle.ev_app.specs.Texts.{IsMadeBy};
 ghost use Rattle.ev_app.specs.Tls.{IsTlsAnswer};
 
+use crate::expansions::fault_of;
 use crate::made::Made;
 use crate::status::Status;
 use crate::trees::read_trees_of;
-use ev_expand::ExpandError;
 use ev_io::{ScriptFault, Source};
 use ev_script::{LineTrees, ScriptTrees};
 use ev_sealed::accepts_are_sealed;
 use ev_tls::seal;
 use std::alloc::Global;
-
-/// The kind of the fault that the text grows beyond the limits of inputs.
-const GROWS_TOO_LARGE: u8 = 10;
-
-/// The kind of the fault that a line uses a name which the command keeps to itself.
-const USES_A_PRIVATE_NAME: u8 = 11;
 
 // Makes the text of the script that the source's bytes are, in which clusters wait for their secrets.
 #[tactic(auto, using(crate::proofs::TlsLemmas::answered, crate::proofs::TlsLemmas::not_read))]
@@ -50,22 +43,5 @@ fn tls_made(alloc: Global, trees: &ScriptTrees) -> Result<Made, ScriptFault>
             status: Status::Done,
         }),
         Err(error) => Err(fault_of(error)),
-    }
-}
-
-// The fault that tells why there is no text.
-fn fault_of(error: ExpandError) -> ScriptFault
-    ensures { result ≡ fault_of error }
-{
-    match error {
-        ExpandError::Private { line } => ScriptFault::Bad {
-            line,
-            kind: USES_A_PRIVATE_NAME,
-        },
-        ExpandError::Large { line } => ScriptFault::Bad {
-            line,
-            kind: GROWS_TOO_LARGE,
-        },
-        ExpandError::OutOfMemory => ScriptFault::OutOfMemory,
     }
 }

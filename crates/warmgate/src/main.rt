@@ -55,7 +55,7 @@ fn report(rt: &impl Eprint, status: Status) -> io::Result<()> {
     match status {
         Status::Done | Status::Illegal => Ok(()),
         Status::Usage => eprintln!(rt;
-            "usage: warmgate replay | run | audit | soak SEED COUNT | tls | chains | sotw | dump K"
+            "usage: warmgate replay | run | audit | soak SEED COUNT | tls | dns | chains | sotw | dump K"
         ),
         Status::BadScript { line, kind } => eprintln!(rt; "line {line}: fault {kind}"),
         Status::ReadFault => eprintln!(rt; "read fault"),

@@ -1,6 +1,5 @@
 -- The words of a soak, by their places.
-use Rattle.std.proofs.Common.{◌≡◌, ◌∙◌, List, [], ◌∷◌, ℕ, rules, sym, codes, arith, ◌<◌, ◌^◌}
-use Rattle.std.proofs.lemmas.Grind.{common_steps}
+use Rattle.std.proofs.Common.{◌≡◌, ◌∙◌, rules, sym, codes, ◌<◌, ◌^◌}
 use Rattle.ev_app.proofs.CommandLemmas.{three_words, soak_asked, none_asked_by}
 use Rattle.ev_app.proofs.commands.soak_of.Goals as goal
 

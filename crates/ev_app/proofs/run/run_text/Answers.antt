@@ -1,6 +1,5 @@
 -- The text of a run.
-use Rattle.std.proofs.Common.{◌≡◌, ◌∙◌, List, ap, subst, sym}
-use Rattle.ev_types.specs.declared.events.Entry.{Entry}
+use Rattle.std.proofs.Common.{◌≡◌, ◌∙◌, subst}
 use Rattle.ev_types.specs.declared.journals.Format.TheVariants.{Two}
 use Rattle.ev_journal.specs.Rendering.{rendering_of}
 use Rattle.ev_journal_laws.specs.OneJournal.{AreBounded}

@@ -1,5 +1,5 @@
 -- The line of a soak.
-use Rattle.std.proofs.Common.{◌≡◌, ◌∙◌, ◌+◌, List, ap}
+use Rattle.std.proofs.Common.{◌∙◌, ◌+◌, List, ap}
 use Rattle.ev_types.specs.declared.events.Entry.{Entry}
 use Rattle.ev_soak.specs.Lines.{soak_line}
 use Rattle.ev_app.proofs.SoakLemmas.{soak_told}

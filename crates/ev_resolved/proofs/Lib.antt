@@ -1,0 +1,3 @@
+pub mod ShallowLemmas
+pub mod WrittenLemmas
+pub mod ResolveLemmas

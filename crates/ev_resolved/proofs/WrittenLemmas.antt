@@ -1,0 +1,27 @@
+-- A line that is written is a line of a script at its place.
+use Rattle.std.proofs.Common.{◌≡◌, ℕ, ◌+◌, Bool, true, false, not, cond, List, [], ◌∷◌, option_map, None, codes, refl, sym, ap, ◌∙◌}
+use Rattle.serde_json.specs.Data.{Data}
+use Rattle.ev_script.specs.Faults.{plain_lines}
+use Rattle.ev_dns.specs.declared.lines.Resolution.{Resolution}
+use Rattle.ev_dns.specs.Lines.{is_op, resolution_in, dns_lines}
+use Rattle.ev_dns.specs.Resolving.{is_written, dns_rules}
+use Rattle.ev_expand_laws.specs.Said.{AllAt}
+use Rattle.ev_expand_laws.specs.Scripts.{IsLineIfWritten}
+use Rattle.ev_expand_laws.proofs.FormLemmas.{HasForm, plain_line}
+
+-- what is written isn't a resolution, and has the form of a script's line
+plain_form : (workers at : ℕ) (tree : Data) → HasForm dns_lines workers at tree → is_written tree ≡ true → HasForm plain_lines workers at tree
+plain_form workers at tree form written = by (is_op (codes "resolved") tree) refl
+  where
+    by : (b : Bool) → is_op (codes "resolved") tree ≡ b → HasForm plain_lines workers at tree
+    by true is = let e : true ≡ false = sym written ∙ ap not is in absurd (cc)
+    by false is = record {
+      named = form.named;
+      reads = sym (ap (λ (b : Bool). cond b (option_map (λ (r : Resolution). None) (resolution_in tree)) (plain_lines.lines at tree)) is) ∙ form.reads;
+      below = form.below;
+    }
+
+pub lines_written : (workers at : ℕ) (lines : List Data) → AllAt (HasForm dns_lines workers) at lines → AllAt (IsLineIfWritten dns_rules workers) at lines
+lines_written workers at [] all = tt
+lines_written workers at (line ∷ lines) all =
+    (λ written. plain_line workers at line (plain_form workers at line all.0 written), lines_written workers (at + 1) lines all.1)
