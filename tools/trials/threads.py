@@ -1,6 +1,8 @@
 """tools/threads on a stand-in for the program, and on the program itself where it has the command `run`; and the example of two journals
 of one script."""
+import json
 import os
+import subprocess
 import tempfile
 
 import trials
@@ -35,6 +37,36 @@ def run(check):
                 for processors in ('0', '1'):
                     found = called(main, '--program', path, '--processors', processors, '20', f'{TOP}/{name}')
                     check(found[0] == 0 and found[1].startswith('20 runs, '), f'tools/threads of {name} by {processors} processors: {found}')
+            rows_by_run(check, path)
+
+
+def rows_by_run(check, path):
+    """Each worked row of replay by the threaded run: its journal is legal for the script, which holds each actor's operations in order; and
+    where every line is the stream's and nothing follows by itself, the stream's entries are those of the replay."""
+    for line in content(f'{TOP}/crates/worked_rows/data/rows').decode().splitlines():
+        title, status, *words = line.split()
+        source = f'{TOP}/crates/worked_rows/data/{title}.in'
+        if words != ['replay'] or status != '0' or not os.path.exists(source):
+            continue
+        text = content(source)
+        ran = subprocess.run([path, 'run'], input=text, capture_output=True, timeout=60)
+        ended = text if text.endswith(b'\n') else text + b'\n'
+        both = subprocess.run([path, 'audit'], input=ended + ran.stdout, capture_output=True, timeout=60)
+        check((ran.returncode, both.returncode, both.stdout.decode()) == (0, 0, LEGAL), f'{title} by run: {ran.returncode}, {both.stdout}')
+        if is_the_streams(text):
+            replayed = content(f'{TOP}/crates/worked_rows/data/{title}.out')
+            told = [of_the_stream(journal) for journal in (ran.stdout, replayed)]
+            check(told[0] == told[1], f'{title} by run: the entries of the stream aren\'t those of the replay')
+            check(b'"op":"settle"' not in ran.stdout, f'{title} by run: a worker settles')
+
+
+def is_the_streams(text):
+    header, *lines = [json.loads(line) for line in text.splitlines()]
+    return 'auto' not in header and all(line['op'] in ('connect', 'disconnect', 'response') for line in lines)
+
+
+def of_the_stream(journal):
+    return [line for line in journal.splitlines() if line.startswith(b'{"actor":"stream"')]
 
 
 def two_journals(check, explain):
