@@ -1,4 +1,4 @@
-use Rattle.std.proofs.Common.{◌≡◌, ◌∙◌, ◌∷◌, ◌++◌, drop, ◌+◌, ap}
+use Rattle.std.proofs.Common.{◌∙◌, ◌∷◌, ◌++◌, drop, ◌+◌, ap}
 use Rattle.ev_snapshot.specs.Layers.{entry_in}
 use Rattle.ev_snapshot.proofs.Layered.{layers_more, next_at}
 use Rattle.ev_snapshot.proofs.table.joined.Goals as goal
