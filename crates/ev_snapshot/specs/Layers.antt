@@ -1,4 +1,4 @@
--- A table in layers: a base, over it layers of what is another entry since, which many snapshots share, and over these what changes now.
+-- A table in layers: a base, layers over it that many snapshots share, and over all what changes now.
 use Rattle.std.specs.Prelude.{◌≡◌, ℕ, ◌*◌, Bool, cond, nat_lt, List, [], ◌∷◌, ◌++◌, Option, Some, None}
 use Rattle.std.specs.Arc.{arc_value}
 use Rattle.std.specs.Option.{option_or}

@@ -9,14 +9,14 @@
 //!   the part itself, no place in a list: then the table's invariant is an equation with `find`.
 //! - A publication makes its snapshot of the last one and of what changed. Each table has a base and over it layers, the
 //!   newest first, which many snapshots share; a layer says what is another entry than below it, or none. The next
-//!   snapshot shares them, sets its changes over them, and makes a layer of these at its end, which is joined with those
-//!   under it that aren't four times as long. So each layer is at least four times as long as the one over it, an entry is
-//!   copied only where its layer grows by a quarter, and a publication of one change among n costs a logarithm of n on
-//!   the average: 16 entries of each table where 60,000 clusters came one by one. A base is made anew where what goes
-//!   over it is longer than a quarter of it; then nothing is left of entries that went. A look-up asks the layers one
-//!   after the other, 5 of those 60,000 clusters and never more than 8; with layers twice as long it would be 8 and 15,
-//!   and 8 entries would be copied. A tree that shares its branches would be a structure of our own, with look-ups that
-//!   follow as many pointers.
+//!   snapshot shares them and sets its changes over them; in the end these become a layer, which is joined with those
+//!   under it that aren't four times as long, one after the other. So each layer is at least four times as long as the
+//!   one over it, and an entry is copied only where more than a quarter as many go over its layer: a publication of one
+//!   change among n costs a logarithm of n on the average, 16 entries of a table where 60,000 came one by one. The base
+//!   is made anew where it isn't four times as long as what goes over it; then nothing is left of entries that went.
+//!   A look-up asks the layers one after the other: 5 tables of entries on the average where 60,000 came one by one, and
+//!   8 at most. Were each layer only twice as long, 8 entries would be copied and 8 asked, 15 at most. A tree that
+//!   shares its branches would be a structure of our own, with look-ups that follow as many pointers.
 //! - The law of a table speaks of its look-ups alone (`found`): what it finds under each key after a change. No list
 //!   of clusters is kept. What contracts see is computed from the table by name (`listing`); that two lists in the
 //!   order of names with the same look-ups are equal is the lemma by which each change of the tables is one of the

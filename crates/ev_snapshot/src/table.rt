@@ -9,7 +9,7 @@ use std::alloc::{AllocError, Global};
 use std::hash::Hash;
 use std::sync::Arc;
 
-/// What is another entry than before, or none, in a part of a table's changes.
+/// What is another entry of a table than below, or none.
 pub(crate) type Layer<K, V> = IndexMap<K, Option<V>>;
 
 /// A table in layers. Over a base stand layers of what is another entry since, or none, the newest first; many snapshots
@@ -143,8 +143,7 @@ fn entry_in<'a, K: Eq + Hash, V, Q: Equivalent<K> + Copy>(
     None
 }
 
-// What goes over these layers, in memory of its own and joined with those that are too short for it, and the layers
-// that are left.
+// What goes over these layers, copied and joined with those that are too short for it, and the layers that are left.
 fn joined<K: Eq + Hash + TryCopy + Drop, V: TryCopy + Drop>(
     alloc: Global,
     over: &Layer<K, V>,
