@@ -7,6 +7,7 @@ pub mod Named
 pub mod Lowest
 pub mod Eligible
 pub mod Maps
+pub mod Layered
 pub mod Order
 pub mod Steps
 pub mod Covers
