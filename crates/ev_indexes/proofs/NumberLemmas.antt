@@ -1,14 +1,16 @@
--- Numbers that rise: one more behind them, one of them left out, and what the first of them decides.
-use Rattle.std.proofs.Common.{◌≡◌, ◌∙◌, ℕ, zero, suc, ◌-◌, ◌<◌, ◌≤◌, Bool, true, false, cond, not, ◌||◌, List, [], ◌∷◌, ◌++◌, Result, Ok, Err, MatchResult, get_or, length, nat_eq, nat_le, nat_lt, nat_cmp, remove, slice_get, Less, refl, sym, ap, subst, arith}
+-- Numbers that rise: one more behind them, one of them left out, and what the first of them decides; and how they are stored.
+use Rattle.std.proofs.Common.{◌≡◌, ◌∙◌, ℕ, zero, suc, ◌+◌, ◌-◌, drop, ◌<◌, ◌≤◌, Bool, true, false, cond, not, ◌||◌, List, [], ◌∷◌, ◌++◌, Result, Ok, Err, MatchResult, get_or, length, nat_eq, nat_le, nat_lt, nat_cmp, remove, slice_get, length-append, Less, refl, sym, ap, subst, arith}
 use Rattle.std.specs.Cmp.{ranks, nat_cmp_is}
 use Rattle.std.specs.Ordering.{MatchOrdering}
 use Rattle.std.specs.List.{AllByRecursion, list_any}
 use Rattle.std.specs.List.Sorted.{IsStrictlySortedBy, IsBinarySearchResult}
+use Rattle.std.proofs.lemmas.List.{drop-append-le}
+use Rattle.std.proofs.lemmas.List.Kept.{IsStrictlySortedBy-filter}
 use Rattle.std.proofs.lemmas.Bool.{eq-eqb, eqb-true, leb-true, leb-false, ltb-true, ltb-false}
 use Rattle.std.proofs.lemmas.Cmp.{nat_cmp_total}
 use Rattle.std.proofs.lemmas.List.Sorted.{searched}
 use Rattle.std.proofs.lemmas.Map.Keys.{below_from_sorted, non_decreasing_from_sorted}
-use Rattle.ev_indexes.specs.Numbers.{Rise, is_above, is_first_up_to}
+use Rattle.ev_indexes.specs.Numbers.{Rise, AreStored, is_above, is_first_up_to}
 use Rattle.ev_indexes.specs.Watched.{without_number}
 
 -- each of these is above the number
@@ -106,3 +108,38 @@ first-decides made (x ∷ xs) h = by (nat_le x made) refl
     by : (b : Bool) → nat_le x made ≡ b → b ≡ (b || list_any (λ n. nat_le n made) xs)
     by true e = refl
     by false e = sym (none (leb-false x made e) xs h.0)
+
+-- of numbers behind places that are empty, one is taken out behind them
+pub remove-behind : (gone i : ℕ) (xs : List ℕ) → gone ≤ length xs → drop gone (remove xs (gone + i)) ≡ remove (drop gone xs) i
+remove-behind zero i xs l = let here : 0 + i ≡ i = omega arith in ap (remove xs) here
+remove-behind (suc gone) i [] l = absurd (omega (arith, l))
+remove-behind (suc gone) i (x ∷ xs) l =
+    let next : suc gone + i ≡ suc (gone + i) = omega arith in
+    ap (λ k. drop (suc gone) (remove (x ∷ xs) k)) next ∙ remove-behind gone i xs (omega (arith, l))
+
+-- and the empty places stay
+pub within-behind : (gone i : ℕ) (xs : List ℕ) → gone ≤ length xs → gone ≤ length (remove xs (gone + i))
+within-behind zero i xs l = omega arith
+within-behind (suc gone) i [] l = absurd (omega (arith, l))
+within-behind (suc gone) i (x ∷ xs) l =
+    let next : suc gone + i ≡ suc (gone + i) = omega arith in
+    subst (λ k. suc gone ≤ length (remove (x ∷ xs) k)) (sym next) (omega (arith, within-behind gone i xs (omega (arith, l))))
+
+-- they are stored as before, where one number was left out
+pub stored-less : (x gone : ℕ) (rise : Bool) (stored numbers : List ℕ) → gone ≤ length stored → drop gone stored ≡ without_number x numbers
+    → (rise ≡ true → Rise numbers) → AreStored gone rise stored
+stored-less x gone rise stored numbers within left rising = record {
+  within = within;
+  rising = λ known. subst Rise (sym left) (IsStrictlySortedBy-filter nat_cmp (λ n. not (nat_eq x n)) numbers (rising known));
+}
+
+-- and where one more is stored behind them
+pub stored-more : (n gone : ℕ) (rise more : Bool) (stored : List ℕ) → AreStored gone rise stored
+    → (more ≡ true → (rise ≡ true) × (is_above n (slice_get (drop gone stored) (length (drop gone stored) - 1)) ≡ true)) → AreStored gone more (stored ++ n ∷ [])
+stored-more n gone rise more stored kept last = record {
+  within = longer stored kept.within;
+  rising = λ known. subst Rise (sym (drop-append-le gone stored (n ∷ []) kept.within)) (rise-more n (drop gone stored) (kept.rising (last known).0) (last known).1);
+}
+  where
+    longer : (xs : List ℕ) → gone ≤ length xs → gone ≤ length (xs ++ n ∷ [])
+    longer xs l = omega (arith, length-append xs (n ∷ []), l)
