@@ -1,4 +1,5 @@
 pub mod Fronts
+pub mod Firsts
 pub mod Places
 pub mod Priorities
 pub mod Numbered

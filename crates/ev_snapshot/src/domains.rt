@@ -1,12 +1,13 @@
-ghost use Rattle.std.specs.Prelude.{◌≡◌, ◌<◌, find, length, IfOk};
+ghost use Rattle.std.specs.Prelude.{◌≡◌, find, IfOk};
 ghost use Rattle.std.specs.Option.{option_copied};
 ghost use Rattle.std.specs.Str.{str_to_ascii_lowercase};
 ghost use Rattle.ev_model.specs.Choice.{HostDomain, by_prefix, by_suffix, has_prefix, has_suffix, is_any, is_prefix_form, is_suffix_form};
-ghost use Rattle.ev_snapshot.specs.Domains.{host_at, is_pattern, longer_where, pattern_for};
+ghost use Rattle.ev_snapshot.specs.Domains.{is_pattern, longer_where, pattern_for};
 
 use crate::host_texts::DomainText;
+use crate::routed_host::RoutedHost;
 use crate::texts::{begins_lower, begins_with, ends_lower, ends_with};
-use ev_types::{RouteTable, Shared, Text, VirtualHost};
+use ev_types::{Shared, Text};
 use std::alloc::AllocError;
 use std::marker::Model;
 
@@ -15,26 +16,21 @@ use std::marker::Model;
 pub(crate) struct Domain {
     /// Its ASCII letters are lower case.
     text: Shared<Text>,
-    table: Shared<RouteTable>,
-    /// The place of its virtual host in the table.
-    place: usize,
+    host: Shared<RoutedHost>,
 }
 
 impl Model for Domain {
     ghost Value = { HostDomain };
 
-    ghost view = { λ d. record { domain = d.text; host = host_at d.table.hosts d.place } };
-
-    ghost invariant = { λ d. d.place < length d.table.hosts };
+    ghost view = { λ d. record { domain = d.text; host = d.host } };
 }
 
 impl Domain {
-    /// The domain with the virtual host at this place of the table.
-    pub(crate) fn new(text: Shared<Text>, table: Shared<RouteTable>, place: usize) -> Domain
-        requires { place < length table.hosts }
-        ensures { result ≡ record { domain = text; host = host_at table.hosts place } }
+    /// The domain with its virtual host.
+    pub(crate) fn new(text: Shared<Text>, host: Shared<RoutedHost>) -> Domain
+        ensures { result ≡ record { domain = text; host = host } }
     {
-        Domain { text, table, place }
+        Domain { text, host }
     }
 
     /// The same domain again, of which nothing is copied.
@@ -43,8 +39,7 @@ impl Domain {
     {
         Ok(Domain {
             text: self.text.share()?,
-            table: self.table.share()?,
-            place: self.place,
+            host: self.host.share()?,
         })
     }
 
@@ -63,10 +58,10 @@ impl Domain {
     }
 
     /// The virtual host that it stands in.
-    pub(crate) fn host(&self) -> &VirtualHost
+    pub(crate) fn host(&self) -> &RoutedHost
         ensures { result.now ≡ self.now.host }
     {
-        &self.table.get().hosts.as_slice()[self.place]
+        self.host.get()
     }
 }
 

@@ -89,8 +89,8 @@ fn is_long(over: usize, base: usize) -> bool
     over > 8 && base / over < over
 }
 
-// Puts a value in the place of that of its key.
-fn put<K: Eq + Hash + Drop, V: Drop>(
+/// Puts a value in the place of that of its key.
+pub(crate) fn put<K: Eq + Hash + Drop, V: Drop>(
     map: &mut IndexMap<K, V>,
     key: K,
     value: V,
