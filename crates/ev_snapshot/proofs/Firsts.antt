@@ -1,5 +1,5 @@
 -- Where the first route that takes a path stands.
-use Rattle.std.proofs.Common.{◌≡◌, ℕ, ◌+◌, ◌<◌, ◌≤◌, ◌==◌, ◌&&◌, ◌||◌, ◌++◌, Bool, true, false, not, min, cond, nat_eq, List, [], ◌∷◌, length, take, suc, zero, All, get_or, refl, sym, ap, ◌∙◌, arith, slice_index_or, subst}
+use Rattle.std.proofs.Common.{◌≡◌, ℕ, ◌+◌, ◌<◌, ◌≤◌, ◌==◌, ◌&&◌, ◌||◌, ◌++◌, Bool, true, false, not, min, cond, List, [], ◌∷◌, length, take, suc, zero, get_or, refl, sym, ap, ◌∙◌, arith, subst}
 use Rattle.std.proofs.lemmas.Grind.{common_steps, take_at_read}
 use Rattle.std.proofs.lemmas.Bool.Decides.{nat_tests}
 use Rattle.std.proofs.lemmas.List.Elements.{All-head, All-more, All-tail, All-weaker}
@@ -10,7 +10,7 @@ use Rattle.ev_types.specs.declared.routes.PathMatch.{PathMatch}
 use Rattle.ev_types.specs.declared.routes.PathMatch.TheVariants.{Prefix, Path, Separated}
 use Rattle.ev_types.specs.declared.routes.Route.{Route}
 use Rattle.ev_model.specs.Choice.{begins_with, is_path_taken, without_query}
-use Rattle.ev_snapshot.specs.Paths.{AreCovered, KeepsLengths, first_taken, has_front, is_covered, is_part, is_prefix_taken, is_separated_taken, is_whole, match_key}
+use Rattle.ev_snapshot.specs.Paths.{AreCovered, KeepsLengths, first_taken, is_covered, is_part, is_prefix_taken, is_separated_taken, match_key}
 
 -- tests that agree on each element have one first place
 pub first_same : {X : Type 0} (p q : X → Bool) → ((x : X) → p x ≡ q x) → (xs : List X) → position_or_len p xs ≡ position_or_len q xs
