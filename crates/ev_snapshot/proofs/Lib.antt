@@ -4,6 +4,7 @@ pub mod Places
 pub mod Priorities
 pub mod Numbered
 pub mod Patterns
+pub mod Stars
 pub mod Named
 pub mod Lowest
 pub mod Eligible
