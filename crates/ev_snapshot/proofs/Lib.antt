@@ -1,8 +1,10 @@
 pub mod Fronts
+pub mod Firsts
 pub mod Places
 pub mod Priorities
 pub mod Numbered
 pub mod Patterns
+pub mod Stars
 pub mod Named
 pub mod Lowest
 pub mod Eligible

@@ -184,8 +184,8 @@ fn is_short(length: usize, over: usize) -> bool
     length / 4 < over
 }
 
-// Puts a value in the place of that of its key.
-fn put<K: Eq + Hash + Drop, V: Drop>(
+/// Puts a value in the place of that of its key.
+pub(crate) fn put<K: Eq + Hash + Drop, V: Drop>(
     map: &mut IndexMap<K, V>,
     key: K,
     value: V,
