@@ -5,6 +5,7 @@ use Rattle.std.proofs.lemmas.Bool.Decides.{nat_tests}
 use Rattle.std.proofs.lemmas.List.Elements.{All-head, All-more, All-tail, All-weaker}
 use Rattle.std.proofs.lemmas.List.{take_all}
 use Rattle.std.specs.List.{list_any, position_or_len}
+use Rattle.std.specs.Cmp.Lexicographic.{nat_list_eq_equiv}
 use Rattle.std.specs.Str.{bytes_eq}
 use Rattle.ev_types.specs.declared.routes.PathMatch.{PathMatch}
 use Rattle.ev_types.specs.declared.routes.PathMatch.TheVariants.{Prefix, Path, Separated}
@@ -62,16 +63,10 @@ part_same zero (f ∷ front) path = grind (arith, common_steps, nat_tests)
 part_same (suc n) (f ∷ front) [] = grind (arith, common_steps, nat_tests)
 part_same (suc n) (f ∷ front) (b ∷ path) = grind (arith, common_steps, nat_tests, part_same n front path)
 
-texts_turned : (xs ys : List ℕ) → bytes_eq xs ys ≡ bytes_eq ys xs
-texts_turned [] [] = refl
-texts_turned [] (y ∷ ys) = refl
-texts_turned (x ∷ xs) [] = refl
-texts_turned (x ∷ xs) (y ∷ ys) = grind (arith, common_steps, nat_tests, texts_turned xs ys)
-
 -- keys of the three kinds
 pub whole_key : (path : List ℕ) (m : PathMatch) → bytes_eq (match_key m) (1 ∷ without_query path) ≡ is_covered [] m && is_path_taken path m
 whole_key path (Prefix front) = refl
-whole_key path (Path whole) = texts_turned whole (without_query path)
+whole_key path (Path whole) = nat_list_eq_equiv.symm whole (without_query path)
 whole_key path (Separated front) = refl
 
 pub prefix_key : (n : ℕ) (path : List ℕ) → n ≤ length path → (m : PathMatch) → bytes_eq (match_key m) (0 ∷ take n path) ≡ is_prefix_taken n path m

@@ -1,9 +1,9 @@
 -- The domain that a host goes by where none is the host itself: the longest, found by how many bytes are beside its star.
-use Rattle.std.proofs.Common.{◌≡◌, ℕ, ◌+◌, ◌-◌, ◌<◌, ◌≤◌, ◌==◌, ◌++◌, ◌&&◌, ◌||◌, not, nat_eq, Bool, true, false, cond, nat_lt, List, [], ◌∷◌, length, take, drop, codes, Option, Some, None, All, filter, find, zero, suc, refl, ap, sym, ◌∙◌, subst, arith, true≢false}
+use Rattle.std.proofs.Common.{◌≡◌, ℕ, ◌+◌, ◌-◌, ◌<◌, ◌≤◌, ◌==◌, ◌++◌, ◌&&◌, not, nat_eq, Bool, true, false, cond, nat_lt, List, [], ◌∷◌, length, take, drop, codes, Option, Some, None, All, filter, find, zero, suc, refl, ap, sym, ◌∙◌, subst, arith, true≢false}
 use Rattle.std.specs.Cmp.{first_so}
 use Rattle.std.specs.Option.{option_or}
+use Rattle.std.specs.Cmp.Lexicographic.{nat_list_eq_equiv}
 use Rattle.std.specs.Str.{bytes_eq}
-use Rattle.std.proofs.lemmas.Bool.{cases_lt}
 use Rattle.std.proofs.lemmas.Bool.Decides.{nat_tests}
 use Rattle.std.proofs.lemmas.Grind.{common_steps}
 use Rattle.std.proofs.lemmas.List.Elements.{All-append, All-cons, All-head, All-nil, All-tail, All-weaker}
@@ -141,12 +141,6 @@ texts_unlike (x ∷ xs) (y ∷ ys) other =
     let rest : (length xs == length ys) ≡ false = grind (arith, nat_tests) in
     grind (arith, common_steps, texts_unlike xs ys rest)
 
-texts_turned : (xs ys : List ℕ) → bytes_eq xs ys ≡ bytes_eq ys xs
-texts_turned [] [] = refl
-texts_turned [] (y ∷ ys) = refl
-texts_turned (x ∷ xs) [] = refl
-texts_turned (x ∷ xs) (y ∷ ys) = grind (arith, common_steps, nat_tests, texts_turned xs ys)
-
 -- a text of two parts
 texts_split : (xs ys zs : List ℕ) → bytes_eq xs (ys ++ zs) ≡ bytes_eq (take (length ys) xs) ys && bytes_eq (drop (length ys) xs) zs
 texts_split xs [] zs = refl
@@ -180,7 +174,7 @@ suffix_text host n some less (x ∷ rest) = by (length rest == n) refl
         ≡ (length (x ∷ rest) == n + 1) && (is_suffix_form (x ∷ rest) && ends_with host rest && nat_lt (length (x ∷ rest) - 1) (length host))
     by true at =
         let same : length rest ≡ n = grind (arith, nat_tests) in
-        grind (arith, common_steps, nat_tests, texts_turned rest (drop (length host - n) host), same)
+        grind (arith, common_steps, nat_tests, nat_list_eq_equiv.symm rest (drop (length host - n) host), same)
     by false at =
         let other : (length rest == length back) ≡ false = grind (arith, nat_tests, many) in
         grind (arith, common_steps, nat_tests, texts_unlike rest back other)
@@ -217,7 +211,7 @@ prefix_text host n some less starless text = by (length text == n + 1) refl
         let one : length text - 1 ≡ n = omega arith in
         let shown : length (take n text) ≡ n = grind (arith, common_steps) in
         let begins : begins_with host (take (length text - 1) text) ≡ bytes_eq (take n text) front =
-        ap (λ k. begins_with host (take k text)) one ∙ ap (λ k. bytes_eq (take k host) (take n text)) shown ∙ texts_turned front (take n text) in
+        ap (λ k. begins_with host (take k text)) one ∙ ap (λ k. bytes_eq (take k host) (take n text)) shown ∙ nat_list_eq_equiv.symm front (take n text) in
         texts_split text front (42 ∷ [])
         ∙ ap (λ k. bytes_eq (take k text) front && bytes_eq (drop k text) (42 ∷ [])) many
         ∙ form refl size (bytes_eq (take n text) front) refl

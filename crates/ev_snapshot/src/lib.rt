@@ -36,16 +36,17 @@
 //!   more ways out it has.
 //! - A host text is looked up without a copy in lower case: its key is hashed byte by byte with ASCII letters as
 //!   lower case, and seen by contracts as the text in lower case.
-//! - A listener keeps one table of its domains by text, and which lengths its forms with a star have. A host is looked up
-//!   whole, then from its longest end to its shortest where a suffix form has that length, then its beginnings the same:
-//!   a look-up for each length that is there, however many domains there are, and the first hit is the longest form. The
-//!   keys of ends and beginnings are made of the host text, so an ask takes no memory.
-//! - A virtual host with more than 32 routes keeps the first place of each path match, and the lengths of the fronts. A path
-//!   is looked up whole and by its front of each of the lengths; the least place is the first route that takes it, which is
-//!   proved of all paths. Where there are so many lengths that trying the routes takes less time, it has no index. A path
-//!   match is found by kind and text, and its key is one more owner of the table, so an index copies no text.
-//! - Each domain as lower case is kept once a listener, and shared by list and table. A route table that several listeners
-//!   share is turned into lower case, and its virtual hosts indexed, once for each.
+//! - A listener keeps one table of its domains by text, and which lengths its forms with a star have. A host is
+//!   looked up whole, then from its longest end to its shortest where a suffix form has that length, then its
+//!   beginnings the same: a look-up for each length that is there, however many domains there are, and the first hit
+//!   is the longest form. The keys of ends and beginnings are made of the host text, so an ask takes no memory.
+//! - A virtual host with more than 32 routes keeps the first place of each path match, and the lengths of the fronts.
+//!   A path is looked up whole and by its front of each of the lengths; the least place is the first route that takes
+//!   it, which is proved of all paths. Where there are so many lengths that trying the routes takes less time, it has
+//!   no index. A path match is found by kind and text, and its key is one more owner of the table, so an index copies
+//!   no text.
+//! - Each domain as lower case is kept once a listener, and shared by list and table. A route table that several
+//!   listeners share is turned into lower case, and its virtual hosts indexed, once for each.
 //! - What serves now comes as data, and not as a shared part, so a cluster whose number is in the last picture is
 //!   compared with it first, and is taken over from there where it is equal. Routes are shared with the resource that
 //!   brought them and never copied.

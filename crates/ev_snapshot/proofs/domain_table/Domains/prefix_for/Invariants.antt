@@ -1,6 +1,5 @@
-use Rattle.std.proofs.Common.{◌≡◌, ◌≤◌, All, length, true}
 use Rattle.std.specs.Str.{str_to_ascii_lowercase}
-use Rattle.ev_model.specs.Choice.{HostDomain, has_prefix}
+use Rattle.ev_model.specs.Choice.{has_prefix}
 use Rattle.ev_snapshot.proofs.Patterns.{FitsWithin}
 use Rattle.ev_snapshot.proofs.domain_table.Domains.prefix_for.Given as goal
 

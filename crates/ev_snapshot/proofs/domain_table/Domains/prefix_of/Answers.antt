@@ -1,7 +1,7 @@
-use Rattle.std.proofs.Common.{◌≡◌, ◌+◌, ◌-◌, ◌<◌, ◌==◌, ◌&&◌, ◌++◌, [], ◌∷◌, length, drop, take, sym, ap, ◌∙◌, false, arith}
+use Rattle.std.proofs.Common.{◌≡◌, ◌+◌, ◌<◌, ◌==◌, ◌&&◌, ◌++◌, [], ◌∷◌, length, take, sym, ap, ◌∙◌, false, arith}
 use Rattle.std.specs.Char.{to_ascii_lowercase}
 use Rattle.std.specs.Str.{bytes_eq, str_to_ascii_lowercase}
-use Rattle.std.proofs.lemmas.List.{drop-map, length-map, take-map}
+use Rattle.std.proofs.lemmas.List.{length-map, take-map}
 use Rattle.indexmap.specs.IndexMap.{get}
 use Rattle.ev_model.specs.Choice.{HostDomain, has_prefix, is_domain, is_prefix_form}
 use Rattle.ev_snapshot.specs.Domains.{find_beside, has_length}
