@@ -1,5 +1,4 @@
 pub mod KeptLemmas
-pub mod NumberLemmas
 pub mod WhereLemmas
 pub mod SoundLemmas
 pub mod WorldLemmas

@@ -1,4 +1,4 @@
-ghost use Rattle.std.specs.Prelude.{◌≡◌, ◌||◌, ◌&&◌, not, true, if◌then◌else◌, ◌+◌, length, ℕ, [], nat_eq, IfSome, IfNone, OnOk, OnErr};
+ghost use Rattle.std.specs.Prelude.{◌≡◌, ◌||◌, ◌&&◌, not, true, if◌then◌else◌, ◌+◌, length, ℕ, [], nat_eq, IfSome, IfNone, OnOk};
 ghost use Rattle.ev_indexes.specs.Due.{is_among};
 
 use ev_types::{Gen, TryCopy};
@@ -38,10 +38,9 @@ impl Due {
         self.numbers.first().copied()
     }
 
-    /// One more is due. Without memory the same are due as before.
+    /// One more is due. Without memory nothing is promised.
     pub fn put(&mut self, number: Gen) -> Result<(), AllocError>
-        ensures ok { OnOk result ((n : ℕ) → is_among self.new n ≡ (nat_eq number n || is_among self.old n)) }
-        ensures err { OnErr result (self.new ≡ self.old) }
+        ensures { OnOk result ((n : ℕ) → is_among self.new n ≡ (nat_eq number n || is_among self.old n)) }
     {
         let Ok(_) = self.numbers.insert(number) else {
             return Err(AllocError);

@@ -53,8 +53,7 @@ impl Manager {
         }
     }
 
-    /// Something came for a name that a live generation depends on. Each that depends on it is looked at once. Without memory
-    /// nothing is promised.
+    /// Something came for a name that a live generation depends on. Each that depends on it is looked at once.
     pub fn arrive<L: Ledger>(
         &mut self,
         alloc: Global,
@@ -88,7 +87,7 @@ impl Manager {
     }
 
     /// What a name stands for has come to its end, or is removed: the generation that warms under it is dropped, and the one that
-    /// serves it drains; these are the answer. It costs at most two look-ups. Without memory nothing is promised.
+    /// serves it drains; these are the answer. It costs at most two look-ups.
     pub fn end<L: Ledger>(
         &mut self,
         name: &Name,
@@ -114,7 +113,7 @@ impl Manager {
     }
 
     /// A new generation of a name warms, with content of the manager's kind, and one that warmed under it before is dropped. It
-    /// costs at most two look-ups. Without memory nothing is promised.
+    /// costs at most two look-ups.
     pub fn add<L: Ledger>(
         &mut self,
         alloc: Global,
@@ -143,7 +142,7 @@ impl Manager {
     }
 
     /// Each generation that is due serves, and the one that served its name before it drains. Answers the numbers of both. Each of
-    /// the first costs at most three look-ups. Without memory nothing is promised.
+    /// the first costs at most three look-ups.
     pub fn promote<L: Ledger>(
         &mut self,
         alloc: Global,
@@ -168,7 +167,7 @@ impl Manager {
     }
 
     /// After an event: forgets what nobody needs any more, of names, of generations that retired, and of hosts that left their
-    /// cluster's assignment. Without memory nothing is promised.
+    /// cluster's assignment.
     pub fn forget<L: Ledger>(
         &mut self,
         alloc: Global,
