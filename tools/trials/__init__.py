@@ -4,7 +4,9 @@ import importlib.machinery
 import importlib.util
 import io
 import os
+import shutil
 import subprocess
+import tempfile
 import traceback
 
 TOP = os.path.dirname(os.path.dirname(os.path.dirname(os.path.realpath(__file__))))
@@ -31,6 +33,19 @@ def called(main, *words):
             status = 'traceback'
             traceback.print_exc()
     return status, out.getvalue(), errors.getvalue()
+
+
+@contextlib.contextmanager
+def compiled(tool, text):
+    """The path of the C program of this text, while the block lasts; None, and a line that the tool wasn't tried, without a compiler."""
+    if not shutil.which('cc'):
+        print(f'{tool} wasn\'t tried: there is no C compiler')
+        yield None
+        return
+    with tempfile.TemporaryDirectory() as folder:
+        written(f'{folder}/program.c', text)
+        subprocess.run(['cc', '-O1', '-w', '-pthread', '-o', f'{folder}/program', f'{folder}/program.c'], check=True)
+        yield f'{folder}/program'
 
 
 def ran(*words, data=b'', **how):

@@ -1,10 +1,8 @@
 """tools/fail on a stand-in for the program, which writes what it reads and ends otherwise than it should where it is told to."""
 import os
-import shutil
 import subprocess
-import tempfile
 
-from trials import TOP, content, loaded, written
+from trials import TOP, compiled, content, loaded
 
 TOOL = f'{TOP}/tools/fail'
 SCRIPT = f'{TOP}/examples/run/publish_and_accept.jsonl'
@@ -46,13 +44,9 @@ int main(int count, char **words) {
 
 
 def run(check):
-    if not shutil.which('cc'):
-        print('tools/fail wasn\'t tried: there is no C compiler')
-        return
-    with tempfile.TemporaryDirectory() as folder:
-        written(f'{folder}/program.c', PROGRAM)
-        subprocess.run(['cc', '-O1', '-w', '-o', f'{folder}/program', f'{folder}/program.c'], check=True)
-        tries(check, f'{folder}/program')
+    with compiled('tools/fail', PROGRAM) as program:
+        if program:
+            tries(check, program)
 
 
 def tries(check, program):

@@ -1,11 +1,9 @@
 """tools/refuse on a stand-in for the program, which makes a few allocations and ends otherwise than it should where it is told to."""
 import os
-import shutil
 import subprocess
-import tempfile
 from types import SimpleNamespace
 
-from trials import TOP, content, loaded, written
+from trials import TOP, compiled, content, loaded
 
 TOOL = f'{TOP}/tools/refuse'
 SCRIPT = f'{TOP}/examples/run/publish_and_accept.jsonl'
@@ -58,13 +56,9 @@ int main(int count, char **words) {
 
 
 def run(check):
-    if not shutil.which('cc'):
-        print('tools/refuse wasn\'t tried: there is no C compiler')
-        return
-    with tempfile.TemporaryDirectory() as folder:
-        written(f'{folder}/program.c', PROGRAM)
-        subprocess.run(['cc', '-O1', '-w', '-pthread', '-o', f'{folder}/program', f'{folder}/program.c'], check=True)
-        tries(check, f'{folder}/program')
+    with compiled('tools/refuse', PROGRAM) as program:
+        if program:
+            tries(check, program)
 
 
 def tries(check, program):
