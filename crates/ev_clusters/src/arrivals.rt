@@ -13,7 +13,8 @@ impl Clusters {
     ghost use Rattle.ev_clusters.specs.Clusters.{AreKept};
 
     /// A response of endpoints, with the verdicts on its resources: a watched name that is removed is told of as absent; then, in
-    /// order, each resource that is kept arrives, and one that is refused is told of where its name is watched.
+    /// order, each resource that is kept arrives, and one that is refused is told of where its name is watched. Without memory
+    /// nothing is promised.
     pub fn arrivals<L: Ledger>(
         &mut self,
         alloc: Global,

@@ -13,7 +13,7 @@ impl Clusters {
 
     /// A health result of a host of a cluster is kept for each live generation of the cluster whose hosts are health checked and
     /// have the host now. Answers whether there is one; where there is none, all stays as it was. However many clusters there
-    /// are, it looks at four at most.
+    /// are, it looks at four at most. Without memory nothing is promised.
     pub fn health<L: Ledger>(
         &mut self,
         alloc: Global,

@@ -59,7 +59,7 @@ impl Clusters {
 
     /// A response of clusters, with the verdicts on its resources: removed clusters drain, or are dropped where they warmed; then
     /// each new resource makes a generation, and one that warmed under its name is dropped. Answers the numbers of the new
-    /// generations, and of those that retired.
+    /// generations, and of those that retired. Without memory nothing is promised.
     pub fn apply<L: Ledger>(
         &mut self,
         alloc: Global,
@@ -82,7 +82,8 @@ impl Clusters {
         self.manager.apply(alloc, response, verdicts, steps)
     }
 
-    /// Something came for a name of endpoints that a live cluster depends on. Each that depends on it is looked at once.
+    /// Something came for a name of endpoints that a live cluster depends on. Each that depends on it is looked at once. Without
+    /// memory nothing is promised.
     pub fn arrival<L: Ledger>(
         &mut self,
         alloc: Global,
@@ -101,7 +102,8 @@ impl Clusters {
         self.manager.arrive(alloc, name, arrival, steps)
     }
 
-    /// Each cluster that is due serves, and the one that served its name before it drains. Answers the numbers of both.
+    /// Each cluster that is due serves, and the one that served its name before it drains. Answers the numbers of both. Without
+    /// memory nothing is promised.
     pub fn promote<L: Ledger>(
         &mut self,
         alloc: Global,
@@ -122,7 +124,7 @@ impl Clusters {
     }
 
     /// After an event: forgets what nobody needs any more, of names, of clusters that retired, and of hosts that left their
-    /// cluster's assignment. Only what changed since the last time is looked at.
+    /// cluster's assignment. Only what changed since the last time is looked at. Without memory nothing is promised.
     pub fn forget<L: Ledger>(
         &mut self,
         alloc: Global,
@@ -139,7 +141,7 @@ impl Clusters {
     }
 
     /// The time to live of a cluster came to its end: as if it were removed. Answers which generation was dropped and which
-    /// drains.
+    /// drains. Without memory nothing is promised.
     pub fn expire<L: Ledger>(
         &mut self,
         name: &Name,

@@ -48,11 +48,12 @@ impl Deferred {
         self.rows.push_reserved(row);
     }
 
-    /// Puts the rows of the other behind these, and leaves the other none. Out of memory, these stay as they were.
+    /// Puts the rows of the other behind these, and leaves the other none. Out of memory, both stay as they were.
     pub fn append(&mut self, other: &mut Deferred) -> Result<(), AllocError>
         ensures ok { OnOk result (self.new.0 ≡ self.old.0 ++ other.old.0) }
         ensures none { OnOk result (other.new.0 ≡ []) }
         ensures err { OnErr result (self.new.0 ≡ self.old.0) }
+        ensures other_kept { OnErr result (other.new.0 ≡ other.old.0) }
     {
         self.rows.append(&mut other.rows)
     }

@@ -16,3 +16,8 @@ pub record IsTextSoFar (trees : List Data) (text : TextSoFar) : Type 0 where
   pub bytes : text.bytes.items ≡ text_of_trees trees
   pub lines : text.lines ≡ length trees
   pub limits : AreWithinLimits trees
+
+-- two texts have the same lines, whatever memory they hold for more
+pub record IsSameText (before after : TextSoFar) : Type 0 where
+  pub bytes : after.bytes.items ≡ before.bytes.items
+  pub lines : after.lines ≡ before.lines

@@ -71,7 +71,7 @@ pub trait Expansion {
     /// as, the numbers are those behind the line, and `items` are the places of the keys of its guarded resources.
     ///
     /// # Errors
-    /// `AllocError` where there is no memory for it.
+    /// `AllocError` where there is no memory for it; nothing is promised of what the command knows then.
     fn due(
         &mut self,
         alloc: Global,

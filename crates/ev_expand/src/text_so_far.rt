@@ -1,9 +1,9 @@
-ghost use Rattle.std.specs.Prelude.{◌≡◌, ◌↔◌, ◌++◌, List, [], ◌∷◌, true, false, IsTrue, Ok};
+ghost use Rattle.std.specs.Prelude.{◌≡◌, ◌↔◌, ◌++◌, List, [], ◌∷◌, true, false, IsTrue, Ok, OnErr};
 ghost use Rattle.serde_json.specs.Data.{Data};
 ghost use Rattle.serde_json.specs.View.{view};
 ghost use Rattle.ev_trees.specs.Floats.{whole};
 ghost use Rattle.ev_trees.specs.Trees.{AreWithinLimits, ReadsBack, IsReadable};
-ghost use Rattle.ev_expand.specs.Room.{HasRoom, IsTextSoFar};
+ghost use Rattle.ev_expand.specs.Room.{HasRoom, IsTextSoFar, IsSameText};
 
 use ev_io::{MAX_INPUT_BYTES, MAX_LINE_BYTES, MAX_LINES};
 use ev_trees::push_whole;
@@ -34,13 +34,14 @@ impl TextSoFar {
     /// limits of inputs. Where it hadn't, the text stays as it was.
     ///
     /// # Errors
-    /// `AllocError` where there is no memory for it.
+    /// `AllocError` where there is no memory for it; the text stays as it was then.
     pub fn push(&mut self, alloc: Global, tree: &Value) -> Result<bool, AllocError>
         ensures pushed { (trees : List Data) → IsTextSoFar trees self.old → result ≡ Ok true
             → IsTextSoFar (trees ++ whole (view tree.now) ∷ []) self.new }
         ensures full { (trees : List Data) → IsTextSoFar trees self.old → result ≡ Ok false
             → ¬ (AreWithinLimits (trees ++ whole (view tree.now) ∷ [])) }
         ensures same { result ≡ Ok false → self.new ≡ self.old }
+        ensures err { OnErr result (IsSameText self.old self.new) }
         ensures reads_back { result ≡ Ok true → IsReadable (view tree.now) → ReadsBack (whole (view tree.now)) }
     {
         let mut line = Vec::new(alloc);

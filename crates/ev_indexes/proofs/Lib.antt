@@ -1,4 +1,5 @@
 pub mod KeptLemmas
+pub mod NumberLemmas
 pub mod WhereLemmas
 pub mod SoundLemmas
 pub mod WorldLemmas

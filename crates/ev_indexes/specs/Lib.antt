@@ -1,6 +1,7 @@
 pub mod Kept
 pub mod Standings
 pub mod Watched
+pub mod Numbers
 pub mod Due
 pub mod Ready
 pub mod Indexes

@@ -1,4 +1,4 @@
-ghost use Rattle.std.specs.Prelude.{◌≡◌, ◌||◌, ◌&&◌, not, true, if◌then◌else◌, ◌+◌, length, ℕ, [], nat_eq, IfSome, IfNone, OnOk};
+ghost use Rattle.std.specs.Prelude.{◌≡◌, ◌||◌, ◌&&◌, not, true, if◌then◌else◌, ◌+◌, length, ℕ, [], nat_eq, IfSome, IfNone, OnOk, OnErr};
 ghost use Rattle.ev_indexes.specs.Due.{is_among};
 
 use ev_types::{Gen, TryCopy};
@@ -38,9 +38,10 @@ impl Due {
         self.numbers.first().copied()
     }
 
-    /// One more is due. Without memory nothing is promised.
+    /// One more is due. Without memory the same are due as before.
     pub fn put(&mut self, number: Gen) -> Result<(), AllocError>
-        ensures { OnOk result ((n : ℕ) → is_among self.new n ≡ (nat_eq number n || is_among self.old n)) }
+        ensures ok { OnOk result ((n : ℕ) → is_among self.new n ≡ (nat_eq number n || is_among self.old n)) }
+        ensures err { OnErr result (self.new ≡ self.old) }
     {
         let Ok(_) = self.numbers.insert(number) else {
             return Err(AllocError);

@@ -1,5 +1,4 @@
-ghost use Rattle.std.specs.Prelude.{◌≡◌, ◌++◌, nat_le, IfOk, OnOk};
-ghost use Rattle.std.specs.List.{list_any};
+ghost use Rattle.std.specs.Prelude.{◌≡◌, ◌++◌, IfOk, OnOk};
 ghost use Rattle.ev_indexes.specs.Indexes.{IsIndexed};
 ghost use Rattle.ev_indexes.specs.Moved.{is_held, free_need, need_lost, need_gained, names_lost, names_gained};
 
@@ -101,22 +100,14 @@ impl State {
         Ok(())
     }
 
-    // Whether a live generation up to the number `made` depends on a name. The generations of a name stand in the order in which they
-    // were made, so the first of them decides.
+    // Whether a live generation up to the number `made` depends on a name.
     fn is_held(&self, made: u32, name: &Name) -> bool
         requires indexed { IsIndexed self.now }
         ensures { result ≡ is_held made self.now.table.rows name.now }
     {
         match self.watches.get(name) {
-            Some(watch) => has_first(made, watch.rows.as_slice()),
+            Some(watch) => watch.rows.has_up_to(made),
             None => false,
         }
     }
-}
-
-// Whether one of these numbers is at most this one.
-fn has_first(made: u32, numbers: &[Gen]) -> bool
-    ensures { result ≡ list_any (λ n. nat_le n made) numbers.now }
-{
-    numbers.iter().any(|number| number.number() <= made)
 }

@@ -1,4 +1,4 @@
-ghost use Rattle.std.specs.Prelude.{◌≡◌, [], Decides, IsSome, OnOk};
+ghost use Rattle.std.specs.Prelude.{◌≡◌, [], Decides, IsSome, OnOk, OnErr};
 ghost use Rattle.std.specs.Map.{lookup};
 ghost use Rattle.std.specs.Str.{bytes_eq};
 ghost use Rattle.ev_indexes.specs.Kept.{Sets};
@@ -65,9 +65,10 @@ impl Names {
         }
     }
 
-    /// These generations of the name stand. Without memory nothing is promised of the names.
+    /// These generations of the name stand. Without memory all stays as it was.
     pub fn enter(&mut self, name: Name, standing: Standing) -> Result<(), AllocError>
-        ensures { OnOk result (Sets nobody self.old self.new name standing) }
+        ensures ok { OnOk result (Sets nobody self.old self.new name standing) }
+        ensures err { OnErr result (self.new ≡ self.old) }
     {
         if is_nobody(&standing) {
             self.names.swap_remove(&name);

@@ -8,10 +8,10 @@ ghost use Rattle.ev_indexes.specs.Indexes.{IsIndexed, depends_on, numbers_where}
 ghost use Rattle.ev_indexes.specs.Reads.{live_rows, is_timeout_due, is_awaited_at, seen_at};
 ghost use Rattle.ev_indexes.specs.Worlds.{InWorlds, InWorldsWatching};
 
-use crate::{State, Watch};
+use crate::{Numbers, State, Watch};
 use ev_generations::Generations;
 use ev_mentions::LiveRow;
-use ev_types::{Gen, GenRow, Name, Seq};
+use ev_types::{Gen, GenRow, Name};
 use std::alloc::{AllocError, Global};
 
 impl State {
@@ -89,7 +89,7 @@ fn push_number(row: &GenRow, numbers: &mut Vec<Gen>) -> Result<(), AllocError>
 }
 
 // Whether there is a number.
-fn is_filled(numbers: &Seq<Gen>) -> bool
+fn is_filled(numbers: &Numbers) -> bool
     ensures { result ≡ is_filled numbers.now }
 {
     !numbers.is_empty()

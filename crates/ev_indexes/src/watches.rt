@@ -3,11 +3,12 @@ ghost use Rattle.std.specs.Map.{lookup};
 ghost use Rattle.std.specs.Option.{option_copied};
 ghost use Rattle.std.specs.Str.{bytes_eq};
 ghost use Rattle.ev_indexes.specs.Kept.{Sets};
-ghost use Rattle.ev_indexes.specs.Watched.{Turns, unwatched, watched_too, watched_less, with_arrival, without_number};
+ghost use Rattle.ev_indexes.specs.Watched.{Turns, unwatched, watched_too, watched_less, with_arrival};
 
+use crate::Numbers;
 use crate::copies::copy_map;
 use ev_mentions::NameKey;
-use ev_types::{Arrival, Content, Gen, Name, Seq, TryCopy};
+use ev_types::{Arrival, Content, Gen, Name, TryCopy};
 use indexmap::IndexMap;
 use std::alloc::{AllocError, Global};
 use std::marker::Model;
@@ -16,8 +17,8 @@ use std::marker::Model;
 /// the name was told of, whether its wait timed out, and its last value.
 #[derive(Drop)]
 pub struct Watch {
-    pub rows: Seq<Gen>,
-    pub limited: Seq<Gen>,
+    pub rows: Numbers,
+    pub limited: Numbers,
     pub told: bool,
     pub timed: bool,
     pub value: Option<Content>,
@@ -130,8 +131,8 @@ fn nothing(alloc: Global) -> Watch
     ensures { result ≡ unwatched }
 {
     Watch {
-        rows: Seq::new(alloc),
-        limited: Seq::new(alloc),
+        rows: Numbers::new(alloc),
+        limited: Numbers::new(alloc),
         told: false,
         timed: false,
         value: None,
@@ -166,8 +167,8 @@ fn add(watch: &mut Watch, number: Gen, limited: bool) -> Result<(), AllocError>
 fn leave(watch: &mut Watch, number: Gen)
     ensures { watch.new ≡ watched_less number watch.old }
 {
-    leave_out(&mut watch.rows, number);
-    leave_out(&mut watch.limited, number);
+    watch.rows.leave_out(number);
+    watch.limited.leave_out(number);
 }
 
 // Something came for a name.
@@ -185,19 +186,4 @@ fn note(alloc: Global, watch: &mut Watch, arrival: &Arrival) -> Result<(), Alloc
         Arrival::TimedOut => watch.timed = true,
     }
     Ok(())
-}
-
-// Leaves a number out of these.
-fn leave_out(numbers: &mut Seq<Gen>, number: Gen)
-    ensures { numbers.new ≡ without_number number numbers.old }
-{
-    let mut kept = 0;
-    for place in 0..numbers.len() {
-        let other = numbers.as_slice()[place];
-        if number != other {
-            numbers.set(kept, other);
-            kept += 1;
-        }
-    }
-    numbers.truncate(kept);
 }

@@ -3,6 +3,7 @@
 use Rattle.std.specs.Prelude.{◌≡◌, ℕ, Bool, true, false, not, ◌&&◌, if◌then◌else◌, List, [], ◌∷◌, ◌++◌, filter, Option, None, Some, IsSome, unwrap_or, option_to_list, map}
 use Rattle.std.specs.List.{flat_map}
 use Rattle.std.specs.Map.{lookup}
+use Rattle.indexmap.specs.IndexMap.{IndexMap, get}
 use Rattle.ev_types.specs.SameHosts.{host_same}
 use Rattle.ev_types.specs.Statuses.{is_live}
 use Rattle.ev_types.specs.declared.hosts.Host.{Host}
@@ -27,6 +28,24 @@ numbers_at kept address = unwrap_or (lookup (host_same address) kept) []
 abbrev pub filled_or_none : List ℕ → Option (List ℕ)
 filled_or_none [] = None
 filled_or_none (number ∷ numbers) = Some (number ∷ numbers)
+
+-- the entry at an address with this number behind the others
+abbrev pub entry_with : ℕ → AddressesKept → Host → Option (List ℕ)
+entry_with number kept address = Some (numbers_at kept address ++ number ∷ [])
+
+-- the number stands behind those at the address, and at every other address the entry of before stands
+abbrev pub EntersNumber : {S : Type 0} → IndexMap Host (List ℕ) S → IndexMap Host (List ℕ) S → Host → ℕ → Type 0
+EntersNumber old new address number = (other : Host) → get host_same new other
+    ≡ (if host_same address other then entry_with number old.entries address else get host_same old other)
+
+-- the entry at an address without this number; where no other number stands there, there is no entry
+abbrev pub entry_without : ℕ → AddressesKept → Host → Option (List ℕ)
+entry_without number kept address = filled_or_none (without_number number (numbers_at kept address))
+
+-- the number is gone at the address, and at every other address the entry of before stands
+abbrev pub LeavesNumber : {S : Type 0} → IndexMap Host (List ℕ) S → IndexMap Host (List ℕ) S → Host → ℕ → Type 0
+LeavesNumber old new address number = (other : Host) → get host_same new other
+    ≡ (if host_same address other then entry_without number old.entries address else get host_same old other)
 
 -- at each address that has an entry a generation listens
 abbrev pub HaveNumbers : AddressesKept → Type 0

@@ -1,4 +1,4 @@
-ghost use Rattle.std.specs.Prelude.{◌≡◌, if◌then◌else◌, ◌++◌, [], ◌∷◌, None, Some, filter, option_to_list, IfOk, OnOk, OnErr};
+ghost use Rattle.std.specs.Prelude.{◌≡◌, if◌then◌else◌, ◌++◌, [], ◌∷◌, None, filter, option_to_list, IfOk, OnOk, OnErr};
 ghost use Rattle.std.specs.Map.{lookup};
 ghost use Rattle.std.specs.Option.{option_copied};
 ghost use Rattle.indexmap.specs.IndexMap.{get};
@@ -7,7 +7,7 @@ ghost use Rattle.ev_types.specs.declared.hosts.Host as declared;
 ghost use Rattle.ev_model.specs.Verdicts.{listening_address};
 ghost use Rattle.ev_generations.specs.Tables.{is_after};
 ghost use Rattle.ev_indexes.specs.Watched.{without_number};
-ghost use Rattle.ev_listeners.specs.Addresses.{numbers_at, filled_or_none, Enters, EntersRows, FollowsRows, Leaves, LeavesRow, LeavesRows};
+ghost use Rattle.ev_listeners.specs.Addresses.{Enters, EntersNumber, EntersRows, FollowsRows, Leaves, LeavesNumber, LeavesRow, LeavesRows};
 
 use ev_generations::Generations;
 use ev_types::{Content, Gen, GenRow, Host, Seq, TryCopy};
@@ -159,8 +159,7 @@ fn enter_number(
     address: &Host,
     number: Gen,
 ) -> Result<(), AllocError>
-    ensures entered { OnOk result ((a : declared.Host) → get host_same map.new a
-        ≡ (if host_same address.now a then Some (numbers_at map.old.entries address.now ++ number ∷ []) else get host_same map.old a)) }
+    ensures entered { OnOk result (EntersNumber map.old map.new address.now number) }
     ensures err { OnErr result ((a : declared.Host) → get host_same map.new a ≡ get host_same map.old a) }
 {
     if let Some(numbers) = map.get_mut(address) {
@@ -176,8 +175,7 @@ fn enter_number(
 
 // A number is left out at an address, and the entry of one without any is taken out.
 fn leave_numbers(map: &mut Numbers, address: &Host, number: Gen)
-    ensures { (a : declared.Host) → get host_same map.new a
-        ≡ (if host_same address.now a then filled_or_none (without_number number (numbers_at map.old.entries address.now)) else get host_same map.old a) }
+    ensures { LeavesNumber map.old map.new address.now number }
 {
     if let Some(numbers) = map.get_mut(address) {
         leave_out(numbers, number);

@@ -74,7 +74,7 @@ impl Listeners {
 
     /// A response of listeners, with the verdicts on its resources: removed listeners drain, or are dropped where they warmed;
     /// then each new resource makes a generation, and one that warmed under its name is dropped. Answers the numbers of the new
-    /// generations, and of those that retired.
+    /// generations, and of those that retired. Without memory nothing is promised.
     pub fn apply<L: Ledger>(
         &mut self,
         alloc: Global,
@@ -101,7 +101,8 @@ impl Listeners {
         Ok(applied)
     }
 
-    /// Something came for a name of routes that a live listener depends on. Each that depends on it is looked at once.
+    /// Something came for a name of routes that a live listener depends on. Each that depends on it is looked at once. Without
+    /// memory nothing is promised.
     pub fn arrival<L: Ledger>(
         &mut self,
         alloc: Global,
@@ -120,7 +121,8 @@ impl Listeners {
         self.manager.arrive(alloc, name, arrival, steps)
     }
 
-    /// Each listener that is due serves, and the one that served its name before it drains. Answers the numbers of both.
+    /// Each listener that is due serves, and the one that served its name before it drains. Answers the numbers of both. Without
+    /// memory nothing is promised.
     pub fn promote<L: Ledger>(
         &mut self,
         alloc: Global,
@@ -143,7 +145,7 @@ impl Listeners {
     }
 
     /// After an event: forgets what nobody needs any more, of names and of listeners that retired. Only what changed since the
-    /// last time is looked at.
+    /// last time is looked at. Without memory nothing is promised.
     pub fn forget<L: Ledger>(
         &mut self,
         alloc: Global,
@@ -160,7 +162,7 @@ impl Listeners {
     }
 
     /// The time to live of a listener came to its end: as if it were removed. Answers which generation was dropped and which
-    /// drains.
+    /// drains. Without memory nothing is promised.
     pub fn expire<L: Ledger>(
         &mut self,
         name: &Name,

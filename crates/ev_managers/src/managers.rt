@@ -38,7 +38,7 @@ impl Managers {
     }
 
     /// Each generation that is due serves, and the one that served its name before it drains, and is put to those that retired.
-    /// The numbers of both are put to those that changed.
+    /// The numbers of both are put to those that changed. Without memory nothing is promised.
     pub fn promote<L: Ledger>(
         &mut self,
         alloc: Global,
@@ -61,7 +61,7 @@ impl Managers {
         Ok(())
     }
 
-    /// Forgets what nobody needs any more.
+    /// Forgets what nobody needs any more. Without memory nothing is promised.
     pub fn forget<L: Ledger>(
         &mut self,
         alloc: Global,

@@ -14,7 +14,7 @@ impl Managers {
     ghost use Rattle.ev_managers.specs.Retired.{AreRetired};
 
     /// A response of this kind, with the verdicts on its resources: removals first, then its resources in order. Answers
-    /// which generations retired.
+    /// which generations retired. Without memory nothing is promised.
     pub fn respond<L: Ledger>(
         &mut self,
         alloc: Global,

@@ -29,7 +29,7 @@ impl Managers {
         }
     }
 
-    /// Something came for a name of endpoints that a live cluster depends on.
+    /// Something came for a name of endpoints that a live cluster depends on. Without memory nothing is promised.
     pub fn arrive_endpoints<L: Ledger>(
         &mut self,
         alloc: Global,
@@ -48,7 +48,7 @@ impl Managers {
         Ok(())
     }
 
-    /// Something came for a name of routes that a live listener depends on.
+    /// Something came for a name of routes that a live listener depends on. Without memory nothing is promised.
     pub fn arrive_routes<L: Ledger>(
         &mut self,
         alloc: Global,
@@ -68,6 +68,7 @@ impl Managers {
     }
 
     /// What a cluster's name stands for has come to its end: one that warms is dropped, and one that serves drains. Answers both.
+    /// Without memory nothing is promised.
     pub fn end_cluster<L: Ledger>(
         &mut self,
         alloc: Global,
@@ -87,7 +88,8 @@ impl Managers {
         })
     }
 
-    /// What a listener's name stands for has come to its end: one that warms is dropped, and one that serves drains. Answers both.
+    /// What a listener's name stands for has come to its end: one that warms is dropped, and one that serves drains. Answers
+    /// both. Without memory nothing is promised.
     pub fn end_listener<L: Ledger>(
         &mut self,
         alloc: Global,
@@ -150,7 +152,7 @@ impl Managers {
     }
 
     /// What a name of this kind stands for has come to its end: a cluster or listener goes as if it were removed, and endpoints or
-    /// routes become none, where the name is watched. Answers which generations retired.
+    /// routes become none, where the name is watched. Answers which generations retired. Without memory nothing is promised.
     pub fn end<L: Ledger>(
         &mut self,
         alloc: Global,
@@ -186,6 +188,7 @@ impl Managers {
     }
 
     /// A health result of a host of a cluster. Answers whether it is for a generation; where it is for none, all stays as it was.
+    /// Without memory nothing is promised.
     pub fn health<L: Ledger>(
         &mut self,
         alloc: Global,

@@ -1,4 +1,4 @@
-ghost use Rattle.std.specs.Prelude.{◌≡◌, ◌++◌, [], ◌∷◌, map, IfOk, OnOk};
+ghost use Rattle.std.specs.Prelude.{◌≡◌, ◌++◌, [], ◌∷◌, map, IfOk, OnOk, OnErr};
 ghost use Rattle.serde_json.specs.Data.{string};
 ghost use Rattle.serde_json.specs.View.{view};
 ghost use Rattle.ev_model.specs.Verdicts.{is_among};
@@ -42,9 +42,10 @@ impl NameSet {
     /// Puts a name among the others.
     ///
     /// # Errors
-    /// `AllocError` where there is no memory for it.
+    /// `AllocError` where there is no memory for it; the names stay as they were then.
     pub fn insert(&mut self, alloc: Global, name: &str) -> Result<(), AllocError>
-        ensures { OnOk result (self.new ≡ with_name name.now self.old) }
+        ensures ok { OnOk result (self.new ≡ with_name name.now self.old) }
+        ensures err { OnErr result (self.new ≡ self.old) }
     {
         self.names.insert(String::from_str(alloc, name)?)?;
         Ok(())

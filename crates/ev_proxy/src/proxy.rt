@@ -54,7 +54,8 @@ impl Proxy {
     }
 
     /// What an event does, and its answer: one step of the machine, by the rules of a journal's format. What only a worker does is
-    /// ignored where another actor brings it. The rows of the generations that it reaped are deferred, and no others.
+    /// ignored where another actor brings it. The rows of the generations that it reaped are deferred, and no others. Without
+    /// memory nothing is promised.
     pub fn step(
         &mut self,
         alloc: Global,
@@ -104,7 +105,8 @@ impl Proxy {
         }
     }
 
-    /// Takes over what a worker did since it settled. The world is then the one after these entries.
+    /// Takes over what a worker did since it settled. The world is then the one after these entries. The deferred rows stay as
+    /// they were; without memory nothing else is promised.
     pub fn take_batch(&mut self, batch: &Batch) -> Result<(), AllocError>
         ghost here: { World }
         requires at { IsAt self.old here }
@@ -117,6 +119,7 @@ impl Proxy {
     }
 
     /// A worker settles: it takes over the last snapshot, and its connections on listeners whose drain timeout came are closed.
+    /// The deferred rows stay as they were; without memory nothing else is promised.
     pub fn settle(&mut self, alloc: Global, worker: u32) -> Result<Settled, AllocError>
         ghost here: { World }
         requires at { IsAt self.old here }

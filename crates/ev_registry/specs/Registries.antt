@@ -1,7 +1,9 @@
 -- What a registry keeps of its journal, and of what is known beside it.
 use Rattle.std.specs.Prelude.{◌≡◌, ℕ, ⊤, Bool, false, List, [], ◌∷◌, ◌++◌, map, Some}
 use Rattle.ev_types.specs.Events.{MayMake}
+use Rattle.ev_types.specs.declared.events.Actor.{Actor}
 use Rattle.ev_types.specs.declared.events.Actor.TheVariants.{Worker}
+use Rattle.ev_types.specs.declared.events.Answer.{Answer}
 use Rattle.ev_types.specs.declared.events.Answer.TheVariants.{Settled}
 use Rattle.ev_types.specs.declared.events.Entry.{Entry}
 use Rattle.ev_types.specs.declared.events.Event.{Event}
@@ -14,7 +16,7 @@ use Rattle.ev_model.specs.Runs.{IsRun}
 use Rattle.ev_model.specs.Step.{step}
 use Rattle.ev_run_laws.specs.Drawing.{NumbersSuffice}
 use Rattle.ev_generations.specs.Tables.{row_in}
-use Rattle.ev_actors.specs.Journals.{JournalParts, world_now}
+use Rattle.ev_actors.specs.Journals.{JournalParts, with_entry, world_now}
 use Rattle.ev_proxy.specs.declared.proxy.Proxy.{Proxy}
 use Rattle.ev_proxy.specs.Proxies.{IsAt, numbers_reaped}
 
@@ -38,6 +40,11 @@ HaveStepped format workers world (entry ∷ entries) =
 abbrev pub settle_told : ℕ → ℕ → ℕ → List ℕ → ℕ → Entry
 settle_told worker at n closed version =
     record { actor = Worker worker; at = at; step = n; event = Settle; answer = Settled closed version }
+
+-- behind what was done stands this event of an actor with its answer
+abbrev pub EntersEvent : Actor → ℕ → ℕ → Event → JournalParts → JournalParts → Answer → Type 0
+EntersEvent actor at n event old new answer =
+    new ≡ with_entry record { actor = actor; at = at; step = n; event = event; answer = answer } old
 
 -- The journal is a run, and what is known is that of the world after it, where it wasn't lost; the version is that of the last picture
 -- in any case.

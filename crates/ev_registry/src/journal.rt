@@ -4,8 +4,8 @@ ghost use Rattle.ev_types.specs.Events.{IsMainSide, MayMake};
 ghost use Rattle.ev_types.specs.Scripts.{items_in};
 ghost use Rattle.ev_model.specs.World.{opening};
 ghost use Rattle.ev_model.specs.Runs.{IsRun};
-ghost use Rattle.ev_actors.specs.Journals.{IsToldBehind, SufficeFor, WorksIn, answer_now, with_entry, with_settled, world_now};
-ghost use Rattle.ev_registry.specs.Registries.{DefersReaped, HaveStepped};
+ghost use Rattle.ev_actors.specs.Journals.{IsToldBehind, SufficeFor, WorksIn, answer_now, with_settled, world_now};
+ghost use Rattle.ev_registry.specs.Registries.{DefersReaped, EntersEvent, HaveStepped};
 ghost use Rattle.ev_registry.specs.Views.{view_of};
 
 use crate::batches::enter_batch;
@@ -138,8 +138,7 @@ impl Journaled for Registry {
         requires allowed { MayMake self.old.journaled.workers actor event.now }
         requires numbered { SufficeFor event.now self.old.journaled }
         ensures answer { IfOk result (λ answer. answer ≡ answer_now actor event.now self.old.journaled) }
-        ensures entry { IfOk result (λ answer. self.new.journaled
-            ≡ with_entry record { actor = actor; at = at; step = step; event = event.now; answer = answer } self.old.journaled) }
+        ensures entry { IfOk result (EntersEvent actor at step event.now self.old.journaled self.new.journaled) }
         ensures drawn { OnOk result ((world_now self.new.journaled).made ≤
             (world_now self.old.journaled).made + items_in event.now) }
         // What a reaping names waits behind the rows that waited, each row as the world had it; no other event puts a row there.

@@ -1,12 +1,15 @@
 pub mod Fronts
+pub mod Firsts
 pub mod Places
 pub mod Priorities
 pub mod Numbered
 pub mod Patterns
+pub mod Stars
 pub mod Named
 pub mod Lowest
 pub mod Eligible
 pub mod Maps
+pub mod Layered
 pub mod Order
 pub mod Steps
 pub mod Covers

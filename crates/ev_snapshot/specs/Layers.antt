@@ -1,7 +1,8 @@
--- A table in two layers: a base, which many snapshots share, and over it what is another entry since the base was made.
-use Rattle.std.specs.Prelude.{◌≡◌, ℕ, ◌*◌, Bool, ◌&&◌, cond, nat_lt, List, ◌++◌, Option, Some, None}
+-- A table in layers: a base, layers over it that many snapshots share, and over all what changes now.
+use Rattle.std.specs.Prelude.{◌≡◌, ℕ, ◌*◌, Bool, cond, nat_lt, List, [], ◌∷◌, ◌++◌, Option, Some, None}
 use Rattle.std.specs.Arc.{arc_value}
-use Rattle.indexmap.specs.IndexMap.{get_by, keys}
+use Rattle.std.specs.Option.{option_or}
+use Rattle.indexmap.specs.IndexMap.{IndexMap, get, get_by, keys}
 use Rattle.ev_snapshot.specs.declared.table.Table.{Table}
 
 -- what stands over a base, or else what the base has
@@ -9,9 +10,26 @@ abbrev pub over_base : {V : Type 0} → Option (Option V) → Option V → Optio
 over_base None below = below
 over_base (Some entry) below = entry
 
+-- what the first of these layers that has the key has under it, the newest first
+abbrev pub entry_in : {K V S : Type 0} → (K → Bool) → List (IndexMap K V S) → Option V
+entry_in test [] = None
+entry_in test (layer ∷ layers) = option_or (get_by test layer) (entry_in test layers)
+
+-- what the first of these layers that has this key has under it
+abbrev pub entry_at : {K V S : Type 0} → (K → K → Bool) → List (IndexMap K V S) → K → Option V
+entry_at eq layers key = entry_in (eq key) layers
+
+-- the same entry is found in these layers as in others, under each key
+abbrev pub HaveSame : {K V S : Type 0} → (K → K → Bool) → List (IndexMap K V S) → List (IndexMap K V S) → Type 0
+HaveSame {K} eq layers others = (key : K) → entry_at eq others key ≡ entry_at eq layers key
+
+-- what stands over the table's base under the key that passes the test
+abbrev pub entry_by : {K V : Type 0} → (K → Bool) → Table K V → Option (Option V)
+entry_by test table = entry_in test (table.over ∷ table.layers)
+
 -- what the table has under the key that passes the test
 abbrev pub found_by : {K V : Type 0} → (K → Bool) → Table K V → Option V
-found_by test table = over_base (get_by test table.over) (get_by test (arc_value table.base))
+found_by test table = over_base (entry_by test table) (get_by test (arc_value table.base))
 
 -- what the table has under a key
 abbrev pub found : {K V : Type 0} → (K → K → Bool) → Table K V → K → Option V
@@ -29,10 +47,27 @@ SetsEntry eq key value before after = SetsAt eq key value (found eq before) (fou
 abbrev pub LooksOver : {K V : Type 0} → (K → Option (Option V)) → (K → Option V) → (K → Option V) → Type 0
 LooksOver {K} over base after = (key : K) → after key ≡ over_base (over key) (base key)
 
--- the keys of both layers
-abbrev pub keys_in : {K V : Type 0} → Table K V → List K
-keys_in table = keys table.over ++ keys (arc_value table.base)
+-- the second table has what the look-up finds, or else what the first table's base has
+abbrev pub HasOverBase : {K V : Type 0} → (K → K → Bool) → (K → Option (Option V)) → Table K V → Table K V → Type 0
+HasOverBase eq over before after = LooksOver over (get eq (arc_value before.base)) (found eq after)
 
--- more than eight entries stand over a base of this length, and more than its square root
-abbrev pub is_long : ℕ → ℕ → Bool
-is_long over base = nat_lt 8 over && nat_lt base (over * over)
+-- the last look-up finds what the second finds, or else what the first, which is older, finds
+abbrev pub LooksBelow : {K V : Type 0} → (K → Option V) → (K → Option V) → (K → Option V) → Type 0
+LooksBelow {K} older before after = (key : K) → after key ≡ option_or (before key) (older key)
+
+-- the second look-up finds what the first finds, or else this under the key
+abbrev pub SetsNew : {K V : Type 0} → (K → K → Bool) → K → V → (K → Option V) → (K → Option V) → Type 0
+SetsNew {K} eq key value before after = (other : K) → after other ≡ option_or (before other) (cond (eq key other) (Some value) None)
+
+-- the keys of these layers
+abbrev pub keys_of_layers : {K V S : Type 0} → List (IndexMap K V S) → List K
+keys_of_layers [] = []
+keys_of_layers (layer ∷ layers) = keys layer ++ keys_of_layers layers
+
+-- the keys of all layers and of the base
+abbrev pub keys_in : {K V : Type 0} → Table K V → List K
+keys_in table = keys_of_layers (table.over ∷ table.layers) ++ keys (arc_value table.base)
+
+-- what is so long isn't four times as long as what goes over it
+abbrev pub is_short : ℕ → ℕ → Bool
+is_short length over = nat_lt length (4 * over)

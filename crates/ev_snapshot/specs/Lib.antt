@@ -1,4 +1,6 @@
 pub mod Domains
+pub mod Paths
+pub mod Indexed
 pub mod Tables
 pub mod Chosen
 pub mod Weighed

@@ -141,8 +141,8 @@ impl<'a> Hash for HostText<'a> {
     }
 }
 
-// Feeds the bytes, ASCII letters as lower case.
-fn hash_lower<H: Hasher>(bytes: &[u8], state: &mut H)
+/// Feeds the bytes, ASCII letters as lower case.
+pub(crate) fn hash_lower<H: Hasher>(bytes: &[u8], state: &mut H)
     ensures { state.new ≡ fold H.write state.old (flat_map fed.u8 (str_to_ascii_lowercase bytes.now)) }
 {
     for byte in bytes {

@@ -156,8 +156,7 @@ impl Listeners {
         })
     }
 
-    /// Makes bases of its own for its tables, where too much stands over those that they have. The listeners stay, also out of
-    /// memory.
+    /// Makes layers of what stands over those of its tables, so that copies share them. The listeners stay, also out of memory.
     pub(crate) fn settle(&mut self, alloc: Global) -> Result<(), AllocError>
         ensures { self.new ≡ self.old }
     {

@@ -7,8 +7,9 @@ ghost use Rattle.ev_snapshot.specs.Domains.{domains_in, host_at, host_for, lower
 use crate::domain_table::Domains;
 use crate::domains::Domain;
 use crate::names::Row;
+use crate::routed_host::RoutedHost;
 use ev_model::{Routing, ServedListener};
-use ev_types::{Gen, RouteTable, Shared, Text, TryCopy, VirtualHost};
+use ev_types::{Gen, RouteTable, Shared, Text, TryCopy};
 use std::alloc::{AllocError, Global};
 use std::marker::Model;
 
@@ -52,7 +53,7 @@ impl RoutedListener {
     }
 
     /// The virtual host that a host text goes to.
-    pub(crate) fn virtual_host(&self, host: &str) -> Option<&VirtualHost>
+    pub(crate) fn virtual_host(&self, host: &str) -> Option<&RoutedHost>
         ensures { option_copied result ≡ host_for self.now.routing host.now }
     {
         match self.domains.find(host.as_bytes()) {
@@ -94,33 +95,23 @@ fn with_host(
     ensures { IfOk result (λ new. new ≡ domains ++ domains_of (record { hosts = host_at table.now.hosts place ∷ [] })) }
 {
     let mut domains = domains;
-    let host = host_at(table.get(), place);
-    for domain in host.domains.as_slice() {
-        domains = domains.with(lower_domain(alloc, domain, table, place)?)?;
+    let host = Shared::new(alloc, RoutedHost::new(alloc, table, place)?)?;
+    for domain in host.get().host().domains.as_slice() {
+        domains = domains.with(lower_domain(alloc, domain, &host)?)?;
     }
     Ok(domains)
 }
 
-// The virtual host at this place.
-fn host_at(table: &RouteTable, place: usize) -> &VirtualHost
-    requires { place < length table.now.hosts }
-    ensures { result.now ≡ host_at table.now.hosts place }
-{
-    &table.hosts.as_slice()[place]
-}
-
-// A domain of the virtual host at this place, with its ASCII letters as lower case.
+// A domain of the virtual host, with its ASCII letters as lower case.
 fn lower_domain(
     alloc: Global,
     domain: &Text,
-    table: &Shared<RouteTable>,
-    place: usize,
+    host: &Shared<RoutedHost>,
 ) -> Result<Domain, AllocError>
-    requires { place < length table.now.hosts }
-    ensures { IfOk result (λ made. made ≡ lower_domain domain.now (host_at table.now.hosts place)) }
+    ensures { IfOk result (λ made. made ≡ lower_domain domain.now host.now) }
 {
     let text = Shared::new(alloc, lower_case(alloc, domain)?)?;
-    Ok(Domain::new(text, table.share()?, place))
+    Ok(Domain::new(text, host.share()?))
 }
 
 // The text with its ASCII letters as lower case.

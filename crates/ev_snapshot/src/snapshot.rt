@@ -12,11 +12,11 @@ ghost use Rattle.ev_snapshot.specs.Chosen.{TakesEligible, TakesLowest, host_of, 
 use crate::changes::Changes;
 use crate::parts::{Parts, keep_all, parts_with};
 use crate::routed::RoutedListener;
-use crate::routes::route_for;
+use crate::routed_host::RoutedHost;
 use crate::targets::{target_name, target_weight};
 use crate::weighed::WeighedCluster;
 use ev_model::{Choice, Routing};
-use ev_types::{Action, Ask, Gen, Host, Route, Target, VirtualHost};
+use ev_types::{Action, Ask, Gen, Host, Route, Target};
 use std::alloc::{AllocError, Global};
 use std::marker::Model;
 use std::sync::Arc;
@@ -148,13 +148,13 @@ impl Snapshot {
     }
 
     // The choice with the virtual host.
-    fn choose_by_host(&self, listener: Gen, host: Option<&VirtualHost>, ask: &Ask) -> Choice
+    fn choose_by_host(&self, listener: Gen, host: Option<&RoutedHost>, ask: &Ask) -> Choice
         ensures { result ≡ by_host self.now ask.now listener (option_copied host.entry) }
     {
         match host {
             Some(host) => self.choose_by_route(
                 listener,
-                route_for(host, ask.path.as_str().as_bytes()),
+                host.route_for(ask.path.as_str().as_bytes()),
                 ask.pick,
             ),
             None => Choice::NoRoute { listener },

@@ -59,17 +59,6 @@ pub(crate) fn begins_lower(text: &[u8], front: &[u8]) -> bool
     is_lower(head, front)
 }
 
-/// Whether the text, with its ASCII letters as lower case, ends with the back.
-pub(crate) fn ends_lower(text: &[u8], back: &[u8]) -> bool
-    ensures { result ≡ ends_with (str_to_ascii_lowercase text.now) back.now }
-{
-    if back.len() > text.len() {
-        return false;
-    }
-    let (_, tail) = text.split_at(text.len() - back.len());
-    is_lower(tail, back)
-}
-
 /// The path without its query.
 pub(crate) fn without_query(path: &[u8]) -> &[u8]
     ensures { result.now ≡ without_query path.now }

@@ -20,8 +20,8 @@ use std::sync::ledger::{Blank, Ledger};
 
 impl State {
     /// What follows an event by itself, where the event was of no manager: what is due serves, what nobody needs is forgotten, and
-    /// the phase moves on. Answers which generations that retired, and of which a picture may show something else. After want of memory
-    /// nothing is promised of the state.
+    /// the phase moves on. Answers which generations that retired, and of which a picture may show something else. Without memory
+    /// nothing is promised.
     pub fn tidy_up(&mut self, alloc: Global) -> Result<Altered, AllocError>
         requires kept { AreKept self.old.managers }
         ensures at { OnOk result ((world : World) → IsAt self.old world → IsAt self.new (tidy world)) }

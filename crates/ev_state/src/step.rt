@@ -22,8 +22,7 @@ use std::sync::ledger::{Blank, Ledger};
 
 impl State {
     /// What an event does, its answer, which generations it retired, and of which a picture may show something else: one step of the
-    /// machine. Who brings the event makes no difference, nor do the rules of the format. After want of memory nothing is promised of
-    /// the state.
+    /// machine. Who brings the event makes no difference, nor do the rules of the format. Without memory nothing is promised.
     pub fn step(&mut self, alloc: Global, event: Managed<'_>) -> Result<Stepped, AllocError>
         ghost here: { World }
         requires at { IsAt self.old here }

@@ -1,17 +1,18 @@
 -- What a subscription knows, and which worlds it stands for. Source: the xDS transport protocol, incremental variant.
-use Rattle.std.specs.Prelude.{◌≡◌, ℕ, Bool, true, false, not, ◌&&◌, List, filter}
+use Rattle.std.specs.Prelude.{◌≡◌, ℕ, Bool, true, false, not, ◌&&◌, if◌then◌else◌, List, filter}
 use Rattle.std.specs.List.{list_any}
-use Rattle.ev_types.specs.Items.{ItemParts}
+use Rattle.ev_types.specs.Items.{ItemParts, ResponseParts}
 use Rattle.ev_types.specs.Kinds.{kind_same}
 use Rattle.ev_types.specs.declared.contents.Kind.{Kind}
 use Rattle.ev_types.specs.declared.contents.Kind.TheVariants.{Cds, Eds, Lds, Rds}
+use Rattle.ev_types.specs.declared.events.Verdict.{Verdict}
 use Rattle.ev_types.specs.declared.rows.KeptVersion.{KeptVersion}
 use Rattle.ev_model.specs.World.{World}
 use Rattle.ev_model.specs.Live.{lives_of}
-use Rattle.ev_model.specs.Rows.{keep_version, with_content}
+use Rattle.ev_model.specs.Rows.{add_items, keep_version, with_content, with_removals}
 use Rattle.ev_model.specs.Tidy.{without_unwatched}
-use Rattle.ev_model.specs.Verdicts.{is_among}
-use Rattle.ev_model.specs.Versions.{is_version_of}
+use Rattle.ev_model.specs.Verdicts.{is_among, is_removed}
+use Rattle.ev_model.specs.Versions.{is_version_of, with_version, without_version}
 use Rattle.ev_model.specs.Watching.{is_watched}
 use Rattle.ev_model_laws.specs.VersionsKept.{AreKeptOnce}
 
@@ -38,6 +39,15 @@ with_held Eds versions subscription = record subscription { endpoints = versions
 with_held Lds versions subscription = record subscription { listeners = versions }
 with_held Rds versions subscription = record subscription { routes = versions }
 
+-- this version of a kind and name, and whether the life of the resource is bounded
+abbrev pub kept_version : Kind → List ℕ → List ℕ → Bool → KeptVersion
+kept_version kind name version bounded = record { kind = kind; name = name; version = version; bounded = bounded }
+
+-- with this version in the place of the one that was held of its kind and name
+abbrev pub with_accepted : KeptVersion → SubscriptionParts → SubscriptionParts
+with_accepted version subscription =
+    with_held version.kind (with_version version (held_of subscription version.kind)) subscription
+
 -- the versions of this kind
 abbrev pub kept_of : Kind → List KeptVersion → List KeptVersion
 kept_of kind versions = filter (λ (kept : KeptVersion). kind_same kept.kind kind) versions
@@ -58,6 +68,11 @@ pub record SameVersions (world other : World) : Type 0 where
 -- versions but those of these names of a kind
 abbrev pub without_versions : Kind → List (List ℕ) → List KeptVersion → List KeptVersion
 without_versions kind names versions = filter (λ (kept : KeptVersion). not (kind_same kept.kind kind && is_among kept.name names)) versions
+
+-- versions but that of this kind and name, where the response removes it
+abbrev pub without_removed : Kind → ResponseParts → List ℕ → List KeptVersion → List KeptVersion
+without_removed kind response name versions =
+    if is_removed response name then without_version kind name versions else versions
 
 -- of this kind none of these names is watched in the world, and each other one that has a version is
 pub record AreEnded (kind : Kind) (names : List (List ℕ)) (world : World) : Type 0 where
@@ -83,6 +98,14 @@ with_stream is_open world = record world { stream = is_open }
 -- the world with its versions changed so
 abbrev pub with_versions : (List KeptVersion → List KeptVersion) → World → World
 with_versions change world = record world { versions = change world.versions }
+
+-- whatever world the old one stood for, the new one stands for that world with this version
+abbrev pub StandsWith : KeptVersion → SubscriptionParts → SubscriptionParts → Type 0
+StandsWith version old new = StandsAfter (with_versions (with_version version)) old new
+
+-- the world once the removals and the resources of a response are in
+abbrev pub with_response : Kind → List Verdict → ResponseParts → World → World
+with_response kind verdicts response world = add_items kind verdicts response.items (with_removals kind response world)
 
 -- whatever world the old one stood for, where these are the names of endpoints and routes that nobody watches any more, the new one
 -- stands for that world without what isn't watched

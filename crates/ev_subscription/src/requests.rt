@@ -1,8 +1,7 @@
 ghost use Rattle.std.specs.Prelude.{◌≡◌, ◌++◌, [], Some, None, IfOk, OnOk};
-ghost use Rattle.ev_model.specs.World.{World};
-ghost use Rattle.ev_model.specs.Requests.{Watched, connect_requests_by, clusters_request, listeners_request, names_request, other_than, requests_by};
-ghost use Rattle.ev_subscription.specs.Subscriptions.{StandsFor, InWorlds};
-ghost use Rattle.ev_subscription.specs.Asked.{AsksWhole, bare_request, clusters_request_in};
+ghost use Rattle.ev_model.specs.Requests.{clusters_request, listeners_request, names_request};
+ghost use Rattle.ev_subscription.specs.Subscriptions.{InWorlds};
+ghost use Rattle.ev_subscription.specs.Asked.{AsksChanges, AsksFirst, AsksWhole, bare_request, clusters_request_in};
 
 use crate::changes::NameChange;
 use crate::subscription::Subscription;
@@ -19,8 +18,7 @@ impl Subscription {
         routes: &Seq<Name>,
         asked: bool,
     ) -> Result<Seq<Request>, AllocError>
-        ensures { IfOk result (λ requests. (world : World) → StandsFor self.now world
-            → requests ≡ connect_requests_by world.node (record { endpoints = endpoints.now; routes = routes.now }) asked world.versions) }
+        ensures { IfOk result (AsksFirst endpoints.now routes.now asked self.now) }
     {
         let mut requests = Seq::new(alloc);
         requests.push(self.clusters_request(alloc)?)?;
@@ -42,10 +40,7 @@ impl Subscription {
         routes: NameChange,
         asked: bool,
     ) -> Result<Seq<Request>, AllocError>
-        ensures { IfOk result (λ requests. (world : World) (before after : Watched) → StandsFor self.now world
-            → endpoints.begun ≡ other_than before.endpoints after.endpoints → endpoints.ended ≡ other_than after.endpoints before.endpoints
-            → routes.begun ≡ other_than before.routes after.routes → routes.ended ≡ other_than after.routes before.routes
-            → requests ≡ requests_by world.stream before after asked world.versions reply) }
+        ensures { IfOk result (AsksChanges endpoints routes asked reply self.now) }
     {
         let mut requests = Seq::new(alloc);
         if let Some(reply) = reply {

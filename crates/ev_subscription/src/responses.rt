@@ -1,7 +1,6 @@
 ghost use Rattle.std.specs.Prelude.{◌≡◌, OnOk, length};
-ghost use Rattle.ev_model.specs.World.{World};
-ghost use Rattle.ev_model.specs.Rows.{add_item, add_items, with_removals};
-ghost use Rattle.ev_subscription.specs.Subscriptions.{StandsFor, StandsAfter, with_good};
+ghost use Rattle.ev_model.specs.Rows.{add_item, add_items};
+ghost use Rattle.ev_subscription.specs.Subscriptions.{StandsAfter, with_good, with_response};
 
 use crate::subscription::Subscription;
 use ev_mentions::Mentions;
@@ -11,7 +10,7 @@ use std::alloc::{AllocError, Global};
 impl Subscription {
     /// A response of this kind, by what it mentions, with the verdicts on its resources: the versions of removed names are
     /// forgotten; then, in order, the version of each resource that is new, the same or kept is held, and a heartbeat bounds a
-    /// life anew. Without memory some of it may be done.
+    /// life anew. Without memory nothing is promised.
     pub fn respond(
         &mut self,
         alloc: Global,
@@ -21,8 +20,7 @@ impl Subscription {
     ) -> Result<(), AllocError>
         requires { length verdicts.now ≡ length mentions.now.items }
         // Whatever world it stood for, it stands for that world once the response's removals and resources are in.
-        ensures { OnOk result ((world : World) → StandsFor self.old world
-            → StandsFor self.new (add_items kind verdicts.now mentions.now.items (with_removals kind mentions.now world))) }
+        ensures { OnOk result (StandsAfter (with_response kind verdicts.now mentions.now) self.old self.new) }
     {
         self.forget_removed(kind, mentions);
         let response = mentions.response();

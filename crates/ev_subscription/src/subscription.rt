@@ -1,12 +1,11 @@
-ghost use Rattle.std.specs.Prelude.{◌≡◌, [], false, map, if◌then◌else◌, IfOk, OnOk, OnErr};
+ghost use Rattle.std.specs.Prelude.{◌≡◌, [], false, map, IfOk, OnOk, OnErr};
 ghost use Rattle.ev_types.specs.declared.contents.Kind.{Kind};
 ghost use Rattle.ev_types.specs.declared.contents.Kind.TheVariants.{Eds, Rds};
 ghost use Rattle.ev_model.specs.Rows.{versions_left};
-ghost use Rattle.ev_model.specs.Verdicts.{is_removed};
-ghost use Rattle.ev_model.specs.Versions.{is_bounded, is_kept, renewed, versions_of, with_version, without_version};
-ghost use Rattle.ev_model.specs.World.{World};
+ghost use Rattle.ev_model.specs.Versions.{is_bounded, is_kept, renewed, versions_of, without_version};
 ghost use Rattle.ev_subscription.specs.Held.{versions_in};
-ghost use Rattle.ev_subscription.specs.Subscriptions.{StandsFor, held_of, with_held, without_versions, InWorlds, StandsAfter, StandsWithoutEnded, with_stream, with_versions};
+ghost use Rattle.ev_subscription.specs.Subscriptions.{held_of, kept_version, with_accepted, with_held, without_removed, without_versions};
+ghost use Rattle.ev_subscription.specs.Subscriptions.{InWorlds, StandsAfter, StandsWith, StandsWithoutEnded, with_stream, with_versions};
 
 use crate::names::VersionName;
 use crate::versions::{self, Held, Versions};
@@ -150,12 +149,10 @@ impl Subscription {
         version: Text,
         bounded: bool,
     ) -> Result<(), AllocError>
-        ensures held { OnOk result (self.new
-            ≡ with_held kind (with_version (record { kind = kind; name = name; version = version; bounded = bounded }) (held_of self.old kind)) self.old) }
+        ensures held { OnOk result (self.new ≡ with_accepted (kept_version kind name version bounded) self.old) }
         ensures unchanged { OnErr result (self.new ≡ self.old) }
         // Whatever world it stood for, it stands for that world with this version.
-        ensures stands { OnOk result ((world : World) → StandsFor self.old world
-            → StandsFor self.new (record world { versions = with_version (record { kind = kind; name = name; version = version; bounded = bounded }) world.versions })) }
+        ensures stands { OnOk result (StandsWith (kept_version kind name version bounded) self.old self.new) }
     {
         let name = VersionName::new(self.alloc, name)?;
         let held = Held {
@@ -202,8 +199,7 @@ impl Subscription {
 
     // Forgets the version of a name, where the response removes it.
     fn forget_where_removed(&mut self, kind: Kind, mentions: &Mentions<'_>, name: &str)
-        ensures { (world : World) → StandsFor self.old world
-            → StandsFor self.new (record world { versions = if is_removed mentions.now name.now then without_version kind name.now world.versions else world.versions }) }
+        ensures { StandsAfter (with_versions (without_removed kind mentions.now name.now)) self.old self.new }
     {
         if mentions.is_removed(name) {
             self.forget(kind, name);

@@ -1,4 +1,4 @@
-ghost use Rattle.std.specs.Prelude.{◌≡◌, ◌++◌, false, IfOk, OnOk};
+ghost use Rattle.std.specs.Prelude.{◌≡◌, ◌++◌, false, IfOk, OnOk, OnErr};
 ghost use Rattle.serde_json.specs.View.{view};
 ghost use Rattle.serde_json.specs.Written.{has_float, compact_text};
 ghost use Rattle.ev_journal.specs.Rendering.{line_text};
@@ -21,12 +21,13 @@ fn written(alloc: Global, tree: &Value) -> Result<Vec<u8>, AllocError>
 /// Puts a tree's line behind a text: the tree without spaces, and a line feed. The tree has no float.
 ///
 /// # Errors
-/// `AllocError` where there is no memory for it.
+/// `AllocError` where there is no memory for it; the text stays as it was then.
 #[tactic(auto, unfolding(ev_journal::specs::Rendering::line_text))]
 pub fn push_line(alloc: Global, text: &mut Vec<u8>, tree: &Value) -> Result<(), AllocError>
     requires whole { has_float (view tree.now) ≡ false }
     ensures line { OnOk result (text.new.items ≡ text.old.items ++ line_text (view tree.now)) }
     ensures reads_back { OnOk result (IsReadable (view tree.now) → ReadsBack (view tree.now)) }
+    ensures err { OnErr result (text.new.items ≡ text.old.items) }
 {
     let mut line = written(alloc, tree)?;
     line.push(b'\n')?;
@@ -36,10 +37,11 @@ pub fn push_line(alloc: Global, text: &mut Vec<u8>, tree: &Value) -> Result<(), 
 /// Puts the line of any tree behind a text, with -1 for each float in it.
 ///
 /// # Errors
-/// `AllocError` where there is no memory for it.
+/// `AllocError` where there is no memory for it; the text stays as it was then.
 pub fn push_whole(alloc: Global, text: &mut Vec<u8>, tree: &Value) -> Result<(), AllocError>
     ensures line { OnOk result (text.new.items ≡ text.old.items ++ line_text (whole (view tree.now))) }
     ensures reads_back { OnOk result (IsReadable (view tree.now) → ReadsBack (whole (view tree.now))) }
+    ensures err { OnErr result (text.new.items ≡ text.old.items) }
 {
     if has_float(tree) {
         push_line(alloc, text, &whole_copy(tree)?)

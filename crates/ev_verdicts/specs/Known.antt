@@ -1,12 +1,12 @@
 -- What is known before a response, asked by look-ups.
-use Rattle.std.specs.Prelude.{◌≡◌, ℕ, Bool, true, false, List, Option, filter}
+use Rattle.std.specs.Prelude.{◌≡◌, ℕ, Bool, true, false, if◌then◌else◌, List, Option, filter}
 use Rattle.std.specs.List.{AllByRecursion}
 use Rattle.ev_types.specs.Kinds.{kind_same}
 use Rattle.ev_types.specs.declared.contents.Kind.{Kind}
 use Rattle.ev_types.specs.declared.hosts.Host.{Host}
 use Rattle.ev_types.specs.declared.rows.KeptVersion.{KeptVersion}
 use Rattle.ev_types.specs.declared.rows.Live.{Live}
-use Rattle.ev_model.specs.Live.{newest_of}
+use Rattle.ev_model.specs.Live.{is_named, later_of, newest_of}
 use Rattle.ev_model.specs.Versions.{is_kept}
 use Rattle.ev_model.specs.Watching.{is_by_name, is_watched}
 use Rattle.ev_mentions.specs.Lives.{is_at}
@@ -35,3 +35,7 @@ answers_of lives versions = record {
   watched = λ kind name. is_watched lives kind name;
   kept = λ kind name version. is_kept versions kind name version;
 }
+
+-- the later of a live row and another one, where it is of this kind and name, and the other one where it isn't
+abbrev pub later_named : Kind → List ℕ → Live → Option Live → Option Live
+later_named kind name live other = if is_named kind name live then later_of live other else other

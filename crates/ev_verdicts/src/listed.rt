@@ -1,9 +1,10 @@
-ghost use Rattle.std.specs.Prelude.{◌≡◌, ◌&&◌, ◌∷◌, ◌++◌, [], filter, option_map, IfOk, OnOk, if◌then◌else◌};
+ghost use Rattle.std.specs.Prelude.{◌≡◌, ◌&&◌, ◌∷◌, ◌++◌, [], filter, option_map, IfOk, OnOk};
 ghost use Rattle.ev_model.specs.Live.{is_named, later_of, newest_of};
 ghost use Rattle.ev_model.specs.Watching.{is_watched, dependency_of, is_dependency};
 ghost use Rattle.ev_model.specs.Verdicts.{listening_address, shares_address};
 ghost use Rattle.ev_model.specs.Versions.{is_kept, is_version_of};
 ghost use Rattle.ev_mentions.specs.Lives.{is_at};
+ghost use Rattle.ev_verdicts.specs.Known.{later_named};
 
 use crate::addresses::address_of;
 use crate::known::Known;
@@ -125,7 +126,7 @@ fn later_named<'a, 'b>(
     other: Option<&'b LiveRow<'a>>,
 ) -> Option<&'b LiveRow<'a>>
     ensures { option_map (λ l. l.now) result
-        ≡ (if is_named kind name.now live.now then later_of live.now (option_map (λ l. l.now) other.entry) else option_map (λ l. l.now) other.entry) }
+        ≡ later_named kind name.now live.now (option_map (λ l. l.now) other.entry) }
 {
     if is_named(kind, name, live) {
         later_of(live, other)

@@ -53,7 +53,8 @@ impl Manager {
         }
     }
 
-    /// Something came for a name that a live generation depends on. Each that depends on it is looked at once.
+    /// Something came for a name that a live generation depends on. Each that depends on it is looked at once. Without memory
+    /// nothing is promised.
     pub fn arrive<L: Ledger>(
         &mut self,
         alloc: Global,
@@ -87,7 +88,7 @@ impl Manager {
     }
 
     /// What a name stands for has come to its end, or is removed: the generation that warms under it is dropped, and the one that
-    /// serves it drains; these are the answer. It costs at most two look-ups.
+    /// serves it drains; these are the answer. It costs at most two look-ups. Without memory nothing is promised.
     pub fn end<L: Ledger>(
         &mut self,
         name: &Name,
@@ -113,7 +114,7 @@ impl Manager {
     }
 
     /// A new generation of a name warms, with content of the manager's kind, and one that warmed under it before is dropped. It
-    /// costs at most two look-ups.
+    /// costs at most two look-ups. Without memory nothing is promised.
     pub fn add<L: Ledger>(
         &mut self,
         alloc: Global,
@@ -142,7 +143,7 @@ impl Manager {
     }
 
     /// Each generation that is due serves, and the one that served its name before it drains. Answers the numbers of both. Each of
-    /// the first costs at most three look-ups.
+    /// the first costs at most three look-ups. Without memory nothing is promised.
     pub fn promote<L: Ledger>(
         &mut self,
         alloc: Global,
@@ -167,7 +168,7 @@ impl Manager {
     }
 
     /// After an event: forgets what nobody needs any more, of names, of generations that retired, and of hosts that left their
-    /// cluster's assignment.
+    /// cluster's assignment. Without memory nothing is promised.
     pub fn forget<L: Ledger>(
         &mut self,
         alloc: Global,

@@ -26,7 +26,7 @@ pub struct Applied {
 impl Manager {
     /// A response of the manager's own kind, with the verdicts on its resources: removed generations drain, or are dropped where
     /// they warmed; then each new resource makes a generation, in order, and one that warmed under its name is dropped. Other
-    /// resources change nothing here. Look-ups are counted, and not bounded.
+    /// resources change nothing here. Look-ups are counted, and not bounded. Without memory nothing is promised.
     pub fn apply<L: Ledger>(
         &mut self,
         alloc: Global,

@@ -2,10 +2,9 @@ use Rattle.std.proofs.Common.{◌≡◌, ℕ, ◌+◌, ◌<◌, ◌++◌, List, 
 use Rattle.std.specs.Str.{str_to_ascii_lowercase}
 use Rattle.std.proofs.lemmas.Grind.{common_steps}
 use Rattle.std.proofs.lemmas.List.{map_more}
-use Rattle.ev_types.specs.declared.routes.RouteTable.{RouteTable}
 use Rattle.ev_types.specs.declared.routes.VirtualHost.{VirtualHost}
 use Rattle.ev_model.specs.Choice.{HostDomain}
-use Rattle.ev_snapshot.specs.Domains.{host_at}
+use Rattle.ev_snapshot.specs.Domains.{host_at, lower_domain}
 use Rattle.ev_snapshot.proofs.routed.with_host.Goals as goal
 
 -- the list made of one more element
@@ -24,11 +23,11 @@ loop-domain-preserved c =
     let hosts = c.args.table.now.hosts in
     let place = c.args.place in
     let made : List ℕ → HostDomain = λ text. record { domain = str_to_ascii_lowercase text; host = host_at hosts place } in
-    let table = c.get.ensures.value in
-    let host = c.host_at-host.ensures in
+    let is = c.in_ok-host.ensures.value ∙ c.in_ok-new.ensures in
     let items = c.as_slice-domain-items.ensures.elements in
     let same : c.as_slice-domain-items.result.now ≡ (host_at hosts place).domains =
-    items ∙ ap (λ (h : VirtualHost). h.domains) host ∙ ap (λ (t : RouteTable). (host_at t.hosts place).domains) table in
+    items ∙ ap (λ (h : VirtualHost). h.domains) (c.host-2.ensures ∙ c.get.ensures.value ∙ is) in
     one_more made c.args.domains (host_at hosts place).domains c.as_slice-domain-items.result.now c.loop-domain.domain-index c.domain-item.result
     c.loop-domain.domains c.in_ok-domains.domains c.in_ok-lower_domain.field-0
-    (omega arith) same c.domain-item.is c.loop-domain.invariant c.in_ok-lower_domain.ensures c.in_ok-domains.ensures
+    (omega arith) same c.domain-item.is c.loop-domain.invariant (c.in_ok-lower_domain.ensures ∙ ap (lower_domain c.domain-item.result) is)
+    (c.in_ok-domains.ensures ∙ ap (λ ds. ds ++ c.in_ok-lower_domain.field-0 ∷ []) c.domains-in-loop-domain.view_is)

@@ -21,7 +21,7 @@ returns-clause-indexed g c =
     c.in_ok-number.ensures.made
     c.in_ok-number.ensures.table
     c.enter.new.self
-    (λ q. c.in_ok-enter.ensures q ∙ (λ i. cond (bytes_eq name q) (record { active = (c.standing-active.ensures i).active; warming = Some (number i) }) (standing_in s.names q)))
+    (λ q. c.in_ok-enter.ensures.ok q ∙ (λ i. cond (bytes_eq name q) (record { active = (c.standing-active.ensures i).active; warming = Some (number i) }) (standing_in s.names q)))
     c.watch.new.watches
     (λ q. c.in_ok-watch.ensures.watched q ∙ (λ i. cond (is_needed q (name_needed content)) (watched_too (number i) (is_limited content) (watch_in s.watches q)) (watch_in s.watches q)))
     c.refresh.new.due

@@ -11,7 +11,7 @@ loop-resource-preserved c =
     let resources = c.args.self.now.resources.now in
     let i : ℕ = c.loop-resource.resource-index in
     let front : List (List ℕ) = map (resource_name c.args.kind) (map view (take i resources)) in
-    c.in_ok-insert.ensures
+    c.in_ok-insert.ensures.ok
     ∙ (λ j. with_name (c.in_ok-resource_name.ensures j) (c.loop-resource.invariant j))
     ∙ sorted_push (resource_name c.args.kind (view c.resource-item.result)) front
     ∙ ap sorted_names (sym (mapped_more (resource_name c.args.kind) view resources i c.resource-item.result c.loop-resource-test.true c.resource-item.is))

@@ -1,12 +1,10 @@
-use Rattle.std.proofs.Common.{◌∙◌, None, Some, sym, ap}
-use Rattle.std.specs.Prelude.{nat_le}
-use Rattle.std.specs.List.{list_any}
+use Rattle.std.proofs.Common.{◌∙◌, None, Some, sym}
 use Rattle.ev_indexes.proofs.MovedLemmas.{held-found}
 use Rattle.ev_indexes.proofs.state.State.is_held.Goals as goal
 
 pub returns-in-Some : goal.returns-in-Some
 returns-in-Some c =
-    c.has_first.ensures ∙ ap (list_any (λ n. nat_le n c.args.made)) c.as_slice.ensures.elements
+    c.has_up_to.ensures
     ∙ held-found c.args.self.now c.requires.indexed c.args.made c.args.name.now (Some c.in-Some.watch.now) (sym c.in-Some.ensures)
 
 pub returns-in-None : goal.returns-in-None

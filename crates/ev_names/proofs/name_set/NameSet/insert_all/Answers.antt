@@ -8,5 +8,5 @@ loop-name-init c = sym (sorted_same c.args.self.now c.keeps_order.ensures)
 
 pub loop-name-preserved : goal.loop-name-preserved
 loop-name-preserved c =
-    c.in_ok-insert.ensures ∙ (λ i. with_name (c.as_str.ensures.bytes i) (c.loop-name.invariant i))
+    c.in_ok-insert.ensures.ok ∙ (λ i. with_name (c.as_str.ensures.bytes i) (c.loop-name.invariant i))
     ∙ with_next c.args.names.now c.args.self.now c.loop-name.name-index c.name-item.result c.loop-name-test.true c.name-item.is

@@ -3,7 +3,7 @@ use Rattle.std.specs.Str.{bytes_eq, str_to_ascii_lowercase}
 use Rattle.indexmap.specs.IndexMap.{get}
 use Rattle.ev_model.specs.Choice.{domain_for, is_domain}
 use Rattle.ev_snapshot.specs.Domains.{pattern_for}
-use Rattle.ev_snapshot.proofs.Patterns.{found_first, found_none, pattern_for_patterns}
+use Rattle.ev_snapshot.proofs.Patterns.{found_first, found_none}
 use Rattle.ev_snapshot.proofs.domain_table.Domains.find.Goals as goal
 
 pub returns-in-Some : goal.returns-in-Some
@@ -23,7 +23,6 @@ returns-in-None c =
     let none : find (is_domain host) c.self.inside.list ≡ None =
     sym (c.self.invariant.text host) ∙ ap (get bytes_eq c.self.inside.by_text) (sym c.new.ensures) ∙ sym c.in-None.ensures.value in
     c.pattern_for.ensures
-    ∙ ap (λ ds. pattern_for ds host) (c.as_slice.ensures.elements ∙ c.self.invariant.patterns)
-    ∙ pattern_for_patterns c.self.inside.list host
+    ∙ ap (λ ds. pattern_for ds host) (sym view)
     ∙ found_none c.self.inside.list host none
     ∙ ap (λ ds. domain_for ds host) view

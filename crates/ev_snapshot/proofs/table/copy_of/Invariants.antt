@@ -1,9 +1,0 @@
-use Rattle.std.proofs.Common.{◌≡◌, ◌++◌, List}
-use Rattle.std.specs.Map.{lookup}
-use Rattle.indexmap.specs.IndexMap.{get}
-use Rattle.ev_snapshot.proofs.table.copy_of.Given as goal
-
-abbrev pub invariant-loop-key : goal.invariant-loop-key
-invariant-loop-key g l =
-    (done : List (g.row.K.Denot × g.row.V.Denot)) × (done ++ l.key-iterator ≡ l.map.entries)
-    × ((key : g.row.K.Denot) → get g.K.PartialEq.eq l.copied key ≡ lookup (g.K.PartialEq.eq key) done)

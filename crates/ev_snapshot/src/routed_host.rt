@@ -1,0 +1,95 @@
+ghost use Rattle.std.specs.Prelude.{◌≡◌, ◌<◌, length, IfOk};
+ghost use Rattle.std.specs.Option.{option_copied};
+ghost use Rattle.ev_model.specs.Choice.{route_for};
+ghost use Rattle.ev_snapshot.specs.Domains.{host_at};
+ghost use Rattle.ev_snapshot.specs.Indexed.{MayIndex};
+
+use crate::path_index::PathIndex;
+use crate::routes::route_for;
+use ev_types::{Route, RouteTable, Shared, VirtualHost};
+use std::alloc::{AllocError, Global};
+use std::marker::Model;
+
+/// As many routes are tried one after the other: that takes less time than looking up, and no memory.
+const FEW_ROUTES: usize = 32;
+
+/// As many routes can be tried in the time of the look-ups for one length.
+const TRIED: usize = 4;
+
+/// A virtual host of a table, with an index of its routes where they are many. Contracts see the virtual host.
+#[derive(Drop)]
+pub(crate) struct RoutedHost {
+    table: Shared<RouteTable>,
+    place: usize,
+    index: Option<PathIndex>,
+}
+
+impl Model for RoutedHost {
+    ghost use Rattle.std.specs.Prelude.{◌<◌, length};
+    ghost use Rattle.ev_types.specs.declared.routes.VirtualHost.{VirtualHost};
+    ghost use Rattle.ev_snapshot.specs.Domains.{host_at};
+    ghost use Rattle.ev_snapshot.specs.Indexed.{MayIndex};
+
+    ghost Value = { VirtualHost };
+
+    ghost view = { λ h. host_at h.table.hosts h.place };
+
+    ghost invariant = { λ h. (h.place < length h.table.hosts) × MayIndex (host_at h.table.hosts h.place).routes h.index };
+}
+
+impl RoutedHost {
+    /// The virtual host at this place of the table, of which nothing is copied.
+    pub(crate) fn new(
+        alloc: Global,
+        table: &Shared<RouteTable>,
+        place: usize,
+    ) -> Result<RoutedHost, AllocError>
+        requires { place < length table.now.hosts }
+        ensures { IfOk result (λ host. host ≡ host_at table.now.hosts place) }
+    {
+        let index = index_for(alloc, table, place)?;
+        let table = table.share()?;
+        Ok(RoutedHost {
+            table,
+            place,
+            index,
+        })
+    }
+
+    /// The virtual host.
+    pub(crate) fn host(&self) -> &VirtualHost
+        ensures { result.now ≡ self.now }
+    {
+        &self.table.get().hosts.as_slice()[self.place]
+    }
+
+    /// The first route that takes the path.
+    pub(crate) fn route_for(&self, path: &[u8]) -> Option<&Route>
+        ensures { option_copied result ≡ route_for self.now path.now }
+    {
+        match &self.index {
+            Some(index) => index.route_for(self.host().routes.as_slice(), path),
+            None => route_for(self.host(), path),
+        }
+    }
+}
+
+// The index of the virtual host at this place, where its look-ups take less time than trying its routes.
+fn index_for(
+    alloc: Global,
+    table: &Shared<RouteTable>,
+    place: usize,
+) -> Result<Option<PathIndex>, AllocError>
+    requires { place < length table.now.hosts }
+    ensures { IfOk result (MayIndex (host_at table.now.hosts place).routes) }
+{
+    let count = table.get().hosts.as_slice()[place].routes.len();
+    if count <= FEW_ROUTES {
+        return Ok(None);
+    }
+    let index = PathIndex::new(alloc, table, place)?;
+    if index.lengths() > count / TRIED {
+        return Ok(None);
+    }
+    Ok(Some(index))
+}
