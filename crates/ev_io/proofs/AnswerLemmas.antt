@@ -10,9 +10,9 @@ use Rattle.ev_io.specs.declared.faults.LineEnd.TheVariants.{Line, End}
 use Rattle.ev_io.specs.declared.found.Found.{Found}
 use Rattle.ev_io.specs.declared.found.Found.TheVariants as found
 use Rattle.ev_io.specs.Outside.{Takes}
-use Rattle.ev_io.specs.Found.{IsOpen, IsLine, Finds}
+use Rattle.ev_io.specs.Found.{IsOpen, IsLine}
 use Rattle.ev_io.specs.Lines.{lines_of}
-use Rattle.ev_io.specs.LinesState.{LinesState, HasTaken, Grows}
+use Rattle.ev_io.specs.LinesState.{LinesState, FindsNext, HasTaken, Grows}
 use Rattle.ev_io.specs.ReadLine.{IsUnfinished, Means, ReadsLine}
 use Rattle.ev_io.proofs.ReadLemmas.{unfinished, taken_more, no_length, lines_kept, retold, line_given, gives_line, reaches_end, too_large, too_many, too_long}
 
@@ -21,14 +21,14 @@ pub record IsStep (old mid new : LinesState) (before after : List ℕ) (answer :
   pub means : (all : List ℕ) → mid.given ≡ old.given → HasTaken mid all → HasTaken new all × Means old new all before after answer
 
 -- a call is what it found, and its answer
-pub reads_by : {S : Type 0} (a d : Option (List ℕ)) (source now : S) (old mid new : LinesState) (before after : List ℕ) (answer : Result LineEnd LineFault) → (more : List ℕ) × Grows a d old mid more → ((now ≡ source) × (mid ≡ old)) ⊎ Finds old.taken old.given old.pending old.ended None → IsStep old mid new before after answer → (more : List ℕ) × Takes a d more × ((bytes : List ℕ) → HasTaken old bytes → ReadsLine old new bytes more before after answer)
+pub reads_by : {S : Type 0} (a d : Option (List ℕ)) (source now : S) (old mid new : LinesState) (before after : List ℕ) (answer : Result LineEnd LineFault) → (more : List ℕ) × Grows a d old mid more → ((now ≡ source) × (mid ≡ old)) ⊎ FindsNext old None → IsStep old mid new before after answer → (more : List ℕ) × Takes a d more × ((bytes : List ℕ) → HasTaken old bytes → ReadsLine old new bytes more before after answer)
 reads_by a d source now old mid new before after answer (more, grows) untouched step = (more, grows.takes, λ bytes h. reads bytes h (step.means (bytes ++ more) grows.given (mid_taken bytes h untouched)))
   where
-    mid_taken : (bytes : List ℕ) → HasTaken old bytes → ((now ≡ source) × (mid ≡ old)) ⊎ Finds old.taken old.given old.pending old.ended None → HasTaken mid (bytes ++ more)
+    mid_taken : (bytes : List ℕ) → HasTaken old bytes → ((now ≡ source) × (mid ≡ old)) ⊎ FindsNext old None → HasTaken mid (bytes ++ more)
     mid_taken bytes h (inl (_, same)) = taken_more old mid bytes more h grows.pending grows.taken grows.given (inl same)
     mid_taken bytes h (inr (going, _)) = taken_more old mid bytes more h grows.pending grows.taken grows.given (inr going)
 
-    going_on : (n : ℕ) → n < length more → ((now ≡ source) × (mid ≡ old)) ⊎ Finds old.taken old.given old.pending old.ended None → ¬ (IsTrue old.ended)
+    going_on : (n : ℕ) → n < length more → ((now ≡ source) × (mid ≡ old)) ⊎ FindsNext old None → ¬ (IsTrue old.ended)
     going_on n below (inl (_, same)) = absurd (omega (arith, ap (λ (s : LinesState). length s.pending) same, ap length grows.pending, length-append old.pending more))
     going_on n below (inr (going, _)) = going
 
@@ -39,7 +39,7 @@ reads_by a d source now old mid new before after answer (more, grows) untouched 
         let before_it : HasTaken (record old { taken = old.taken + n; pending = old.pending ++ take n more }) (bytes ++ take n more) = taken_more old (record old { taken = old.taken + n; pending = old.pending ++ take n more }) bytes (take n more) h refl (omega (arith, length-take n more)) refl (inr going) in
         inr (n, below, short, unfinished (record old { taken = old.taken + n; pending = old.pending ++ take n more }) (bytes ++ take n more) before_it (going, quiet))
 
-    nothing_more : IsTrue old.ended → ((now ≡ source) × (mid ≡ old)) ⊎ Finds old.taken old.given old.pending old.ended None → more ≡ []
+    nothing_more : IsTrue old.ended → ((now ≡ source) × (mid ≡ old)) ⊎ FindsNext old None → more ≡ []
     nothing_more ended (inl (_, same)) = no_length more (omega (arith, ap (λ (s : LinesState). length s.pending) same, ap length grows.pending, length-append old.pending more))
     nothing_more ended (inr (going, _)) = absurd (going ended)
 
@@ -50,9 +50,9 @@ reads_by a d source now old mid new before after answer (more, grows) untouched 
     reads bytes h (taken, means) = record { taken = taken; kept = kept bytes h; means = means; needed = piece bytes h grows.needed }
 
 -- a line was given
-pub step_line : (old mid new : LinesState) (before after : List ℕ) (next : Found) (n : ℕ) → next ≡ found.Line n → mid.told ≡ None → Finds mid.taken mid.given mid.pending mid.ended (Some next) → new ≡ record mid { given = mid.given + 1; pending = drop (n + 1) mid.pending } → after ≡ take n mid.pending → IsStep old mid new before after (Ok Line)
+pub step_line : (old mid new : LinesState) (before after : List ℕ) (next : Found) (n : ℕ) → next ≡ found.Line n → mid.told ≡ None → FindsNext mid (Some next) → new ≡ record mid { given = mid.given + 1; pending = drop (n + 1) mid.pending } → after ≡ take n mid.pending → IsStep old mid new before after (Ok Line)
 step_line old mid new before after next n is untold finds same text =
-    let line : IsLine mid.taken mid.given mid.pending mid.ended n = subst (λ (f : Found). Finds mid.taken mid.given mid.pending mid.ended (Some f)) is finds in
+    let line : IsLine mid.taken mid.given mid.pending mid.ended n = subst (λ (f : Found). FindsNext mid (Some f)) is finds in
     record {
       means = λ all given h. (
         line_given mid new all n h line same,
@@ -68,17 +68,17 @@ step_no_memory old mid new before after untold same kept = record {
 }
 
 -- the end
-pub step_end : (old mid : LinesState) (before after : List ℕ) (next : Found) → next ≡ found.End → mid.told ≡ None → Finds mid.taken mid.given mid.pending mid.ended (Some next) → after ≡ before → IsStep old mid mid before after (Ok End)
+pub step_end : (old mid : LinesState) (before after : List ℕ) (next : Found) → next ≡ found.End → mid.told ≡ None → FindsNext mid (Some next) → after ≡ before → IsStep old mid mid before after (Ok End)
 step_end old mid before after next is untold finds kept =
-    let last : IsTrue mid.ended × (mid.pending ≡ []) = subst (λ (f : Found). Finds mid.taken mid.given mid.pending mid.ended (Some f)) is finds in
+    let last : IsTrue mid.ended × (mid.pending ≡ []) = subst (λ (f : Found). FindsNext mid (Some f)) is finds in
     record { means = λ all given h. (h, (reaches_end old mid all h last.0 last.1 given untold, kept)) }
 
 -- a failed read
-pub step_failed : (old mid : LinesState) (before after : List ℕ) → mid.told ≡ Some Failed → Finds mid.taken mid.given mid.pending mid.ended None → after ≡ before → IsStep old mid mid before after (Err Failed)
+pub step_failed : (old mid : LinesState) (before after : List ℕ) → mid.told ≡ Some Failed → FindsNext mid None → after ≡ before → IsStep old mid mid before after (Err Failed)
 step_failed old mid before after told wanted kept = record { means = λ all given h. (h, (record { unfinished = unfinished mid all h wanted; number = given; told = told }, kept)) }
 
 -- a fault
-step_at : (old mid new : LinesState) (before after : List ℕ) (fault : LineFault) → Finds mid.taken mid.given mid.pending mid.ended (Some (found.Fault fault)) → new ≡ record mid { told = Some fault } → after ≡ before → IsStep old mid new before after (Err fault)
+step_at : (old mid new : LinesState) (before after : List ℕ) (fault : LineFault) → FindsNext mid (Some (found.Fault fault)) → new ≡ record mid { told = Some fault } → after ≡ before → IsStep old mid new before after (Err fault)
 step_at old mid new before after TooLarge large same kept = record {
   means = λ all given h. subst (λ (s : LinesState). HasTaken s all × Means old s all before after (Err TooLarge)) (sym same) (retold mid (Some TooLarge) all h, (record { first = too_large mid all h large; number = given; told = refl }, kept));
 }
@@ -91,12 +91,12 @@ step_at old mid new before after TooLong long same kept = record {
 step_at old mid new before after Failed stands same kept = absurd stands
 step_at old mid new before after OutOfMemory stands same kept = absurd stands
 
-pub step_fault : (old mid new : LinesState) (before after : List ℕ) (next : Found) (fault : LineFault) → next ≡ found.Fault fault → Finds mid.taken mid.given mid.pending mid.ended (Some next) → new ≡ record mid { told = Some fault } → after ≡ before → IsStep old mid new before after (Err fault)
+pub step_fault : (old mid new : LinesState) (before after : List ℕ) (next : Found) (fault : LineFault) → next ≡ found.Fault fault → FindsNext mid (Some next) → new ≡ record mid { told = Some fault } → after ≡ before → IsStep old mid new before after (Err fault)
 step_fault old mid new before after next fault is finds same kept =
-    step_at old mid new before after fault (subst (λ (f : Found). Finds mid.taken mid.given mid.pending mid.ended (Some f)) is finds) same kept
+    step_at old mid new before after fault (subst (λ (f : Found). FindsNext mid (Some f)) is finds) same kept
 
 -- an unfinished text, where more bytes were wanted
-pub wanted : {S : Type 0} (source now : S) (old mid : LinesState) → ((now ≡ source) × (mid ≡ old)) ⊎ Finds old.taken old.given old.pending old.ended None → (bytes : List ℕ) → HasTaken old bytes → (now ≡ source) ⊎ IsUnfinished old.given old.ended bytes
+pub wanted : {S : Type 0} (source now : S) (old mid : LinesState) → ((now ≡ source) × (mid ≡ old)) ⊎ FindsNext old None → (bytes : List ℕ) → HasTaken old bytes → (now ≡ source) ⊎ IsUnfinished old.given old.ended bytes
 wanted source now old mid (inl (same, _)) bytes h = inl same
 wanted source now old mid (inr more) bytes h = inr (unfinished old bytes h more)
 
@@ -106,16 +106,16 @@ step_lacking old mid new before after answer lacking untold same kept =
     subst (λ (r : Result LineEnd LineFault). IsStep old mid new before after r) (sym lacking) (step_no_memory old mid new before after untold same kept)
 
 -- what stopped the search, as the answer that a `?` gives
-pub step_stopped : {R Q : Type 0} (old mid : LinesState) (before : List ℕ) (stopped : Result Found LineFault) (fault : LineFault) (answer : Result LineEnd LineFault) → answer ≡ Err fault → stopped ≡ Err fault → IfErr stopped (λ f. (f ≡ Failed) ⊎ (f ≡ OutOfMemory)) → (stopped ≡ Err Failed → (mid.told ≡ Some Failed) × R × Finds mid.taken mid.given mid.pending mid.ended None) → (stopped ≡ Err OutOfMemory → (mid.told ≡ None) × Q) → IsStep old mid mid before before answer
-step_stopped {R} {Q} old mid before stopped fault answer answered was causes failed lacking = subst (λ (r : Result LineEnd LineFault). IsStep old mid mid before before r) (sym answered) (by_cause (IfErr-at_err (λ f. (f ≡ Failed) ⊎ (f ≡ OutOfMemory)) was causes))
+pub step_stopped : (old mid : LinesState) (before : List ℕ) (stopped : Result Found LineFault) (fault : LineFault) (answer : Result LineEnd LineFault) → answer ≡ Err fault → stopped ≡ Err fault → IfErr stopped (λ f. (f ≡ Failed) ⊎ (f ≡ OutOfMemory)) → (stopped ≡ Err Failed → mid.told ≡ Some Failed) → (stopped ≡ Err Failed → FindsNext mid None) → (stopped ≡ Err OutOfMemory → mid.told ≡ None) → IsStep old mid mid before before answer
+step_stopped old mid before stopped fault answer answered was causes failed wanting lacking = subst (λ (r : Result LineEnd LineFault). IsStep old mid mid before before r) (sym answered) (by_cause (IfErr-at_err (λ f. (f ≡ Failed) ⊎ (f ≡ OutOfMemory)) was causes))
   where
     when_failed : fault ≡ Failed → IsStep old mid mid before before (Err fault)
     when_failed e = subst (λ (f : LineFault). IsStep old mid mid before before (Err f)) (sym e)
-        (let h = failed (was ∙ ap Err e) in step_failed old mid before before h.0 h.2 refl)
+        (step_failed old mid before before (failed (was ∙ ap Err e)) (wanting (was ∙ ap Err e)) refl)
 
     when_lacking : fault ≡ OutOfMemory → IsStep old mid mid before before (Err fault)
     when_lacking e = subst (λ (f : LineFault). IsStep old mid mid before before (Err f)) (sym e)
-        (let h = lacking (was ∙ ap Err e) in step_no_memory old mid mid before before h.0 refl refl)
+        (step_no_memory old mid mid before before (lacking (was ∙ ap Err e)) refl refl)
 
     by_cause : (fault ≡ Failed) ⊎ (fault ≡ OutOfMemory) → IsStep old mid mid before before (Err fault)
     by_cause (inl e) = when_failed e

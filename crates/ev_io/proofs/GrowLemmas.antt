@@ -3,8 +3,8 @@ use Rattle.std.proofs.Common.{◌≡◌, ℕ, ◌+◌, ◌<◌, ◌≤◌, ◌�
 use Rattle.std.proofs.lemmas.List.{append-nil}
 use Rattle.std.proofs.Math.Seq.{take-append-add}
 use Rattle.ev_io.specs.declared.limits.TheConstants.{MAX_PIECE_BYTES}
-use Rattle.ev_io.specs.Found.{Finds, IsOpen}
-use Rattle.ev_io.specs.LinesState.{LinesState, Grows}
+use Rattle.ev_io.specs.Found.{IsOpen}
+use Rattle.ev_io.specs.LinesState.{LinesState, FindsNext, Grows}
 use Rattle.ev_io.specs.Outside.{Takes}
 use Rattle.ev_io.proofs.Known.{takes_both}
 
@@ -48,6 +48,6 @@ grows_not a old = (
     taken (Some xs) = refl
 
 -- more bytes were wanted at first, where they are wanted now and nothing was done between
-pub wanted_first : {S : Type 0} (source now : S) (old new : LinesState) → ((now ≡ source) × (new ≡ old)) ⊎ Finds old.taken old.given old.pending old.ended None → Finds new.taken new.given new.pending new.ended None → Finds old.taken old.given old.pending old.ended None
-wanted_first source now old new (inl (_, same)) wanted = subst (λ (s : LinesState). Finds s.taken s.given s.pending s.ended None) same wanted
+pub wanted_first : {S : Type 0} (source now : S) (old new : LinesState) → ((now ≡ source) × (new ≡ old)) ⊎ FindsNext old None → FindsNext new None → FindsNext old None
+wanted_first source now old new (inl (_, same)) wanted = subst (λ (s : LinesState). FindsNext s None) same wanted
 wanted_first source now old new (inr first) wanted = first

@@ -7,8 +7,8 @@ use Rattle.ev_io.specs.declared.faults.LineFault.{LineFault}
 use Rattle.ev_io.specs.declared.faults.LineFault.TheVariants.{TooLong, TooMany, TooLarge}
 use Rattle.ev_io.specs.Lines.{lines_of, feeds_in, HasNoFeed, IsClosed}
 use Rattle.ev_io.specs.LineFaults.{IsSoundUpTo, IsFirstFault, StandsAt}
-use Rattle.ev_io.specs.Found.{Ends, IsLine, IsLarge, IsMany, IsLong, Finds}
-use Rattle.ev_io.specs.LinesState.{LinesState, HasTaken}
+use Rattle.ev_io.specs.Found.{Ends, IsLine, IsLarge, IsMany, IsLong}
+use Rattle.ev_io.specs.LinesState.{LinesState, FindsNext, HasTaken}
 use Rattle.ev_io.specs.ReadLine.{IsUnfinished, GivesLine, ReachesEnd}
 use Rattle.ev_io.proofs.LineLemmas.{cut_at, one_at, whole, lines_of-append, feeds_in-append, feeds_in-closed, closed-append}
 use Rattle.ev_io.proofs.FaultLemmas.{sound-append, feeds_before, long_at_limit, sound_further, sound_with_feed}
@@ -34,7 +34,7 @@ closed_going state bytes h going = here h.closed
     here (inr (ended, _)) = absurd (going ended)
 
 -- bytes with no line feed and no fault behind the lines given
-pub unfinished : (state : LinesState) (bytes : List ℕ) → HasTaken state bytes → Finds state.taken state.given state.pending state.ended None → IsUnfinished state.given state.ended bytes
+pub unfinished : (state : LinesState) (bytes : List ℕ) → HasTaken state bytes → FindsNext state None → IsUnfinished state.given state.ended bytes
 unfinished state bytes h (going, quiet) =
     let closed : IsClosed h.front = closed_going state bytes h going in
     let sound : IsSoundUpTo (h.front ++ state.pending) (length h.front) = subst (λ (xs : List ℕ). IsSoundUpTo xs (length h.front)) h.parts h.sound in

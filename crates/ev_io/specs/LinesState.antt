@@ -1,11 +1,12 @@
 -- What contracts see of a reader of lines.
-use Rattle.std.specs.Prelude.{◌≡◌, ℕ, ◌+◌, ◌<◌, ◌≤◌, ◌⊎◌, Bool, IsTrue, List, [], ◌++◌, length, take, Option}
+use Rattle.std.specs.Prelude.{◌≡◌, ℕ, ◌+◌, ◌<◌, ◌≤◌, ◌⊎◌, Bool, false, IsTrue, List, [], ◌++◌, length, take, Option, None}
 use Rattle.ev_io.specs.declared.limits.TheConstants.{MAX_LINE_BYTES, MAX_INPUT_BYTES, MAX_PIECE_BYTES}
 use Rattle.ev_io.specs.declared.faults.LineFault.{LineFault}
+use Rattle.ev_io.specs.declared.found.Found.{Found}
 use Rattle.ev_io.specs.Lines.{lines_of, HasNoFeed, IsClosed}
 use Rattle.ev_io.specs.LineFaults.{IsSoundUpTo}
 use Rattle.ev_io.specs.Outside.{Takes}
-use Rattle.ev_io.specs.Found.{IsOpen}
+use Rattle.ev_io.specs.Found.{IsOpen, Finds}
 
 -- how many bytes were taken and how many lines given, the bytes taken and not given yet, whether
 -- the source gave its end, and the fault that is told from now on
@@ -15,6 +16,14 @@ pub record LinesState : Type 0 where
   pub pending : List ℕ
   pub ended : Bool
   pub told : Option LineFault
+
+-- no byte was taken yet
+abbrev pub IsFresh : LinesState → Type 0
+IsFresh state = state ≡ record { taken = 0; given = 0; pending = []; ended = false; told = None }
+
+-- what was found stands next in the bytes taken; where nothing was, more bytes are wanted
+abbrev pub FindsNext : LinesState → Option Found → Type 0
+FindsNext state next = Finds state.taken state.given state.pending state.ended next
 
 -- these are the bytes taken so far: first those of the lines given, `front`, which are closed but
 -- for a last line at the end, and in which no fault stands, then those not given yet

@@ -1,5 +1,5 @@
 -- What a source and a sink over memory are: which bytes are left or written, and which calls fail.
-use Rattle.std.specs.Prelude.{◌≡◌, ℕ, ◌+◌, ◌<◌, ◌⊎◌, List, length, Contains}
+use Rattle.std.specs.Prelude.{◌≡◌, ℕ, ◌+◌, ◌-◌, ◌<◌, ◌⊎◌, List, length, Contains}
 
 -- a source over memory: the bytes left, the most that a call gives, the numbers of the calls that
 -- fail, counted from 1, how many calls there were, and how many faults
@@ -19,6 +19,10 @@ pub record MemSinkState : Type 0 where
   pub fails : List ℕ
   pub calls : ℕ
   pub faults : ℕ
+
+-- how many more bytes fit
+abbrev pub room_left : MemSinkState → ℕ
+room_left s = s.room - length s.written
 
 -- the next read is one of those named to fail
 abbrev pub NextReadFails : MemSourceState → Type 0

@@ -1,10 +1,11 @@
 -- What a call for the next line does, by its answer. `all` are the bytes taken before it and in it.
-use Rattle.std.specs.Prelude.{◌≡◌, ℕ, ◌+◌, ◌<◌, ◌≤◌, ◌⊎◌, Bool, IsTrue, List, [], ◌∷◌, ◌++◌, length, take, drop, None, Some, Result, Ok, Err}
+use Rattle.std.specs.Prelude.{◌≡◌, ℕ, ◌+◌, ◌<◌, ◌≤◌, ◌⊎◌, Bool, IsTrue, List, [], ◌∷◌, ◌++◌, length, take, drop, Option, None, Some, Result, Ok, Err}
 use Rattle.ev_io.specs.declared.limits.TheConstants.{MAX_PIECE_BYTES}
 use Rattle.ev_io.specs.declared.faults.LineFault.{LineFault}
 use Rattle.ev_io.specs.declared.faults.LineFault.TheVariants.{TooLong, TooMany, TooLarge, Failed, OutOfMemory}
 use Rattle.ev_io.specs.declared.faults.LineEnd.{LineEnd}
 use Rattle.ev_io.specs.declared.faults.LineEnd.TheVariants.{Line, End}
+use Rattle.ev_io.specs.Outside.{Rose, Takes}
 use Rattle.ev_io.specs.Lines.{lines_of, feeds_in}
 use Rattle.ev_io.specs.LineFaults.{IsSoundUpTo, IsFirstFault}
 use Rattle.ev_io.specs.LinesState.{LinesState, HasTaken}
@@ -64,3 +65,16 @@ pub record ReadsLine (old new : LinesState) (bytes more before after : List ℕ)
   pub kept : take old.given (lines_of (bytes ++ more)) ≡ take old.given (lines_of bytes)
   pub means : Means old new (bytes ++ more) before after answer
   pub needed : (more ≡ []) ⊎ ((n : ℕ) × (n < length more) × (length more ≤ n + MAX_PIECE_BYTES) × IsUnfinished old.given old.ended (bytes ++ take n more))
+
+-- where no fault was told yet, a call takes some bytes, and reads a line of whatever bytes were taken before and these
+abbrev pub ReadsOn : {S : Type 0} → (S → Option (List ℕ)) → S → S → LinesState → LinesState → List ℕ → List ℕ → Result LineEnd LineFault → Type 0
+ReadsOn left source source' old new before after answer =
+    old.told ≡ None → (more : List ℕ) × Takes (left source) (left source') more × ((bytes : List ℕ) → HasTaken old bytes → ReadsLine old new bytes more before after answer)
+
+-- the source stays as it was, unless the bytes taken before are unfinished
+abbrev pub AsksWhereUnfinished : {S : Type 0} → S → S → LinesState → Type 0
+AsksWhereUnfinished source source' old = (bytes : List ℕ) → HasTaken old bytes → (source' ≡ source) ⊎ IsUnfinished old.given old.ended bytes
+
+-- a read failed: one before, as is told ever after, or one of this call, as the count of faults shows
+abbrev pub HasFailed : {S : Type 0} → (S → ℕ) → S → S → LinesState → Type 0
+HasFailed faults source source' old = (old.told ≡ Some Failed) ⊎ Rose (faults source) (faults source')

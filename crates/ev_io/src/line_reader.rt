@@ -1,11 +1,11 @@
-ghost use Rattle.std.specs.Prelude.{◌≡◌, ◌+◌, ◌<◌, ◌≤◌, ◌⊎◌, List, ℕ, [], ◌++◌, length, take, drop, None, Some, Ok, Err, OnOk, OnErr, IfOk, IfErr, MatchOption, false, IsTrue, IsFalse, vec_len};
+ghost use Rattle.std.specs.Prelude.{◌≡◌, ◌+◌, ◌<◌, ◌≤◌, ◌⊎◌, List, ℕ, [], ◌++◌, length, take, drop, None, Some, Ok, Err, OnOk, OnErr, IfOk, IfErr, IsTrue, vec_len};
 ghost use Rattle.std.specs.Io.KnownBytes.{IsAtEnd};
 ghost use Rattle.ev_io.specs.declared.limits.TheConstants.{MAX_INPUT_BYTES, MAX_PIECE_BYTES};
 ghost use Rattle.ev_io.specs.Outside.{Rose, Takes};
-ghost use Rattle.ev_io.specs.Found.{Finds, IsLine, IsOpen};
+ghost use Rattle.ev_io.specs.Found.{IsLine};
 ghost use Rattle.ev_io.specs.declared.faults.LineFault.{LineFault};
-ghost use Rattle.ev_io.specs.LinesState.{HasTaken, IsWithin, Grows};
-ghost use Rattle.ev_io.specs.ReadLine.{IsUnfinished, ReadsLine};
+ghost use Rattle.ev_io.specs.LinesState.{IsFresh, FindsNext, HasTaken, IsWithin, Grows};
+ghost use Rattle.ev_io.specs.ReadLine.{ReadsOn, AsksWhereUnfinished, HasFailed};
 
 use super::faults::{LineEnd, LineFault};
 use super::found::{Found, find_next};
@@ -54,7 +54,7 @@ impl Lines {
     /// `AllocError` where there is no memory for a piece of the source.
     #[tactic(auto, using(crate::proofs::ReadLemmas::nothing_taken))]
     pub fn new(alloc: Global) -> Result<Lines, AllocError>
-        ensures opens { IfOk result (λ lines. lines ≡ record { taken = 0; given = 0; pending = []; ended = false; told = None }) }
+        ensures opens { IfOk result IsFresh }
         ensures taken { IfOk result (λ lines. HasTaken lines []) }
     {
         Ok(Lines {
@@ -91,16 +91,19 @@ impl Lines {
         out: &mut Vec<u8>,
     ) -> Result<LineEnd, LineFault>
         // What the answer means, whatever bytes were taken before, and what is taken and held at most.
-        ensures reads { self.old.told ≡ None → (more : List ℕ) × Takes (S.left source.old) (S.left source.new) more × ((bytes : List ℕ) → HasTaken self.old bytes → ReadsLine self.old self.new bytes more out.old.items out.new.items result) }
+        ensures reads { ReadsOn S.left source.old source.new self.old self.new out.old.items out.new.items result }
         ensures at_end { IsTrue self.new.ended → IsTrue self.old.ended ⊎ IsAtEnd (S.left source.new) }
         ensures at_most { IsWithin self.new }
 
-        // A fault is told ever after.
-        ensures again { (fault : LineFault) → self.old.told ≡ Some fault → (result ≡ Err fault) × (self.new ≡ self.old) × (source.new ≡ source.old) × (out.new.items ≡ out.old.items) }
+        // A fault is told ever after, and then nothing changes.
+        ensures again { (fault : LineFault) → self.old.told ≡ Some fault → result ≡ Err fault }
+        ensures again_self { (fault : LineFault) → self.old.told ≡ Some fault → self.new ≡ self.old }
+        ensures again_source { (fault : LineFault) → self.old.told ≡ Some fault → source.new ≡ source.old }
+        ensures again_out { (fault : LineFault) → self.old.told ≡ Some fault → out.new.items ≡ out.old.items }
 
         // The source isn't touched where it isn't needed, and its count rises where a read fails.
-        ensures untouched { (bytes : List ℕ) → HasTaken self.old bytes → (source.new ≡ source.old) ⊎ IsUnfinished self.old.given self.old.ended bytes }
-        ensures failed { result ≡ Err LineFault.Failed → (self.old.told ≡ Some LineFault.Failed) ⊎ Rose (S.faults source.old) (S.faults source.new) }
+        ensures untouched { AsksWhereUnfinished source.old source.new self.old }
+        ensures failed { result ≡ Err LineFault.Failed → HasFailed S.faults source.old source.new self.old }
         ensures same_count { (S.faults source.new ≡ S.faults source.old) ⊎ (result ≡ Err LineFault.Failed) }
         ensures count { S.faults source.old ≤ S.faults source.new }
     {
@@ -123,7 +126,7 @@ impl Lines {
     // What stands next in the bytes taken.
     #[tactic(auto, using(std::proofs::lemmas::List::take_rest))]
     fn look(&self) -> Option<Found>
-        ensures found { Finds self.now.taken self.now.given self.now.pending self.now.ended result }
+        ensures found { FindsNext self.now result }
         ensures at_most { IsWithin self.now }
     {
         find_next(
@@ -158,12 +161,15 @@ impl Lines {
     fn find<S: Source>(&mut self, source: &mut S) -> Result<Found, LineFault>
         requires { self.old.told ≡ None }
         ensures grows { (more : List ℕ) × Grows (S.left source.old) (S.left source.new) self.old self.new more }
-        ensures found { IfOk result (λ found. Finds self.new.taken self.new.given self.new.pending self.new.ended (Some found)) }
+        ensures found { IfOk result (λ found. FindsNext self.new (Some found)) }
         ensures told { OnOk result (self.new.told ≡ None) }
-        ensures failed { result ≡ Err LineFault.Failed → (self.new.told ≡ Some LineFault.Failed) × Rose (S.faults source.old) (S.faults source.new) × Finds self.new.taken self.new.given self.new.pending self.new.ended None }
-        ensures no_memory { result ≡ Err LineFault.OutOfMemory → (self.new.told ≡ None) × (S.faults source.new ≡ S.faults source.old) }
+        ensures failed { result ≡ Err LineFault.Failed → self.new.told ≡ Some LineFault.Failed }
+        ensures rose { result ≡ Err LineFault.Failed → Rose (S.faults source.old) (S.faults source.new) }
+        ensures wanted { result ≡ Err LineFault.Failed → FindsNext self.new None }
+        ensures no_memory { result ≡ Err LineFault.OutOfMemory → self.new.told ≡ None }
+        ensures no_fault { result ≡ Err LineFault.OutOfMemory → S.faults source.new ≡ S.faults source.old }
         ensures causes { IfErr result (λ fault. (fault ≡ LineFault.Failed) ⊎ (fault ≡ LineFault.OutOfMemory)) }
-        ensures untouched { ((source.new ≡ source.old) × (self.new ≡ self.old)) ⊎ Finds self.old.taken self.old.given self.old.pending self.old.ended None }
+        ensures untouched { ((source.new ≡ source.old) × (self.new ≡ self.old)) ⊎ FindsNext self.old None }
         ensures at_end { IsTrue self.new.ended → IsTrue self.old.ended ⊎ IsAtEnd (S.left source.new) }
         ensures at_most { IsWithin self.new }
         ensures same_count { OnOk result (S.faults source.new ≡ S.faults source.old) }
@@ -180,13 +186,14 @@ impl Lines {
     // Takes a piece of the source, or its end.
     fn take_piece<S: Source>(&mut self, source: &mut S) -> Result<(), LineFault>
         requires untold { self.old.told ≡ None }
-        requires more { Finds self.old.taken self.old.given self.old.pending self.old.ended None }
+        requires more { FindsNext self.old None }
         ensures grows { (more : List ℕ) × Grows (S.left source.old) (S.left source.new) self.old self.new more }
         ensures told { OnOk result (self.new.told ≡ None) }
         ensures progress { OnOk result (IsTrue self.new.ended ⊎ (self.old.taken < self.new.taken)) }
         ensures at_end { IsTrue self.new.ended → IsAtEnd (S.left source.new) }
         ensures at_most { IsWithin self.new }
-        ensures failed { result ≡ Err LineFault.Failed → (self.new ≡ record self.old { told = Some LineFault.Failed }) × Rose (S.faults source.old) (S.faults source.new) }
+        ensures failed { result ≡ Err LineFault.Failed → self.new ≡ record self.old { told = Some LineFault.Failed } }
+        ensures rose { result ≡ Err LineFault.Failed → Rose (S.faults source.old) (S.faults source.new) }
         ensures no_memory { result ≡ Err LineFault.OutOfMemory → (self.new ≡ self.old) × (source.new ≡ source.old) }
         ensures causes { IfErr result (λ fault. (fault ≡ LineFault.Failed) ⊎ (fault ≡ LineFault.OutOfMemory)) }
         ensures same_count { OnOk result (S.faults source.new ≡ S.faults source.old) }

@@ -1,7 +1,6 @@
-ghost use Rattle.std.specs.Prelude.{◌≡◌, ◌-◌, ◌<◌, ◌≤◌, ◌↔◌, min, length, take, [], Some, OnOk, OnErr, IfOk, IsErr, vec_capacity};
-ghost use Rattle.std.specs.Io.KnownBytes.{append_known};
+ghost use Rattle.std.specs.Prelude.{◌≡◌, ◌<◌, ◌≤◌, ◌↔◌, ◌++◌, min, length, take, [], Some, OnOk, OnErr, IfOk, IsErr, vec_capacity};
 ghost use Rattle.ev_io.specs.Outside.{Rose, raised};
-ghost use Rattle.ev_io.specs.Memory.{MemSinkState, NextWriteFails};
+ghost use Rattle.ev_io.specs.Memory.{MemSinkState, NextWriteFails, room_left};
 
 use super::calls::Calls;
 use super::outside::{Failed, Sink};
@@ -76,7 +75,7 @@ impl Sink for MemSink {
     fn write(&mut self, bytes: &[u8]) -> Result<usize, Failed>
         ensures bound { IfOk result (λ n. n ≤ length bytes.now) }
         ensures some { IfOk result (λ n. 0 < length bytes.now → 0 < n) }
-        ensures bytes { IfOk result (λ n. Some self.new.written ≡ append_known (Some self.old.written) (take n bytes.now)) }
+        ensures bytes { IfOk result (λ n. Some self.new.written ≡ Some (self.old.written ++ take n bytes.now)) }
         ensures unchanged { OnErr result (Some self.new.written ≡ Some self.old.written) }
         ensures failed { OnErr result (Rose self.old.faults self.new.faults) }
         ensures same_count { OnOk result (self.new.faults ≡ self.old.faults) }
@@ -84,7 +83,7 @@ impl Sink for MemSink {
 
         // Which calls fail, how much the others take, and what is counted.
         ensures fails { IsErr result ↔ NextWriteFails self.old bytes.now }
-        ensures takes { IfOk result (λ n. n ≡ min (self.old.room - length self.old.written) (min (length bytes.now) self.old.piece)) }
+        ensures takes { IfOk result (λ n. n ≡ min (room_left self.old) (min (length bytes.now) self.old.piece)) }
         ensures counts { OnErr result (self.new.faults ≡ raised self.old.faults) }
         ensures plan { self.new ≡ record self.old {
           written = self.new.written;

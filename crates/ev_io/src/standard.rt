@@ -1,7 +1,6 @@
 ghost use Rattle.std.specs.Prelude.{◌≡◌, ◌<◌, ◌≤◌, length, take, None, OnOk, OnErr, IfOk, IfSome};
-ghost use Rattle.std.specs.Io.KnownBytes.{Appends, ReadConsumes};
 ghost use Rattle.ev_io.specs.Outside.{Rose, raised};
-ghost use Rattle.ev_io.specs.Standard.{reader_of, read_faults, writer_of, write_faults};
+ghost use Rattle.ev_io.specs.Standard.{reader_of, read_faults, writer_of, write_faults, ReadsThrough, WritesThrough};
 
 use super::outside::{Failed, Sink, Source};
 use std::io::{Read, Write};
@@ -52,7 +51,7 @@ impl<R: Read> Source for StdSource<R> {
         ensures same_count { OnOk result (read_faults self.new ≡ read_faults self.old) }
         ensures count { read_faults self.old ≤ read_faults self.new }
         ensures counts { OnErr result (read_faults self.new ≡ raised (read_faults self.old)) }
-        ensures reader { ReadConsumes (R.remaining (reader_of self.old)) (R.remaining (reader_of self.new)) result buf.new }
+        ensures reader { ReadsThrough R.remaining self.old self.new result buf.new }
     {
         match self.reader.read(buf) {
             Ok(n) => Ok(n),
@@ -70,7 +69,7 @@ impl<W: Write> StdSink<W> {
     fn write_through(&mut self, bytes: &[u8]) -> Option<usize>
         ensures bound { IfSome result (λ n. n ≤ length bytes.now) }
         ensures some { IfSome result (λ n. 0 < length bytes.now → 0 < n) }
-        ensures writer { IfSome result (λ n. Appends (W.contents (writer_of self.old)) (W.contents (writer_of self.new)) (take n bytes.now)) }
+        ensures writer { IfSome result (λ n. WritesThrough W.contents self.old self.new (take n bytes.now)) }
         ensures count { write_faults self.new ≡ write_faults self.old }
     {
         let n = self.writer.write(bytes).ok()?;
@@ -96,7 +95,7 @@ impl<W: Write> Sink for StdSink<W> {
         ensures same_count { OnOk result (write_faults self.new ≡ write_faults self.old) }
         ensures count { write_faults self.old ≤ write_faults self.new }
         ensures counts { OnErr result (write_faults self.new ≡ raised (write_faults self.old)) }
-        ensures writer { IfOk result (λ n. Appends (W.contents (writer_of self.old)) (W.contents (writer_of self.new)) (take n bytes.now)) }
+        ensures writer { IfOk result (λ n. WritesThrough W.contents self.old self.new (take n bytes.now)) }
     {
         match self.write_through(bytes) {
             Some(n) => Ok(n),

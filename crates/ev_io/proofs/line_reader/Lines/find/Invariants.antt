@@ -1,15 +1,14 @@
 use Rattle.std.proofs.Common.{◌≡◌, ◌+◌, ◌-◌, ◌⊎◌, List, ℕ, None, cond, IsTrue}
 use Rattle.std.specs.Io.KnownBytes.{IsAtEnd}
 use Rattle.ev_io.specs.declared.limits.TheConstants.{MAX_INPUT_BYTES}
-use Rattle.ev_io.specs.Found.{Finds}
-use Rattle.ev_io.specs.LinesState.{Grows}
+use Rattle.ev_io.specs.LinesState.{FindsNext, Grows}
 use Rattle.ev_io.proofs.line_reader.Lines.find.Given as goal
 
 abbrev pub invariant-pieces : goal.invariant-pieces
 invariant-pieces g l = record {
   grows : (more : List ℕ) × Grows (g.S.Source.left l.initial.source) (g.S.Source.left l.source) l.initial.self l.self more;
   untold : l.self.told ≡ None;
-  untouched : ((l.source ≡ l.initial.source) × (l.self ≡ l.initial.self)) ⊎ Finds l.initial.self.taken l.initial.self.given l.initial.self.pending l.initial.self.ended None;
+  untouched : ((l.source ≡ l.initial.source) × (l.self ≡ l.initial.self)) ⊎ FindsNext l.initial.self None;
   at_end : IsTrue l.self.ended → IsTrue l.initial.self.ended ⊎ IsAtEnd (g.S.Source.left l.source);
   same_count : g.S.Source.faults l.source ≡ g.S.Source.faults l.initial.source;
 }

@@ -9,7 +9,7 @@ returns-in_err-length-clause-reads g c =
     let p = err_from_is_err_and c.from_residual.result c.from_residual.ensures.1 in
     λ _.
     reads_by _ _ _ _ _ _ _ _ _ _ c.find.ensures.grows c.find.ensures.untouched
-    (step_stopped _ _ _ c.find.result c.in_err-length.field-0.0 _ (p.1 ∙ ap Err p.2) c.in_err-length.was c.find.ensures.causes c.find.ensures.failed c.find.ensures.no_memory)
+    (step_stopped _ _ _ c.find.result c.in_err-length.field-0.0 _ (p.1 ∙ ap Err p.2) c.in_err-length.was c.find.ensures.causes c.find.ensures.failed c.find.ensures.wanted c.find.ensures.no_memory)
 
 pub returns-in_err-length-clause-untouched : goal.returns-in_err-length-clause-untouched
 returns-in_err-length-clause-untouched g c = wanted _ _ _ _ c.find.ensures.untouched
