@@ -2,13 +2,15 @@
 -- the profile lacks.
 use Rattle.std.specs.Prelude.{ℕ, ◌||◌, ◌-◌, ◌==◌, List, [], ◌∷◌, length, slice_index, Bool, true, false, not, if◌then◌else◌, codes}
 use Rattle.std.specs.List.{list_any}
+use Rattle.std.specs.Map.Iter.{deref}
+use denote.Ref.{Bor}
 use Rattle.serde_json.specs.Data.{Data}
 use Rattle.ev_types.specs.declared.routes.PathMatch.{PathMatch}
 use Rattle.ev_types.specs.declared.routes.PathMatch.TheVariants.{Prefix, Path, Separated}
 use Rattle.ev_tree.specs.declared.broken.BrokenRules.{BrokenRules}
 use Rattle.ev_tree.specs.declared.outcome.Found.{Found}
 use Rattle.ev_tree.specs.declared.outcome.Found.TheVariants.{Absent, Wrong, Given}
-use Rattle.ev_tree.specs.Forms.{is_wrong, is_given, given_or, text_of, boolean_of}
+use Rattle.ev_tree.specs.Forms.{found_map, is_wrong, is_given, given_or, text_of, boolean_of}
 use Rattle.ev_tree.specs.Broken.{none_broken}
 use Rattle.ev_route_json.specs.Presence.{any_given, any_doubled, any_filled, exactly_one}
 
@@ -65,6 +67,10 @@ path_with prefix path separated =
     if is_given prefix then Prefix (given_or [] prefix)
     else if is_given path then Path (given_or [] path)
     else Separated (given_or [] separated)
+
+-- the match of the texts that were found
+abbrev pub path_found : Found (Bor (List ℕ)) → Found (Bor (List ℕ)) → Found (Bor (List ℕ)) → PathMatch
+path_found prefix path separated = path_with (found_map deref prefix) (found_map deref path) (found_map deref separated)
 
 unfoldable pub path_of : Data → PathMatch
 path_of tree = path_with (text_of (codes "prefix") tree) (text_of (codes "path") tree) (text_of (codes "path_separated_prefix") tree)

@@ -1,7 +1,5 @@
-ghost use Rattle.std.specs.Prelude.{◌≡◌, ◌++◌, IfOk, OnOk, map, string_bytes};
-ghost use Rattle.std.specs.List.{flat_map};
-ghost use Rattle.ev_route_json.specs.Domains.{has_repeat, repeats_domain};
-ghost use Rattle.std.specs.Str.{str_to_ascii_lowercase};
+ghost use Rattle.std.specs.Prelude.{◌≡◌, IfOk, OnOk, map, string_bytes};
+ghost use Rattle.ev_route_json.specs.Domains.{has_repeat, repeats_domain, GainsInLowercase};
 
 use ev_types::{Text, VirtualHost};
 use std::alloc::{AllocError, Global};
@@ -25,7 +23,7 @@ fn push_in_lowercase(
     texts: &mut Vec<String>,
     domains: &[Text],
 ) -> Result<(), AllocError>
-    ensures { OnOk result (map string_bytes texts.new.items ≡ map string_bytes texts.old.items ++ map str_to_ascii_lowercase domains.now) }
+    ensures { OnOk result (GainsInLowercase texts.old.items texts.new.items domains.now) }
 {
     for domain in domains {
         let mut text = String::from_str(alloc, domain.as_str())?;

@@ -1,6 +1,6 @@
 ghost use Rattle.std.specs.Prelude.{◌≡◌, IfOk};
 ghost use Rattle.ev_tree.specs.Forms.{tree_of, found_map};
-ghost use Rattle.ev_route_json.specs.Matches.{match_broken, path_of, path_with, is_false, is_bad_separated, separated_is_bad, ends_a_path};
+ghost use Rattle.ev_route_json.specs.Matches.{match_broken, path_of, path_found, is_false, is_bad_separated, separated_is_bad, ends_a_path};
 ghost use Rattle.std.specs.List.{list_any};
 
 use crate::presence::{exactly_one, inspect_fields};
@@ -104,7 +104,7 @@ fn make_path(
     path: Found<&str>,
     separated: Found<&str>,
 ) -> Result<PathMatch, AllocError>
-    ensures { IfOk result (λ made. made ≡ path_with (found_map (λ s. s.now) prefix.entry) (found_map (λ s. s.now) path.entry) (found_map (λ s. s.now) separated.entry)) }
+    ensures { IfOk result (λ made. made ≡ path_found prefix.entry path.entry separated.entry) }
 {
     if let Found::Given(text) = prefix {
         return Ok(PathMatch::Prefix(Text::new(alloc, text)?));

@@ -1,4 +1,5 @@
 ghost use Rattle.std.specs.Prelude.{◌≡◌, IfOk, map};
+ghost use Rattle.std.specs.Map.Iter.{deref};
 ghost use Rattle.ev_tree.specs.Forms.{tree_of, found_map};
 ghost use Rattle.serde_json.specs.View.{view};
 ghost use Rattle.ev_route_json.specs.Presence.{any_given, any_doubled, any_filled, is_filled, exactly_one, is_empty_array};
@@ -24,9 +25,9 @@ pub fn inspect_fields(
     object: Option<&Value>,
     names: &[&str],
 ) -> Result<Presence, AllocError>
-    ensures given { IfOk result (λ p. p.given ≡ any_given (map (λ name. name.now) names.now) (tree_of object.entry)) }
-    ensures filled { IfOk result (λ p. p.filled ≡ any_filled (map (λ name. name.now) names.now) (tree_of object.entry)) }
-    ensures doubled { IfOk result (λ p. p.doubled ≡ any_doubled (map (λ name. name.now) names.now) (tree_of object.entry)) }
+    ensures given { IfOk result (λ p. p.given ≡ any_given (map deref names.now) (tree_of object.entry)) }
+    ensures filled { IfOk result (λ p. p.filled ≡ any_filled (map deref names.now) (tree_of object.entry)) }
+    ensures doubled { IfOk result (λ p. p.doubled ≡ any_doubled (map deref names.now) (tree_of object.entry)) }
 {
     let mut given = false;
     let mut filled = false;
