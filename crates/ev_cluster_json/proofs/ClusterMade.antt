@@ -1,5 +1,5 @@
 -- What was found of a cluster's parts, against the cluster's tree.
-use Rattle.std.proofs.Common.{◌≡◌, ℕ, ◌&&◌, ◌==◌, not, Bool, true, false, true≢false, List, [], length, Option, Some, None, nat_lt, cond, refl, ap, ◌∙◌, arith, codes, if◌then◌else◌}
+use Rattle.std.proofs.Common.{◌≡◌, ℕ, ◌&&◌, ◌==◌, not, Bool, true, false, true≢false, List, length, Option, Some, None, nat_lt, cond, refl, ap, ◌∙◌, arith, codes}
 use Rattle.std.specs.Option.{option_map, option_and_then}
 use Rattle.std.proofs.lemmas.Bool.Decides.{nat_tests}
 use Rattle.serde_json.specs.Data.{Data}
@@ -17,7 +17,7 @@ use Rattle.ev_tree.proofs.Unions.{least_none}
 use Rattle.ev_cluster_json.specs.declared.parts.TheConstants.{STATIC, EDS}
 use Rattle.ev_cluster_json.specs.Assignments.{rows_of}
 use Rattle.ev_cluster_json.specs.Clusters.{name_of, type_of, is_static, is_eds, eds_source_of, service_name_of, service_with, service_of, load_assignment_of, is_checked, own_broken, eds_broken, load_assignment_broken, cluster_broken, discovery_of, cluster_of}
-use Rattle.ev_cluster_json.specs.Made.{name_in, discovery_with, cluster_with, made_rows}
+use Rattle.ev_cluster_json.specs.Made.{name_in, discovery_with, cluster_with, made_rows, made_where}
 use Rattle.ev_cluster_json.proofs.RowsMade.{left_false, right_false, not_false, rows_made}
 
 -- the name of a cluster that breaks neither V3 nor V6
@@ -63,14 +63,14 @@ clear_service tree clear =
 
 -- the discovery that is made of a cluster that breaks no rule
 pub discovery_made : (tree : Data) → cluster_broken tree ≡ none_broken
-    → discovery_with (is_static tree) (if is_static tree then made_rows (load_assignment_of tree) else []) (service_of tree) (source_is_limited (eds_source_of tree)) ≡ Some (discovery_of tree)
+    → discovery_with (is_static tree) (made_where (is_static tree) (load_assignment_of tree)) (service_of tree) (source_is_limited (eds_source_of tree)) ≡ Some (discovery_of tree)
 unfolding cluster_broken discovery_of
 discovery_made tree clear =
     by_type (is_static tree) (clear_service tree clear)
     (right_false _ _ (right_false _ _ (ap (λ (b : BrokenRules). b.v12) clear))) (right_false _ _ (right_false _ _ (ap (λ (b : BrokenRules). b.v13) clear)))
   where
     by_type : (b : Bool) → is_name (service_of tree) ≡ true → (broken_where b (load_assignment_broken tree)).v12 ≡ false → (broken_where b (load_assignment_broken tree)).v13 ≡ false
-        → discovery_with b (cond b (made_rows (load_assignment_of tree)) []) (service_of tree) (source_is_limited (eds_source_of tree)) ≡ Some (cond b (Static (rows_of (load_assignment_of tree))) (Eds (service_of tree) (source_is_limited (eds_source_of tree))))
+        → discovery_with b (made_where b (load_assignment_of tree)) (service_of tree) (source_is_limited (eds_source_of tree)) ≡ Some (cond b (Static (rows_of (load_assignment_of tree))) (Eds (service_of tree) (source_is_limited (eds_source_of tree))))
     by_type true service v12 v13 = ap (λ rows. Some (Static rows)) (known_hosts tree v12 v13)
     by_type false service v12 v13 = ap (option_map (λ name. Eds name (source_is_limited (eds_source_of tree)))) (name_in_known (service_of tree) service)
 
@@ -91,11 +91,11 @@ rules_agree tree kind own eds hosts joined broken type of_own of_eds of_hosts jo
 -- what is made of the parts of a cluster that breaks no rule is the cluster
 pub made_from : (tree : Data) (name service_name service : List ℕ) (kind : ℕ) (rows : List HostRowParts) (limited checked : Bool) (discovery : Option Discovery) (cluster : Option Cluster)
     → least_of (cluster_broken tree) ≡ None → name ≡ name_of tree → service_name ≡ service_name_of tree → kind ≡ type_of tree → limited ≡ source_is_limited (eds_source_of tree) → checked ≡ is_checked tree
-    → rows ≡ (if kind == STATIC then made_rows (load_assignment_of tree) else []) → service ≡ service_with name service_name
+    → rows ≡ made_where (kind == STATIC) (load_assignment_of tree) → service ≡ service_with name service_name
     → discovery ≡ discovery_with (kind == STATIC) rows service limited → cluster ≡ cluster_with name discovery checked → cluster ≡ Some (cluster_of tree)
 made_from tree name service_name service kind rows limited checked discovery cluster none own asked type limit check row serve find make =
     let clear = least_none (cluster_broken tree) none in
-    let all_rows : rows ≡ (if type_of tree == STATIC then made_rows (load_assignment_of tree) else []) = row ∙ ap (λ k. if k == STATIC then made_rows (load_assignment_of tree) else []) type in
+    let all_rows : rows ≡ made_where (is_static tree) (load_assignment_of tree) = row ∙ ap (λ k. made_where (k == STATIC) (load_assignment_of tree)) type in
     let by : service ≡ service_of tree = serve ∙ (λ i. service_with (own i) (asked i)) in
     let found : discovery ≡ Some (discovery_of tree) = find ∙ (λ i. discovery_with (type i == STATIC) (all_rows i) (by i) (limit i)) ∙ discovery_made tree clear in
     make ∙ (λ i. cluster_with (own i) (found i) (check i)) ∙ cluster_made tree clear

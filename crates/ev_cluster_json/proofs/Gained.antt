@@ -12,7 +12,7 @@ use Rattle.ev_tree.specs.declared.broken.BrokenRules.{BrokenRules}
 use Rattle.ev_tree.specs.Broken.{none_broken, either_broken, any_broken}
 use Rattle.ev_tree.proofs.Unions.{either_assoc, either_none, any_push}
 use Rattle.ev_cluster_json.specs.declared.tally.Tally.{Tally}
-use Rattle.ev_cluster_json.specs.Tallies.{Gains}
+use Rattle.ev_cluster_json.specs.Tallies.{Gains, GainsOne, GainsAll}
 
 -- the trees of one element more
 pub seen_more : (vs : List Value) (i : ℕ) (v : Value) → i < length vs → v ≡ get_or vs i v → map view (take (i + 1) vs) ≡ map view (take i vs) ++ (view v ∷ [])
@@ -34,8 +34,7 @@ gains_nothing t = record {
 
 -- over one element more
 pub gains_more : (f : Data → BrokenRules) (rows : Data → List HostRowParts) (a b d : Tally) (xs ys : List Data) (x : Data)
-    → ys ≡ xs ++ (x ∷ []) → Gains a b (any_broken f xs) (flat_map rows xs) → Gains b d (f x) (rows x)
-    → Gains a d (any_broken f ys) (flat_map rows ys)
+    → ys ≡ xs ++ (x ∷ []) → GainsAll f rows a b xs → GainsOne f rows b d x → GainsAll f rows a d ys
 gains_more f rows a b d xs ys x is so_far here = record {
   broken =
       here.broken ∙ ap (λ t. either_broken t (f x)) so_far.broken ∙ either_assoc a.broken (any_broken f xs) (f x)
@@ -45,10 +44,9 @@ gains_more f rows a b d xs ys x is so_far here = record {
 
 -- over all elements
 pub gains_all : (f : Data → BrokenRules) (rows : Data → List HostRowParts) (a b : Tally) (vs : List Value) (n : ℕ) → length vs ≤ n
-    → Gains a b (any_broken f (map view (take n vs))) (flat_map rows (map view (take n vs)))
-    → Gains a b (any_broken f (map view vs)) (flat_map rows (map view vs))
+    → GainsAll f rows a b (map view (take n vs)) → GainsAll f rows a b (map view vs)
 gains_all f rows a b vs n h so_far =
-    let P : List Value → Type 0 = λ ws. Gains a b (any_broken f (map view ws)) (flat_map rows (map view ws)) in
+    let P : List Value → Type 0 = λ ws. GainsAll f rows a b (map view ws) in
     subst P (take_all n vs h) so_far
 
 -- a capped sum of one weight more

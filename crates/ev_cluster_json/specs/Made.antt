@@ -1,5 +1,5 @@
 -- Names and rows that are made on the way, where their parts allow it.
-use Rattle.std.specs.Prelude.{ℕ, ◌==◌, List, Bool, if◌then◌else◌, Option, Some, None, option_map, option_and_then, nat_le, option_to_list}
+use Rattle.std.specs.Prelude.{ℕ, ◌==◌, List, [], Bool, if◌then◌else◌, Option, Some, None, option_map, option_and_then, nat_le, option_to_list}
 use Rattle.std.specs.List.{flat_map}
 use Rattle.serde_json.specs.Data.{Data}
 use Rattle.ev_types.specs.Hosts.{HostRowParts}
@@ -39,6 +39,10 @@ made_group group = flat_map (host_rows (rank_of (priority_of group))) (hosts_of 
 
 unfoldable pub made_rows : Data → List HostRowParts
 made_rows tree = flat_map made_group (groups_of tree)
+
+-- those rows, or none where it is passed over
+abbrev pub made_where : Bool → Data → List HostRowParts
+made_where condition tree = if condition then made_rows tree else []
 
 -- the discovery of a cluster of these parts, and the cluster, if its names are names
 abbrev pub discovery_with : Bool → List HostRowParts → List ℕ → Bool → Option Discovery

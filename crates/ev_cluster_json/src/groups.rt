@@ -1,11 +1,10 @@
 ghost use Rattle.std.specs.Prelude.{◌≡◌, ◌++◌, ◌-◌, ◌^◌, map, min, option_to_list, IfOk, OnOk};
-ghost use Rattle.std.specs.List.{flat_map, sum_by};
+ghost use Rattle.std.specs.List.{sum_by};
 ghost use Rattle.serde_json.specs.View.{view};
 ghost use Rattle.ev_tree.specs.Forms.{tree_of};
-ghost use Rattle.ev_tree.specs.Broken.{any_broken};
 ghost use Rattle.ev_cluster_json.specs.Assignments.{weight_of, host_broken, group_broken, assignment_broken};
 ghost use Rattle.ev_cluster_json.specs.Made.{host_rows, rank_of, made_group, made_rows};
-ghost use Rattle.ev_cluster_json.specs.Tallies.{Gains};
+ghost use Rattle.ev_cluster_json.specs.Tallies.{GainsOne, GainsAll};
 
 use crate::hosts::{HostParts, inspect_host};
 use crate::tally::Tally;
@@ -20,7 +19,7 @@ pub const MAX_PRIORITY: u32 = 128;
 /// Adds a host to the tally, and gives its weight.
 pub fn add_host(tally: &mut Tally, alloc: Global, host: &Value, rank: u8) -> Result<u32, AllocError>
     ensures weight { IfOk result (λ weight. weight ≡ weight_of (view host.now)) }
-    ensures gains { OnOk result (Gains tally.old tally.new (host_broken (view host.now)) (host_rows rank (view host.now))) }
+    ensures gains { OnOk result (GainsOne host_broken (host_rows rank) tally.old tally.new (view host.now)) }
 {
     let HostParts {
         row,
@@ -50,8 +49,7 @@ pub fn add_hosts(
     rank: u8,
 ) -> Result<u64, AllocError>
     ensures weight { IfOk result (λ sum. sum ≡ min (sum_by weight_of (map view hosts.now)) (2 ^ 64 - 1)) }
-    ensures gains { OnOk result (Gains tally.old tally.new (any_broken host_broken (map view hosts.now))
-        (flat_map (host_rows rank) (map view hosts.now))) }
+    ensures gains { OnOk result (GainsAll host_broken (host_rows rank) tally.old tally.new (map view hosts.now)) }
 {
     let mut sum = 0u64;
     for host in hosts {
@@ -74,7 +72,7 @@ fn clamp_priority(priority: u32) -> u8
 
 /// Adds a group of hosts to the tally: an element of `endpoints`.
 pub fn add_group(tally: &mut Tally, alloc: Global, group: &Value) -> Result<(), AllocError>
-    ensures { OnOk result (Gains tally.old tally.new (group_broken (view group.now)) (made_group (view group.now))) }
+    ensures { OnOk result (GainsOne group_broken made_group tally.old tally.new (view group.now)) }
 {
     let priority = member::number32(alloc, Some(group), "priority")?;
     let hosts = member::objects(alloc, Some(group), "lb_endpoints")?;
@@ -96,8 +94,7 @@ pub fn add_group(tally: &mut Tally, alloc: Global, group: &Value) -> Result<(), 
 
 /// Adds groups of hosts to the tally.
 pub fn add_groups(tally: &mut Tally, alloc: Global, groups: &[Value]) -> Result<(), AllocError>
-    ensures { OnOk result (Gains tally.old tally.new (any_broken group_broken (map view groups.now))
-        (flat_map made_group (map view groups.now))) }
+    ensures { OnOk result (GainsAll group_broken made_group tally.old tally.new (map view groups.now)) }
 {
     for group in groups {
         add_group(tally, alloc, group)?;

@@ -1,10 +1,10 @@
 //! The parts of a cluster, each inspected by itself.
-ghost use Rattle.std.specs.Prelude.{◌≡◌, [], if◌then◌else◌, IfOk};
+ghost use Rattle.std.specs.Prelude.{◌≡◌, IfOk};
 ghost use Rattle.serde_json.specs.View.{view};
 ghost use Rattle.ev_tree.specs.Sources.{source_is_limited};
 ghost use Rattle.ev_tree.specs.Broken.{broken_where};
 ghost use Rattle.ev_cluster_json.specs.Clusters.{name_of, type_of, eds_source_of, service_name_of, load_assignment_of, is_checked, own_broken, eds_broken, load_assignment_broken};
-ghost use Rattle.ev_cluster_json.specs.Made.{made_rows};
+ghost use Rattle.ev_cluster_json.specs.Made.{made_rows, made_where};
 
 use crate::groups::inspect_assignment;
 use crate::tally::Tally;
@@ -123,7 +123,7 @@ fn inspect_load_assignment(alloc: Global, cluster: &Value) -> Result<Tally, Allo
 
 /// Inspects the hosts that stand in the cluster itself. They are passed over where its type isn't STATIC.
 pub fn inspect_hosts(alloc: Global, cluster: &Value, in_cluster: bool) -> Result<Tally, AllocError>
-    ensures rows { IfOk result (λ t. t.rows.items ≡ (if in_cluster then made_rows (load_assignment_of (view cluster.now)) else [])) }
+    ensures rows { IfOk result (λ t. t.rows.items ≡ made_where in_cluster (load_assignment_of (view cluster.now))) }
     ensures broken { IfOk result (λ t. t.broken ≡ broken_where in_cluster (load_assignment_broken (view cluster.now))) }
 {
     if in_cluster {
