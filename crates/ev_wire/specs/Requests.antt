@@ -1,8 +1,10 @@
 -- Requests as trees and as text: the members of a DeltaDiscoveryRequest by the proto3 JSON mapping, of the xDS
 -- transport protocol. That members stand in the order of bytes and empty ones are left out is this project's own.
-use Rattle.std.specs.Prelude.{ℕ, List, [], ◌∷◌, map, Option, Some, None, codes}
+use Rattle.std.specs.Prelude.{◌≡◌, ℕ, List, [], ◌∷◌, map, Option, Some, None, String, codes}
+use Rattle.std.specs.declared.alloc.Global.{Global}
 use Rattle.serde_json.specs.Data.{Data, number, unsigned, string, array, object, Members, member, no_members, put}
-use Rattle.serde_json.specs.View.{items_of}
+use Rattle.serde_json.specs.View.{items_of, members_view}
+use Rattle.serde_json.specs.declared.value.Value.{Value}
 use Rattle.serde_json.specs.Written.{compact_text}
 use Rattle.ev_types.specs.declared.contents.Kind.{Kind}
 use Rattle.ev_types.specs.declared.contents.Kind.TheVariants.{Cds, Eds, Lds, Rds}
@@ -14,6 +16,10 @@ type_url Cds = codes "type.googleapis.com/envoy.config.cluster.v3.Cluster"
 type_url Eds = codes "type.googleapis.com/envoy.config.endpoint.v3.ClusterLoadAssignment"
 type_url Lds = codes "type.googleapis.com/envoy.config.listener.v3.Listener"
 type_url Rds = codes "type.googleapis.com/envoy.config.route.v3.RouteConfiguration"
+
+-- the members of a map became what `change` makes of them
+abbrev pub Puts : (Members → Members) → List (String Global × Value) → List (String Global × Value) → Type 0
+Puts change old new = members_view new ≡ change (members_view old)
 
 -- the nonce of the response that is answered as a member, where there is one that isn't empty
 abbrev pub with_nonce : Option (List ℕ) → Members → Members

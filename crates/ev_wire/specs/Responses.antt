@@ -10,6 +10,7 @@ use Rattle.ev_types.specs.Items.{ItemParts, ResponseParts}
 use Rattle.ev_tree.specs.declared.outcome.Found.{Found}
 use Rattle.ev_tree.specs.declared.span.Span.{Span}
 use Rattle.ev_tree.specs.Forms.{is_object, is_wrong, given_or, listed, text_in, field_of, text_of, duration_of, objects_of, texts_of}
+use Rattle.ev_wire.specs.declared.responses.Head.{Head}
 use Rattle.ev_wire.specs.declared.outcome.WireError.{WireError}
 use Rattle.ev_wire.specs.declared.outcome.WireError.TheVariants.{NotResponse, OutOfMemory}
 use Rattle.ev_wire.specs.Requests.{type_url}
@@ -95,6 +96,14 @@ parts_of (Some kind) nonce tree = record {
 -- a value, where a test holds
 abbrev pub given_if : {A : Type 0} → Bool → A → Option A
 given_if test value = if test then Some value else None
+
+-- the resources that these entries are, or none where one of them isn't one
+abbrev pub items_in : Kind → List Data → Option (List ItemParts)
+items_in kind entries = given_if (list_all is_entry entries) (map (item_of kind) entries)
+
+-- the type and the nonce of the response that a tree is, or none where it lacks them
+abbrev pub head_of : Data → Option Head
+head_of tree = given_if (has_head tree) (record { kind = response_kind tree; nonce = nonce_of tree })
 
 -- the response that a tree is, or none where it isn't one
 unfoldable pub response_of : Data → Option ResponseParts

@@ -1,7 +1,7 @@
 ghost use Rattle.std.specs.Prelude.{◌≡◌, map, IfOk, OnOk};
 ghost use Rattle.serde_json.specs.Data.{string, array, object, no_members};
-ghost use Rattle.serde_json.specs.View.{view, members_view, items_of};
-ghost use Rattle.ev_wire.specs.Requests.{request_tree, request_text, with_nonce, with_names, with_node, with_versions, version_members, with_error};
+ghost use Rattle.serde_json.specs.View.{view, items_of};
+ghost use Rattle.ev_wire.specs.Requests.{request_tree, request_text, Puts, with_nonce, with_names, with_node, with_versions, version_members, with_error};
 
 use crate::kinds::type_url;
 use ev_types::{Name, Request, Seq, Text};
@@ -53,7 +53,7 @@ type Members = Map<String, Value>;
 // Puts the nonce, where there is one that isn't empty.
 #[tactic(auto, using(crate::proofs::RequestLemmas::nonce_given))]
 fn put_nonce(alloc: Global, members: &mut Members, nonce: &Option<Text>) -> Result<(), AllocError>
-    ensures { OnOk result (members_view members.new.entries ≡ with_nonce nonce.now (members_view members.old.entries)) }
+    ensures { OnOk result (Puts (with_nonce nonce.now) members.old.entries members.new.entries) }
 {
     if let Some(nonce) = nonce {
         let nonce = nonce.as_str();
@@ -71,7 +71,7 @@ fn put_names(
     key: &str,
     names: &Seq<Name>,
 ) -> Result<(), AllocError>
-    ensures { OnOk result (members_view members.new.entries ≡ with_names key.now names.now (members_view members.old.entries)) }
+    ensures { OnOk result (Puts (with_names key.now names.now) members.old.entries members.new.entries) }
 {
     if names.len() != 0 {
         put(members, alloc, key, name_values(alloc, names.as_slice())?)?;
@@ -81,7 +81,7 @@ fn put_names(
 
 // Puts the node by its id, where one is given.
 fn put_node(alloc: Global, members: &mut Members, node: &Option<Text>) -> Result<(), AllocError>
-    ensures { OnOk result (members_view members.new.entries ≡ with_node node.now (members_view members.old.entries)) }
+    ensures { OnOk result (Puts (with_node node.now) members.old.entries members.new.entries) }
 {
     if let Some(id) = node {
         put(
@@ -101,7 +101,7 @@ fn put_versions(
     members: &mut Members,
     versions: &Seq<(Name, Text)>,
 ) -> Result<(), AllocError>
-    ensures { OnOk result (members_view members.new.entries ≡ with_versions versions.now (members_view members.old.entries)) }
+    ensures { OnOk result (Puts (with_versions versions.now) members.old.entries members.new.entries) }
 {
     if versions.len() != 0 {
         let held = version_values(alloc, versions.as_slice())?;
@@ -128,7 +128,7 @@ fn version_values(alloc: Global, versions: &[(Name, Text)]) -> Result<Value, All
 
 // Puts the reason of a refusal, where there is one.
 fn put_error(alloc: Global, members: &mut Members, error: &Option<Text>) -> Result<(), AllocError>
-    ensures { OnOk result (members_view members.new.entries ≡ with_error error.now (members_view members.old.entries)) }
+    ensures { OnOk result (Puts (with_error error.now) members.old.entries members.new.entries) }
 {
     if let Some(message) = error {
         let detail = json!(in alloc; {"code": 13, "message": message.as_str()})?;

@@ -1,9 +1,8 @@
 ghost use Rattle.std.specs.Prelude.{◌≡◌, ◌≤◌, length, map, Some, IfOk};
-ghost use Rattle.std.specs.List.{list_all};
 ghost use Rattle.serde_json.specs.View.{view};
 ghost use Rattle.ev_types.specs.Items.{IsOwnName, IsBeating};
 ghost use Rattle.ev_tree.specs.Forms.{text_in};
-ghost use Rattle.ev_wire.specs.Responses.{Reads, given_if, is_entry, item_of, has_head, response_kind, nonce_of, has_lists, parts_of, response_of};
+ghost use Rattle.ev_wire.specs.Responses.{Reads, given_if, is_entry, item_of, items_in, head_of, has_lists, parts_of, response_of};
 
 use crate::bodies::{is_positive, read_body};
 use crate::kinds::kind_with;
@@ -51,8 +50,7 @@ struct Head {
 // The type and the nonce of a response, or none where they aren't those of one.
 #[tactic(auto, unfolding(crate::specs::Responses::has_head, crate::specs::Responses::response_kind, crate::specs::Responses::nonce_of))]
 fn read_head(alloc: Global, value: &Value) -> Result<Option<Head>, AllocError>
-    ensures { IfOk result (λ head. head
-        ≡ given_if (has_head (view value.now)) (record { kind = response_kind (view value.now); nonce = nonce_of (view value.now) })) }
+    ensures { IfOk result (λ head. head ≡ head_of (view value.now)) }
 {
     let url = member::text(alloc, Some(value), "type_url")?;
     let nonce = member::text(alloc, Some(value), "nonce")?;
@@ -89,7 +87,7 @@ fn read_lists(alloc: Global, kind: Kind, nonce: Text, value: &Value) -> Result<R
 
 // The resources of a response, in order.
 fn read_items(alloc: Global, kind: Kind, entries: &[Value]) -> Result<Seq<Item>, WireError>
-    ensures { Reads result (given_if (list_all is_entry (map view entries.now)) (map (item_of kind) (map view entries.now))) }
+    ensures { Reads result (items_in kind (map view entries.now)) }
 {
     let mut items = Vec::with_capacity(alloc, entries.len())?;
     for entry in entries {
