@@ -1,8 +1,7 @@
 -- A fault of the bytes taken is one of the whole input: more bytes don't take it away.
-use Rattle.std.proofs.Common.{◌≡◌, ℕ, suc, ◌+◌, ◌<◌, ◌≤◌, Bool, true, false, List, [], ◌++◌, length, take, drop, get_or, Option, option_and_then, sym, ap, ◌∙◌, inl, inr, arith, append_assoc, length-append, add-one}
+use Rattle.std.proofs.Common.{◌≡◌, ℕ, suc, ◌+◌, ◌<◌, ◌≤◌, Bool, true, false, List, [], ◌++◌, length, take, drop, get_or, option_and_then, sym, ap, ◌∙◌, inl, inr, arith, append_assoc, length-append, add-one}
 use Rattle.std.proofs.Math.ListN.{get_or-append}
 use Rattle.std.proofs.lemmas.List.{take-append-le, take-append-drop}
-use Rattle.serde_json.specs.Data.{Data}
 use Rattle.ev_io.specs.Lines.{lines_of, feeds_in, IsClosed}
 use Rattle.ev_io.proofs.LineLemmas.{lines_of-append, feeds_in-closed, closed-append}
 use Rattle.ev_script.specs.declared.fault_kinds.FaultKind.{FaultKind}

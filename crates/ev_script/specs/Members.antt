@@ -1,8 +1,9 @@
 -- JSON values and members of objects, as the lines of a script have them. Only the written name of a
 -- member counts, and a member `null` is a member.
-use Rattle.std.specs.Prelude.{ℕ, ◌&&◌, List, length, Bool, true, false, nat_le, if◌then◌else◌, Option, None, Some, option_and_then}
+use Rattle.std.specs.Prelude.{ℕ, ◌&&◌, List, length, Bool, true, false, nat_le, if◌then◌else◌, codes, Option, None, Some, option_and_then}
 use Rattle.std.specs.List.{list_any}
 use Rattle.std.specs.Str.{bytes_eq, is_utf8}
+use denote.Ref.{Bor}
 use Rattle.serde_json.specs.Data.{Data, null, boolean, number, string, array, object, Members, no_members, member}
 use Rattle.serde_json.specs.Read.{read}
 use Rattle.serde_json.specs.Find.{get, as_number, as_u64, as_str}
@@ -11,6 +12,10 @@ use Rattle.ev_types.specs.declared.limits.TheConstants.{MAX_NAME_LENGTH}
 -- the value that bytes are, where they are JSON in UTF-8
 abbrev pub tree_of : List ℕ → Option Data
 tree_of bytes = if is_utf8 bytes then read bytes else None
+
+-- a text is one of these
+abbrev pub is_among : List ℕ → List (Bor (List ℕ)) → Bool
+is_among text names = list_any (λ name. bytes_eq text name.now) names
 
 -- every member has one of these names
 abbrev pub names_only : List (List ℕ) → Members → Bool
@@ -52,3 +57,14 @@ member_of form name tree = option_and_then form (get name tree)
 -- a member that may be absent
 abbrev pub member_or : {A : Type 0} → A → (Data → Option A) → List ℕ → Data → Option A
 member_or default form name tree = or_default form default (get name tree)
+
+-- ---- the operation of a line
+
+-- there is a text, and it is this word
+abbrev pub is_word : List ℕ → Option (List ℕ) → Bool
+is_word word None = false
+is_word word (Some op) = bytes_eq op word
+
+-- the operation of a line has this word
+abbrev pub is_op : List ℕ → Data → Bool
+is_op word tree = is_word word (member_of as_str (codes "op") tree)

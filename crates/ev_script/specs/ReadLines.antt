@@ -1,5 +1,5 @@
 -- Lines that were read without a fault.
-use Rattle.std.specs.Prelude.{◌≡◌, ℕ, ◌+◌, ◌<◌, Bool, List, [], length, slice_index_or, Option}
+use Rattle.std.specs.Prelude.{◌≡◌, ℕ, ◌+◌, ◌<◌, Bool, List, [], length, slice_index_or}
 use Rattle.serde_json.specs.Data.{Data}
 use Rattle.ev_script.specs.declared.content.First.TheVariants as first
 use Rattle.ev_script.specs.Members.{tree_of}

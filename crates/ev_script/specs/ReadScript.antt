@@ -1,5 +1,5 @@
 -- What a reader of scripts answers.
-use Rattle.std.specs.Prelude.{◌≡◌, ℕ, ◌+◌, ◌<◌, true, false, All, slice_index_or, List, length, Option, Some, Result, Ok, Err, option_and_then}
+use Rattle.std.specs.Prelude.{◌≡◌, ℕ, ◌+◌, ◌<◌, true, false, All, slice_index_or, List, length, Some, Result, Ok, Err, option_and_then}
 use Rattle.serde_json.specs.Data.{Data}
 use Rattle.ev_io.specs.declared.faults.ScriptFault.{ScriptFault}
 use Rattle.ev_types.specs.Events.{MayMake}

@@ -1,4 +1,4 @@
-ghost use Rattle.std.specs.Prelude.{◌≡◌, option_map, codes, IfOk, IfSome};
+ghost use Rattle.std.specs.Prelude.{◌≡◌, option_copied, codes, IfOk, IfSome};
 ghost use Rattle.serde_json.specs.View.{view};
 ghost use Rattle.ev_types.specs.Texts.{IsName};
 ghost use Rattle.ev_script.specs.Members.{name_of, member_or};
@@ -65,7 +65,7 @@ pub(crate) fn read_workers(alloc: Global, tree: &Value) -> Result<Option<u32>, A
 
 // The id of a header's node: a text of 1 to 512 bytes, or the default.
 fn node_of(tree: &Value) -> Option<&str>
-    ensures member { option_map (λ node. node.now) result ≡ member_or (codes "warmgate") name_of (codes "node") (view tree.now) }
+    ensures member { option_copied result ≡ member_or (codes "warmgate") name_of (codes "node") (view tree.now) }
     ensures named { IfSome result (λ node. IsName node.now) }
 {
     match tree.get("node") {

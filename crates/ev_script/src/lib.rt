@@ -11,6 +11,8 @@
 //!   seen.
 //! - `fetchTimeout` with a name for clusters or listeners has a member too many; without one for endpoints or routes
 //!   it lacks one. `ttlExpired` has both always.
+//! - The readers of members (`has_only`, `number_at` and those beside them) are public: the lines of other inputs, as
+//!   those with resolutions or of filter chains, have the same rules, and read their members by the same functions.
 //! - A worker's form (below 2^32) and whether it is below the header's count are two questions, kinds 6 and 7.
 //! - The kinds of faults are an enum, `FaultKind`, with `number` for the number that is printed. The definition of a
 //!   fault has a fact for each kind, and the first fault is the least of all by its place, and at one place by
@@ -65,7 +67,9 @@ pub use forms::{FormedLine, Forms, ScriptLines};
 pub use header::{Header, read_header};
 pub use limits::{MAX_NUMBER, MAX_PATH_LENGTH, MAX_WORKER};
 pub use lines::read_line;
-pub use members::read_tree;
+pub use members::{
+    flag_at, has_only, is_op, name_at, number_at, read_name, read_tree, text_or, word_at,
+};
 pub use read_input::{ReadLines, read_lines_with};
 pub use script::{AuditedScript, read_audited_script, read_script, read_script_with};
 pub use trees::{LineTrees, ScriptTrees, read_trees, read_trees_with};

@@ -1,12 +1,10 @@
-ghost use Rattle.std.specs.Prelude.{◌≡◌, ◌≤◌, length, map, option_map, option_and_then, IfOk, IfSome, Some, string_bytes};
+ghost use Rattle.std.specs.Prelude.{◌≡◌, ◌≤◌, length, map, option_map, option_copied, IfOk, IfSome, Some, string_bytes};
 ghost use Rattle.std.specs.BTreeMap.{keys};
-ghost use Rattle.std.specs.List.{list_all, list_any};
-ghost use Rattle.std.specs.Str.{bytes_eq};
+ghost use Rattle.std.specs.List.{list_all};
 ghost use Rattle.serde_json.specs.Find.{as_str, as_bool};
 ghost use Rattle.serde_json.specs.View.{view};
-ghost use Rattle.ev_types.specs.Texts.{IsName};
 ghost use Rattle.ev_types.specs.declared.limits.TheConstants.{MAX_NAME_LENGTH};
-ghost use Rattle.ev_script.specs.Members.{tree_of, has_only, whole_within, text_within, name_of, member_of, member_or, or_default};
+ghost use Rattle.ev_script.specs.Members.{tree_of, is_among, has_only, whole_within, text_within, name_of, member_of, member_or, is_op};
 
 use ev_types::{MAX_NAME_LENGTH, Name, NameError};
 use serde_json::{Map, Value};
@@ -32,8 +30,9 @@ pub fn read_tree(alloc: Global, bytes: &[u8]) -> Result<Option<Value>, AllocErro
     }
 }
 
-// Whether `tree` is an object with no member but those of these names.
-pub(crate) fn has_only(tree: &Value, names: &[&str]) -> bool
+/// Whether `tree` is an object whose members all have one of these names, byte for byte once JSON's escapes are read.
+/// None of them needs to be there.
+pub fn has_only(tree: &Value, names: &[&str]) -> bool
     ensures { result ≡ has_only (map (λ name. name.now) names.now) (view tree.now) }
 {
     match tree.as_object() {
@@ -44,14 +43,14 @@ pub(crate) fn has_only(tree: &Value, names: &[&str]) -> bool
 
 // Whether each member has one of these names.
 fn are_among(members: &Map<String, Value>, names: &[&str]) -> bool
-    ensures { result ≡ list_all (λ key. list_any (λ name. bytes_eq (string_bytes key) name.now) names.now) (keys members.now) }
+    ensures { result ≡ list_all (λ key. is_among (string_bytes key) names.now) (keys members.now) }
 {
     members.keys().all(|key| is_among(key.as_str(), names))
 }
 
 // Whether a text is one of these.
 fn is_among(text: &str, names: &[&str]) -> bool
-    ensures { result ≡ list_any (λ name. bytes_eq text.now name.now) names.now }
+    ensures { result ≡ is_among text.now names.now }
 {
     names.iter().any(|name| text == *name)
 }
@@ -70,7 +69,7 @@ pub(crate) fn whole_within(low: u64, high: u64, tree: &Value) -> Option<u64>
 
 // The text that `tree` is, where it has so many bytes.
 pub(crate) fn text_within(low: usize, high: usize, tree: &Value) -> Option<&str>
-    ensures text { option_map (λ text. text.now) result ≡ text_within low high (view tree.now) }
+    ensures text { option_copied result ≡ text_within low high (view tree.now) }
     ensures low { IfSome result (λ text. low ≤ length text.now) }
     ensures high { IfSome result (λ text. length text.now ≤ high) }
 {
@@ -80,8 +79,9 @@ pub(crate) fn text_within(low: usize, high: usize, tree: &Value) -> Option<&str>
     }
 }
 
-// The whole number that a member is, where it is from `low` to `high`.
-pub(crate) fn number_at(tree: &Value, name: &str, low: u64, high: u64) -> Option<u64>
+/// The whole number from `low` to `high` that a member of `tree` is, or none: there is no such member, or it is another
+/// value. A number with a fraction or an exponent is another value, and so is one in quotes.
+pub fn number_at(tree: &Value, name: &str, low: u64, high: u64) -> Option<u64>
     ensures number { result ≡ member_of (whole_within low high) name.now (view tree.now) }
     ensures low { IfSome result (λ number. low ≤ number) }
     ensures high { IfSome result (λ number. number ≤ high) }
@@ -99,15 +99,16 @@ pub(crate) fn number_or(tree: &Value, name: &str, low: u64, high: u64, default: 
     }
 }
 
-// The text that a member is, where it has so many bytes, or a default where there is no such member.
-pub(crate) fn text_or<'a>(
+/// The text of `low` to `high` bytes that a member of `tree` is, once JSON's escapes are read, or none: it is another
+/// value, as `null`. Where there is no such member, the default, of any length.
+pub fn text_or<'a>(
     tree: &'a Value,
     name: &str,
     low: usize,
     high: usize,
     default: &'a str,
 ) -> Option<&'a str>
-    ensures text { option_map (λ text. text.now) result ≡ member_or default.now (text_within low high) name.now (view tree.now) }
+    ensures { option_copied result ≡ member_or default.now (text_within low high) name.now (view tree.now) }
 {
     match tree.get(name) {
         Some(value) => text_within(low, high, value),
@@ -115,15 +116,27 @@ pub(crate) fn text_or<'a>(
     }
 }
 
-// The text that a member is.
-pub(crate) fn word_at<'a>(tree: &'a Value, name: &str) -> Option<&'a str>
-    ensures { option_map (λ text. text.now) result ≡ member_of as_str name.now (view tree.now) }
+/// The text of any length that a member of `tree` is, or none: there is no such member, or it is another value. It is
+/// for members that are one of a few words.
+pub fn word_at<'a>(tree: &'a Value, name: &str) -> Option<&'a str>
+    ensures { option_copied result ≡ member_of as_str name.now (view tree.now) }
 {
     tree.get(name)?.as_str()
 }
 
-// The boolean that a member is.
-pub(crate) fn flag_at(tree: &Value, name: &str) -> Option<bool>
+/// Whether the operation of a line, its member `op`, is this word, byte for byte once JSON's escapes are read. Of a
+/// line that is no object, or has no text there, it isn't.
+pub fn is_op(word: &str, tree: &Value) -> bool
+    ensures { result ≡ is_op word.now (view tree.now) }
+{
+    match word_at(tree, "op") {
+        Some(op) => op == word,
+        None => false,
+    }
+}
+
+/// The boolean that a member of `tree` is, or none: there is no such member, or it is another value.
+pub fn flag_at(tree: &Value, name: &str) -> Option<bool>
     ensures { result ≡ member_of as_bool name.now (view tree.now) }
 {
     tree.get(name)?.as_bool()
@@ -139,8 +152,12 @@ pub(crate) fn flag_or(tree: &Value, name: &str, default: bool) -> Option<bool>
     }
 }
 
-// The name that a member is: a text of 1 to 512 bytes.
-pub(crate) fn name_at(alloc: Global, tree: &Value, name: &str) -> Result<Option<Name>, AllocError>
+/// The name that a member of `tree` is, a text of 1 to 512 bytes once JSON's escapes are read, or none: there is no
+/// such member, or it is another value.
+///
+/// # Errors
+/// `AllocError` where there is no memory for it.
+pub fn name_at(alloc: Global, tree: &Value, name: &str) -> Result<Option<Name>, AllocError>
     ensures { IfOk result (λ made. made ≡ member_of name_of name.now (view tree.now)) }
 {
     match tree.get(name) {
@@ -149,8 +166,11 @@ pub(crate) fn name_at(alloc: Global, tree: &Value, name: &str) -> Result<Option<
     }
 }
 
-// The name that a value is.
-fn read_name(alloc: Global, tree: &Value) -> Result<Option<Name>, AllocError>
+/// The name that a value is, a text of 1 to 512 bytes once JSON's escapes are read, or none where it is another value.
+///
+/// # Errors
+/// `AllocError` where there is no memory for it.
+pub fn read_name(alloc: Global, tree: &Value) -> Result<Option<Name>, AllocError>
     ensures { IfOk result (λ made. made ≡ name_of (view tree.now)) }
 {
     match text_within(1, MAX_NAME_LENGTH, tree) {
