@@ -3,6 +3,7 @@ use Rattle.std.proofs.Common.{◌≡◌, ◌≢◌, ℕ, ◌+◌, ◌-◌, ◌<�
 use Rattle.std.specs.List.{list_any, position_from, find}
 use Rattle.std.specs.Option.{is_some}
 use Rattle.std.specs.Str.{str_to_ascii_lowercase}
+use Rattle.std.proofs.Math.Bool.{or_comm}
 use Rattle.std.proofs.Math.Seq.{drop-cons}
 use Rattle.std.proofs.lemmas.List.Folds.{list_any-append}
 use Rattle.ev_chains.specs.declared.keys.ChainKey.{ChainKey}
@@ -104,9 +105,10 @@ module _ (rows : List Row) (place i : ℕ) (row : Row) (next : suc i ≡ place) 
       ∙ sym (ap (position_from (row_has k) i) front)
 
   pub ports_more : (before after : ℕ → Bool)
-      → ((p : ℕ) → after p ≡ (has_port p row || before p)) → ((p : ℕ) → before p ≡ list_any (has_port p) (drop place rows))
+      → ((p : ℕ) → after p ≡ (before p || has_port p row)) → ((p : ℕ) → before p ≡ list_any (has_port p) (drop place rows))
       → (p : ℕ) → after p ≡ list_any (has_port p) (drop i rows)
-  ports_more before after puts has p = puts p ∙ ap (λ b. has_port p row || b) (has p) ∙ sym (ap (list_any (has_port p)) front)
+  ports_more before after gains has p =
+      gains p ∙ or_comm (before p) (has_port p row) ∙ ap (λ b. has_port p row || b) (has p) ∙ sym (ap (list_any (has_port p)) front)
 
   pub clash_more : (before : ChainKey → Option ℕ) (here there : Bool)
       → here ≡ list_any (λ key. is_some (before key)) (keys_of (match_of row))

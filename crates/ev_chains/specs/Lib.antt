@@ -1,3 +1,4 @@
+pub mod Sets
 pub mod Names
 pub mod Keys
 pub mod Rows

@@ -37,10 +37,13 @@ wild_key port name place = record { port = port; name = Some (42 ∷ drop place 
 abbrev pub number_at_dot : Option ℕ → List ℕ → ℕ → List Row → Option ℕ
 number_at_dot port name place rows = if slice_index name place == 46 then number_under (wild_key port name place) rows else None
 
--- the number of the row with the longest form `*.x` of a name, else of the one that takes any
+-- the number of the row with the longest form `*.x` of a name
+abbrev pub number_wild : Option ℕ → List ℕ → List Row → Option ℕ
+number_wild port name rows = number_in (first_named port (map Some (wild_names name)) rows)
+
+-- the same, or else the number of the row that takes any name
 abbrev pub number_other : Option ℕ → List ℕ → List Row → Option ℕ
-number_other port name rows =
-    option_or (number_in (first_named port (map Some (wild_names name)) rows)) (number_under record { port = port; name = None } rows)
+number_other port name rows = option_or (number_wild port name rows) (number_under record { port = port; name = None } rows)
 
 -- the places of rows by their keys, from this place on: of several with one key that of the first
 abbrev pub FindsFrom : {S : Type 0} → ℕ → List Row → IndexMap ChainKey ℕ S → Type 0

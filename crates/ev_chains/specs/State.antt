@@ -90,10 +90,18 @@ listener_reading tree state = judged (rule_told tree) (changed_by (chains_in tre
 abbrev pub has_open : List OpenMember → ℕ → Bool
 has_open opened number = not (count_of number opened == 0)
 
+-- those of these chains without a connection
+abbrev pub idle_among : List OpenMember → List ℕ → List ℕ
+idle_among opened numbers = filter (λ number. not (has_open opened number)) numbers
+
+-- and those with one
+abbrev pub busy_among : List OpenMember → List ℕ → List ℕ
+busy_among opened numbers = filter (has_open opened) numbers
+
 -- the chains that drain without a connection
 abbrev pub idle_in : ChainState → List ℕ
-idle_in state = filter (λ number. not (has_open state.opened number)) state.draining
+idle_in state = idle_among state.opened state.draining
 
 -- and those with one
 abbrev pub busy_in : ChainState → List ℕ
-busy_in state = filter (has_open state.opened) state.draining
+busy_in state = busy_among state.opened state.draining

@@ -1,11 +1,11 @@
-ghost use Rattle.std.specs.Prelude.{◌≡◌, ◌==◌, ◌&&◌, ◌||◌, ℕ, not, filter, IfOk, OnOk};
-ghost use Rattle.std.specs.List.{list_any};
+ghost use Rattle.std.specs.Prelude.{◌≡◌, ◌==◌, ◌&&◌, IfOk, OnOk};
 ghost use Rattle.std.specs.BTreeSet.{contains, IsOrdered};
 ghost use Rattle.std.specs.Ordering.{nat_cmp};
 ghost use Rattle.ev_model.specs.Connections.{closed_by, left_open};
-ghost use Rattle.ev_ledger.specs.Members.{has_place, is_open_at};
-ghost use Rattle.ev_chains.specs.State.{has_open};
-ghost use Rattle.ev_chains.specs.Closing.{closed_all};
+ghost use Rattle.ev_ledger.specs.Members.{has_place};
+ghost use Rattle.ev_chains.specs.Sets.{Gains};
+ghost use Rattle.ev_chains.specs.State.{has_open, idle_among, busy_among};
+ghost use Rattle.ev_chains.specs.Closing.{AreConnectionsOn, closed_all};
 
 use ev_ledger::Ledger;
 use ev_types::Gen;
@@ -25,8 +25,8 @@ pub(crate) fn part_draining(
     ledger: &Ledger,
     draining: &[Gen],
 ) -> Result<PartedDraining, AllocError>
-    ensures idle { IfOk result (λ parted. parted.idle.items ≡ filter (λ number. not (has_open ledger.now number)) draining.now) }
-    ensures busy { IfOk result (λ parted. parted.busy.items ≡ filter (has_open ledger.now) draining.now) }
+    ensures idle { IfOk result (λ parted. parted.idle.items ≡ idle_among ledger.now draining.now) }
+    ensures busy { IfOk result (λ parted. parted.busy.items ≡ busy_among ledger.now draining.now) }
 {
     let mut idle = Vec::new(alloc);
     let mut busy = Vec::new(alloc);
@@ -74,7 +74,7 @@ pub(crate) fn closing_conns(
 
 // The numbers of the connections on these chains.
 fn conns_on(alloc: Global, ledger: &Ledger, draining: &[Gen]) -> Result<BTreeSet<u64>, AllocError>
-    ensures { IfOk result (λ conns. (conn : ℕ) → contains nat_cmp conns conn ≡ list_any (λ number. is_open_at number 0 conn ledger.now) draining.now) }
+    ensures { IfOk result (AreConnectionsOn draining.now ledger.now) }
 {
     let mut conns = BTreeSet::new(alloc);
     for number in draining {
@@ -86,7 +86,7 @@ fn conns_on(alloc: Global, ledger: &Ledger, draining: &[Gen]) -> Result<BTreeSet
 
 // Puts the numbers of the first worker's connections at these places among others.
 fn put_places(conns: &mut BTreeSet<u64>, places: &[(u64, u64)]) -> Result<(), AllocError>
-    ensures { OnOk result ((conn : ℕ) → contains nat_cmp conns.new conn ≡ (contains nat_cmp conns.old conn || has_place 0 conn places.now)) }
+    ensures { OnOk result (Gains (contains nat_cmp) (λ conn. has_place 0 conn places.now) conns.old conns.new) }
 {
     for place in places {
         put_place(conns, *place)?;
@@ -96,7 +96,7 @@ fn put_places(conns: &mut BTreeSet<u64>, places: &[(u64, u64)]) -> Result<(), Al
 
 // Puts the number of a connection at a place, where it is one of the first worker, among others.
 fn put_place(conns: &mut BTreeSet<u64>, place: (u64, u64)) -> Result<(), AllocError>
-    ensures { OnOk result ((conn : ℕ) → contains nat_cmp conns.new conn ≡ (contains nat_cmp conns.old conn || ((place.0 == 0) && (place.1 == conn)))) }
+    ensures { OnOk result (Gains (contains nat_cmp) (λ conn. (place.0 == 0) && (place.1 == conn)) conns.old conns.new) }
 {
     if place.0 != 0 {
         return Ok(());
@@ -106,7 +106,7 @@ fn put_place(conns: &mut BTreeSet<u64>, place: (u64, u64)) -> Result<(), AllocEr
 
 // Puts a number among others.
 fn insert(conns: &mut BTreeSet<u64>, conn: u64) -> Result<(), AllocError>
-    ensures { OnOk result ((other : ℕ) → contains nat_cmp conns.new other ≡ (contains nat_cmp conns.old other || (conn == other))) }
+    ensures { OnOk result (Gains (contains nat_cmp) (λ other. conn == other) conns.old conns.new) }
 {
     let Ok(_) = conns.insert(conn) else {
         return Err(AllocError);

@@ -1,11 +1,11 @@
-ghost use Rattle.std.specs.Prelude.{◌≡◌, ◌<◌, ◌||◌, ◌∷◌, [], length, map, find, option_map, nat_eq, Some, None, ℕ, true, false, if◌then◌else◌, IfOk, OnOk};
+ghost use Rattle.std.specs.Prelude.{◌≡◌, ◌<◌, ◌∷◌, [], length, map, find, option_map, nat_eq, Some, None, true, false, if◌then◌else◌, IfOk, OnOk};
 ghost use Rattle.std.specs.Option.{option_copied};
 ghost use Rattle.std.specs.List.{list_any};
 ghost use Rattle.std.specs.Str.{str_to_ascii_lowercase};
 ghost use Rattle.indexmap.specs.IndexSet.{contains};
-ghost use Rattle.ev_chains.specs.Rows.{keys_of, has_key, has_clash, match_of, row_has, has_port, asked_port, first_named, chosen};
-ghost use Rattle.ev_chains.specs.Listed.{has_any, PutsUnder, number_in, number_for, number_under, number_at_dot, number_other, wild_key, is_chain, named_keys, key_with, any_named};
-ghost use Rattle.ev_chains.specs.Names.{wild_names};
+ghost use Rattle.ev_chains.specs.Sets.{Gains};
+ghost use Rattle.ev_chains.specs.Rows.{keys_of, has_key, has_clash, match_of, row_has, has_port, asked_port, chosen};
+ghost use Rattle.ev_chains.specs.Listed.{has_any, PutsUnder, number_in, number_for, number_under, number_at_dot, number_wild, number_other, wild_key, is_chain, named_keys, key_with, any_named};
 
 use crate::keys::ChainKey;
 use crate::matches::ChainMatch;
@@ -167,7 +167,7 @@ impl Listed {
         port: Option<u16>,
         name: &[u8],
     ) -> Result<Option<Gen>, AllocError>
-        ensures { IfOk result (λ number. number ≡ number_in (first_named port (map Some (wild_names name.now)) self.now)) }
+        ensures { IfOk result (λ number. number ≡ number_wild port name.now self.now) }
     {
         for place in 1..name.len() {
             if let Some(number) = self.number_at_dot(alloc, port, name, place)? {
@@ -353,7 +353,7 @@ fn any_named(
 
 // Puts the port of a chain, where it has one, among others.
 fn put_port(ports: &mut IndexSet<u16>, row: &Row) -> Result<(), AllocError>
-    ensures { OnOk result ((port : ℕ) → contains nat_eq ports.new port ≡ (has_port port row.now || contains nat_eq ports.old port)) }
+    ensures { OnOk result (Gains (contains nat_eq) (λ port. has_port port row.now) ports.old ports.new) }
 {
     match row.chain.matches.port {
         Some(port) => insert_port(ports, port),
@@ -363,7 +363,7 @@ fn put_port(ports: &mut IndexSet<u16>, row: &Row) -> Result<(), AllocError>
 
 // Puts a port among others.
 fn insert_port(ports: &mut IndexSet<u16>, port: u16) -> Result<(), AllocError>
-    ensures { OnOk result ((other : ℕ) → contains nat_eq ports.new other ≡ (nat_eq port other || contains nat_eq ports.old other)) }
+    ensures { OnOk result (Gains (contains nat_eq) (nat_eq port) ports.old ports.new) }
 {
     let Ok(_) = ports.insert(port) else {
         return Err(AllocError);

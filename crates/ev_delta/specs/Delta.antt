@@ -1,7 +1,8 @@
 -- Messages of the incremental protocol that are made of responses of the state of the world.
-use Rattle.std.specs.Prelude.{ℕ, List, [], ◌∷◌, map, Option, Some, None, codes}
+use Rattle.std.specs.Prelude.{ℕ, ◌≡◌, List, [], ◌∷◌, map, Option, Some, None, codes}
 use Rattle.serde_json.specs.Data.{Data, string, array, object, Members, member, no_members, put}
-use Rattle.serde_json.specs.View.{items_of}
+use Rattle.serde_json.specs.View.{view, items_of}
+use Rattle.serde_json.specs.declared.value.Value.{Value}
 use Rattle.ev_types.specs.declared.contents.Kind.{Kind}
 use Rattle.ev_delta.specs.Discovery.{DiscoveryParts, resource_name}
 
@@ -32,6 +33,10 @@ message_tree url nonce items removed = object
     (with_list (codes "resources") items
     (with_list (codes "removedResources") removed
     (put (codes "nonce") (string nonce) no_members))))
+
+-- the value is the message of this type, nonce, items and removed names
+abbrev pub IsMessageOf : List ℕ → List ℕ → List Value → List Value → Value → Type 0
+IsMessageOf url nonce items removed message = view message ≡ message_tree url nonce (map view items) (map view removed)
 
 -- the message that says what the response says, with these removed names, as texts
 abbrev pub delta_message : DiscoveryParts → List Data → Data

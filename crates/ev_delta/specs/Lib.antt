@@ -1,3 +1,4 @@
 pub mod Discovery
+pub mod Members
 pub mod Delta
 pub mod Told

@@ -1,8 +1,9 @@
 ghost use Rattle.std.specs.Prelude.{◌≡◌, map, option_map, IfOk, OnOk};
 ghost use Rattle.serde_json.specs.Data.{string};
-ghost use Rattle.serde_json.specs.View.{view, members_view};
+ghost use Rattle.serde_json.specs.View.{view};
 ghost use Rattle.ev_delta.specs.Discovery.{seen};
-ghost use Rattle.ev_delta.specs.Delta.{item_tree, items_for, with_list, message_tree, delta_message};
+ghost use Rattle.ev_delta.specs.Members.{ChangesBy};
+ghost use Rattle.ev_delta.specs.Delta.{IsMessageOf, item_tree, items_for, with_list, delta_message};
 
 use crate::discovery::{Discovery, resource_name};
 use ev_types::Kind;
@@ -33,7 +34,7 @@ fn message_value(
     items: Vec<Value>,
     removed: Vec<Value>,
 ) -> Result<Value, AllocError>
-    ensures { IfOk result (λ message. view message ≡ message_tree url.now nonce.now (map view items.items) (map view removed.items)) }
+    ensures { IfOk result (IsMessageOf url.now nonce.now items.items removed.items) }
 {
     let mut members = Map::new(alloc);
     put(&mut members, alloc, "nonce", json!(in alloc; nonce)?)?;
@@ -50,7 +51,7 @@ fn put_list(
     key: &str,
     values: Vec<Value>,
 ) -> Result<(), AllocError>
-    ensures { OnOk result (members_view members.new.entries ≡ with_list key.now (map view values.items) (members_view members.old.entries)) }
+    ensures { OnOk result (ChangesBy (with_list key.now (map view values.items)) members.old members.new) }
 {
     if values.len() != 0 {
         put(members, alloc, key, Value::Array(values))?;

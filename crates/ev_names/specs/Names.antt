@@ -1,8 +1,11 @@
 -- Names in order.
-use Rattle.std.specs.Prelude.{ℕ, List, [], ◌∷◌, ◌++◌}
+use Rattle.std.specs.Prelude.{ℕ, ◌≡◌, List, [], ◌∷◌, ◌++◌, map}
 use Rattle.std.specs.List.Sorted.{IsStrictlySortedBy}
 use Rattle.std.specs.Ordering.{nat_cmp}
 use Rattle.std.specs.Cmp.Lexicographic.{slice_cmp}
+use Rattle.serde_json.specs.Data.{string}
+use Rattle.serde_json.specs.View.{view}
+use Rattle.serde_json.specs.declared.value.Value.{Value}
 use Rattle.ev_model.specs.Watching.{sorted_names}
 use Rattle.ev_model.specs.Requests.{other_than}
 
@@ -21,3 +24,7 @@ with_names new names = sorted_names (new ++ names)
 -- the names without this one
 abbrev pub without_name : List ℕ → List (List ℕ) → List (List ℕ)
 without_name name names = other_than (name ∷ []) names
+
+-- the name is put behind the values as a JSON text, where it isn't one of these names
+abbrev pub PutsOther : List (List ℕ) → List ℕ → List Value → List Value → Type 0
+PutsOther names name before after = map view after ≡ map view before ++ map string (other_than names (name ∷ []))

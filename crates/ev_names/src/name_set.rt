@@ -1,9 +1,9 @@
-ghost use Rattle.std.specs.Prelude.{◌≡◌, ◌++◌, [], ◌∷◌, map, IfOk, OnOk, OnErr};
+ghost use Rattle.std.specs.Prelude.{◌≡◌, [], map, IfOk, OnOk, OnErr};
 ghost use Rattle.serde_json.specs.Data.{string};
 ghost use Rattle.serde_json.specs.View.{view};
 ghost use Rattle.ev_model.specs.Verdicts.{is_among};
 ghost use Rattle.ev_model.specs.Requests.{other_than};
-ghost use Rattle.ev_names.specs.Names.{IsInOrder, with_name, with_names, without_name};
+ghost use Rattle.ev_names.specs.Names.{IsInOrder, PutsOther, with_name, with_names, without_name};
 
 use ev_types::Name;
 use serde_json::{Value, json};
@@ -130,7 +130,7 @@ impl NameSet {
         name: &str,
         values: &mut Vec<Value>,
     ) -> Result<(), AllocError>
-        ensures { OnOk result (map view values.new.items ≡ map view values.old.items ++ map string (other_than self.now (name.now ∷ []))) }
+        ensures { OnOk result (PutsOther self.now name.now values.old.items values.new.items) }
     {
         if !self.contains(name) {
             values.push(json!(in alloc; name)?)?;
