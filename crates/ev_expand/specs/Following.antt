@@ -1,7 +1,9 @@
 -- The line that follows a line: a response of endpoints, with those of the numbers that are due.
-use Rattle.std.specs.Prelude.{ℕ, ◌==◌, List, ◌++◌, length, filter_map, Option, Some, None, option_map, if◌then◌else◌, codes}
+use Rattle.std.specs.Prelude.{◌≡◌, ℕ, ◌==◌, List, ◌++◌, length, map, filter_map, Option, Some, None, option_map, if◌then◌else◌, String, codes, decimal}
+use Rattle.std.specs.declared.alloc.Global.{Global}
 use Rattle.serde_json.specs.Data.{Data, string, array, object, Members, no_members, put}
-use Rattle.serde_json.specs.View.{view, items_of}
+use Rattle.serde_json.specs.View.{view, items_of, members_view}
+use Rattle.serde_json.specs.declared.value.Value.{Value}
 use Rattle.ev_types.specs.declared.contents.Kind.TheVariants.{Eds}
 use Rattle.ev_expand.specs.declared.following.Due.{Due}
 use Rattle.ev_wire.specs.Requests.{type_url}
@@ -42,6 +44,10 @@ name_due prefix due = name_without (private_name prefix due.place) due.endpoints
 abbrev pub with_list : List ℕ → List Data → Members → Members
 with_list name values members = if length values == 0 then members else put name (array (items_of values)) members
 
+-- these values are put as a list among the members, where there are any
+abbrev pub PutsList : List ℕ → List Value → List (String Global × Value) → List (String Global × Value) → Type 0
+PutsList name values old new = members_view new ≡ with_list name (map view values) (members_view old)
+
 -- the line that follows a line of this version, where these are due: those that have endpoints as resources, and the names of the
 -- others as removed ones
 abbrev pub following_line : List ℕ → List ℕ → List ℕ → List DueParts → Data
@@ -49,3 +55,7 @@ following_line prefix nonce version due = response_tree (object
     (with_list (codes "resources") (filter_map (entry_due prefix version) due)
     (with_list (codes "removedResources") (filter_map (name_due prefix) due)
     (put (codes "typeUrl") (string (type_url Eds)) (put (codes "nonce") (string (nonce ++ version)) no_members)))))
+
+-- the line that follows line `at`, where these are due
+abbrev pub following_at : List ℕ → List ℕ → ℕ → List Due → Data
+following_at prefix nonce at due = following_line prefix nonce (decimal at) (map due_shown due)

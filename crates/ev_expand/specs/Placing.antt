@@ -1,8 +1,9 @@
 -- A line whose guarded resources have these places.
-use Rattle.std.specs.Prelude.{ℕ, List, [], ◌∷◌, Option, is_some, codes, if◌then◌else◌}
+use Rattle.std.specs.Prelude.{◌≡◌, ℕ, List, [], ◌∷◌, Option, is_some, option_map, unwrap_or, codes, if◌then◌else◌}
 use Rattle.std.specs.List.{list_any}
 use Rattle.serde_json.specs.Data.{Data, array}
-use Rattle.serde_json.specs.View.{items_of}
+use Rattle.serde_json.specs.View.{view, items_of}
+use Rattle.serde_json.specs.declared.value.Value.{Value}
 use Rattle.ev_expand.specs.Editing.{with_value}
 use Rattle.ev_expand.specs.Fronts.{message_of}
 use Rattle.ev_expand.specs.Guarding.{clusters_in, waiting_entry, response_tree}
@@ -20,6 +21,10 @@ placed_line prefix line places =
     if list_any is_some places
     then response_tree (with_value (codes "resources") (array (items_of (placed_entries prefix (clusters_in line) places))) (message_of line))
     else line
+
+-- what is made of a line, or the line itself where nothing is made, is the line whose resources have these places
+abbrev pub IsPlaced : List ℕ → Data → List (Option ℕ) → Option Value → Type 0
+IsPlaced prefix line places made = unwrap_or (option_map view made) line ≡ placed_line prefix line places
 
 -- the line itself, where it is written
 abbrev pub placed_lines : Rules → Data → List (Option ℕ) → List Data

@@ -1,12 +1,11 @@
-ghost use Rattle.std.specs.Prelude.{◌≡◌, ◌+◌, ◌++◌, ◌∷◌, [], List, map, length, OnOk};
-ghost use Rattle.serde_json.specs.Data.{Data};
+ghost use Rattle.std.specs.Prelude.{◌≡◌, [], map, length, OnOk};
 ghost use Rattle.serde_json.specs.View.{view};
-ghost use Rattle.ev_expand.specs.Expanding.{IsExpanded, gives, lines_due};
+ghost use Rattle.ev_expand.specs.Expanding.{IsExpanded, lines_due};
 ghost use Rattle.ev_expand.specs.Following.{due_shown};
 ghost use Rattle.ev_expand.specs.Fronts.{event_of};
-ghost use Rattle.ev_expand.specs.Growing.{Pushes, front_of};
-ghost use Rattle.ev_expand.specs.Guarding.{clusters_in, guarded_by};
-ghost use Rattle.ev_expand.specs.Numbers.{guarded_so_far};
+ghost use Rattle.ev_expand.specs.Growing.{GrowsBy, Pushes, StepsBehind};
+ghost use Rattle.ev_expand.specs.Guarding.{clusters_in};
+ghost use Rattle.ev_expand.specs.Numbers.{TakesUpLine};
 ghost use Rattle.ev_expand.specs.Placing.{placed_lines};
 
 use crate::following::{Due, following_value};
@@ -23,16 +22,15 @@ use std::alloc::{AllocError, Global};
 
 /// What a command makes of the lines of a script, one after another.
 pub trait Expansion {
-    ghost use Rattle.std.specs.Prelude.{◌≡◌, ◌++◌, ◌∷◌, [], List, map, IfOk};
+    ghost use Rattle.std.specs.Prelude.{◌≡◌, List, IfOk};
     ghost use Rattle.serde_json.specs.Data.{Data};
     ghost use Rattle.serde_json.specs.View.{view};
     ghost use Rattle.ev_types.specs.declared.contents.Kind.TheVariants.{Cds};
     ghost use Rattle.ev_wire.specs.Responses.{item_of};
-    ghost use Rattle.ev_expand.specs.Expanding.{Rules, guarded_at, due_at};
+    ghost use Rattle.ev_expand.specs.Expanding.{Rules};
     ghost use Rattle.ev_expand.specs.Fronts.{event_of};
-    ghost use Rattle.ev_expand.specs.Growing.{front_of};
+    ghost use Rattle.ev_expand.specs.Growing.{TakesLine, TellsDue};
     ghost use Rattle.ev_expand.specs.Numbers.{ArePlaces, guarded_so_far};
-    ghost use Rattle.ev_expand.specs.Following.{due_shown};
 
     // What the command does.
     ghost rules: { Rules };
@@ -82,10 +80,8 @@ pub trait Expansion {
     ) -> Result<Vec<Due>, AllocError>
         requires event { event.now ≡ event_of (view line.now) }
         requires places { ArePlaces rules.guard (view line.now) (guarded_so_far numbers.now) items.now }
-        ensures due { (before : List Data) → is_behind self.old before → guarded_so_far numbers.now ≡ guarded_at rules (front_of before (view line.now))
-            → IfOk result (λ due. map due_shown due.items ≡ due_at rules (front_of before (view line.now))) }
-        ensures behind { (before : List Data) → is_behind self.old before → guarded_so_far numbers.now ≡ guarded_at rules (front_of before (view line.now))
-            → IfOk result (λ due. is_behind self.new (before ++ view line.now ∷ [])) };
+        ensures due { TellsDue rules is_behind self.old numbers.now (view line.now) result }
+        ensures behind { TakesLine rules is_behind self.old self.new numbers.now (view line.now) result };
 }
 
 // The lines of an input behind the first are fewer.
@@ -135,12 +131,9 @@ fn push_line<E: Expansion>(
     at: u32,
     line: &Value,
 ) -> Result<bool, AllocError>
-    ensures text { (before : List Data) → E.is_behind expansion.old before → guarded_so_far numbers.old ≡ guarded_by E.rules.guard before
-        → at ≡ length before + 2 → Pushes text.old text.new result (gives E.rules (front_of before (view line.now))) }
-    ensures numbers { (before : List Data) → guarded_so_far numbers.old ≡ guarded_by E.rules.guard before
-        → OnOk result (guarded_so_far numbers.new ≡ guarded_by E.rules.guard (before ++ view line.now ∷ [])) }
-    ensures behind { (before : List Data) → E.is_behind expansion.old before → guarded_so_far numbers.old ≡ guarded_by E.rules.guard before
-        → OnOk result (E.is_behind expansion.new (before ++ view line.now ∷ [])) }
+    ensures text { GrowsBy E.rules E.is_behind expansion.old numbers.old at (view line.now) text.old text.new result }
+    ensures numbers { OnOk result (TakesUpLine E.rules.guard (view line.now) numbers.old numbers.new) }
+    ensures behind { StepsBehind E.rules E.is_behind expansion.old expansion.new numbers.old (view line.now) result }
 {
     let event = read_event(alloc, line)?;
     push_read(alloc, expansion, numbers, text, at, line, &event)
@@ -157,12 +150,9 @@ fn push_read<E: Expansion>(
     event: &Option<Event>,
 ) -> Result<bool, AllocError>
     requires { event.now ≡ event_of (view line.now) }
-    ensures text { (before : List Data) → E.is_behind expansion.old before → guarded_so_far numbers.old ≡ guarded_by E.rules.guard before
-        → at ≡ length before + 2 → Pushes text.old text.new result (gives E.rules (front_of before (view line.now))) }
-    ensures numbers { (before : List Data) → guarded_so_far numbers.old ≡ guarded_by E.rules.guard before
-        → OnOk result (guarded_so_far numbers.new ≡ guarded_by E.rules.guard (before ++ view line.now ∷ [])) }
-    ensures behind { (before : List Data) → E.is_behind expansion.old before → guarded_so_far numbers.old ≡ guarded_by E.rules.guard before
-        → OnOk result (E.is_behind expansion.new (before ++ view line.now ∷ [])) }
+    ensures text { GrowsBy E.rules E.is_behind expansion.old numbers.old at (view line.now) text.old text.new result }
+    ensures numbers { OnOk result (TakesUpLine E.rules.guard (view line.now) numbers.old numbers.new) }
+    ensures behind { StepsBehind E.rules E.is_behind expansion.old expansion.new numbers.old (view line.now) result }
 {
     let places = places_in(alloc, expansion, numbers, line, event)?;
     let due = expansion.due(alloc, line, event, numbers, places.as_slice())?;

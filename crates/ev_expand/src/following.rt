@@ -1,7 +1,7 @@
-ghost use Rattle.std.specs.Prelude.{◌≡◌, ◌++◌, ◌∷◌, [], List, map, filter_map, option_map, IfOk, OnOk, string_bytes, decimal};
+ghost use Rattle.std.specs.Prelude.{◌≡◌, ◌++◌, ◌∷◌, [], List, map, filter_map, option_map, IfOk, OnOk, string_bytes};
 ghost use Rattle.serde_json.specs.Data.{string};
-ghost use Rattle.serde_json.specs.View.{view, members_view};
-ghost use Rattle.ev_expand.specs.Following.{endpoints_entry, entry_due, name_due, with_list, following_line, due_shown};
+ghost use Rattle.serde_json.specs.View.{view};
+ghost use Rattle.ev_expand.specs.Following.{PutsList, endpoints_entry, entry_due, name_due, following_at, due_shown};
 ghost use Rattle.ev_expand.specs.Guarding.{private_name, response_tree};
 
 use serde_json::{Map, Value, json, put};
@@ -44,7 +44,7 @@ pub(crate) fn following_value(
     at: u32,
     due: Vec<Due>,
 ) -> Result<Value, AllocError>
-    ensures { IfOk result (λ line. view line ≡ following_line prefix.now nonce.now (decimal at) (map due_shown due.items)) }
+    ensures { IfOk result (λ line. view line ≡ following_at prefix.now nonce.now at due.items) }
 {
     let version = format!(in alloc; "{at}")?;
     let mut resources = Vec::new(alloc);
@@ -73,7 +73,7 @@ fn put_list(
     name: &str,
     values: Vec<Value>,
 ) -> Result<(), AllocError>
-    ensures { OnOk result (members_view members.new.entries ≡ with_list name.now (map view values.items) (members_view members.old.entries)) }
+    ensures { OnOk result (PutsList name.now values.items members.old.entries members.new.entries) }
 {
     if values.len() != 0 {
         put(members, alloc, name, Value::Array(values))?;

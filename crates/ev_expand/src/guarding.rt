@@ -1,12 +1,12 @@
-ghost use Rattle.std.specs.Prelude.{◌≡◌, ◌<◌, ◌++◌, ◌∷◌, [], List, map, length, is_some, option_map, unwrap_or, codes, Some, IfOk, IfSome, OnOk};
+ghost use Rattle.std.specs.Prelude.{◌≡◌, ◌<◌, map, length, is_some, option_map, codes, Some, IfOk, IfSome, OnOk};
 ghost use Rattle.std.specs.List.{list_any};
-ghost use Rattle.serde_json.specs.Data.{Data, array, string};
+ghost use Rattle.serde_json.specs.Data.{array, string};
 ghost use Rattle.serde_json.specs.View.{view, items_of};
 ghost use Rattle.ev_expand.specs.Editing.{with_value};
 ghost use Rattle.ev_expand.specs.Fronts.{event_of, message_of};
-ghost use Rattle.ev_expand.specs.Guarding.{waiting_config, stripped_body, waiting_body, body_in, waiting_entry, kind_of, listed_as, clusters_in, guarded_by, place_in};
-ghost use Rattle.ev_expand.specs.Numbers.{ArePlaces, guarded_so_far, guarded_with, taken_up};
-ghost use Rattle.ev_expand.specs.Placing.{placed_entries, placed_line};
+ghost use Rattle.ev_expand.specs.Guarding.{waiting_config, stripped_body, waiting_body, body_in, waiting_entry, kind_of, listed_as, clusters_in, place_in};
+ghost use Rattle.ev_expand.specs.Numbers.{HasPlaces, TakesUp, TakesUpLine, guarded_so_far};
+ghost use Rattle.ev_expand.specs.Placing.{IsPlaced, placed_entries};
 ghost use Rattle.ev_tree.specs.Forms.{tree_of};
 ghost use Rattle.ev_types.specs.declared.contents.Kind.TheVariants.{Cds};
 ghost use Rattle.ev_wire.specs.Responses.{item_of};
@@ -134,7 +134,7 @@ pub(crate) fn waiting_value(
 ) -> Result<Option<Value>, AllocError>
     requires event { event.now ≡ event_of (view line.now) }
     requires places { length places.now ≡ length (clusters_in (view line.now)) }
-    ensures { IfOk result (λ made. unwrap_or (option_map view made) (view line.now) ≡ placed_line prefix.now (view line.now) places.now) }
+    ensures { IfOk result (IsPlaced prefix.now (view line.now) places.now) }
 {
     if !has_guarded(places) {
         return Ok(None);
@@ -238,9 +238,8 @@ pub(crate) fn places_in<E: Expansion>(
     event: &Option<Event>,
 ) -> Result<Vec<Option<usize>>, AllocError>
     requires { event.now ≡ event_of (view line.now) }
-    ensures numbers { (before : List Data) → guarded_so_far numbers.old ≡ guarded_by E.rules.guard before
-        → OnOk result (guarded_so_far numbers.new ≡ guarded_by E.rules.guard (before ++ view line.now ∷ [])) }
-    ensures places { IfOk result (λ places. ArePlaces E.rules.guard (view line.now) (guarded_so_far numbers.new) places.items) }
+    ensures numbers { OnOk result (TakesUpLine E.rules.guard (view line.now) numbers.old numbers.new) }
+    ensures places { IfOk result (HasPlaces E.rules.guard (view line.now) numbers.new) }
 {
     let entries = clusters_in(alloc, line, event)?;
     let items = cluster_items(line, event);
@@ -260,7 +259,7 @@ fn place_entry<E: Expansion>(
     key: Option<Key>,
     entry: &Value,
 ) -> Result<Option<usize>, AllocError>
-    ensures numbers { OnOk result (guarded_so_far numbers.new ≡ taken_up (guarded_so_far numbers.old) (guarded_with key (E.rules.guard.own_of (view entry.now)))) }
+    ensures numbers { OnOk result (TakesUp E.rules.guard key (view entry.now) numbers.old numbers.new) }
     ensures place { IfOk result (λ place. place ≡ option_map (place_in (guarded_so_far numbers.new)) key) }
     ensures within { IfOk result (λ place. IfSome place (λ p. p < length (guarded_so_far numbers.new))) }
 {

@@ -3,7 +3,7 @@ ghost use Rattle.std.specs.List.{list_any};
 ghost use Rattle.serde_json.specs.View.{view};
 ghost use Rattle.ev_expand.specs.Keys.{key_same};
 ghost use Rattle.ev_expand.specs.Guarding.{Guarded, place_in};
-ghost use Rattle.ev_expand.specs.Numbers.{guarded_so_far};
+ghost use Rattle.ev_expand.specs.Numbers.{found_shown, guarded_as, guarded_so_far};
 
 use crate::keys::Key;
 use indexmap::IndexMap;
@@ -37,7 +37,7 @@ impl Numbers {
 
     /// The key at a place, and what is kept of its first item.
     pub fn get(&self, place: usize) -> Option<(&Key, &Value)>
-        ensures { option_map (λ p. record { key = p.0.now; own = view p.1.now }) result ≡ slice_get (guarded_so_far self.now) place }
+        ensures { option_map found_shown result ≡ slice_get (guarded_so_far self.now) place }
     {
         self.firsts.get_index(place)
     }
@@ -55,7 +55,7 @@ impl Numbers {
     /// Puts a key that has no place behind the others, with what is kept of its first item.
     pub(crate) fn push(&mut self, key: Key, own: Value) -> Result<(), AllocError>
         requires { list_any (λ g. key_same key g.key) (guarded_so_far self.old) ≡ false }
-        ensures { OnOk result (guarded_so_far self.new ≡ guarded_so_far self.old ++ record { key = key; own = view own } ∷ []) }
+        ensures { OnOk result (guarded_so_far self.new ≡ guarded_so_far self.old ++ guarded_as key (view own) ∷ []) }
     {
         let Ok(_) = self.firsts.insert(key, own) else {
             return Err(AllocError);
