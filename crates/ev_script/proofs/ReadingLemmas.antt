@@ -10,7 +10,7 @@ use Rattle.ev_io.specs.declared.faults.ScriptFault.{ScriptFault}
 use Rattle.ev_io.specs.declared.faults.ScriptFault.TheVariants.{Bad, OutOfMemory}
 use Rattle.ev_io.specs.Lines.{lines_of}
 use Rattle.ev_io.specs.Outside.{Takes}
-use Rattle.ev_io.specs.LinesState.{LinesState, HasTaken}
+use Rattle.ev_io.specs.LinesState.{LinesState, IsFresh, HasTaken}
 use Rattle.ev_io.specs.ReadLine.{GivesLine, IsUnfinished, ReadsLine}
 use Rattle.ev_script.specs.declared.content.Content.{Content}
 use Rattle.ev_script.specs.declared.content.Content.TheVariants as is
@@ -22,7 +22,7 @@ use Rattle.ev_script.specs.Members.{tree_of}
 use Rattle.ev_script.specs.Faults.{LineForms, fault_number, IsFaultOf}
 use Rattle.ev_script.specs.Content.{first_content, IsContent, IsLineOf, IsKeptOf}
 use Rattle.ev_script.specs.ReadLines.{AreRead, AreKept}
-use Rattle.ev_script.specs.ReadInput.{IsFresh, input_of, script_fault, IsWhole, IsUpToJournal, IsAnswer, IsHeadAnswer}
+use Rattle.ev_script.specs.ReadInput.{input_of, script_fault, IsWhole, IsUpToJournal, IsAnswer, IsHeadAnswer}
 use Rattle.ev_script.proofs.ContentFaults.{IsGiven, first_told, content_told, journal_reached}
 use Rattle.ev_script.proofs.StepLemmas.{same_at, are_read_same, are_kept_same, are_read_more, are_kept_more, given_line, few_lines}
 use Rattle.ev_script.proofs.EndLemmas.{fault_told, nothing_told, whole_read, journal_missing}

@@ -15,10 +15,6 @@ use Rattle.ev_script.specs.Faults.{LineForms, Input, index_at, BeginsJournal, St
 use Rattle.ev_script.specs.Content.{first_content}
 use Rattle.ev_script.specs.ReadLines.{AreRead, AreKept}
 
--- no byte was taken yet
-abbrev pub IsFresh : LinesState → Type 0
-IsFresh state = state ≡ record { taken = 0; given = 0; pending = []; ended = false; told = None }
-
 -- the input, as far as it was taken
 abbrev pub input_of : Bool → LinesState → List ℕ → Input
 input_of audit state bytes = record { bytes = bytes; ended = state.ended; audit = audit }

@@ -1,9 +1,9 @@
 ghost use Rattle.std.specs.Prelude.{◌≡◌, ◌+◌, ◌<◌, ◌≤◌, ◌⊎◌, List, ℕ, None, Err, IsTrue, OnOk, IfOk, length};
 ghost use Rattle.std.specs.Io.KnownBytes.{IsAtEnd};
 ghost use Rattle.ev_io.specs.Outside.{Rose, Takes};
-ghost use Rattle.ev_io.specs.LinesState.{HasTaken, IsWithin};
+ghost use Rattle.ev_io.specs.LinesState.{IsFresh, HasTaken, IsWithin};
 ghost use Rattle.ev_script.specs.Faults.{fault_number};
-ghost use Rattle.ev_script.specs.ReadInput.{IsFresh, input_of, script_fault, through_journal, IsAnswer, IsHeadAnswer};
+ghost use Rattle.ev_script.specs.ReadInput.{input_of, script_fault, through_journal, IsAnswer, IsHeadAnswer};
 
 use crate::content::{Content, First, read_content, read_first};
 use crate::fault_kinds::FaultKind;

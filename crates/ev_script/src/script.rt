@@ -1,12 +1,12 @@
 ghost use Rattle.std.specs.Prelude.{◌≡◌, ◌+◌, ◌<◌, ◌≤◌, ◌⊎◌, List, ℕ, None, Err, IsTrue, IsSome, true, false, OnErr, OnOk, IfOk, option_and_then, length};
 ghost use Rattle.std.specs.Io.KnownBytes.{IsAtEnd};
 ghost use Rattle.ev_io.specs.Outside.{Rose, Takes};
-ghost use Rattle.ev_io.specs.LinesState.{HasTaken, IsWithin};
+ghost use Rattle.ev_io.specs.LinesState.{IsFresh, HasTaken, IsWithin};
 ghost use Rattle.ev_types.specs.Scripts.{items_in, items_of};
 ghost use Rattle.ev_script.specs.Members.{tree_of};
 ghost use Rattle.ev_script.specs.Faults.{plain_lines};
 ghost use Rattle.ev_script.specs.Header.{header_of, IsHeader};
-ghost use Rattle.ev_script.specs.ReadInput.{IsFresh, input_of};
+ghost use Rattle.ev_script.specs.ReadInput.{input_of};
 ghost use Rattle.ev_script.specs.ReadScript.{HeadsScripts, KeepsLines, IsHeaderOf, IsScriptAnswer, IsAuditedAnswer, AreNumbered, AreOfForms, script_made};
 
 use crate::forms::{Forms, ScriptLines};

@@ -2,10 +2,10 @@ ghost use Rattle.std.specs.Prelude.{◌≡◌, ◌+◌, ◌≤◌, ◌⊎◌, Li
 ghost use Rattle.std.specs.Io.KnownBytes.{IsAtEnd};
 ghost use Rattle.serde_json.specs.View.{view};
 ghost use Rattle.ev_io.specs.Outside.{Rose, Takes};
-ghost use Rattle.ev_io.specs.LinesState.{HasTaken, IsWithin};
+ghost use Rattle.ev_io.specs.LinesState.{IsFresh, HasTaken, IsWithin};
 ghost use Rattle.ev_script.specs.Faults.{plain_lines};
 ghost use Rattle.ev_script.specs.Members.{tree_of};
-ghost use Rattle.ev_script.specs.ReadInput.{IsFresh, input_of};
+ghost use Rattle.ev_script.specs.ReadInput.{input_of};
 ghost use Rattle.ev_script.specs.Header.{header_of};
 ghost use Rattle.ev_script.specs.ReadScript.{HeadsScripts};
 ghost use Rattle.ev_script.specs.ReadTrees.{KeepsTrees, IsTreeOf, IsTreesAnswer};
