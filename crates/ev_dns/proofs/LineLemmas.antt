@@ -4,11 +4,11 @@ use Rattle.serde_json.specs.Data.{Data}
 use Rattle.serde_json.specs.Find.{as_str}
 use Rattle.ev_types.specs.Same.{bytes_decide}
 use Rattle.ev_types.specs.declared.events.Line.{Line}
-use Rattle.ev_script.specs.Members.{member_of}
+use Rattle.ev_script.specs.Members.{member_of, is_word, is_op}
 use Rattle.ev_script.specs.Lines.{line_by}
 use Rattle.ev_script.specs.Faults.{plain_lines, worker_of}
 use Rattle.ev_dns.specs.declared.lines.Resolution.{Resolution}
-use Rattle.ev_dns.specs.Lines.{is_word, is_op, resolution_in, dns_lines}
+use Rattle.ev_dns.specs.Lines.{resolution_in, dns_lines}
 use Rattle.ev_dns.specs.Resolving.{is_written}
 
 none_by : (at : ℕ) (tree : Data) (o : Option (List ℕ)) → is_word (codes "resolved") o ≡ true → option_and_then (λ op. line_by op at tree) o ≡ None

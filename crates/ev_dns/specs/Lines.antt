@@ -1,22 +1,11 @@
 -- The lines of a script with resolutions of host names. All other lines are as in a script.
-use Rattle.std.specs.Prelude.{ℕ, List, [], ◌∷◌, Bool, false, if◌then◌else◌, codes, Option, None, Some, option_map, option_and_then}
-use Rattle.std.specs.Str.{bytes_eq}
+use Rattle.std.specs.Prelude.{ℕ, List, [], ◌∷◌, if◌then◌else◌, codes, Option, None, Some, option_map, option_and_then}
 use Rattle.serde_json.specs.Data.{Data}
-use Rattle.serde_json.specs.Find.{as_str}
 use Rattle.ev_tree.specs.Scalars.{list_in}
-use Rattle.ev_script.specs.Members.{name_of, member_of, member_or}
+use Rattle.ev_script.specs.Members.{name_of, member_of, member_or, is_op}
 use Rattle.ev_script.specs.LineForms.{with_only}
 use Rattle.ev_script.specs.Faults.{LineForms, plain_lines}
 use Rattle.ev_dns.specs.declared.lines.Resolution.{Resolution}
-
--- there is a text, and it is this word
-abbrev pub is_word : List ℕ → Option (List ℕ) → Bool
-is_word word None = false
-is_word word (Some op) = bytes_eq op word
-
--- the operation of a line has this word
-abbrev pub is_op : List ℕ → Data → Bool
-is_op word tree = is_word word (member_of as_str (codes "op") tree)
 
 -- each tree as the name that it is, where all are names
 abbrev pub all_names : List Data → Option (List (List ℕ))

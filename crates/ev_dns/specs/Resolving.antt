@@ -4,13 +4,14 @@ use Rattle.std.specs.Prelude.{ℕ, Bool, false, not, ◌&&◌, ◌||◌, List, O
 use Rattle.std.specs.List.{list_any}
 use Rattle.serde_json.specs.Data.{Data}
 use Rattle.ev_types.specs.Hosts.{HostRowParts}
+use Rattle.ev_script.specs.Members.{is_op}
 use Rattle.ev_expand.specs.declared.keys.Key.{Key}
 use Rattle.ev_expand.specs.Keys.{key_same}
 use Rattle.ev_expand.specs.Fronts.{Front, up_to, stream_at, opens}
 use Rattle.ev_expand.specs.Guarding.{Guarded, guarded_in}
 use Rattle.ev_expand.specs.Expanding.{Rules, text_by}
 use Rattle.ev_dns.specs.declared.lines.Resolution.{Resolution}
-use Rattle.ev_dns.specs.Lines.{is_op, resolution_in}
+use Rattle.ev_dns.specs.Lines.{resolution_in}
 use Rattle.ev_dns.specs.Templates.{by_names, has_name}
 use Rattle.ev_dns.specs.Answers.{addresses_of, is_complete}
 use Rattle.ev_dns.specs.Hosts.{hosts_with, endpoints_tree}

@@ -20,7 +20,6 @@ mod complete;
 mod hosts;
 mod lines;
 mod looking;
-mod members;
 mod names;
 mod places;
 mod resolutions;

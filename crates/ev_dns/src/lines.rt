@@ -1,14 +1,12 @@
-ghost use Rattle.std.specs.Prelude.{◌≡◌, ℕ, true, is_some, codes, IfOk};
+ghost use Rattle.std.specs.Prelude.{◌≡◌, ℕ, true, is_some, IfOk};
 ghost use Rattle.serde_json.specs.Data.{Data};
 ghost use Rattle.serde_json.specs.View.{view};
-ghost use Rattle.ev_script.specs.Members.{member_of, name_of};
 ghost use Rattle.ev_script.specs.Faults.{plain_lines};
 ghost use Rattle.ev_dns.specs.Resolving.{is_written};
 ghost use Rattle.ev_dns.specs.Lines.{dns_lines, given_addresses, addresses_at, resolution_of, resolution_in};
 
-use crate::members::{has_only, is_op};
-use crate::names::{read_name, read_names};
-use ev_script::{FormedLine, Forms, LineTrees};
+use crate::names::read_names;
+use ev_script::{FormedLine, Forms, LineTrees, has_only, is_op, name_at};
 use ev_types::{Name, Seq};
 use serde_json::Value;
 use std::alloc::{AllocError, Global};
@@ -86,21 +84,11 @@ pub fn script_lines_are_written()
 fn resolution_of(alloc: Global, tree: &Value) -> Result<Option<Resolution>, AllocError>
     ensures { IfOk result (λ found. found ≡ resolution_of (view tree.now)) }
 {
-    let Some(name) = host_name(alloc, tree)? else {
+    let Some(name) = name_at(alloc, tree, "name")? else {
         return Ok(None);
     };
     match addresses_at(alloc, tree)? {
         Some(addresses) => Ok(Some(Resolution { name, addresses })),
-        None => Ok(None),
-    }
-}
-
-// The host name of a resolution.
-fn host_name(alloc: Global, tree: &Value) -> Result<Option<Name>, AllocError>
-    ensures { IfOk result (λ name. name ≡ member_of name_of (codes "name") (view tree.now)) }
-{
-    match tree.get("name") {
-        Some(name) => read_name(alloc, name),
         None => Ok(None),
     }
 }

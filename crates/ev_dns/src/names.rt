@@ -1,10 +1,9 @@
-ghost use Rattle.std.specs.Prelude.{◌≡◌, ◌≤◌, length, map, Some, IfOk};
+ghost use Rattle.std.specs.Prelude.{◌≡◌, map, IfOk};
 ghost use Rattle.serde_json.specs.View.{view};
-ghost use Rattle.ev_types.specs.declared.limits.TheConstants.{MAX_NAME_LENGTH};
-ghost use Rattle.ev_script.specs.Members.{name_of};
 ghost use Rattle.ev_dns.specs.Lines.{all_names, names_of};
 
-use ev_types::{MAX_NAME_LENGTH, Name, NameError, Seq};
+use ev_script::read_name;
+use ev_types::{Name, Seq};
 use serde_json::Value;
 use std::alloc::{AllocError, Global};
 
@@ -31,27 +30,4 @@ fn read_all(alloc: Global, elements: &[Value]) -> Result<Option<Seq<Name>>, Allo
         }
     }
     Ok(Some(Seq::from_vec(names)))
-}
-
-// The name that a value is: a text of 1 to 512 bytes.
-pub(crate) fn read_name(alloc: Global, tree: &Value) -> Result<Option<Name>, AllocError>
-    ensures { IfOk result (λ made. made ≡ name_of (view tree.now)) }
-{
-    match tree.as_str() {
-        Some(text) if 1 <= text.len() && text.len() <= MAX_NAME_LENGTH => made_name(alloc, text),
-        _ => Ok(None),
-    }
-}
-
-// The name of these bytes.
-fn made_name(alloc: Global, text: &str) -> Result<Option<Name>, AllocError>
-    requires low { 1 ≤ length text.now }
-    requires high { length text.now ≤ MAX_NAME_LENGTH }
-    ensures { IfOk result (λ made. made ≡ Some text.now) }
-{
-    match Name::new(alloc, text) {
-        Ok(name) => Ok(Some(name)),
-        Err(NameError::Length) => unreachable!(),
-        Err(NameError::OutOfMemory) => Err(AllocError),
-    }
 }

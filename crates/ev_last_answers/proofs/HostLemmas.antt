@@ -35,7 +35,7 @@ use Rattle.ev_cluster_json.specs.Clusters.{cluster_broken, cluster_of, cluster_r
 use Rattle.ev_cluster_json.proofs.RowsMade.{left_false, right_false}
 use Rattle.ev_wire.specs.Bodies.{body_with, breaks_v1, content_of, content_with, own_broken, resource_of}
 use Rattle.ev_wire.specs.Responses.{entry_name, ttl_of}
-use Rattle.ev_script.specs.Members.{has_only, member_of, name_of, or_default}
+use Rattle.ev_script.specs.Members.{has_only, is_op, member_of, name_of, or_default}
 use Rattle.ev_model_laws.proofs.OperationLists.{IsIn, at_in, each_flat, each_in, in_filter}
 use Rattle.ev_expand.specs.declared.keys.Key.{Key}
 use Rattle.ev_expand.specs.Fronts.{up_to}
@@ -44,7 +44,7 @@ use Rattle.ev_sealed.proofs.ListLemmas.{in_flat, in_found, in_get}
 use Rattle.ev_dns.specs.declared.lines.Resolution.{Resolution}
 use Rattle.ev_dns.specs.Answers.{addresses_of, each_once as once_each, is_of, last_success, resolutions_in, success_of}
 use Rattle.ev_dns.specs.Hosts.{with_address}
-use Rattle.ev_dns.specs.Lines.{addresses_at, all_names, given_addresses, is_op, resolution_in, resolution_of}
+use Rattle.ev_dns.specs.Lines.{addresses_at, all_names, given_addresses, resolution_in, resolution_of}
 use Rattle.ev_dns.specs.Resolving.{hosts_of as hosts_by}
 use Rattle.ev_dns.specs.Templates.{by_names, rows_in, rows_of as template_rows, static_body}
 use Rattle.ev_last_answers.proofs.EndpointLemmas.{IsGoodHost, item_reads}

@@ -32,7 +32,7 @@ use Rattle.ev_types.specs.Items.{ResponseParts}
 use Rattle.ev_types.specs.Same.{bytes_decide}
 use Rattle.serde_json.specs.Find.{as_str}
 use Rattle.ev_script.specs.Lines.{line_by, line_of}
-use Rattle.ev_script.specs.Members.{member_of}
+use Rattle.ev_script.specs.Members.{member_of, is_op, is_word}
 use Rattle.ev_trees.specs.Scripts.{moved}
 use Rattle.ev_trees.proofs.MoveLemmas.{line-moves}
 use Rattle.ev_expand.specs.Expanding.{due_at, gives, guarded_at, lines_due, place_of, written_line}
@@ -43,7 +43,6 @@ use Rattle.ev_expand_laws.specs.Waiting.{WaitsAsSaid, following_response, has_gu
 use Rattle.ev_expand_laws.proofs.ReadLemmas.{following_reads, waiting_reads, waiting_stays}
 use Rattle.ev_sealed.proofs.FrontLemmas.{fronts_taken}
 use Rattle.ev_sealed.proofs.SaidLemmas.{line_event, line_place}
-use Rattle.ev_dns.specs.Lines.{is_op, is_word}
 use Rattle.ev_dns.specs.Resolving.{dns_rules, is_written}
 use Rattle.ev_dns.specs.Templates.{by_names}
 use Rattle.ev_last_answers.specs.LastAnswers.{answered_script}

@@ -1,9 +1,10 @@
 -- A line that is written is a line of a script at its place.
 use Rattle.std.proofs.Common.{◌≡◌, ℕ, ◌+◌, Bool, true, false, not, cond, List, [], ◌∷◌, option_map, None, codes, refl, sym, ap, ◌∙◌}
 use Rattle.serde_json.specs.Data.{Data}
+use Rattle.ev_script.specs.Members.{is_op}
 use Rattle.ev_script.specs.Faults.{plain_lines}
 use Rattle.ev_dns.specs.declared.lines.Resolution.{Resolution}
-use Rattle.ev_dns.specs.Lines.{is_op, resolution_in, dns_lines}
+use Rattle.ev_dns.specs.Lines.{resolution_in, dns_lines}
 use Rattle.ev_dns.specs.Resolving.{is_written, dns_rules}
 use Rattle.ev_expand_laws.specs.Said.{AllAt}
 use Rattle.ev_expand_laws.specs.Scripts.{IsLineIfWritten}
