@@ -1,8 +1,8 @@
 -- What is known of secrets and of endpoints, found by look-ups.
-use Rattle.std.specs.Prelude.{◌≡◌, ℕ, Bool, not, ◌||◌, List, Option, map, filter, option_map}
+use Rattle.std.specs.Prelude.{◌≡◌, ℕ, Bool, not, ◌||◌, if◌then◌else◌, List, Option, Some, map, filter, option_map}
 use Rattle.std.specs.List.{list_any, list_all, find, last_or, prefix_len}
 use Rattle.std.specs.Str.{bytes_eq}
-use Rattle.indexmap.specs.IndexSet.{contains}
+use Rattle.indexmap.specs.IndexSet.{IndexSet, contains}
 use Rattle.indexmap.specs.IndexMap.{get}
 use Rattle.serde_json.specs.Data.{Data}
 use Rattle.serde_json.specs.View.{view}
@@ -12,6 +12,11 @@ use Rattle.ev_secrets.specs.declared.awaited.Awaited.TheVariants.{Secret, Endpoi
 use Rattle.ev_secrets.specs.declared.known.Told.{Told}
 use Rattle.ev_secrets.specs.declared.known.Values.{Values}
 use Rattle.ev_secrets.specs.Awaited.{awaited_same, awaited_by}
+
+-- the set has this name too
+abbrev pub GainsName : {S : Type 0} → List ℕ → IndexSet (List ℕ) S → IndexSet (List ℕ) S → Type 0
+GainsName name before after =
+    (other : List ℕ) → contains bytes_eq after other ≡ (bytes_eq name other || contains bytes_eq before other)
 
 -- it was told of
 abbrev pub has_told : Told → Awaited → Bool
@@ -46,6 +51,11 @@ next_of told key = first_untold told (awaited_by key)
 abbrev pub shown_value : Values → List ℕ → Option Data
 shown_value values name = option_map view (get bytes_eq values.by_name name)
 
+-- the name has this value, and each other name the one before
+abbrev pub PutsValue : List ℕ → Data → Values → Values → Type 0
+PutsValue name value before after =
+    (other : List ℕ) → shown_value after other ≡ (if bytes_eq name other then Some value else shown_value before other)
+
 -- the last value of a name among these, or the one before them
 abbrev pub later_value : List ℕ → Option Data → List (List ℕ × Data) → Option Data
 later_value name before values = last_or before (map (λ (v : List ℕ × Data). v.1) (filter (λ (v : List ℕ × Data). bytes_eq v.0 name) values))
@@ -53,3 +63,12 @@ later_value name before values = last_or before (map (λ (v : List ℕ × Data).
 -- one of these is of the name
 abbrev pub gives_to : List ℕ → List (List ℕ × Data) → Bool
 gives_to name values = list_any (λ (v : List ℕ × Data). bytes_eq v.0 name) values
+
+-- each name has its last value among these, or the one before them
+abbrev pub TakesValues : List (List ℕ × Data) → Values → Values → Type 0
+TakesValues values before after =
+    (name : List ℕ) → shown_value after name ≡ later_value name (shown_value before name) values
+
+-- the set has exactly the names that these values are of
+abbrev pub AreNamesOf : {S : Type 0} → List (List ℕ × Data) → IndexSet (List ℕ) S → Type 0
+AreNamesOf values names = (name : List ℕ) → contains bytes_eq names name ≡ gives_to name values

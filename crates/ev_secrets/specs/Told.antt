@@ -49,9 +49,13 @@ name_told item (Good content) = name_in item.name
 name_told item (Bad rule) = name_in item.name
 name_told item Beat = None
 
+-- the same, by its own body
+abbrev pub item_told : ItemParts → Option (List ℕ)
+item_told item = name_told item item.body
+
 -- the names of endpoints that a response of endpoints tells of: those of its resources, and the removed ones
 abbrev pub endpoints_told : ResponseParts → List (List ℕ)
-endpoints_told response = filter_map (λ (item : ItemParts). name_told item item.body) response.items ++ filter_map name_in response.removed
+endpoints_told response = filter_map item_told response.items ++ filter_map name_in response.removed
 
 -- what a response tells of, by its kind
 abbrev pub told_as : Option Kind → ResponseParts → Data → List Awaited
@@ -93,8 +97,16 @@ abbrev pub value_given : ResponseParts → Data → Option (List ℕ × Data)
 value_given response entry =
     if gives_value response (item_of Eds entry) then Some ((item_of Eds entry).name, endpoints_in (body_in entry)) else None
 
+-- the values that these resources of a response give
+abbrev pub given_among : ResponseParts → List Data → List (List ℕ × Data)
+given_among response entries = filter_map (value_given response) entries
+
+-- the values that a response of endpoints gives
+abbrev pub given_in : ResponseParts → Data → List (List ℕ × Data)
+given_in response message = given_among response (entries_of message)
+
 abbrev pub given_as : Option Kind → ResponseParts → Data → List (List ℕ × Data)
-given_as (Some Eds) response message = filter_map (value_given response) (entries_of message)
+given_as (Some Eds) response message = given_in response message
 given_as kind response message = []
 
 abbrev pub given_with : Option Event → Data → List (List ℕ × Data)

@@ -1,10 +1,11 @@
-ghost use Rattle.std.specs.Prelude.{◌≡◌, ◌||◌, ℕ, [], nat_eq, true, OnOk};
+ghost use Rattle.std.specs.Prelude.{◌≡◌, [], nat_eq, true, OnOk};
 ghost use Rattle.std.specs.List.{list_all};
 ghost use Rattle.indexmap.specs.IndexSet.{contains};
 ghost use Rattle.ev_expand.specs.Numbers.{guarded_so_far};
 ghost use Rattle.ev_secrets.specs.declared.awaited.Awaited.TheVariants.{Endpoints};
 ghost use Rattle.ev_secrets.specs.declared.known.Told.{Told};
 ghost use Rattle.ev_secrets.specs.Awaited.{services_of};
+ghost use Rattle.ev_secrets.specs.Marking.{GainsPlaces};
 ghost use Rattle.ev_secrets.specs.Places.{stands_under};
 ghost use Rattle.ev_secrets.specs.Waiting.{AreComplete, EntersAll, EntersOne, KeepsUnder, is_served};
 
@@ -81,7 +82,7 @@ fn serve(
 
 /// Puts a place into a set.
 pub(crate) fn insert_place(set: &mut IndexSet<usize>, place: usize) -> Result<(), AllocError>
-    ensures { OnOk result ((n : ℕ) → contains nat_eq set.new n ≡ (nat_eq place n || contains nat_eq set.old n)) }
+    ensures { OnOk result (GainsPlaces (nat_eq place) set.old set.new) }
 {
     let Ok(_) = set.insert(place) else {
         return Err(AllocError);

@@ -1,11 +1,9 @@
-ghost use Rattle.std.specs.Prelude.{◌≡◌, ◌||◌, ℕ, List, map, take, false, true, None, Some, option_map, if◌then◌else◌, IfOk, OnOk};
-ghost use Rattle.std.specs.Str.{bytes_eq};
+ghost use Rattle.std.specs.Prelude.{◌≡◌, ℕ, List, map, take, false, true, None, option_map, IfOk, OnOk};
 ghost use Rattle.serde_json.specs.View.{view};
-ghost use Rattle.indexmap.specs.IndexSet.{contains};
 ghost use Rattle.ev_secrets.specs.declared.awaited.Awaited.{Awaited};
 ghost use Rattle.ev_secrets.specs.declared.awaited.Awaited.TheVariants.{Endpoints};
 ghost use Rattle.ev_secrets.specs.Awaited.{services_of};
-ghost use Rattle.ev_secrets.specs.Known.{are_told, has_told, first_told, first_untold, next_of, AddsAll, Adds, shown_value, later_value, gives_to};
+ghost use Rattle.ev_secrets.specs.Known.{are_told, has_told, first_told, first_untold, next_of, AddsAll, Adds, AreNamesOf, GainsName, PutsValue, TakesValues, shown_value};
 ghost use Rattle.ev_secrets.specs.Told.{value_shown};
 
 use crate::awaited::Awaited;
@@ -101,7 +99,7 @@ impl Told {
 
 // Puts a name into a set.
 fn insert(names: &mut IndexSet<Name>, name: Name) -> Result<(), AllocError>
-    ensures { OnOk result ((other : List ℕ) → contains bytes_eq names.new other ≡ (bytes_eq name other || contains bytes_eq names.old other)) }
+    ensures { OnOk result (GainsName name names.old names.new) }
 {
     let Ok(_) = names.insert(name) else {
         return Err(AllocError);
@@ -138,8 +136,8 @@ impl Values {
         alloc: Global,
         values: Vec<(Name, Value)>,
     ) -> Result<IndexSet<Name>, AllocError>
-        ensures values { OnOk result ((name : List ℕ) → shown_value self.new name ≡ later_value name (shown_value self.old name) (map value_shown values.items)) }
-        ensures names { IfOk result (λ names. (name : List ℕ) → contains bytes_eq names name ≡ gives_to name (map value_shown values.items)) }
+        ensures values { OnOk result (TakesValues (map value_shown values.items) self.old self.new) }
+        ensures names { IfOk result (AreNamesOf (map value_shown values.items)) }
     {
         let mut names = IndexSet::new(alloc);
         for (name, value) in values {
@@ -151,7 +149,7 @@ impl Values {
 
     // Takes a value in the place of the one before.
     fn put(&mut self, name: Name, value: Value) -> Result<(), AllocError>
-        ensures { OnOk result ((other : List ℕ) → shown_value self.new other ≡ (if bytes_eq name other then Some (view value) else shown_value self.old other)) }
+        ensures { OnOk result (PutsValue name (view value) self.old self.new) }
     {
         let Ok(_) = self.by_name.insert(name, value) else {
             return Err(AllocError);

@@ -172,7 +172,7 @@ fn endpoints_with(
     discovery: &Discovery,
     own: &Value,
 ) -> Result<Option<Value>, AllocError>
-    ensures { IfOk result (λ endpoints. option_map view endpoints ≡ endpoints_with values.now discovery.now (view own.now)) }
+    ensures { IfOk result (λ found. option_map view found ≡ endpoints_with values.now discovery.now (view own.now)) }
 {
     match discovery {
         Discovery::Static(_) => Ok(Some(own.clone()?)),

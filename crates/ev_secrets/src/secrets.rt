@@ -1,10 +1,10 @@
-ghost use Rattle.std.specs.Prelude.{◌≡◌, ◌&&◌, ◌||◌, ℕ, [], not, nat_eq, map, IfOk, OnOk};
+ghost use Rattle.std.specs.Prelude.{◌≡◌, ◌&&◌, ℕ, [], not, nat_eq, map, IfOk, OnOk};
 ghost use Rattle.std.specs.Str.{bytes_eq};
 ghost use Rattle.serde_json.specs.View.{view};
 ghost use Rattle.ev_expand.specs.Expanding.{IsExpanded};
 ghost use Rattle.indexmap.specs.IndexSet.{contains};
 ghost use Rattle.ev_secrets.specs.Looking.{AreMarks};
-ghost use Rattle.ev_secrets.specs.Marking.{is_marked, is_place};
+ghost use Rattle.ev_secrets.specs.Marking.{GainsPlaces, is_marked, is_place};
 ghost use Rattle.ev_secrets.specs.Sealing.{tls_rules};
 ghost use Rattle.ev_secrets.specs.State.{IsBehind};
 
@@ -135,7 +135,7 @@ fn places_of(alloc: Global, items: &[Option<usize>]) -> Result<IndexSet<usize>, 
 
 // Puts a place into the set, where one is given.
 fn put_place(set: &mut IndexSet<usize>, item: Option<usize>) -> Result<(), AllocError>
-    ensures { OnOk result ((place : ℕ) → contains nat_eq set.new place ≡ (is_place item place || contains nat_eq set.old place)) }
+    ensures { OnOk result (GainsPlaces (is_place item) set.old set.new) }
 {
     match item {
         Some(place) => insert_place(set, place),

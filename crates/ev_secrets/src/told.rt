@@ -4,7 +4,7 @@ ghost use Rattle.serde_json.specs.View.{view};
 ghost use Rattle.ev_tree.specs.Forms.{tree_of};
 ghost use Rattle.ev_expand.specs.Fronts.{event_of};
 ghost use Rattle.ev_secrets.specs.References.{own_name};
-ghost use Rattle.ev_secrets.specs.Told.{told_by, told_as, secrets_told, secrets_in, removed_name, endpoints_told, name_told};
+ghost use Rattle.ev_secrets.specs.Told.{told_by, told_as, secrets_told, secrets_in, removed_name, endpoints_told, item_told};
 ghost use Rattle.ev_cluster_json.specs.Made.{name_in};
 
 use crate::awaited::{Awaited, endpoints, secrets};
@@ -116,7 +116,7 @@ fn endpoints_told(alloc: Global, response: &Response) -> Result<Vec<Name>, Alloc
 
 // Puts the names that these resources tell of behind these.
 fn push_items(alloc: Global, names: &mut Vec<Name>, items: &[Item]) -> Result<(), AllocError>
-    ensures { OnOk result (names.new.items ≡ names.old.items ++ filter_map (λ item. name_told item item.body) items.now) }
+    ensures { OnOk result (names.new.items ≡ names.old.items ++ filter_map item_told items.now) }
 {
     for item in items {
         push_name(names, name_told(alloc, item)?)?;
@@ -136,7 +136,7 @@ fn push_texts(alloc: Global, names: &mut Vec<Name>, texts: &[Text]) -> Result<()
 
 // The name that a resource tells of, unless it is a heartbeat.
 fn name_told(alloc: Global, item: &Item) -> Result<Option<Name>, AllocError>
-    ensures { IfOk result (λ name. name ≡ name_told item.now item.now.body) }
+    ensures { IfOk result (λ name. name ≡ item_told item.now) }
 {
     match &item.body {
         Body::Good(_) => make_name(alloc, item.name.as_str()),

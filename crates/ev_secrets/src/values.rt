@@ -1,12 +1,11 @@
 ghost use Rattle.std.specs.Prelude.{◌≡◌, ◌++◌, map, option_to_list, Some, IfOk, OnOk};
-ghost use Rattle.std.specs.List.{filter_map};
 ghost use Rattle.serde_json.specs.View.{view};
 ghost use Rattle.ev_tree.specs.Forms.{tree_of};
 ghost use Rattle.ev_types.specs.declared.contents.Kind.TheVariants.{Eds};
 ghost use Rattle.ev_types.specs.declared.events.Event.TheVariants.{Response as a_response};
 ghost use Rattle.ev_wire.specs.Responses.{item_of, entries_of};
 ghost use Rattle.ev_expand.specs.Fronts.{event_of};
-ghost use Rattle.ev_secrets.specs.Told.{values_in, value_given, gives_value, is_good, value_shown};
+ghost use Rattle.ev_secrets.specs.Told.{values_in, given_in, given_among, value_given, gives_value, is_good, value_shown};
 
 use crate::references::{body_in, endpoints_in};
 use ev_expand::message_of;
@@ -84,7 +83,7 @@ fn endpoint_values(
     message: Option<&Value>,
 ) -> Result<Vec<(Name, Value)>, AllocError>
     requires { response.now.items ≡ map (item_of Eds) (entries_of (tree_of message)) }
-    ensures { IfOk result (λ values. map value_shown values.items ≡ filter_map (value_given response.now) (entries_of (tree_of message.entry))) }
+    ensures { IfOk result (λ values. map value_shown values.items ≡ given_in response.now (tree_of message.entry)) }
 {
     let entries = entries_of(alloc, message)?;
     let mentions = Mentions::of(alloc, response)?;
@@ -114,7 +113,7 @@ fn entry_values(
     entries: &[Value],
 ) -> Result<Vec<(Name, Value)>, AllocError>
     requires { items.now ≡ map (item_of Eds) (map view entries.now) }
-    ensures { IfOk result (λ values. map value_shown values.items ≡ filter_map (value_given mentions.now) (map view entries.now)) }
+    ensures { IfOk result (λ values. map value_shown values.items ≡ given_among mentions.now (map view entries.now)) }
 {
     let mut values = Vec::new(alloc);
     for (index, entry) in entries.iter().enumerate() {
