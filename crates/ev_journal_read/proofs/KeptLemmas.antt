@@ -12,12 +12,12 @@ use Rattle.ev_types.specs.declared.events.Answer.TheVariants.{Ignored, Done, Unc
 use Rattle.ev_types.specs.declared.events.Verdict.TheVariants as verdict
 use Rattle.ev_types.specs.declared.journals.Row.{Row}
 use Rattle.ev_tree.specs.Scalars.{u32_text, list_in}
-use Rattle.ev_script.specs.Members.{whole_within, name_of, member_of, member_or, or_default}
+use Rattle.ev_script.specs.Members.{whole_within, name_of, member_of, or_default}
 use Rattle.ev_journal.specs.Rows.{IsGeneration, IsHost, IsActor, IsVerdict, IsRequest, IsAnswer}
 use Rattle.ev_journal_read.specs.declared.requests.RequestLists.{RequestLists}
 use Rattle.ev_journal_read.specs.declared.rows.RowHead.{RowHead}
 use Rattle.ev_journal_read.specs.Words.{number_behind, actor_named, rule_of, verdict_named, answer_named, unserved_named}
-use Rattle.ev_journal_read.specs.Trees.{number16, number32, number64, generation_of, all_read, list_of, pair_of, pairs_of, versions_of, names_at, kind_of, texts_of, lists_with, lists_of, request_with, request_of, verdict_of, sent_answer, version_answer, local_answer, host_with, host_of, served_answer, taken_answer, result_answer, answer_with, answer_by, answer_of, actor_of, op_of, head_with, head_of, row_with, row_of}
+use Rattle.ev_journal_read.specs.Trees.{number16, number32, number64, generation_of, all_read, list_of, pair_of, pairs_of, versions_of, versions_at, names_at, kind_of, texts_of, lists_with, lists_of, request_with, request_of, verdict_of, sent_answer, version_answer, local_answer, host_with, host_of, served_answer, taken_answer, result_answer, answer_with, answer_by, answer_of, actor_of, op_of, head_with, head_of, row_with, row_of}
 use Rattle.ev_journal_read.proofs.EachLemmas.{All-none, All-more}
 use Rattle.ev_journal_read.proofs.VersionLemmas.{HasName, AreNamed}
 
@@ -183,7 +183,7 @@ lists_kept tree =
     kept_then (All IsName) AreLists _
     (λ subscribe s. kept_then (All IsName) AreLists _
     (λ unsubscribe u. kept_map AreNamed AreLists (lists_with subscribe unsubscribe) (λ versions v. record { subscribed = s; unsubscribed = u; held = v })
-    (member_or [] versions_of (codes "initialResourceVersions") tree)
+    (versions_at tree)
     (default_kept AreNamed versions_of [] (All-none HasName) versions_kept (get (codes "initialResourceVersions") tree)))
     (names_at (codes "resourceNamesUnsubscribe") tree) (names_kept (codes "resourceNamesUnsubscribe") tree))
     (names_at (codes "resourceNamesSubscribe") tree) (names_kept (codes "resourceNamesSubscribe") tree)

@@ -15,7 +15,7 @@ use Rattle.ev_journal.specs.Rows.{IsRequest, chosen_nonce, chosen_versions, chos
 use Rattle.ev_journal_read.specs.declared.requests.RequestTexts.{RequestTexts}
 use Rattle.ev_journal_read.specs.declared.requests.RequestLists.{RequestLists}
 use Rattle.ev_journal_read.specs.Words.{kind_named}
-use Rattle.ev_journal_read.specs.Trees.{list_of, given_text, given_id, given_message, versions_of, names_at, kind_of, texts_with, texts_of, lists_with, lists_of, request_with, request_of}
+use Rattle.ev_journal_read.specs.Trees.{list_of, given_text, given_id, given_message, versions_of, versions_at, names_at, kind_of, texts_with, texts_of, lists_with, lists_of, request_with, request_of}
 use Rattle.ev_journal_read.proofs.WordLemmas.{kind_named-url}
 use Rattle.ev_journal_read.proofs.PartLemmas.{name_of-string, list_of-same}
 use Rattle.ev_journal_read.proofs.VersionLemmas.{AreNamed, pairs_of-versions}
@@ -145,7 +145,7 @@ its_error r =
     ∙ past_names (codes "errorDetail") (codes "resourceNamesUnsubscribe") r.unsubscribe (answering r) refl
     ∙ past_nonce (codes "errorDetail") r.nonce (typed r) refl)
 
-its_versions : (r : Request) → IsRequest r → member_or [] versions_of (codes "initialResourceVersions") (request_tree r) ≡ Some (chosen_versions r.versions)
+its_versions : (r : Request) → IsRequest r → versions_at (request_tree r) ≡ Some (chosen_versions r.versions)
 its_versions r h =
     ap (or_default versions_of [])
     (past_error (codes "initialResourceVersions") r.error (holding r) refl)

@@ -3,8 +3,11 @@
 use Rattle.std.specs.Prelude.{ℕ, List, [], ◌∷◌, codes, Option, None, Some, option_map, option_and_then}
 use Rattle.std.specs.Str.{bytes_eq}
 use Rattle.std.specs.Prelude.{if◌then◌else◌}
+use denote.Ref.{Bor}
 use Rattle.serde_json.specs.Data.{Data, string, Members, no_members, member}
 use Rattle.serde_json.specs.Find.{get, as_str, as_object}
+use Rattle.serde_json.specs.View.{view}
+use Rattle.serde_json.specs.declared.value.Value.{Value}
 use Rattle.ev_types.specs.declared.contents.Kind.{Kind}
 use Rattle.ev_types.specs.declared.contents.Request.{Request}
 use Rattle.ev_types.specs.declared.events.Actor.{Actor}
@@ -65,6 +68,10 @@ pairs_of (member key tree others) = option_and_then (λ (one : List ℕ × List 
 abbrev pub versions_of : Data → Option (List (List ℕ × List ℕ))
 versions_of tree = option_and_then pairs_of (as_object tree)
 
+-- the versions that a request holds; none are given where they are absent
+abbrev pub versions_at : Data → Option (List (List ℕ × List ℕ))
+versions_at tree = member_or [] versions_of (codes "initialResourceVersions") tree
+
 -- a text that is given
 abbrev pub given_text : Data → Option (Option (List ℕ))
 given_text tree = option_map (λ text. Some text) (as_str tree)
@@ -105,7 +112,7 @@ lists_with subscribe unsubscribe versions = record { subscribe = subscribe; unsu
 abbrev pub lists_of : Data → Option RequestLists
 lists_of tree =
     option_and_then (λ subscribe. option_and_then (λ unsubscribe. option_map (λ versions. lists_with subscribe unsubscribe versions)
-    (member_or [] versions_of (codes "initialResourceVersions") tree))
+    (versions_at tree))
     (names_at (codes "resourceNamesUnsubscribe") tree))
     (names_at (codes "resourceNamesSubscribe") tree)
 
@@ -127,6 +134,10 @@ request_of tree =
     option_and_then (λ kind. option_and_then (λ texts. option_map (λ lists. request_with kind texts lists) (lists_of tree)) (texts_of tree)) (kind_of tree)
 
 -- ---- an answer
+
+-- the tree of a member that was looked up, where there is one
+abbrev pub tree_found : Option (Bor Value) → Option Data
+tree_found found = option_map (λ (value : Bor Value). view value.now) found
 
 -- a verdict is a word
 abbrev pub verdict_of : Data → Option Verdict
@@ -182,6 +193,10 @@ answer_with (Some requests) version reaped tree = sent_answer requests (get (cod
 answer_with None (Some version) reaped tree = version_answer version (get (codes "closed") tree)
 answer_with None None (Some reaped) tree = option_map Reaped (list_of generation_of reaped)
 answer_with None None None tree = result_answer tree
+
+-- the same of members that were looked up
+abbrev pub answer_found : Option (Bor Value) → Option (Bor Value) → Option (Bor Value) → Data → Option Answer
+answer_found requests version reaped tree = answer_with (tree_found requests) (tree_found version) (tree_found reaped) tree
 
 -- the answer that a word or a tree would be
 abbrev pub answer_by : Option (List ℕ) → Data → Option Answer

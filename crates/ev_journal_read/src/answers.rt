@@ -1,7 +1,7 @@
 ghost use Rattle.std.specs.Prelude.{◌≡◌, [], option_map, IfOk};
 ghost use Rattle.serde_json.specs.View.{view};
 ghost use Rattle.ev_script.specs.Members.{member_of};
-ghost use Rattle.ev_journal_read.specs.Trees.{generation_of, number64, list_of, verdict_of, sent_answer, version_answer, local_answer, host_of, served_answer, taken_answer, result_answer, answer_with, answer_of};
+ghost use Rattle.ev_journal_read.specs.Trees.{generation_of, number64, list_of, tree_found, verdict_of, sent_answer, version_answer, local_answer, host_of, served_answer, taken_answer, result_answer, answer_found, answer_of};
 ghost use Rattle.ev_journal.specs.Rows.{is_answered_with};
 ghost use Rattle.ev_types.specs.declared.events.Answer.TheVariants as Answer;
 
@@ -78,7 +78,7 @@ fn answer_with(
     reaped: Option<&Value>,
     tree: &Value,
 ) -> Result<Option<Answer>, AllocError>
-    ensures { IfOk result (λ answer. answer ≡ answer_with (option_map (λ v. view v.now) requests.entry) (option_map (λ v. view v.now) version.entry) (option_map (λ v. view v.now) reaped.entry) (view tree.now)) }
+    ensures { IfOk result (λ answer. answer ≡ answer_found requests.entry version.entry reaped.entry (view tree.now)) }
 {
     if let Some(requests) = requests {
         return sent_answer(alloc, requests, tree.get("verdicts"));
@@ -98,7 +98,7 @@ fn sent_answer(
     requests: &Value,
     verdicts: Option<&Value>,
 ) -> Result<Option<Answer>, AllocError>
-    ensures { IfOk result (λ answer. answer ≡ sent_answer (view requests.now) (option_map (λ v. view v.now) verdicts.entry)) }
+    ensures { IfOk result (λ answer. answer ≡ sent_answer (view requests.now) (tree_found verdicts.entry)) }
 {
     let Some(requests) = read_list(alloc, requests)? else {
         return Ok(None);
@@ -118,7 +118,7 @@ fn version_answer(
     version: &Value,
     closed: Option<&Value>,
 ) -> Result<Option<Answer>, AllocError>
-    ensures { IfOk result (λ answer. answer ≡ version_answer (view version.now) (option_map (λ v. view v.now) closed.entry)) }
+    ensures { IfOk result (λ answer. answer ≡ version_answer (view version.now) (tree_found closed.entry)) }
 {
     let Some(version) = number64(version) else {
         return Ok(None);

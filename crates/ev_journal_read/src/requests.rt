@@ -1,7 +1,7 @@
-ghost use Rattle.std.specs.Prelude.{◌≡◌, None, [], codes, IfOk};
+ghost use Rattle.std.specs.Prelude.{◌≡◌, None, codes, IfOk};
 ghost use Rattle.serde_json.specs.View.{view, members_view};
 ghost use Rattle.ev_script.specs.Members.{name_of, member_or};
-ghost use Rattle.ev_journal_read.specs.Trees.{kind_of, texts_of, lists_of, names_at, given_id, given_message, given_text, pair_of, pairs_of, versions_of, request_of};
+ghost use Rattle.ev_journal_read.specs.Trees.{kind_of, texts_of, lists_of, names_at, given_id, given_message, given_text, pair_of, pairs_of, versions_of, versions_at, request_of};
 
 use crate::lists::{Element, read_list};
 use crate::parts::{given_text, given_text_at, named, read_name, word_at};
@@ -152,7 +152,7 @@ fn names_at(alloc: Global, tree: &Value, key: &str) -> Result<Option<Seq<Name>>,
 
 // The versions that are held.
 fn versions_at(alloc: Global, tree: &Value) -> Result<Option<Seq<(Name, Text)>>, AllocError>
-    ensures { IfOk result (λ versions. versions ≡ member_or [] versions_of (codes "initialResourceVersions") (view tree.now)) }
+    ensures { IfOk result (λ versions. versions ≡ versions_at (view tree.now)) }
 {
     match tree.get("initialResourceVersions") {
         Some(versions) => read_versions(alloc, versions),
