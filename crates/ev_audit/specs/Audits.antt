@@ -11,6 +11,7 @@ use Rattle.ev_types.specs.declared.journals.Row.{Row}
 use Rattle.ev_model.specs.Laws.{Laws}
 use Rattle.ev_model.specs.Operations.{actor_same}
 use Rattle.ev_model.specs.Runs.{is_batched}
+use Rattle.ev_model.specs.World.{World}
 use Rattle.ev_model_laws.specs.LegalFindings.{IsLegalJournal}
 use Rattle.ev_proxy.specs.Proxies.{IsAt}
 use Rattle.ev_walk_laws.specs.Walks.{NothingFound, journal_before, world_behind}
@@ -64,11 +65,15 @@ abbrev pub breaks_open : Option Actor → Actor → Bool
 breaks_open None actor = false
 breaks_open (Some of) actor = not (actor_same actor of)
 
+-- the world behind the rows before this place
+abbrev pub world_before : Format → ScriptParts → List Row → ℕ → World
+world_before format script rows place = world_behind format script (journal_before script rows place)
+
 -- the walk stands before this place of the rows: nothing is found so far, and it knows the machine, each actor's course and the
 -- open batch behind the journal of the rows before
 pub record IsBefore (script : ScriptParts) (rows : List Row) (place : ℕ) (walk : Walk) : Type 0 where
   pub none : NothingFound walk.courses.format script rows place
-  pub proxy : IsAt walk.proxy (world_behind walk.courses.format script (journal_before script rows place))
+  pub proxy : IsAt walk.proxy (world_before walk.courses.format script rows place)
   pub courses : HaveCome script (journal_before script rows place) walk.courses
   pub batch : walk.batch ≡ open_batch (journal_before script rows place)
 

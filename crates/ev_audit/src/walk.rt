@@ -5,8 +5,8 @@ ghost use Rattle.ev_model.specs.Finding.{end_finding, finding_at};
 ghost use Rattle.ev_model.specs.Operations.{actor_same, is_held_by};
 ghost use Rattle.ev_model.specs.World.{World};
 ghost use Rattle.ev_proxy.specs.Proxies.{IsAt};
-ghost use Rattle.ev_walk_laws.specs.Walks.{journal_before, leaves_out, world_behind};
-ghost use Rattle.ev_audit.specs.Audits.{IsBefore, batch_after, breaks_open, is_settle_word};
+ghost use Rattle.ev_walk_laws.specs.Walks.{leaves_out};
+ghost use Rattle.ev_audit.specs.Audits.{IsBefore, batch_after, breaks_open, is_settle_word, world_before};
 
 use crate::steps::{has_open, step_due};
 use ev_answers::is_same_answer;
@@ -51,7 +51,7 @@ impl Walk {
         requires within { place < length rows.now }
         requires few { length rows.now < u32.MAX }
         requires before { IsBefore script.now rows.now place self.old }
-        requires here { here ≡ world_behind self.old.courses.format script.now (journal_before script.now rows.now place) }
+        requires here { here ≡ world_before self.old.courses.format script.now rows.now place }
         ensures found { IfOk result (λ found. found
             ≡ finding_at self.old.courses.format script.now rows.now place) }
         ensures before { IfOk result (λ found. found ≡ None → IsBefore script.now rows.now (place + 1) self.new) }
