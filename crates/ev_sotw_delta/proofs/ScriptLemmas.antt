@@ -8,7 +8,7 @@ use Rattle.ev_types.specs.declared.events.Actor.TheVariants.{Stream}
 use Rattle.ev_types.specs.declared.events.Event.TheVariants.{Response}
 use Rattle.ev_tree.specs.Forms.{given_or, text_of}
 use Rattle.ev_wire.specs.Responses.{kind_with, response_kind, nonce_of, has_head, response_of}
-use Rattle.ev_script.specs.Members.{has_only, member_of}
+use Rattle.ev_script.specs.Members.{has_only, member_of, is_op}
 use Rattle.ev_script.specs.LineForms.{with_only, line_at}
 use Rattle.ev_script.specs.Lines.{line_of}
 use Rattle.ev_script.specs.declared.trees.ScriptTrees.{ScriptTrees}
@@ -25,7 +25,7 @@ use Rattle.ev_delta.specs.Delta.{delta_message}
 use Rattle.ev_delta.specs.Told.{IsDiscovery, response_told}
 use Rattle.ev_delta.proofs.ReadLemmas.{read_so}
 use Rattle.ev_sotw_lines.specs.Searches.{with_before}
-use Rattle.ev_sotw_lines.specs.Lines.{is_op, response_in, sotw_lines}
+use Rattle.ev_sotw_lines.specs.Lines.{response_in, sotw_lines}
 use Rattle.ev_sotw_lines.specs.Deltas.{removed_at, delta_line, delta_of, deltas_of}
 use Rattle.ev_sotw_delta.specs.DeltaText.{written_of, delta_script, IsWritten}
 use Rattle.ev_sotw_delta.proofs.DeltaLemmas.{placed_delta}

@@ -13,6 +13,7 @@ use Rattle.ev_types.specs.declared.events.Event.TheVariants.{Connect, Disconnect
 use Rattle.ev_types.specs.declared.events.Line.{Line}
 use Rattle.ev_model.specs.Verdicts.{is_among}
 use Rattle.ev_names.proofs.NameLemmas.{among_sorted, among_other}
+use Rattle.ev_script.specs.Members.{is_op}
 use Rattle.ev_script.specs.Lines.{line_of}
 use Rattle.ev_script.specs.Faults.{plain_lines}
 use Rattle.ev_script.proofs.KeptLemmas.{kept_line}
@@ -23,7 +24,7 @@ use Rattle.ev_delta.specs.Told.{item_told, told_with, response_told, IsDiscovery
 use Rattle.ev_delta.proofs.ReadLemmas.{read_so}
 use Rattle.ev_sotw_lines.specs.declared.names_so_far.NamesSoFar.{NamesSoFar}
 use Rattle.ev_sotw_lines.specs.Searches.{with_before}
-use Rattle.ev_sotw_lines.specs.Lines.{is_op, response_in, sotw_lines}
+use Rattle.ev_sotw_lines.specs.Lines.{response_in, sotw_lines}
 use Rattle.ev_sotw_lines.specs.Deltas.{stream_said, removed_at, delta_line, delta_of}
 use Rattle.ev_sotw_lines.specs.Follows.{FollowsLines, removed_by_kind, after_kind, after_response, after_other}
 use Rattle.ev_sotw_lines.proofs.FollowLemmas.{follows_response, follows_other, removed_follows}

@@ -12,7 +12,7 @@ use Rattle.ev_types.specs.declared.events.Event.{Event}
 use Rattle.ev_types.specs.declared.events.Event.TheVariants.{Connect, Disconnect, Response, Health, FetchTimeout, DrainTimeout, TtlExpired, Publish, Reap, Accept, Close, Settle}
 use Rattle.ev_types.specs.declared.events.Line.{Line}
 use Rattle.ev_model.specs.Operations.{actor_same}
-use Rattle.ev_script.specs.Members.{has_only, member_of}
+use Rattle.ev_script.specs.Members.{has_only, member_of, is_word, is_op}
 use Rattle.ev_script.specs.LineForms.{line_at}
 use Rattle.ev_script.specs.StreamLines.{connect_line, disconnect_line, response_line}
 use Rattle.ev_script.specs.HealthLines.{health_line, health_in}
@@ -21,7 +21,6 @@ use Rattle.ev_script.specs.MainLines.{publish_line, reap_line}
 use Rattle.ev_script.specs.WorkerLines.{worker_in, accept_line, close_line, settle_line}
 use Rattle.ev_script.specs.Lines.{main_side_line, line_by, line_of}
 use Rattle.ev_stream_laws.specs.MainSide.{stream_told}
-use Rattle.ev_sotw_lines.specs.Lines.{is_word, is_op}
 use Rattle.ev_sotw_lines.specs.Deltas.{stream_said}
 use Rattle.ev_sotw_laws.proofs.EventLemmas.{is_told}
 use Rattle.ev_sotw_laws.proofs.StripLemmas.{teller}

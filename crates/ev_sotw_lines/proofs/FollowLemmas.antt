@@ -5,14 +5,14 @@ use Rattle.std.proofs.lemmas.Bool.{false≢true}
 use Rattle.serde_json.specs.Data.{Data}
 use Rattle.serde_json.specs.Find.{as_str}
 use Rattle.ev_types.specs.Same.{bytes_decide}
-use Rattle.ev_script.specs.Members.{member_of}
+use Rattle.ev_script.specs.Members.{member_of, is_word, is_op}
 use Rattle.ev_script.specs.LineForms.{with_only}
 use Rattle.ev_types.specs.declared.contents.Kind.{Kind}
 use Rattle.ev_types.specs.declared.contents.Kind.TheVariants.{Cds, Eds, Lds, Rds}
 use Rattle.ev_model.specs.Requests.{other_than}
 use Rattle.ev_delta.specs.Discovery.{DiscoveryParts, discovery_of, names_in}
 use Rattle.ev_sotw_lines.specs.declared.names_so_far.NamesSoFar.{NamesSoFar}
-use Rattle.ev_sotw_lines.specs.Lines.{is_word, is_op, response_in}
+use Rattle.ev_sotw_lines.specs.Lines.{response_in}
 use Rattle.ev_sotw_lines.specs.Deltas.{stream_said, is_open_after, is_of_kind, names_for, names_brought, last_names, removed_of_kind, removed_at}
 use Rattle.ev_sotw_lines.specs.Follows.{FollowsLines, removed_by_kind, removed_by, after_kind, after_response, after_other}
 use Rattle.ev_sotw_lines.proofs.SearchLemmas.{or_last, open_more, names_more}

@@ -7,10 +7,11 @@ use Rattle.ev_types.specs.declared.contents.Kind.{Kind}
 use Rattle.ev_types.specs.Kinds.{kind_same}
 use Rattle.ev_model.specs.Watching.{is_by_name}
 use Rattle.ev_model.specs.Requests.{other_than}
+use Rattle.ev_script.specs.Members.{is_op}
 use Rattle.ev_delta.specs.Discovery.{DiscoveryParts, names_in}
 use Rattle.ev_delta.specs.Delta.{delta_message}
 use Rattle.ev_sotw_lines.specs.Searches.{with_before}
-use Rattle.ev_sotw_lines.specs.Lines.{is_op, response_in}
+use Rattle.ev_sotw_lines.specs.Lines.{response_in}
 
 -- ---- searches of the lines so far
 

@@ -1,12 +1,14 @@
 -- What is kept of the lines so far.
-use Rattle.std.specs.Prelude.{◌≡◌, ℕ, List, [], ◌∷◌, ◌++◌, true, false, if◌then◌else◌, codes, Option, None, Some}
-use Rattle.serde_json.specs.Data.{Data}
+use Rattle.std.specs.Prelude.{◌≡◌, ℕ, List, [], ◌∷◌, ◌++◌, map, true, false, if◌then◌else◌, codes, Option, None, Some}
+use Rattle.serde_json.specs.Data.{Data, string}
+use Rattle.serde_json.specs.View.{view}
+use Rattle.serde_json.specs.declared.value.Value.{Value}
 use Rattle.ev_types.specs.declared.contents.Kind.{Kind}
 use Rattle.ev_types.specs.declared.contents.Kind.TheVariants.{Cds, Eds, Lds, Rds}
 use Rattle.ev_model.specs.Requests.{other_than}
+use Rattle.ev_script.specs.Members.{is_op}
 use Rattle.ev_delta.specs.Discovery.{DiscoveryParts, names_in}
 use Rattle.ev_sotw_lines.specs.declared.names_so_far.NamesSoFar.{NamesSoFar}
-use Rattle.ev_sotw_lines.specs.Lines.{is_op}
 use Rattle.ev_sotw_lines.specs.Deltas.{is_open_after, last_names, delta_in}
 
 -- it is what the searches find
@@ -22,6 +24,10 @@ GoesOnBy line before after = (lines : List Data) → FollowsLines lines before �
 -- what was made of a line
 abbrev pub IsDeltaBy : NamesSoFar → Data → Option Data → Type 0
 IsDeltaBy names line made = (lines : List Data) → FollowsLines lines names → made ≡ delta_in lines line
+
+-- values are these names, each as a text
+abbrev pub AreNames : List Value → List (List ℕ) → Type 0
+AreNames values names = map view values ≡ map string names
 
 -- the names that a response removes
 abbrev pub removed_by_kind : Option Kind → NamesSoFar → DiscoveryParts → List (List ℕ)

@@ -1,21 +1,10 @@
 -- The lines of a script whose responses are those of the state of the world. All other lines are as in a script.
-use Rattle.std.specs.Prelude.{ℕ, List, [], ◌∷◌, Bool, false, if◌then◌else◌, codes, Option, None, Some, option_map}
-use Rattle.std.specs.Str.{bytes_eq}
+use Rattle.std.specs.Prelude.{ℕ, List, [], ◌∷◌, if◌then◌else◌, codes, Option, None, Some, option_map}
 use Rattle.serde_json.specs.Data.{Data}
-use Rattle.serde_json.specs.Find.{as_str}
-use Rattle.ev_script.specs.Members.{member_of}
+use Rattle.ev_script.specs.Members.{member_of, is_op}
 use Rattle.ev_script.specs.LineForms.{with_only}
 use Rattle.ev_script.specs.Faults.{LineForms, plain_lines}
 use Rattle.ev_delta.specs.Discovery.{DiscoveryParts, discovery_of}
-
--- there is a text, and it is this word
-abbrev pub is_word : List ℕ → Option (List ℕ) → Bool
-is_word word None = false
-is_word word (Some op) = bytes_eq op word
-
--- the operation of a line has this word
-abbrev pub is_op : List ℕ → Data → Bool
-is_op word tree = is_word word (member_of as_str (codes "op") tree)
 
 -- the response of the state of the world that a line brings, or none where it isn't such a line: `message` is its only member
 -- beside `op`

@@ -3,9 +3,8 @@ ghost use Rattle.serde_json.specs.View.{view};
 ghost use Rattle.ev_delta.specs.Discovery.{seen};
 ghost use Rattle.ev_sotw_lines.specs.Lines.{response_in, version_in};
 
-use crate::members::{has_only, is_op};
 use ev_delta::{Discovery, read_discovery};
-use ev_script::{FormedLine, Forms, LineTrees};
+use ev_script::{FormedLine, Forms, LineTrees, has_only, is_op};
 use serde_json::Value;
 use std::alloc::{AllocError, Global};
 

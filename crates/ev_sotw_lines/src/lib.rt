@@ -10,7 +10,6 @@
 #![tactic(auto)]
 
 mod forms;
-mod members;
 mod names_so_far;
 
 pub use forms::{SotwLines, response_in, version_in};

@@ -5,12 +5,12 @@ ghost use Rattle.ev_model.specs.Requests.{other_than};
 ghost use Rattle.ev_delta.specs.Discovery.{seen};
 ghost use Rattle.ev_delta.specs.Delta.{delta_message};
 ghost use Rattle.ev_sotw_lines.specs.Deltas.{delta_line};
-ghost use Rattle.ev_sotw_lines.specs.Follows.{FollowsLines, GoesOnBy, IsDeltaBy, removed_by, after_response, after_other};
+ghost use Rattle.ev_sotw_lines.specs.Follows.{FollowsLines, GoesOnBy, IsDeltaBy, AreNames, removed_by, after_response, after_other};
 
 use crate::forms::response_in;
-use crate::members::is_op;
 use ev_delta::{Discovery, delta_message};
 use ev_names::NameSet;
+use ev_script::is_op;
 use ev_types::Kind;
 use serde_json::{Value, json};
 use std::alloc::{AllocError, Global};
@@ -83,7 +83,7 @@ impl NamesSoFar {
         response: &Discovery<'_>,
     ) -> Result<Vec<Value>, AllocError>
         ensures follows { OnOk result (self.new ≡ after_response (seen response.now) self.old) }
-        ensures removed { let names = removed_by self.old (seen response.now) in IfOk result (λ removed. map view removed.items ≡ map string names) }
+        ensures removed { IfOk result (λ removed. AreNames removed.items (removed_by self.old (seen response.now))) }
     {
         match response.kind {
             Some(Kind::Cds) => {
@@ -107,7 +107,7 @@ fn turn(
     names: NameSet,
 ) -> Result<Vec<Value>, AllocError>
     ensures last { OnOk result (last.new ≡ (if connected then names else last.old)) }
-    ensures removed { IfOk result (λ removed. map view removed.items ≡ map string (other_than names last.old)) }
+    ensures removed { IfOk result (λ removed. AreNames removed.items (other_than names last.old)) }
 {
     let removed = last.values_without(alloc, &names)?;
     if connected {
