@@ -6,9 +6,8 @@ ghost use Rattle.ev_chains.specs.Events.{seen};
 ghost use Rattle.ev_chain_lines.specs.Lines.{header_of, event_of, event_by, listener_event, accept_event, asked_in, close_event, conn_in, port_in, server_in, bare_event};
 
 use crate::limits::{MAX_NUMBER, MAX_PORT_NUMBER};
-use crate::members::{flag_at, has_only, number_at, text_or, word_at};
 use ev_chains::ChainEvent;
-use ev_script::{FormedLine, Forms};
+use ev_script::{FormedLine, Forms, flag_at, has_only, number_at, text_or, word_at};
 use ev_types::{MAX_NAME_LENGTH, Text};
 use serde_json::Value;
 use std::alloc::{AllocError, Global};
@@ -128,13 +127,13 @@ fn accept_event(alloc: Global, tree: &Value) -> Result<Option<ChainEvent>, Alloc
 fn asked_in(alloc: Global, tree: &Value) -> Result<Option<ChainEvent>, AllocError>
     ensures { IfOk result (λ event. option_map seen event ≡ asked_in (view tree.now)) }
 {
-    let Some(conn) = number_at(tree, "conn", MAX_NUMBER) else {
+    let Some(conn) = number_at(tree, "conn", 0, MAX_NUMBER) else {
         return Ok(None);
     };
-    let Some(port) = number_at(tree, "port", MAX_PORT_NUMBER) else {
+    let Some(port) = number_at(tree, "port", 0, MAX_PORT_NUMBER) else {
         return Ok(None);
     };
-    let Some(server) = text_or(tree, "serverName", MAX_NAME_LENGTH, "") else {
+    let Some(server) = text_or(tree, "serverName", 0, MAX_NAME_LENGTH, "") else {
         return Ok(None);
     };
     Ok(Some(ChainEvent::Accept {
@@ -151,7 +150,7 @@ fn close_event(tree: &Value) -> Option<ChainEvent>
     if !has_only(tree, &["op", "conn"]) {
         return None;
     }
-    match number_at(tree, "conn", MAX_NUMBER) {
+    match number_at(tree, "conn", 0, MAX_NUMBER) {
         Some(conn) => Some(ChainEvent::Close(conn)),
         None => None,
     }

@@ -15,7 +15,6 @@ mod answers;
 mod events;
 mod limits;
 mod making;
-mod members;
 mod texts;
 
 pub use events::{ChainLines, read_event};

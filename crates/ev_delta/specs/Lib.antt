@@ -1,4 +1,3 @@
 pub mod Discovery
-pub mod Members
 pub mod Delta
 pub mod Told

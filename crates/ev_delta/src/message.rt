@@ -1,8 +1,8 @@
 ghost use Rattle.std.specs.Prelude.{◌≡◌, map, option_map, IfOk, OnOk};
 ghost use Rattle.serde_json.specs.Data.{string};
 ghost use Rattle.serde_json.specs.View.{view};
+ghost use Rattle.ev_wire.specs.Requests.{Puts};
 ghost use Rattle.ev_delta.specs.Discovery.{seen};
-ghost use Rattle.ev_delta.specs.Members.{ChangesBy};
 ghost use Rattle.ev_delta.specs.Delta.{IsMessageOf, item_tree, items_for, with_list, delta_message};
 
 use crate::discovery::{Discovery, resource_name};
@@ -51,7 +51,7 @@ fn put_list(
     key: &str,
     values: Vec<Value>,
 ) -> Result<(), AllocError>
-    ensures { OnOk result (ChangesBy (with_list key.now (map view values.items)) members.old members.new) }
+    ensures { OnOk result (Puts (with_list key.now (map view values.items)) members.old.entries members.new.entries) }
 {
     if values.len() != 0 {
         put(members, alloc, key, Value::Array(values))?;

@@ -13,11 +13,6 @@ use Rattle.ev_secrets.specs.declared.known.Told.{Told}
 use Rattle.ev_secrets.specs.declared.known.Values.{Values}
 use Rattle.ev_secrets.specs.Awaited.{awaited_same, awaited_by}
 
--- the set has this name too
-abbrev pub GainsName : {S : Type 0} → List ℕ → IndexSet (List ℕ) S → IndexSet (List ℕ) S → Type 0
-GainsName name before after =
-    (other : List ℕ) → contains bytes_eq after other ≡ (bytes_eq name other || contains bytes_eq before other)
-
 -- it was told of
 abbrev pub has_told : Told → Awaited → Bool
 has_told told (Secret name) = contains bytes_eq told.secrets name

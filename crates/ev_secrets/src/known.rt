@@ -1,9 +1,10 @@
 ghost use Rattle.std.specs.Prelude.{◌≡◌, ℕ, List, map, take, false, true, None, option_map, IfOk, OnOk};
 ghost use Rattle.serde_json.specs.View.{view};
+ghost use Rattle.ev_mentions.specs.Mentions.{Puts};
 ghost use Rattle.ev_secrets.specs.declared.awaited.Awaited.{Awaited};
 ghost use Rattle.ev_secrets.specs.declared.awaited.Awaited.TheVariants.{Endpoints};
 ghost use Rattle.ev_secrets.specs.Awaited.{services_of};
-ghost use Rattle.ev_secrets.specs.Known.{are_told, has_told, first_told, first_untold, next_of, AddsAll, Adds, AreNamesOf, GainsName, PutsValue, TakesValues, shown_value};
+ghost use Rattle.ev_secrets.specs.Known.{are_told, has_told, first_told, first_untold, next_of, AddsAll, Adds, AreNamesOf, PutsValue, TakesValues, shown_value};
 ghost use Rattle.ev_secrets.specs.Told.{value_shown};
 
 use crate::awaited::Awaited;
@@ -99,7 +100,7 @@ impl Told {
 
 // Puts a name into a set.
 fn insert(names: &mut IndexSet<Name>, name: Name) -> Result<(), AllocError>
-    ensures { OnOk result (GainsName name names.old names.new) }
+    ensures { OnOk result (Puts names.old names.new name) }
 {
     let Ok(_) = names.insert(name) else {
         return Err(AllocError);

@@ -1,7 +1,7 @@
 ghost use Rattle.std.specs.Prelude.{◌≡◌, codes, map, IfOk, OnOk};
 ghost use Rattle.serde_json.specs.Data.{array};
-ghost use Rattle.serde_json.specs.View.{view, items_of, members_view};
-ghost use Rattle.ev_wire.specs.Requests.{with_names, with_node, with_error};
+ghost use Rattle.serde_json.specs.View.{view, items_of};
+ghost use Rattle.ev_wire.specs.Requests.{Puts, with_names, with_node, with_error};
 ghost use Rattle.ev_sotw.specs.Stated.{with_text, sotw_request};
 
 use crate::known::TypeSoFar;
@@ -36,7 +36,7 @@ pub(crate) fn sotw_request(
 // Puts a text, where it isn't empty.
 #[tactic(auto, using(crate::proofs::MemberLemmas::text_given))]
 fn put_text(alloc: Global, members: &mut Members, key: &str, text: &str) -> Result<(), AllocError>
-    ensures { OnOk result (members_view members.new.entries ≡ with_text key.now text.now (members_view members.old.entries)) }
+    ensures { OnOk result (Puts (with_text key.now text.now) members.old.entries members.new.entries) }
 {
     if text.len() != 0 {
         put(members, alloc, key, json!(in alloc; text)?)?;
@@ -46,7 +46,7 @@ fn put_text(alloc: Global, members: &mut Members, key: &str, text: &str) -> Resu
 
 // Puts the names that are asked for, where there are any.
 fn put_names(alloc: Global, members: &mut Members, names: &NameSet) -> Result<(), AllocError>
-    ensures { OnOk result (members_view members.new.entries ≡ with_names (codes "resourceNames") names.now (members_view members.old.entries)) }
+    ensures { OnOk result (Puts (with_names (codes "resourceNames") names.now) members.old.entries members.new.entries) }
 {
     let values = names.values(alloc)?;
     if values.len() != 0 {
@@ -64,7 +64,7 @@ fn array_of(values: Vec<Value>) -> Value
 
 // Puts the node by its id, where one is given.
 fn put_node(alloc: Global, members: &mut Members, node: &Option<Text>) -> Result<(), AllocError>
-    ensures { OnOk result (members_view members.new.entries ≡ with_node node.now (members_view members.old.entries)) }
+    ensures { OnOk result (Puts (with_node node.now) members.old.entries members.new.entries) }
 {
     if let Some(id) = node {
         let id = json!(in alloc; {"id": id.as_str()})?;
@@ -75,7 +75,7 @@ fn put_node(alloc: Global, members: &mut Members, node: &Option<Text>) -> Result
 
 // Puts the reason of a refusal, where there is one.
 fn put_error(alloc: Global, members: &mut Members, error: &Option<Text>) -> Result<(), AllocError>
-    ensures { OnOk result (members_view members.new.entries ≡ with_error error.now (members_view members.old.entries)) }
+    ensures { OnOk result (Puts (with_error error.now) members.old.entries members.new.entries) }
 {
     if let Some(message) = error {
         let detail = json!(in alloc; {"code": 13, "message": message.as_str()})?;
