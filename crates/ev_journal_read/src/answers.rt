@@ -6,8 +6,9 @@ ghost use Rattle.ev_journal.specs.Rows.{is_answered_with};
 ghost use Rattle.ev_types.specs.declared.events.Answer.TheVariants as Answer;
 
 use crate::lists::{Element, read_list};
-use crate::parts::{generation_at, generation_of, name_at, number16_at, number64, word_at};
+use crate::parts::{generation_at, generation_of, number16_at, number64};
 use crate::words::{answer_named, unserved_named, verdict_named};
+use ev_script::{name_at, word_at};
 use ev_types::{Answer, Gen, Host, Op, Verdict};
 use serde_json::Value;
 use std::alloc::{AllocError, Global};

@@ -1,9 +1,8 @@
-ghost use Rattle.std.specs.Prelude.{◌≡◌, ◌≤◌, length, option_map, IfOk, IfSome, Some};
-ghost use Rattle.serde_json.specs.Find.{as_str};
+ghost use Rattle.std.specs.Prelude.{◌≡◌, ◌≤◌, IfOk, IfSome};
 ghost use Rattle.serde_json.specs.View.{view};
 ghost use Rattle.ev_types.specs.declared.limits.TheConstants.{MAX_NAME_LENGTH};
 ghost use Rattle.serde_json.specs.Data.{string};
-ghost use Rattle.ev_script.specs.Members.{whole_within, text_within, name_of, member_of};
+ghost use Rattle.ev_script.specs.Members.{whole_within, text_within, member_of};
 ghost use Rattle.ev_journal_read.specs.Trees.{number16, number32, number64, generation_of, given_text};
 
 use ev_types::{Gen, Name, NameError, Text};
@@ -80,23 +79,6 @@ pub(crate) fn generation_at(tree: &Value, key: &str) -> Option<Gen>
     generation_of(tree.get(key)?)
 }
 
-// A member that is a text.
-pub(crate) fn word_at<'a>(tree: &'a Value, key: &str) -> Option<&'a str>
-    ensures { option_map (λ text. text.now) result ≡ member_of as_str key.now (view tree.now) }
-{
-    tree.get(key)?.as_str()
-}
-
-// The name that a value is.
-pub(crate) fn read_name(alloc: Global, tree: &Value) -> Result<Option<Name>, AllocError>
-    ensures { IfOk result (λ made. made ≡ name_of (view tree.now)) }
-{
-    match tree.as_str() {
-        Some(text) => named(alloc, text),
-        None => Ok(None),
-    }
-}
-
 // The name of these bytes, where they are one.
 pub(crate) fn named(alloc: Global, text: &str) -> Result<Option<Name>, AllocError>
     ensures { IfOk result (λ made. made ≡ text_within 1 MAX_NAME_LENGTH (string text.now)) }
@@ -105,16 +87,6 @@ pub(crate) fn named(alloc: Global, text: &str) -> Result<Option<Name>, AllocErro
         Ok(name) => Ok(Some(name)),
         Err(NameError::Length) => Ok(None),
         Err(NameError::OutOfMemory) => Err(AllocError),
-    }
-}
-
-// A member that is a name.
-pub(crate) fn name_at(alloc: Global, tree: &Value, key: &str) -> Result<Option<Name>, AllocError>
-    ensures { IfOk result (λ made. made ≡ member_of name_of key.now (view tree.now)) }
-{
-    match tree.get(key) {
-        Some(value) => read_name(alloc, value),
-        None => Ok(None),
     }
 }
 

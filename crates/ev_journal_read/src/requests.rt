@@ -4,8 +4,9 @@ ghost use Rattle.ev_script.specs.Members.{name_of, member_or};
 ghost use Rattle.ev_journal_read.specs.Trees.{kind_of, texts_of, lists_of, names_at, given_id, given_message, given_text, pair_of, pairs_of, versions_of, versions_at, request_of};
 
 use crate::lists::{Element, read_list};
-use crate::parts::{given_text, given_text_at, named, read_name, word_at};
+use crate::parts::{given_text, given_text_at, named};
 use crate::words::kind_named;
+use ev_script::{read_name, word_at};
 use ev_types::{Kind, Name, Request, Seq, Text};
 use serde_json::{Map, Value};
 use std::alloc::{AllocError, Global};

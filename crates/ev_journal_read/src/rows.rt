@@ -6,10 +6,10 @@ ghost use Rattle.ev_journal_read.specs.Trees.{head_of, row_of};
 
 use crate::answers::{answer_at, is_answered_with};
 use crate::outcome::RowError;
-use crate::parts::{number32_at, word_at};
+use crate::parts::number32_at;
 use crate::words::{actor_named, op_named};
 use ev_journal::write_row;
-use ev_script::read_tree;
+use ev_script::{read_tree, word_at};
 use ev_types::{Actor, Op, Row};
 use serde_json::Value;
 use std::alloc::{AllocError, Global};
