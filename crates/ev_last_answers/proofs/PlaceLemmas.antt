@@ -17,7 +17,7 @@ use Rattle.ev_expand.specs.Fronts.{Front, fronts, up_to}
 use Rattle.ev_expand.specs.Guarding.{Guarded, each_once, guarded_by, guarded_in, place_in}
 use Rattle.ev_expand.specs.Keys.{key_decides, key_same}
 use Rattle.ev_expand.proofs.DistinctLemmas.{IsExtended, once_distinct, once_extends, own_place, place_has}
-use Rattle.ev_sealed.proofs.CountLemmas.{places_same}
+use Rattle.ev_expand_laws.proofs.CountLemmas.{places_same}
 use Rattle.ev_sealed.proofs.FrontLemmas.{up_to_at}
 use Rattle.ev_sealed.proofs.ListLemmas.{back_get, in_kept, in_map, map_in}
 use Rattle.ev_sealed.proofs.ToldLemmas.{guarded_stays}

@@ -34,7 +34,7 @@ use Rattle.ev_expand.specs.Private.{body_uses, event_uses, first_use, item_uses,
 use Rattle.ev_expand.proofs.EventLemmas.{cluster_items_read, items_read}
 use Rattle.ev_expand_laws.specs.Waiting.{waiting_cluster, waiting_item}
 use Rattle.ev_expand_laws.proofs.ReadLemmas.{guarded_item, other_item}
-use Rattle.ev_sealed.proofs.CountLemmas.{places_same}
+use Rattle.ev_expand_laws.proofs.CountLemmas.{places_same}
 use Rattle.ev_sealed.proofs.FrontLemmas.{front_at}
 use Rattle.ev_sealed.proofs.ListLemmas.{in_map, map_in}
 use Rattle.ev_dns.specs.Resolving.{dns_rules, has_guarded}

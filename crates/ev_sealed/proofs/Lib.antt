@@ -5,7 +5,6 @@ pub mod SaidLemmas
 pub mod FrontLemmas
 pub mod ToldLemmas
 pub mod UsedLemmas
-pub mod CountLemmas
 pub mod TextLemmas
 pub mod TellingLemmas
 pub mod SealedLemmas

@@ -29,12 +29,12 @@ use Rattle.ev_expand.specs.Fronts.{event_of, stream_at, up_to}
 use Rattle.ev_expand.specs.Guarding.{Guarded, guarded_by, private_name}
 use Rattle.ev_expand.specs.Private.{first_use}
 use Rattle.ev_expand_laws.specs.Said.{given_lines, lines_in}
+use Rattle.ev_expand_laws.proofs.CountLemmas.{guarded_few, places_same}
 use Rattle.ev_secrets.specs.declared.awaited.Awaited.TheVariants.{Secret}
 use Rattle.ev_secrets.specs.References.{by_secrets}
 use Rattle.ev_secrets.specs.Sealing.{tls_rules}
 use Rattle.ev_secrets.specs.Told.{is_told, told_by}
 use Rattle.ev_sealed.specs.Sealed.{IsSealed, NamesSecret, Sealed, StandsBefore, WasTold, place_given, run_told, sealed_script}
-use Rattle.ev_sealed.proofs.CountLemmas.{guarded_few, places_same}
 use Rattle.ev_sealed.proofs.FrontLemmas.{IsFrontAt, front_at, given_before, given_rises, up_to_at}
 use Rattle.ev_sealed.proofs.ListLemmas.{in_contains}
 use Rattle.ev_sealed.proofs.NamedLemmas.{NamedBefore, NamesEndpoints, warmed_named}
@@ -158,7 +158,7 @@ module _ (trees : ScriptTrees) (format : Format) (journal : List Entry) (kept : 
       let here : slice_get (guarded_by by_secrets (lines_in trees)) due.parts.place ≡ Some complete.guarded =
       guarded_stays by_secrets (lines_in trees) (behind.index + 1) due.parts.place complete.guarded
       (subst (λ ls. slice_get (guarded_by by_secrets ls) due.parts.place ≡ Some complete.guarded) up_to_is complete.there) in
-      let few : length (guarded_by by_secrets (lines_in trees)) < ITEM_LIMIT = guarded_few (lines_in trees) kept.few_items in
+      let few : length (guarded_by by_secrets (lines_in trees)) < ITEM_LIMIT = guarded_few tls_rules (λ line some. refl) (lines_in trees) kept.few_items in
       let same : place ≡ due.parts.place =
       places_same (codes "tls/") place due.parts.place
       (omega (arith, slice_get_within (guarded_by by_secrets (lines_in trees)) place names.guarded names.there, few))
