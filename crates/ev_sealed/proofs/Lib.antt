@@ -3,6 +3,7 @@ pub mod NamedLemmas
 pub mod OrderLemmas
 pub mod SaidLemmas
 pub mod FrontLemmas
+pub mod DueLemmas
 pub mod ToldLemmas
 pub mod UsedLemmas
 pub mod TextLemmas
