@@ -1,28 +1,27 @@
 -- A resource whose body waits is read as the cluster that waits.
-use Rattle.std.proofs.Common.{◌≡◌, ◌∙◌, ℕ, zero, suc, ◌+◌, ◌≤◌, Bool, true, false, true≢false, not, ◌&&◌, nat_lt, ◌==◌, ◌/◌, ◌%◌, cond, List, [], ◌∷◌, length, Option, Some, None, Result, Ok, Err, unwrap_or, codes, decimal, refl, sym, ap, arith, length-append}
+use Rattle.std.proofs.Common.{◌≡◌, ◌∙◌, ℕ, zero, suc, ◌+◌, ◌≤◌, Bool, true, false, true≢false, not, ◌&&◌, nat_lt, ◌==◌, ◌/◌, ◌%◌, cond, List, [], ◌∷◌, length, Option, Some, None, Result, Ok, Err, codes, decimal, refl, sym, ap, arith, length-append}
 use Rattle.std.specs.Str.{bytes_eq}
 use Rattle.std.proofs.lemmas.Bool.Decides.{nat_tests}
 use Rattle.std.specs.Fmt.{digits, digits_onto, digit_glyph}
 use Rattle.serde_json.specs.Data.{Data, null, boolean, number, string, array, object}
-use Rattle.serde_json.specs.Find.{get}
 use Rattle.ev_types.specs.declared.clusters.Cluster.{Cluster}
 use Rattle.ev_types.specs.declared.contents.Kind.TheVariants.{Cds}
 use Rattle.ev_types.specs.declared.contents.Content.{Content}
 use Rattle.ev_types.specs.declared.contents.Content.TheVariants.{Cluster as a_cluster}
 use Rattle.ev_types.specs.declared.contents.Body.{Body}
-use Rattle.ev_types.specs.declared.contents.Body.TheVariants.{Good, Bad, Beat}
+use Rattle.ev_types.specs.declared.contents.Body.TheVariants.{Good, Bad}
 use Rattle.ev_tree.specs.declared.limits.TheConstants.{MAX_NAME_BYTES}
 use Rattle.ev_tree.specs.declared.outcome.Found.{Found}
 use Rattle.ev_tree.specs.declared.outcome.Found.TheVariants.{Given}
 use Rattle.ev_tree.specs.declared.span.Span.{Span}
 use Rattle.ev_tree.specs.Spelling.{camel_of}
-use Rattle.ev_tree.specs.Forms.{is_object, is_wrong, given_or, inside, present_member, value_or_absent, field_of, text_of}
+use Rattle.ev_tree.specs.Forms.{is_object, is_wrong, given_or, present_member, value_or_absent, field_of, text_of}
 use Rattle.ev_tree.specs.Spans.{is_not_positive}
 use Rattle.ev_tree.specs.Broken.{none_broken, least_of}
 use Rattle.ev_cluster_json.specs.Clusters.{cluster_reading}
 use Rattle.ev_cluster_json.proofs.RowsMade.{not_false}
 use Rattle.ev_wire.specs.Requests.{type_url}
-use Rattle.ev_wire.specs.Bodies.{is_positive, is_heartbeat, is_of_type, breaks_v1, breaks_v2, differs, breaks_v3, own_broken, content_with, content_of, body_with, resource_of, body_of}
+use Rattle.ev_wire.specs.Bodies.{is_positive, is_of_type, breaks_v1, breaks_v2, differs, breaks_v3, own_broken, content_with, content_of, body_with, resource_of, body_of}
 use Rattle.ev_wire.specs.Responses.{entry_name, ttl_of, item_of}
 use Rattle.ev_expand.specs.Editing.{with_value}
 use Rattle.ev_expand.specs.Guarding.{private_name, body_in, waiting_body, waiting_entry}
@@ -216,29 +215,3 @@ item_waits prefix place entry tree cluster short keeps good =
     waits_good (entry_name entry) service (ttl_of entry) body tree cluster waits object (some_name prefix place) (short_name prefix place short) is in
     item_with (waiting_body service body) entry (a_cluster (waiting_cluster service cluster)) (entry_object entry object)
     ((waiting_keeps service body).object ∙ object) (by_good (entry_name entry) (ttl_of entry) (waiting_body service body) (waiting_cluster service cluster) made)
-
--- ---- good resources
-
-body_there : (found : Option Data) → inside (value_or_absent (present_member found)) ≡ unwrap_or found null
-body_there None = refl
-body_there (Some null) = refl
-body_there (Some (boolean b)) = refl
-body_there (Some (number n)) = refl
-body_there (Some (string s)) = refl
-body_there (Some (array ds)) = refl
-body_there (Some (object ms)) = refl
-
-body_is : (entry : Data) → inside (field_of (codes "resource") entry) ≡ body_in entry
-unfolding field_of camel_of
-body_is entry = body_there (get (codes "resource") entry)
-
-unless_beat : (b : Bool) (body : Body) (content : Content) → cond b Beat body ≡ Good content → body ≡ Good content
-unless_beat true body content h = absurd (cc)
-unless_beat false body content h = h
-
--- a resource that is a good cluster is it by its own body
-pub good_item : (entry : Data) (cluster : Cluster) → (item_of Cds entry).body ≡ Good (a_cluster cluster) → IsClusterWith entry cluster (body_in entry)
-unfolding item_of body_of
-good_item entry cluster h =
-    ap (resource_of Cds (entry_name entry) (ttl_of entry)) (sym (body_is entry))
-    ∙ unless_beat (is_heartbeat (entry_name entry) (ttl_of entry) (field_of (codes "resource") entry)) _ (a_cluster cluster) h

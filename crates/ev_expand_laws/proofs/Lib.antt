@@ -9,3 +9,4 @@ pub mod SaidLemmas
 pub mod FormLemmas
 pub mod GivenLemmas
 pub mod ScriptLemmas
+pub mod CountLemmas

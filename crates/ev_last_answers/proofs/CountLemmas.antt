@@ -1,125 +1,23 @@
--- What is guarded in an input is less than the script that is written may have resources.
-use Rattle.std.proofs.Common.{◌≡◌, ◌∙◌, ℕ, ◌+◌, ◌<◌, ◌≤◌, Bool, true, false, cond, not, List, [], ◌∷◌, ◌++◌, length, filter, filter_map, flat_map, Option, Some, None, option_map, is_some, codes, refl, sym, ap, arith, length-append, append_assoc}
-use Rattle.std.specs.Prelude.{option_to_list}
-use Rattle.std.specs.List.{cons_option, list_any}
-use Rattle.std.proofs.lemmas.Bool.{or_parts}
-use Rattle.std.proofs.lemmas.List.{length-map}
-use Rattle.std.proofs.lemmas.List.Folds.{flat_map-map}
-use Rattle.std.proofs.lemmas.List.Sums.{sum_by-append, sum_by-cons}
-use Rattle.serde_json.specs.Data.{Data}
-use Rattle.ev_types.specs.Scripts.{items_in, items_of}
-use Rattle.ev_types.specs.declared.contents.Kind.TheVariants.{Cds}
+-- Each line with a template is written, so that fewer templates are guarded than the script may have resources.
+use Rattle.std.proofs.Common.{◌≡◌, ◌∙◌, Bool, true, false, [], Some, None, refl, sym}
 use Rattle.ev_types.specs.declared.events.Event.{Event}
-use Rattle.ev_types.specs.declared.events.Line.{Line}
-use Rattle.ev_types.specs.declared.limits.TheConstants.{ITEM_LIMIT}
-use Rattle.ev_wire.specs.Responses.{item_of}
-use Rattle.ev_script.specs.Lines.{line_of}
-use Rattle.ev_expand.specs.declared.keys.Key.{Key}
-use Rattle.ev_expand.specs.Expanding.{due_at, gives, guarded_at, lines_due, place_of}
-use Rattle.ev_expand.specs.Fronts.{Front, behind, event_of, fronts}
-use Rattle.ev_expand.specs.Guarding.{Guard, Guarded, clusters_in, each_once, guarded_by, guarded_in, guarded_of, guarded_same, waiting_entries, waiting_entry, place_at}
-use Rattle.ev_expand_laws.specs.Said.{given_lines, lines_said}
-use Rattle.ev_expand_laws.specs.Waiting.{WaitsAsSaid, has_guarded, stream_line, waiting_response}
+use Rattle.ev_types.specs.declared.events.Event.TheVariants.{Response}
+use Rattle.serde_json.specs.Data.{Data}
+use Rattle.ev_expand_laws.specs.Waiting.{WaitsAsSaid, has_guarded}
 use Rattle.ev_expand_laws.proofs.ReadLemmas.{waiting_reads}
-use Rattle.ev_dns.specs.Resolving.{dns_rules, is_written}
+use Rattle.ev_dns.specs.Resolving.{is_written}
 use Rattle.ev_dns.specs.Templates.{by_names}
 use Rattle.ev_last_answers.proofs.StreamLemmas.{unwritten_none}
-use Rattle.ev_last_answers.proofs.TextLemmas.{own_line}
 
--- ---- lists that get no longer
-
-kept_length : {X : Type 0} (p : X → Bool) (xs : List X) → length (filter p xs) ≤ length xs
-kept_length p [] = omega arith
-kept_length p (x ∷ xs) = by (p x) (kept_length p xs)
+-- a line with something guarded is written
+pub guarded_written : (line : Data) → has_guarded by_names line ≡ true → is_written line ≡ true
+guarded_written line some = by (is_written line) refl
   where
-    by : (b : Bool) → length (filter p xs) ≤ length xs → length (cond b (x ∷ filter p xs) (filter p xs)) ≤ length (x ∷ xs)
-    by true rest = omega (arith, rest)
-    by false rest = omega (arith, rest)
-
-found_length : {X Y : Type 0} (f : X → Option Y) (xs : List X) → length (filter_map f xs) ≤ length xs
-found_length f [] = omega arith
-found_length f (x ∷ xs) = by f x xs (f x) (found_length f xs)
-  where
-    by : {X Y : Type 0} (f : X → Option Y) (x : X) (xs : List X) (found : Option Y) → length (filter_map f xs) ≤ length xs
-        → length (cons_option found (filter_map f xs)) ≤ length (x ∷ xs)
-    by f x xs None rest = omega (arith, rest)
-    by f x xs (Some y) rest = omega (arith, rest)
-
-once_length : (gs : List Guarded) → length (each_once gs) ≤ length gs
-once_length [] = omega arith
-once_length (first ∷ others) =
-    omega (arith, kept_length (λ (other : Guarded). not (guarded_same other first)) (each_once others), once_length others)
-
--- ---- resources of the lines that are written
-
-said_append : (at : ℕ) (xs ys : List Data) → lines_said at (xs ++ ys) ≡ lines_said at xs ++ lines_said (at + length xs) ys
-said_append at [] ys = let place : at ≡ at + 0 = omega arith in ap (λ n. lines_said n ys) place
-said_append at (x ∷ xs) ys =
-    let place : at + 1 + length xs ≡ at + length (x ∷ xs) = omega arith in
-    ap (λ ls. option_to_list (line_of at x) ++ ls) (said_append (at + 1) xs ys ∙ ap (λ n. lines_said (at + 1) xs ++ lines_said n ys) place)
-    ∙ sym (append_assoc (option_to_list (line_of at x)) (lines_said (at + 1) xs) (lines_said (at + length (x ∷ xs)) ys))
-
-none_guarded : (guard : Guard) (entries : List Data) → list_any (λ (entry : Data). is_some (guard.key_of entry)) entries ≡ false → filter_map (guarded_of guard) entries ≡ []
-none_guarded guard [] h = refl
-none_guarded guard (entry ∷ entries) h =
-    let parts = or_parts (is_some (guard.key_of entry)) (list_any (λ (e : Data). is_some (guard.key_of e)) entries) h in
-    by (guard.key_of entry) parts.0 ∙ none_guarded guard entries parts.1
-  where
-    by : (key : Option Key) → is_some key ≡ false
-        → cons_option (option_map (λ (k : Key). record { key = k; own = guard.own_of entry }) key) (filter_map (guarded_of guard) entries) ≡ filter_map (guarded_of guard) entries
-    by None e = refl
-    by (Some key) e = absurd (cc)
-
--- a line with an event is written
-written_event : (line : Data) (event : Event) → event_of line ≡ Some event → is_written line ≡ true
-written_event line event is = by (is_written line) refl
-  where
-    differ : None ≡ Some event → ⊥
-    differ e = cc
+    differ : {P : Type 0} (event : Event) → None ≡ Some event → P
+    differ event e = absurd (cc)
 
     by : (b : Bool) → is_written line ≡ b → b ≡ true
     by true h = refl
-    by false h = absurd (differ (sym (unwritten_none line h) ∙ is))
-
--- the line of a front has no fewer resources than guarded ones
-front_items : (front : Front) (at : ℕ) → length (guarded_in by_names front.line) ≤ items_of (lines_said at (gives dns_rules front))
-front_items front at = by (has_guarded by_names front.line) refl
-  where
-    by : (b : Bool) → has_guarded by_names front.line ≡ b → length (guarded_in by_names front.line) ≤ items_of (lines_said at (gives dns_rules front))
-    by false none = omega (arith, ap length (none_guarded by_names (clusters_in front.line) none))
-    by true some =
-        let reads : WaitsAsSaid (codes "dns/") by_names (guarded_at dns_rules front) front.line =
-        waiting_reads (codes "dns/") by_names (guarded_at dns_rules front) front.line some in
-        let line : Line = stream_line at (waiting_response (codes "dns/") by_names (guarded_at dns_rules front) front.line reads.response) in
-        let due : List Data = lines_due (codes "dns/") (codes "dns-") (place_of front) (due_at dns_rules front) in
-        let later : List Line = lines_said (at + 1) due in
-        let said : lines_said at (gives dns_rules front) ≡ line ∷ later =
-        ap (λ b. lines_said at (cond b (own_line front ∷ []) [] ++ due)) (written_event front.line _ reads.event)
-        ∙ ap (λ found. option_to_list found ++ later) (reads.reads at) in
-        let own : items_in line.event ≡ length (clusters_in front.line) =
-        length-map (waiting_entries (codes "dns/") by_names (guarded_at dns_rules front) front.line) (item_of Cds)
-        ∙ length-map (clusters_in front.line) (λ (entry : Data). waiting_entry (codes "dns/") (place_at by_names (guarded_at dns_rules front) entry) entry) in
-        let sum : items_of (line ∷ later) ≡ items_in line.event + items_of later = sum_by-cons (λ (l : Line). items_in l.event) line later in
-        omega (arith, ap items_of said, own, sum, found_length (guarded_of by_names) (clusters_in front.line))
-
-fronts_items : (fs : List Front) (at : ℕ) → length (flat_map (λ (f : Front). guarded_in by_names f.line) fs) ≤ items_of (lines_said at (flat_map (gives dns_rules) fs))
-fronts_items [] at = omega arith
-fronts_items (f ∷ fs) at =
-    let joined : length (guarded_in by_names f.line ++ flat_map (λ (g : Front). guarded_in by_names g.line) fs)
-    ≡ length (guarded_in by_names f.line) + length (flat_map (λ (g : Front). guarded_in by_names g.line) fs) =
-    length-append (guarded_in by_names f.line) (flat_map (λ (g : Front). guarded_in by_names g.line) fs) in
-    let sum : items_of (lines_said at (gives dns_rules f ++ flat_map (gives dns_rules) fs))
-    ≡ items_of (lines_said at (gives dns_rules f)) + items_of (lines_said (at + length (gives dns_rules f)) (flat_map (gives dns_rules) fs)) =
-    ap items_of (said_append at (gives dns_rules f) (flat_map (gives dns_rules) fs))
-    ∙ sum_by-append (λ (l : Line). items_in l.event) (lines_said at (gives dns_rules f)) (lines_said (at + length (gives dns_rules f)) (flat_map (gives dns_rules) fs)) in
-    omega (arith, joined, sum, front_items f at, fronts_items fs (at + length (gives dns_rules f)))
-
-fronts_lines : {X : Type 0} (f : Data → List X) (lines : List Data) → flat_map (λ (front : Front). f front.line) (fronts lines) ≡ flat_map f lines
-fronts_lines f [] = refl
-fronts_lines f (line ∷ lines) =
-    ap (λ xs. f line ++ xs) (flat_map-map (λ (front : Front). f front.line) (behind line) (fronts lines) ∙ fronts_lines f lines)
-
--- fewer are guarded than a script may have resources
-pub guarded_few : (lines : List Data) → items_of (lines_said 2 (given_lines dns_rules lines)) < ITEM_LIMIT → length (guarded_by by_names lines) < ITEM_LIMIT
-guarded_few lines few =
-    omega (arith, once_length (flat_map (guarded_in by_names) lines), ap length (fronts_lines (guarded_in by_names) lines), fronts_items (fronts lines) 2, few)
+    by false h =
+        let waits : WaitsAsSaid [] by_names [] line = waiting_reads [] by_names [] line some in
+        differ (Response waits.response) (sym (unwritten_none line h) ∙ waits.event)

@@ -17,7 +17,7 @@ use Rattle.ev_expand.proofs.DistinctLemmas.{place_has}
 use Rattle.ev_expand_laws.specs.Waiting.{GuardsClusters}
 use Rattle.ev_sealed.proofs.FrontLemmas.{up_to_at}
 use Rattle.ev_sealed.proofs.ListLemmas.{flat_in, in_any, in_kept}
-use Rattle.ev_sealed.proofs.ToldLemmas.{guarded_stays}
+use Rattle.ev_sealed.proofs.DueLemmas.{guarded_stays}
 use Rattle.ev_dns.specs.Resolving.{has_guarded}
 use Rattle.ev_last_answers.proofs.ListLemmas.{found_in, got}
 use Rattle.ev_dns.specs.Templates.{body_key, by_names, is_strict_dns, read_static}

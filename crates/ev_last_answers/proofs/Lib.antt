@@ -4,7 +4,6 @@ pub mod DueLemmas
 pub mod TextLemmas
 pub mod OrderLemmas
 pub mod EntryLemmas
-pub mod UnusedLemmas
 pub mod NameLemmas
 pub mod MakerLemmas
 pub mod GuardLemmas

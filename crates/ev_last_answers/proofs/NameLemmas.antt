@@ -1,12 +1,11 @@
 -- An entry that names the endpoints of a place is by the line that follows one at which the place is due.
-use Rattle.std.proofs.Common.{◌≡◌, ◌∙◌, ◌⊎◌, inl, inr, ℕ, ◌+◌, true, List, ◌++◌, filter_map, decimal, Option, Some, None, option_map, codes, sym, ap, subst}
+use Rattle.std.proofs.Common.{◌≡◌, ◌∙◌, ◌⊎◌, inl, inr, ℕ, ◌+◌, true, List, ◌++◌, decimal, Some, None, codes, sym, ap, subst}
 use Rattle.std.specs.Prelude.{slice_get}
-use Rattle.std.specs.List.{list_any}
 use Rattle.std.specs.Str.{bytes_eq}
 use Rattle.std.specs.Cmp.{first_so, second_so}
 use Rattle.std.proofs.lemmas.Bool.{and_from, false≢true}
 use Rattle.serde_json.specs.Data.{Data}
-use Rattle.ev_types.specs.Items.{ItemParts, ResponseParts}
+use Rattle.ev_types.specs.Items.{ResponseParts}
 use Rattle.ev_types.specs.Kinds.{kind_same}
 use Rattle.ev_types.specs.Same.{bytes_decide}
 use Rattle.ev_types.specs.declared.contents.Kind.TheVariants.{Cds, Eds}
@@ -14,74 +13,21 @@ use Rattle.ev_types.specs.declared.events.Entry.{Entry}
 use Rattle.ev_types.specs.declared.events.Event.{Event}
 use Rattle.ev_types.specs.declared.events.Event.TheVariants.{Response, TtlExpired}
 use Rattle.ev_types.specs.declared.events.Line.{Line}
-use Rattle.ev_model.specs.Verdicts.{is_among}
-use Rattle.ev_model_laws.proofs.AnyLemmas.{or_so}
-use Rattle.ev_model_laws.proofs.OperationLists.{IsIn}
 use Rattle.ev_script.specs.Lines.{line_of}
 use Rattle.ev_stream_laws.specs.Told.{ends_name}
 use Rattle.ev_expand.specs.Expanding.{due_at, guarded_at, place_of}
-use Rattle.ev_expand.specs.Following.{DueParts}
 use Rattle.ev_expand.specs.Fronts.{Front, event_of, fronts}
 use Rattle.ev_expand.specs.Private.{event_uses, first_use, is_private}
-use Rattle.ev_expand_laws.specs.Waiting.{bare_name, following_response, name_left, name_with, stream_line, waiting_response}
-use Rattle.ev_expand_laws.proofs.ReadLemmas.{following_names}
+use Rattle.ev_expand_laws.specs.Waiting.{stream_line, waiting_response}
+use Rattle.ev_sealed.proofs.DueLemmas.{IsDueName, due_named}
 use Rattle.ev_sealed.proofs.FrontLemmas.{front_at}
-use Rattle.ev_sealed.proofs.ListLemmas.{in_any, in_found, map_in}
-use Rattle.ev_sealed.proofs.NamedLemmas.{NamesEndpoints, is_named}
-use Rattle.ev_sealed.proofs.UsedLemmas.{named_used}
+use Rattle.ev_sealed.proofs.NamedLemmas.{NamesEndpoints}
+use Rattle.ev_sealed.proofs.UsedLemmas.{event_unused, named_used, private_begins}
 use Rattle.ev_dns.specs.Resolving.{dns_rules}
 use Rattle.ev_dns.specs.Templates.{by_names}
 use Rattle.ev_last_answers.specs.LastAnswers.{name_of_place}
 use Rattle.ev_last_answers.proofs.EntryLemmas.{IsBy}
-use Rattle.ev_last_answers.proofs.UnusedLemmas.{event_unused, private_begins}
 use Rattle.ev_last_answers.proofs.TextLemmas.{IsFollower, IsOwn, IsWaiting, due_response, follower_says, given_is, own_line, own_says}
-
--- ---- names that are due
-
--- one of the places that are due has the name
-pub record IsDueName (due : List DueParts) (name : List ℕ) : Type 0 where
-  pub parts : DueParts
-  pub among : IsIn parts due
-  pub named : name ≡ name_of_place parts.place
-
-with_is : (name other : List ℕ) (endpoints : Option Data) → option_map (λ (d : Data). name) endpoints ≡ Some other → other ≡ name
-with_is name other None h = absurd (cc)
-with_is name other (Some endpoints) h = cc
-
-left_is : (name other : List ℕ) (endpoints : Option Data) → bare_name name endpoints ≡ Some other → other ≡ name
-left_is name other None h = cc
-left_is name other (Some endpoints) h = absurd (cc)
-
-module _ (version name : List ℕ) (due : List DueParts) where
-  abbrev made : ResponseParts
-  made = following_response (codes "dns/") (codes "dns-") version due
-
-  item_named : list_any (λ (item : ItemParts). bytes_eq item.name name) made.items ≡ true → IsDueName due name
-  item_named h =
-      let one = in_any (λ (item : ItemParts). bytes_eq item.name name) made.items h in
-      let among : IsIn one.0.name (filter_map (name_with (codes "dns/")) due) =
-      subst (IsIn one.0.name) (following_names (codes "dns/") (codes "dns-") version due) (map_in (λ (item : ItemParts). item.name) made.items one.0 one.1) in
-      let found = in_found (name_with (codes "dns/")) due one.0.name among in
-      record {
-        parts = found.0;
-        among = found.1;
-        named = sym ((bytes_decide one.0.name name).0 one.2) ∙ with_is (name_of_place found.0.place) one.0.name found.0.endpoints found.2;
-      }
-
-  removed_named : is_among name (filter_map (name_left (codes "dns/")) due) ≡ true → IsDueName due name
-  removed_named h =
-      let one = in_any (λ n. bytes_eq n name) (filter_map (name_left (codes "dns/")) due) h in
-      let found = in_found (name_left (codes "dns/")) due one.0 one.1 in
-      record {
-        parts = found.0;
-        among = found.1;
-        named = sym ((bytes_decide one.0 name).0 one.2) ∙ left_is (name_of_place found.0.place) one.0 found.0.endpoints found.2;
-      }
-
-  due_named : is_named name made ≡ true → IsDueName due name
-  due_named h =
-      or_so (list_any (λ (item : ItemParts). bytes_eq item.name name) made.items) (is_among name (filter_map (name_left (codes "dns/")) due))
-      (λ item. item_named item) (λ removed. removed_named removed) h
 
 -- ---- lines
 
@@ -124,10 +70,10 @@ own_silent lines index front at line rest unused there is speaks = by (own_says 
 -- the entry is by a line that follows one at which the name is due
 pub record SpeaksDue (lines : List Data) (entry : Entry) (by : IsBy lines entry) (name : List ℕ) : Type 0 where
   pub follows : IsFollower by.front by.inner by.tree
-  pub names : IsDueName (due_at dns_rules by.front) name
+  pub names : IsDueName (codes "dns/") (due_at dns_rules by.front) name
 
-due_speaks : (name : List ℕ) (front : Front) → SpeaksOf name (Response (due_response front)) → IsDueName (due_at dns_rules front) name
-due_speaks name front (inl names) = due_named (decimal (place_of front)) name (due_at dns_rules front) names.1
+due_speaks : (name : List ℕ) (front : Front) → SpeaksOf name (Response (due_response front)) → IsDueName (codes "dns/") (due_at dns_rules front) name
+due_speaks name front (inl names) = due_named (codes "dns/") (codes "dns-") (decimal (place_of front)) name (due_at dns_rules front) names.1
 due_speaks name front (inr ends) = absurd (false≢true ends)
 
 -- so it is where an entry says something of the endpoints of a place

@@ -9,8 +9,8 @@ use Rattle.ev_types.specs.declared.events.Entry.{Entry}
 use Rattle.ev_model.specs.Operations.{Operation, actor_same, actor_decides, entries_of, is_earlier, operation_of, operations_of}
 use Rattle.ev_model_laws.proofs.OperationLists.{IsIn, at_in}
 use Rattle.ev_model_laws.proofs.RisingOperations.{IsRising, operations_rise}
-use Rattle.ev_sealed.proofs.ListLemmas.{in_get, in_kept, map_in}
-use Rattle.ev_sealed.proofs.OrderLemmas.{DoneBefore, done_before}
+use Rattle.ev_sealed.proofs.ListLemmas.{in_get, in_kept}
+use Rattle.ev_sealed.proofs.OrderLemmas.{DoneBefore, done_before, entry_among}
 
 -- of two in a rising list one is the earlier, or they are one
 pub rising_either : (os : List Operation) (a b : Operation) → IsRising os → IsIn a os → IsIn b os → (a ≡ b) ⊎ ((is_earlier a b ≡ true) ⊎ (is_earlier b a ≡ true))
@@ -42,14 +42,6 @@ rises_at mine (x ∷ os) (suc q) (suc m) a b rises there here first second less 
     rises_at mine os q m a b (rest_rises mine os x (mine x) rises) there here first second (omega (arith, less))
 
 module _ (script : ScriptParts) (journal : List Entry) (actor : Actor) (kept : IsScript script) (holds : entries_of journal actor ≡ operations_of script actor) where
-  -- an entry of the actor is one of its operations
-  pub entry_among : (q : ℕ) (entry : Entry) → slice_get journal q ≡ Some entry → entry.actor ≡ actor → IsIn (operation_of entry) (operations_of script actor)
-  entry_among q entry there mine =
-      subst (IsIn (operation_of entry)) holds
-      (in_kept (λ (o : Operation). actor_same o.actor actor) (map operation_of journal) (operation_of entry)
-      (map_in operation_of journal entry (in_get journal q entry there))
-      ((actor_decides entry.actor actor).1 mine))
-
   -- of two entries of the actor the first is the earlier
   pub entries_rise : (q m : ℕ) (first second : Entry) → slice_get journal q ≡ Some first → slice_get journal m ≡ Some second → first.actor ≡ actor → second.actor ≡ actor
       → q < m → is_earlier (operation_of first) (operation_of second) ≡ true
@@ -72,7 +64,7 @@ module _ (script : ScriptParts) (journal : List Entry) (actor : Actor) (kept : I
   pub done_by : (k : ℕ) (entry : Entry) (o : Operation) → slice_get journal k ≡ Some entry → entry.actor ≡ actor → IsIn o (operations_of script actor)
       → is_earlier (operation_of entry) o ≡ false → IsDoneBy k o
   done_by k entry o there mine among late =
-      by (rising_either (operations_of script actor) o (operation_of entry) (operations_rise script actor kept) among (entry_among k entry there mine))
+      by (rising_either (operations_of script actor) o (operation_of entry) (operations_rise script actor kept) among (entry_among script journal actor k entry holds there mine))
     where
       by : (o ≡ operation_of entry) ⊎ ((is_earlier o (operation_of entry) ≡ true) ⊎ (is_earlier (operation_of entry) o ≡ true)) → IsDoneBy k o
       by (inl same) = record { place = k; within = omega arith; entry = entry; there = there; does = sym same }

@@ -5,29 +5,26 @@ use Rattle.std.specs.List.{enumerate_from, list_any}
 use Rattle.std.specs.Str.{bytes_eq}
 use Rattle.std.proofs.lemmas.Grind.{flat_map-append}
 use Rattle.std.proofs.lemmas.List.{take-append-drop}
-use Rattle.std.proofs.lemmas.Option.{slice_get_within}
 use Rattle.serde_json.specs.Data.{Data}
 use Rattle.ev_types.specs.Same.{bytes_decide}
 use Rattle.ev_types.specs.declared.limits.TheConstants.{ITEM_LIMIT}
 use Rattle.ev_model_laws.proofs.AnyLemmas.{any_flat}
-use Rattle.ev_model_laws.proofs.OperationLists.{IsIn, in_filter}
+use Rattle.ev_model_laws.proofs.OperationLists.{IsIn}
 use Rattle.ev_expand.specs.Expanding.{due_at, gives, guarded_at, lines_due, place_of, written_line}
 use Rattle.ev_expand.specs.Following.{DueParts, following_line}
-use Rattle.ev_expand.specs.Fronts.{Front, fronts, up_to}
+use Rattle.ev_expand.specs.Fronts.{Front, up_to}
 use Rattle.ev_expand.specs.Guarding.{Guarded, each_once, guarded_by, guarded_in, place_in}
 use Rattle.ev_expand.specs.Keys.{key_decides, key_same}
 use Rattle.ev_expand.proofs.DistinctLemmas.{IsExtended, once_distinct, once_extends, own_place, place_has}
-use Rattle.ev_sealed.proofs.CountLemmas.{places_same}
-use Rattle.ev_sealed.proofs.FrontLemmas.{up_to_at}
-use Rattle.ev_sealed.proofs.ListLemmas.{back_get, in_kept, in_map, map_in}
-use Rattle.ev_sealed.proofs.ToldLemmas.{guarded_stays}
+use Rattle.ev_expand_laws.proofs.CountLemmas.{places_same}
+use Rattle.ev_sealed.proofs.ListLemmas.{back_get, in_kept, map_in}
+use Rattle.ev_sealed.proofs.DueLemmas.{guarded_stays}
 use Rattle.ev_dns.specs.Hosts.{endpoints_tree}
 use Rattle.ev_dns.specs.Resolving.{dns_rules, hosts_of, is_due}
 use Rattle.ev_dns.specs.Templates.{by_names}
 use Rattle.ev_last_answers.specs.LastAnswers.{name_of_place}
 use Rattle.ev_last_answers.proofs.DueLemmas.{was_guarded}
 use Rattle.ev_last_answers.proofs.GuardLemmas.{once_has, place_within}
-use Rattle.ev_last_answers.proofs.NameLemmas.{IsDueName}
 use Rattle.ev_last_answers.proofs.TextLemmas.{IsFollower}
 use Rattle.ev_last_answers.proofs.ListLemmas.{got, some_same}
 
@@ -68,11 +65,6 @@ guarded_fewer lines n =
 abbrev pub parts_of : Front → ℕ × Guarded → DueParts
 parts_of front p = record { place = p.0; endpoints = Some (endpoints_tree (hosts_of (up_to front) p.1.key)) }
 
-enum_in : {X : Type 0} (m : ℕ) (xs : List X) (p : ℕ × X) → IsIn p (enumerate_from m xs) → (i : ℕ) × (p.0 ≡ m + i) × (slice_get xs i ≡ Some p.1)
-enum_in m [] p is = absurd is
-enum_in m (x ∷ xs) p (inl e) = (0, sym (ap (λ q. q.0) e) ∙ omega arith, ap (λ q. Some q.1) e)
-enum_in m (x ∷ xs) p (inr is) = let rest = enum_in (m + 1) xs p is in (suc rest.0, omega (arith, rest.1), rest.2)
-
 in_enum : {X : Type 0} (m : ℕ) (xs : List X) (i : ℕ) (x : X) → slice_get xs i ≡ Some x → IsIn (m + i, x) (enumerate_from m xs)
 in_enum m [] i x h = absurd (cc)
 in_enum m (y ∷ xs) zero x h =
@@ -83,25 +75,6 @@ in_enum m (y ∷ xs) (suc i) x h =
     let place : m + 1 + i ≡ m + suc i = omega arith in
     inr (subst (λ n. IsIn (n, x) (enumerate_from (m + 1) xs)) place (in_enum (m + 1) xs i x h))
 
--- what is due stands among what is guarded, and is due
-pub record IsDueAt (front : Front) (place : ℕ) : Type 0 where
-  pub guarded : Guarded
-  pub there : slice_get (guarded_at dns_rules front) place ≡ Some guarded
-  pub due : is_due front guarded ≡ true
-
-due_among : (front : Front) (due : DueParts) → IsIn due (due_at dns_rules front) → IsDueAt front due.place
-due_among front due is =
-    let gs : List Guarded = guarded_at dns_rules front in
-    let found = in_map (parts_of front) (filter (λ (p : ℕ × Guarded). is_due front p.1) (enumerate_from 0 gs)) due is in
-    let kept = in_filter (λ (p : ℕ × Guarded). is_due front p.1) found.0 (enumerate_from 0 gs) found.1 in
-    let at = enum_in 0 gs found.0 kept.0 in
-    let place : at.0 ≡ due.place = omega (arith, at.1, ap (λ (d : DueParts). d.place) found.2) in
-    record {
-      guarded = found.0.1;
-      there = subst (λ n. slice_get gs n ≡ Some found.0.1) place at.2;
-      due = kept.1;
-    }
-
 -- a place that is due is among these
 pub among_due : (front : Front) (place : ℕ) (g : Guarded) → slice_get (guarded_at dns_rules front) place ≡ Some g → is_due front g ≡ true
     → IsIn (parts_of front (place, g)) (due_at dns_rules front)
@@ -110,22 +83,6 @@ among_due front place g there due =
     let none : 0 + place ≡ place = omega arith in
     map_in (parts_of front) (filter (λ (p : ℕ × Guarded). is_due front p.1) (enumerate_from 0 gs)) (place, g)
     (in_kept (λ (p : ℕ × Guarded). is_due front p.1) (enumerate_from 0 gs) (place, g) (subst (λ n. IsIn (n, g) (enumerate_from 0 gs)) none (in_enum 0 gs place g there)) due)
-
--- where the name of a place is due the place is
-pub named_due : (lines : List Data) (index place : ℕ) (front : Front) (g : Guarded) → length (guarded_by by_names lines) < ITEM_LIMIT
-    → slice_get (fronts lines) index ≡ Some front → slice_get (guarded_by by_names lines) place ≡ Some g → IsDueName (due_at dns_rules front) (name_of_place place)
-    → is_due front g ≡ true
-named_due lines index place front g few at there named =
-    let due : IsDueAt front named.parts.place = due_among front named.parts named.among in
-    let here : slice_get (guarded_by by_names lines) named.parts.place ≡ Some due.guarded =
-    guarded_stays by_names lines (index + 1) named.parts.place due.guarded
-    (subst (λ ls. slice_get (guarded_by by_names ls) named.parts.place ≡ Some due.guarded) (up_to_at lines index front at) due.there) in
-    let same : place ≡ named.parts.place =
-    places_same (codes "dns/") place named.parts.place
-    (omega (arith, slice_get_within (guarded_by by_names lines) place g there, few))
-    (omega (arith, slice_get_within (guarded_by by_names lines) named.parts.place due.guarded here, few)) named.named in
-    let one : due.guarded ≡ g = some_same (sym here ∙ ap (slice_get (guarded_by by_names lines)) (sym same) ∙ there) in
-    subst (λ (x : Guarded). is_due front x ≡ true) one due.due
 
 -- ---- the line that follows
 

@@ -7,7 +7,7 @@ use Rattle.std.proofs.lemmas.Bool.{false≢true, or_left}
 use Rattle.std.proofs.lemmas.Bool.Decides.{nat_tests}
 use Rattle.std.proofs.lemmas.List.Elements.{recursion_from_All}
 use Rattle.serde_json.specs.Data.{Data}
-use Rattle.ev_types.specs.Events.{IsMainSide, IsTimer, MayMake}
+use Rattle.ev_types.specs.Events.{IsMainSide, MayMake}
 use Rattle.ev_types.specs.Items.{ResponseParts}
 use Rattle.ev_types.specs.Kinds.{kind_decides, kind_same}
 use Rattle.ev_types.specs.Same.{bytes_decide}
@@ -15,7 +15,7 @@ use Rattle.ev_types.specs.Scripts.{IsScript}
 use Rattle.ev_types.specs.declared.contents.Kind.{Kind}
 use Rattle.ev_types.specs.declared.contents.Kind.TheVariants.{Eds}
 use Rattle.ev_types.specs.declared.events.Actor.{Actor}
-use Rattle.ev_types.specs.declared.events.Actor.TheVariants.{Stream, Health as health, Timer, Main, Worker}
+use Rattle.ev_types.specs.declared.events.Actor.TheVariants.{Stream}
 use Rattle.ev_types.specs.declared.events.Answer.{Answer}
 use Rattle.ev_types.specs.declared.events.Entry.{Entry}
 use Rattle.ev_types.specs.declared.events.Event.{Event}
@@ -44,18 +44,18 @@ use Rattle.ev_expand.specs.Guarding.{Guarded, guarded_by}
 use Rattle.ev_expand.specs.Private.{first_use}
 use Rattle.ev_expand_laws.specs.Said.{lines_in}
 use Rattle.ev_sealed.specs.Sealed.{run_told}
+use Rattle.ev_sealed.proofs.DueLemmas.{named_due}
 use Rattle.ev_sealed.proofs.ListLemmas.{get_in, in_any, in_map, taken_get}
 use Rattle.ev_sealed.proofs.NamedLemmas.{NamesEndpoints, wait_named}
 use Rattle.ev_sealed.proofs.OrderLemmas.{is_behind}
-use Rattle.ev_sealed.proofs.SaidLemmas.{stream_is}
-use Rattle.ev_dns.specs.Resolving.{has_guarded, is_due}
+use Rattle.ev_sealed.proofs.SaidLemmas.{stream_is, timer_main}
+use Rattle.ev_dns.specs.Resolving.{dns_rules, has_guarded, is_due}
 use Rattle.ev_dns.specs.Templates.{by_names}
 use Rattle.ev_last_answers.specs.LastAnswers.{answered_script, name_of_place}
 use Rattle.ev_last_answers.proofs.EntryLemmas.{IsBy, entry_by}
 use Rattle.ev_last_answers.proofs.MakerLemmas.{IsMaker, maker_of}
 use Rattle.ev_last_answers.proofs.NameLemmas.{SpeaksDue, speaks_due}
 use Rattle.ev_last_answers.proofs.OrderLemmas.{entries_rise}
-use Rattle.ev_last_answers.proofs.PlaceLemmas.{named_due}
 use Rattle.ev_last_answers.proofs.TextLemmas.{follower_says}
 use Rattle.ev_last_answers.proofs.WatchLemmas.{makes_guard}
 
@@ -63,13 +63,6 @@ use Rattle.ev_last_answers.proofs.WatchLemmas.{makes_guard}
 
 stream_main : (actor : Actor) → actor ≡ Stream → IsMainSide actor
 stream_main actor own = subst IsMainSide (sym own) tt
-
-timer_main : (actor : Actor) → IsTimer actor → IsMainSide actor
-timer_main Stream is = absurd is
-timer_main health is = absurd is
-timer_main Timer is = tt
-timer_main Main is = absurd is
-timer_main (Worker worker) is = absurd is
 
 -- an event that tells of a name is a response
 told_response : (kind : Kind) (name : List ℕ) (event : Event) (answer : Answer) → tells_of_name kind name event answer ≡ true → (response : ResponseParts) × (event ≡ Response response)
@@ -133,7 +126,7 @@ module _ (trees : ScriptTrees) (format : Format) (journal : List Entry) (kept : 
       let by : IsBy lines entry = entry_by trees format journal kept run k entry at (stream_main entry.actor own) (ap is_behind response.1) in
       let names : NamesEndpoints name entry.event = wait_named name false entry (or_left (tells_of_name Eds name entry.event entry.answer) false h) in
       let speaks : SpeaksDue lines entry by name = speaks_due lines entry by place unused (inl names) in
-      record { by = by; own = own; due = named_due lines by.index place by.front g few by.there there speaks.names }
+      record { by = by; own = own; due = named_due dns_rules lines by.index place by.front g few by.there there speaks.names }
 
   -- no life of the place's endpoints ends
   never_ends : (k : ℕ) (entry : Entry) → At k entry → ends_name Eds name entry.event ≡ false

@@ -34,9 +34,10 @@ use Rattle.ev_expand.specs.Private.{body_uses, event_uses, first_use, item_uses,
 use Rattle.ev_expand.proofs.EventLemmas.{cluster_items_read, items_read}
 use Rattle.ev_expand_laws.specs.Waiting.{waiting_cluster, waiting_item}
 use Rattle.ev_expand_laws.proofs.ReadLemmas.{guarded_item, other_item}
-use Rattle.ev_sealed.proofs.CountLemmas.{places_same}
+use Rattle.ev_expand_laws.proofs.CountLemmas.{places_same}
 use Rattle.ev_sealed.proofs.FrontLemmas.{front_at}
 use Rattle.ev_sealed.proofs.ListLemmas.{in_map, map_in}
+use Rattle.ev_sealed.proofs.UsedLemmas.{event_unused, private_begins}
 use Rattle.ev_dns.specs.Resolving.{dns_rules, has_guarded}
 use Rattle.ev_dns.specs.Templates.{by_names}
 use Rattle.ev_last_answers.specs.LastAnswers.{name_of_place}
@@ -44,7 +45,6 @@ use Rattle.ev_last_answers.proofs.EntryLemmas.{IsBy}
 use Rattle.ev_last_answers.proofs.GuardLemmas.{IsGuardedAt, guarded_at_place, guards_clusters, line_guards}
 use Rattle.ev_last_answers.proofs.MakerLemmas.{IsAsking, IsMaker, asking_kind, maker_of}
 use Rattle.ev_last_answers.proofs.TextLemmas.{IsFollower, IsOwn, IsWaiting, due_response, follower_says, given_is, own_says}
-use Rattle.ev_last_answers.proofs.UnusedLemmas.{event_unused, private_begins}
 use Rattle.ev_last_answers.proofs.ListLemmas.{some_same}
 
 -- ---- a line that uses a private name

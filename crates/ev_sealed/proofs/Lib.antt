@@ -3,9 +3,9 @@ pub mod NamedLemmas
 pub mod OrderLemmas
 pub mod SaidLemmas
 pub mod FrontLemmas
+pub mod DueLemmas
 pub mod ToldLemmas
 pub mod UsedLemmas
-pub mod CountLemmas
 pub mod TextLemmas
 pub mod TellingLemmas
 pub mod SealedLemmas

@@ -63,14 +63,20 @@ line_in script actor line among mine =
     ((actor_decides line.actor actor).1 mine)
 
 -- an entry of an actor whose entries are its operations of the script is one of them
+pub entry_among : (script : ScriptParts) (journal : List Entry) (actor : Actor) (q : ℕ) (entry : Entry) → entries_of journal actor ≡ operations_of script actor
+    → slice_get journal q ≡ Some entry → entry.actor ≡ actor → IsIn (operation_of entry) (operations_of script actor)
+entry_among script journal actor q entry holds there mine =
+    subst (IsIn (operation_of entry)) holds
+    (in_kept (λ (o : Operation). actor_same o.actor actor) (map operation_of journal) (operation_of entry)
+    (map_in operation_of journal entry (in_get journal q entry there))
+    ((actor_decides entry.actor actor).1 mine))
+
+-- so it is one of the script's
 pub entry_in : (script : ScriptParts) (journal : List Entry) (actor : Actor) (q : ℕ) (entry : Entry) → entries_of journal actor ≡ operations_of script actor
     → slice_get journal q ≡ Some entry → entry.actor ≡ actor → IsIn (operation_of entry) (all_operations script)
 entry_in script journal actor q entry holds there mine =
     (in_filter (λ (o : Operation). actor_same o.actor actor) (operation_of entry) (all_operations script)
-    (subst (IsIn (operation_of entry)) holds
-    (in_kept (λ (o : Operation). actor_same o.actor actor) (map operation_of journal) (operation_of entry)
-    (map_in operation_of journal entry (in_get journal q entry there))
-    ((actor_decides entry.actor actor).1 mine)))).0
+    (entry_among script journal actor q entry holds there mine)).0
 
 -- ---- which of two stands first
 

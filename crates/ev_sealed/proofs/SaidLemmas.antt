@@ -2,7 +2,7 @@
 use Rattle.std.proofs.Common.{◌≡◌, ◌∙◌, ◌⊎◌, inl, inr, ℕ, zero, suc, ◌+◌, List, [], ◌∷◌, ◌++◌, Option, Some, None, IfSome, option_map, refl, sym, ap, subst, arith}
 use Rattle.std.specs.Prelude.{slice_get, option_to_list}
 use Rattle.serde_json.specs.Data.{Data}
-use Rattle.ev_types.specs.Events.{IsStream}
+use Rattle.ev_types.specs.Events.{IsMainSide, IsStream, IsTimer}
 use Rattle.ev_types.specs.declared.events.Actor.{Actor}
 use Rattle.ev_types.specs.declared.events.Actor.TheVariants.{Stream, Health as health, Timer, Main, Worker}
 use Rattle.ev_types.specs.declared.events.Event.{Event}
@@ -79,3 +79,10 @@ stream_is health h = absurd h
 stream_is Timer h = absurd h
 stream_is Main h = absurd h
 stream_is (Worker worker) h = absurd h
+
+pub timer_main : (actor : Actor) → IsTimer actor → IsMainSide actor
+timer_main Stream is = absurd is
+timer_main health is = absurd is
+timer_main Timer is = tt
+timer_main Main is = absurd is
+timer_main (Worker worker) is = absurd is

@@ -1,15 +1,14 @@
 -- What is accepted at a cluster that waits for its secrets is accepted behind the telling of each of them.
 use Rattle.std.proofs.Common.{◌≡◌, ◌∙◌, ℕ, ◌+◌, ◌<◌, ◌≤◌, ◌==◌, nat_lt, true, false, ◌&&◌, List, length, take, decimal, Some, None, codes, refl, sym, ap, subst, arith}
-use Rattle.std.specs.Prelude.{slice_get, option_and_then, Contains}
+use Rattle.std.specs.Prelude.{slice_get, option_and_then}
 use Rattle.std.proofs.lemmas.Bool.{or_left}
 use Rattle.std.proofs.lemmas.Bool.Decides.{nat_tests}
-use Rattle.std.proofs.lemmas.Option.{slice_get_within}
 use Rattle.serde_json.specs.Data.{Data}
-use Rattle.ev_types.specs.Events.{IsMainSide, IsStream, IsTimer, MayMake}
+use Rattle.ev_types.specs.Events.{IsMainSide, IsStream, MayMake}
 use Rattle.ev_types.specs.Scripts.{IsScript}
 use Rattle.ev_types.specs.declared.contents.Kind.TheVariants.{Eds}
 use Rattle.ev_types.specs.declared.events.Actor.{Actor}
-use Rattle.ev_types.specs.declared.events.Actor.TheVariants.{Stream, Health as health, Timer, Main, Worker}
+use Rattle.ev_types.specs.declared.events.Actor.TheVariants.{Stream}
 use Rattle.ev_types.specs.declared.events.Entry.{Entry}
 use Rattle.ev_types.specs.declared.events.Event.{Event}
 use Rattle.ev_types.specs.declared.events.Event.TheVariants.{Response, FetchTimeout}
@@ -24,41 +23,30 @@ use Rattle.ev_model_laws.proofs.PlaceLemmas.{entry_answered}
 use Rattle.ev_model_laws.proofs.WarmedLemmas.{runs_warmed}
 use Rattle.ev_stream_laws.proofs.HoldLemmas.{side_holds}
 use Rattle.ev_script.specs.declared.trees.ScriptTrees.{ScriptTrees}
-use Rattle.ev_expand.specs.Expanding.{due_at}
 use Rattle.ev_expand.specs.Fronts.{event_of, stream_at, up_to}
-use Rattle.ev_expand.specs.Guarding.{Guarded, guarded_by, private_name}
+use Rattle.ev_expand.specs.Guarding.{guarded_by, private_name}
 use Rattle.ev_expand.specs.Private.{first_use}
 use Rattle.ev_expand_laws.specs.Said.{given_lines, lines_in}
+use Rattle.ev_expand_laws.proofs.CountLemmas.{guarded_few}
 use Rattle.ev_secrets.specs.declared.awaited.Awaited.TheVariants.{Secret}
 use Rattle.ev_secrets.specs.References.{by_secrets}
-use Rattle.ev_secrets.specs.Sealing.{tls_rules}
+use Rattle.ev_secrets.specs.Sealing.{is_due, tls_rules}
 use Rattle.ev_secrets.specs.Told.{is_told, told_by}
 use Rattle.ev_sealed.specs.Sealed.{IsSealed, NamesSecret, Sealed, StandsBefore, WasTold, place_given, run_told, sealed_script}
-use Rattle.ev_sealed.proofs.CountLemmas.{guarded_few, places_same}
+use Rattle.ev_sealed.proofs.DueLemmas.{named_due}
 use Rattle.ev_sealed.proofs.FrontLemmas.{IsFrontAt, front_at, given_before, given_rises, up_to_at}
 use Rattle.ev_sealed.proofs.ListLemmas.{in_contains}
 use Rattle.ev_sealed.proofs.NamedLemmas.{NamedBefore, NamesEndpoints, warmed_named}
 use Rattle.ev_sealed.proofs.OrderLemmas.{DoneBefore, IsOfLine, done_before, entry_in, is_behind, line_in, of_line}
-use Rattle.ev_sealed.proofs.SaidLemmas.{IsSaid, line_place, said_is}
+use Rattle.ev_sealed.proofs.SaidLemmas.{IsSaid, line_place, said_is, stream_is, timer_main}
 use Rattle.ev_sealed.proofs.TellingLemmas.{IsOwnLine, telling_line}
-use Rattle.ev_sealed.proofs.TextLemmas.{FollowsDue, IsDueName, text_follows}
-use Rattle.ev_sealed.proofs.ToldLemmas.{IsDueAt, IsToldAt, complete_told, due_complete, guarded_stays, told_at}
+use Rattle.ev_sealed.proofs.TextLemmas.{FollowsDue, text_follows}
+use Rattle.ev_sealed.proofs.ToldLemmas.{IsToldAt, complete_told, due_is_complete, told_at}
 
 -- ---- who names endpoints
 
 stream_main : (actor : Actor) → IsStream actor → IsMainSide actor
-stream_main Stream is = tt
-stream_main health is = absurd is
-stream_main Timer is = absurd is
-stream_main Main is = absurd is
-stream_main (Worker worker) is = absurd is
-
-timer_main : (actor : Actor) → IsTimer actor → IsMainSide actor
-timer_main Stream is = absurd is
-timer_main health is = absurd is
-timer_main Timer is = tt
-timer_main Main is = absurd is
-timer_main (Worker worker) is = absurd is
+stream_main actor is = subst IsMainSide (sym (stream_is actor is)) tt
 
 names_main : (workers : ℕ) (name : List ℕ) (actor : Actor) (event : Event) → NamesEndpoints name event → MayMake workers actor event → IsMainSide actor
 names_main workers name actor (Response response) names may = stream_main actor may
@@ -152,24 +140,13 @@ module _ (trees : ScriptTrees) (format : Format) (journal : List Entry) (kept : 
   due_told : (n place : ℕ) (line : Line) (secret : List ℕ) (behind : FollowsDue (lines_in trees) n (private_name (codes "tls/") place) line)
       → NamesSecret (lines_in trees) place secret → IsToldAt (lines_in trees) (behind.index + 1) (Secret secret)
   due_told n place line secret behind names =
-      let due : IsDueName (due_at tls_rules behind.front) (private_name (codes "tls/") place) = behind.due.names in
-      let complete : IsDueAt behind.front due.parts.place = due_complete behind.front due.parts due.among in
       let up_to_is : up_to behind.front ≡ take (behind.index + 1) (lines_in trees) = up_to_at (lines_in trees) behind.index behind.front behind.there in
-      let here : slice_get (guarded_by by_secrets (lines_in trees)) due.parts.place ≡ Some complete.guarded =
-      guarded_stays by_secrets (lines_in trees) (behind.index + 1) due.parts.place complete.guarded
-      (subst (λ ls. slice_get (guarded_by by_secrets ls) due.parts.place ≡ Some complete.guarded) up_to_is complete.there) in
-      let few : length (guarded_by by_secrets (lines_in trees)) < ITEM_LIMIT = guarded_few (lines_in trees) kept.few_items in
-      let same : place ≡ due.parts.place =
-      places_same (codes "tls/") place due.parts.place
-      (omega (arith, slice_get_within (guarded_by by_secrets (lines_in trees)) place names.guarded names.there, few))
-      (omega (arith, slice_get_within (guarded_by by_secrets (lines_in trees)) due.parts.place complete.guarded here, few)) due.named in
-      let one : complete.guarded ≡ names.guarded = some_same (sym here ∙ ap (slice_get (guarded_by by_secrets (lines_in trees))) (sym same) ∙ names.there) in
+      let few : length (guarded_by by_secrets (lines_in trees)) < ITEM_LIMIT = guarded_few tls_rules (λ line some. refl) (lines_in trees) kept.few_items in
+      let due : is_due behind.front names.guarded ≡ true =
+      named_due tls_rules (lines_in trees) behind.index place behind.front names.guarded few behind.there names.there behind.due.names in
       let heard : is_told (up_to behind.front) (Secret secret) ≡ true =
-      complete_told (up_to behind.front) complete.guarded.key secret complete.complete (subst (λ (g : Guarded). Contains g.key.names secret) (sym one) names.named) in
+      complete_told (up_to behind.front) names.guarded.key secret (due_is_complete behind.front names.guarded due) names.named in
       told_at (lines_in trees) (behind.index + 1) (Secret secret) (subst (λ ls. is_told ls (Secret secret) ≡ true) up_to_is heard)
-    where
-      some_same : {X : Type 0} {x y : X} → Some x ≡ Some y → x ≡ y
-      some_same e = cc
 
   -- what is accepted at a cluster that asks by the private name of a place was warm, so that name's endpoints were told of before
   sealed_run : first_use (codes "tls/") (lines_in trees) ≡ None → IsSealed format trees journal

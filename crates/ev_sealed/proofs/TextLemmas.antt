@@ -1,83 +1,34 @@
 -- A line of the text that names the endpoints of a private name follows a line at which the name's place is due.
-use Rattle.std.proofs.Common.{◌≡◌, ◌∙◌, ℕ, zero, suc, ◌+◌, ◌<◌, Bool, true, false, List, [], ◌∷◌, ◌++◌, filter_map, decimal, Option, Some, None, option_map, codes, refl, sym, ap, subst, arith}
+use Rattle.std.proofs.Common.{◌≡◌, ◌∙◌, ℕ, zero, suc, ◌+◌, ◌<◌, Bool, true, false, List, [], ◌∷◌, ◌++◌, decimal, Some, None, codes, refl, sym, ap, subst, arith}
 use Rattle.std.specs.Prelude.{slice_get}
-use Rattle.std.specs.List.{list_any}
-use Rattle.std.specs.Str.{bytes_eq}
 use Rattle.serde_json.specs.Data.{Data}
-use Rattle.ev_types.specs.Items.{ItemParts, ResponseParts}
-use Rattle.ev_types.specs.Same.{bytes_decide}
+use Rattle.ev_types.specs.Items.{ResponseParts}
 use Rattle.ev_types.specs.declared.contents.Kind.TheVariants.{Cds, Eds}
 use Rattle.ev_types.specs.declared.events.Actor.TheVariants.{Stream}
 use Rattle.ev_types.specs.declared.events.Event.TheVariants.{Response}
 use Rattle.ev_types.specs.declared.events.Line.{Line}
-use Rattle.ev_model.specs.Verdicts.{is_among}
-use Rattle.ev_model_laws.proofs.AnyLemmas.{or_so}
-use Rattle.ev_model_laws.proofs.OperationLists.{IsIn}
 use Rattle.ev_script.specs.Lines.{line_of}
 use Rattle.ev_expand.specs.Expanding.{due_at, gives, guarded_at, lines_due, place_of}
 use Rattle.ev_expand.specs.Following.{DueParts, following_line}
 use Rattle.ev_expand.specs.Fronts.{Front, fronts}
-use Rattle.ev_expand.specs.Guarding.{private_name, waiting_line}
+use Rattle.ev_expand.specs.Guarding.{waiting_line}
 use Rattle.ev_expand.specs.Private.{first_use}
 use Rattle.ev_expand_laws.specs.Said.{given_lines}
-use Rattle.ev_expand_laws.specs.Waiting.{WaitsAsSaid, has_guarded, bare_name, following_response, name_left, name_with, stream_line, waiting_response}
-use Rattle.ev_expand_laws.proofs.ReadLemmas.{following_names, following_reads, waiting_reads, waiting_stays}
+use Rattle.ev_expand_laws.specs.Waiting.{WaitsAsSaid, has_guarded, following_response, stream_line, waiting_response}
+use Rattle.ev_expand_laws.proofs.ReadLemmas.{following_reads, waiting_reads, waiting_stays}
 use Rattle.ev_secrets.specs.References.{by_secrets}
 use Rattle.ev_secrets.specs.Sealing.{tls_rules}
+use Rattle.ev_sealed.proofs.DueLemmas.{IsDueName, due_named}
 use Rattle.ev_sealed.proofs.FrontLemmas.{IsGivenAt, front_at, given_before, given_from}
-use Rattle.ev_sealed.proofs.ListLemmas.{in_any, in_found, map_in}
-use Rattle.ev_sealed.proofs.NamedLemmas.{NamesEndpoints, is_named}
+use Rattle.ev_sealed.proofs.NamedLemmas.{NamesEndpoints}
 use Rattle.ev_sealed.proofs.SaidLemmas.{line_event}
 use Rattle.ev_sealed.proofs.UsedLemmas.{none_names}
 
 -- ---- a line that follows
 
--- one of the places that are due has the name
-pub record IsDueName (due : List DueParts) (name : List ℕ) : Type 0 where
-  pub parts : DueParts
-  pub among : IsIn parts due
-  pub named : name ≡ private_name (codes "tls/") parts.place
-
-with_is : (name other : List ℕ) (endpoints : Option Data) → option_map (λ (d : Data). name) endpoints ≡ Some other → other ≡ name
-with_is name other None h = absurd (cc)
-with_is name other (Some endpoints) h = cc
-
-left_is : (name other : List ℕ) (endpoints : Option Data) → bare_name name endpoints ≡ Some other → other ≡ name
-left_is name other None h = cc
-left_is name other (Some endpoints) h = absurd (cc)
-
 -- the response of these, by the version of the line
 abbrev due_response : List ℕ → List DueParts → ResponseParts
 due_response version due = following_response (codes "tls/") (codes "tls-") version due
-
-item_named : (version name : List ℕ) (due : List DueParts) → list_any (λ (item : ItemParts). bytes_eq item.name name) (due_response version due).items ≡ true → IsDueName due name
-item_named version name due h =
-    let one = in_any (λ (item : ItemParts). bytes_eq item.name name) (due_response version due).items h in
-    let among : IsIn one.0.name (filter_map (name_with (codes "tls/")) due) =
-    subst (IsIn one.0.name) (following_names (codes "tls/") (codes "tls-") version due)
-    (map_in (λ (item : ItemParts). item.name) (due_response version due).items one.0 one.1) in
-    let found = in_found (name_with (codes "tls/")) due one.0.name among in
-    record {
-      parts = found.0;
-      among = found.1;
-      named = sym ((bytes_decide one.0.name name).0 one.2) ∙ with_is (private_name (codes "tls/") found.0.place) one.0.name found.0.endpoints found.2;
-    }
-
-removed_named : (name : List ℕ) (due : List DueParts) → is_among name (filter_map (name_left (codes "tls/")) due) ≡ true → IsDueName due name
-removed_named name due h =
-    let one = in_any (λ n. bytes_eq n name) (filter_map (name_left (codes "tls/")) due) h in
-    let found = in_found (name_left (codes "tls/")) due one.0 one.1 in
-    record {
-      parts = found.0;
-      among = found.1;
-      named = sym ((bytes_decide one.0 name).0 one.2) ∙ left_is (private_name (codes "tls/") found.0.place) one.0 found.0.endpoints found.2;
-    }
-
-due_named : (version name : List ℕ) (due : List DueParts) → is_named name (due_response version due) ≡ true → IsDueName due name
-due_named version name due h =
-    or_so (list_any (λ (item : ItemParts). bytes_eq item.name name) (due_response version due).items)
-    (is_among name (filter_map (name_left (codes "tls/")) due))
-    (λ item. item_named version name due item) (λ removed. removed_named name due removed) h
 
 some_same : {X : Type 0} {x y : X} → Some x ≡ Some y → x ≡ y
 some_same e = cc
@@ -85,14 +36,14 @@ some_same e = cc
 -- the line is of the stream, and one of the places that are due has the name
 pub record IsOfDue (due : List DueParts) (name : List ℕ) (line : Line) : Type 0 where
   pub by : line.actor ≡ Stream
-  pub names : IsDueName due name
+  pub names : IsDueName (codes "tls/") due name
 
 following_due : (version name : List ℕ) (due : List DueParts) (at : ℕ) (line : Line)
     → line_of at (following_line (codes "tls/") (codes "tls-") version due) ≡ Some line → NamesEndpoints name line.event → IsOfDue due name line
 following_due version name due at line is names =
     let made : stream_line at (due_response version due) ≡ line = some_same (sym (following_reads (codes "tls/") (codes "tls-") version due at (omega arith)) ∙ is) in
     let named : NamesEndpoints name (Response (due_response version due)) = subst (λ (l : Line). NamesEndpoints name l.event) (sym made) names in
-    record { by = sym (ap (λ (l : Line). l.actor) made); names = due_named version name due named.1 }
+    record { by = sym (ap (λ (l : Line). l.actor) made); names = due_named (codes "tls/") (codes "tls-") version name due named.1 }
 
 due_line : (at j place : ℕ) (due : List DueParts) (tree : Data) (name : List ℕ) (line : Line)
     → slice_get (lines_due (codes "tls/") (codes "tls-") place due) j ≡ Some tree → line_of at tree ≡ Some line → NamesEndpoints name line.event → IsOfDue due name line

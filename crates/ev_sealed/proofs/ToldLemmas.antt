@@ -1,26 +1,20 @@
--- What was told of in some lines is told of by one of them; what is due in an input, and which places its keys have.
-use Rattle.std.proofs.Common.{◌≡◌, ◌∙◌, inl, inr, ℕ, suc, ◌+◌, ◌<◌, Bool, true, ◌&&◌, ◌||◌, not, List, [], ◌∷◌, ◌++◌, map, take, filter, flat_map, Some, sym, ap, subst, arith}
-use Rattle.std.specs.Prelude.{slice_get, drop, Contains}
+-- What was told of in some lines is told of by one of them, and so is all that a key names where it is due.
+use Rattle.std.proofs.Common.{◌≡◌, ◌∙◌, inl, inr, ℕ, ◌<◌, Bool, true, ◌&&◌, ◌||◌, not, List, [], ◌∷◌, map, take, filter, flat_map, Some, sym, ap, subst}
+use Rattle.std.specs.Prelude.{slice_get, Contains}
 use Rattle.std.specs.Cmp.{first_so, second_so}
-use Rattle.std.specs.List.{list_all, enumerate_from}
-use Rattle.std.proofs.lemmas.List.{take-append-drop}
-use Rattle.std.proofs.lemmas.Grind.{flat_map-append}
+use Rattle.std.specs.List.{list_all}
 use Rattle.serde_json.specs.Data.{Data}
 use Rattle.ev_model_laws.proofs.OperationLists.{IsIn, in_filter, in_front}
 use Rattle.ev_expand.specs.declared.keys.Key.{Key}
-use Rattle.ev_expand.specs.Expanding.{due_at}
-use Rattle.ev_expand.specs.Following.{DueParts}
 use Rattle.ev_expand.specs.Fronts.{Front, fronts, heard, opens, stream_at, up_to}
-use Rattle.ev_expand.specs.Guarding.{Guard, Guarded, each_once, guarded_by, guarded_in}
-use Rattle.ev_expand.proofs.DistinctLemmas.{IsExtended, once_extends}
+use Rattle.ev_expand.specs.Guarding.{Guarded}
 use Rattle.ev_secrets.specs.declared.awaited.Awaited.{Awaited}
 use Rattle.ev_secrets.specs.declared.awaited.Awaited.TheVariants.{Secret, Endpoints}
 use Rattle.ev_secrets.specs.Awaited.{awaited_by, awaited_decides, awaited_same, services_of}
-use Rattle.ev_secrets.specs.References.{by_secrets}
-use Rattle.ev_secrets.specs.Sealing.{endpoints_by, gives_endpoints, has_guarded, is_due, tls_rules}
+use Rattle.ev_secrets.specs.Sealing.{gives_endpoints, has_guarded, is_due}
 use Rattle.ev_secrets.specs.Told.{is_complete, is_told, told_by}
 use Rattle.ev_sealed.proofs.FrontLemmas.{fronts_taken}
-use Rattle.ev_sealed.proofs.ListLemmas.{contains_in, front_get, get_in, in_any, in_flat, in_map, map_in, taken_get}
+use Rattle.ev_sealed.proofs.ListLemmas.{contains_in, get_in, in_any, in_flat, in_map, map_in, taken_get}
 
 -- one of the first n lines tells of it, where a stream is open
 pub record IsToldAt (lines : List Data) (n : ℕ) (awaited : Awaited) : Type 0 where
@@ -62,49 +56,11 @@ complete_told lines key secret complete named =
 
 -- ---- what is due
 
-enum_in : {X : Type 0} (m : ℕ) (xs : List X) (p : ℕ × X) → IsIn p (enumerate_from m xs) → (i : ℕ) × (p.0 ≡ m + i) × (slice_get xs i ≡ Some p.1)
-enum_in m [] p is = absurd is
-enum_in m (x ∷ xs) p (inl e) = (0, sym (ap (λ q. q.0) e) ∙ omega arith, ap (λ q. Some q.1) e)
-enum_in m (x ∷ xs) p (inr is) = let rest = enum_in (m + 1) xs p is in (suc rest.0, omega (arith, rest.1), rest.2)
-
--- what is due at a front is complete there
-pub record IsDueAt (front : Front) (place : ℕ) : Type 0 where
-  pub guarded : Guarded
-  pub there : slice_get (guarded_by by_secrets (up_to front)) place ≡ Some guarded
-  pub complete : is_complete (up_to front) guarded.key ≡ true
-
 middle : (a b c : Bool) → (a && b && c) ≡ true → b ≡ true
 middle a b c h = second_so a b (first_so (a && b) c h)
 
-due_is_complete : (front : Front) (g : Guarded) → is_due front g ≡ true → is_complete (up_to front) g.key ≡ true
+-- what is due at a front is complete there
+pub due_is_complete : (front : Front) (g : Guarded) → is_due front g ≡ true → is_complete (up_to front) g.key ≡ true
 due_is_complete front g h =
     middle (stream_at (up_to front)) (is_complete (up_to front) g.key)
     (opens front || has_guarded front.line g.key || not (is_complete front.before g.key) || gives_endpoints front.line g.key) h
-
-pub due_complete : (front : Front) (due : DueParts) → IsIn due (due_at tls_rules front) → IsDueAt front due.place
-due_complete front due is =
-    let gs : List Guarded = guarded_by by_secrets (up_to front) in
-    let parts : ℕ × Guarded → DueParts = λ p. record { place = p.0; endpoints = endpoints_by p.1.key.cluster.discovery (up_to front) p.1 } in
-    let found = in_map parts (filter (λ (p : ℕ × Guarded). is_due front p.1) (enumerate_from 0 gs)) due is in
-    let kept = in_filter (λ (p : ℕ × Guarded). is_due front p.1) found.0 (enumerate_from 0 gs) found.1 in
-    let at = enum_in 0 gs found.0 kept.0 in
-    let place : at.0 ≡ due.place = omega (arith, at.1, ap (λ (d : DueParts). d.place) found.2) in
-    record {
-      guarded = found.0.1;
-      there = subst (λ n. slice_get gs n ≡ Some found.0.1) place at.2;
-      complete = due_is_complete front found.0.1 kept.1;
-    }
-
--- ---- places
-
--- what is guarded at a place in the first lines is guarded there in all of them
-pub guarded_stays : (guard : Guard) (lines : List Data) (n place : ℕ) (g : Guarded) → slice_get (guarded_by guard (take n lines)) place ≡ Some g
-    → slice_get (guarded_by guard lines) place ≡ Some g
-guarded_stays guard lines n place g there =
-    let first : List Guarded = flat_map (guarded_in guard) (take n lines) in
-    let rest : List Guarded = flat_map (guarded_in guard) (drop n lines) in
-    let extended : IsExtended (each_once first) (each_once (first ++ rest)) rest = once_extends first rest in
-    let joined : first ++ rest ≡ flat_map (guarded_in guard) lines =
-    sym (flat_map-append (guarded_in guard) (take n lines) (drop n lines)) ∙ ap (flat_map (guarded_in guard)) (take-append-drop n lines) in
-    subst (λ gs. slice_get (each_once gs) place ≡ Some g) joined
-    (subst (λ gs. slice_get gs place ≡ Some g) (sym extended.grown) (front_get (each_once first) extended.more place g there))

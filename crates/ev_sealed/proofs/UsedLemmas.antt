@@ -19,12 +19,13 @@ use Rattle.ev_expand.specs.Fronts.{event_of}
 use Rattle.ev_expand.specs.Private.{event_uses, first_use, is_private, item_uses, line_uses, named_uses, response_uses}
 use Rattle.ev_sealed.proofs.NamedLemmas.{NamesEndpoints}
 
-begins : (prefix rest : List ℕ) → is_private prefix (prefix ++ rest) ≡ true
-begins [] rest = refl
-begins (n ∷ prefix) rest = ap (λ b. b && is_private prefix (prefix ++ rest)) ((numbers_decide n n).1 refl) ∙ begins prefix rest
+-- a private name begins with the prefix
+pub private_begins : (prefix rest : List ℕ) → is_private prefix (prefix ++ rest) ≡ true
+private_begins [] rest = refl
+private_begins (n ∷ prefix) rest = ap (λ b. b && is_private prefix (prefix ++ rest)) ((numbers_decide n n).1 refl) ∙ private_begins prefix rest
 
 same_private : (prefix rest name : List ℕ) → bytes_eq name (prefix ++ rest) ≡ true → is_private prefix name ≡ true
-same_private prefix rest name same = ap (is_private prefix) ((bytes_decide name (prefix ++ rest)).0 same) ∙ begins prefix rest
+same_private prefix rest name same = ap (is_private prefix) ((bytes_decide name (prefix ++ rest)).0 same) ∙ private_begins prefix rest
 
 -- an event that names endpoints by a private name uses one
 pub named_used : (prefix rest : List ℕ) (event : Event) → NamesEndpoints (prefix ++ rest) event → event_uses prefix event ≡ true
@@ -38,7 +39,7 @@ named_used prefix rest (Response response) names =
     names.1
 named_used prefix rest (FetchTimeout timeout) names =
     ap (λ name. unwrap_or (option_map (named_uses prefix timeout.kind) name) false) names.1
-    ∙ ap (λ kind. named_uses prefix kind (prefix ++ rest)) names.0 ∙ begins prefix rest
+    ∙ ap (λ kind. named_uses prefix kind (prefix ++ rest)) names.0 ∙ private_begins prefix rest
 named_used prefix rest event names = absurd names
 
 -- none of the lines passes a test that none is found to pass
@@ -63,9 +64,15 @@ none_used prefix lines i line unused there = none_passes (line_uses prefix) line
     empty None h = refl
     empty (Some n) h = absurd (cc)
 
+-- an event of one of its lines uses none
+pub event_unused : (prefix : List ℕ) (lines : List Data) (i : ℕ) (line : Data) (event : Event) → first_use prefix lines ≡ None → slice_get lines i ≡ Some line
+    → event_of line ≡ Some event → event_uses prefix event ≡ true → ⊥
+event_unused prefix lines i line event unused there is uses =
+    both_ways (line_uses prefix line) (none_used prefix lines i line unused there)
+    (ap (λ e. unwrap_or (option_map (event_uses prefix) e) false) is ∙ uses)
+
 -- so no line of the input names endpoints by a private name
 pub none_names : (prefix rest : List ℕ) (lines : List Data) (i : ℕ) (line : Data) (event : Event) → first_use prefix lines ≡ None → slice_get lines i ≡ Some line
     → event_of line ≡ Some event → NamesEndpoints (prefix ++ rest) event → ⊥
 none_names prefix rest lines i line event unused there is names =
-    let uses : line_uses prefix line ≡ true = ap (λ e. unwrap_or (option_map (event_uses prefix) e) false) is ∙ named_used prefix rest event names in
-    both_ways (line_uses prefix line) (none_used prefix lines i line unused there) uses
+    event_unused prefix lines i line event unused there is (named_used prefix rest event names)

@@ -1,3 +1,2 @@
 pub mod ShallowLemmas
-pub mod GuardLemmas
 pub mod SealLemmas
