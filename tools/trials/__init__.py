@@ -48,6 +48,27 @@ def compiled(tool, text):
         yield f'{folder}/program'
 
 
+def on_stand_in(check, tool, text, tries):
+    """Tries a tool on a stand-in for the program, the C program of this text: `tries` gets `check` and a function that calls the tool with
+    words of a command and gives (status, lines, standard error). A run of the stand-in has a second."""
+    with compiled(tool, text) as program:
+        if not program:
+            return
+
+        def lines_of(*words, data=b'in\n', **settings):
+            status, out, errors = ran(f'{TOP}/{tool}', '--program', program, '--seconds', '1', *words, data=data, env=os.environ | settings)
+            return status, out.decode().splitlines(), errors
+
+        tries(check, lines_of)
+
+
+def refuses_words(check, tool, lines_of, *more):
+    """Tries that the tool takes none of these words for a command's: no words, and numbers that are too small, among others."""
+    for words in ([], ['--all', 'replay'], ['--numbers', '0', 'replay'], ['--program', '/no/such', 'replay'], *more):
+        status = lines_of(*words)[0]
+        check(status == 2, f'{tool} {words}: status {status}')
+
+
 def ran(*words, data=b'', **how):
     """(status, standard output, standard error) of a command, both as bytes."""
     done = subprocess.run(words, input=data, capture_output=True, **how)

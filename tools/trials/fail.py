@@ -1,10 +1,8 @@
 """tools/fail on a stand-in for the program, which writes what it reads and ends otherwise than it should where it is told to."""
 import os
-import subprocess
 
-from trials import TOP, compiled, content, loaded
+from trials import TOP, content, loaded, on_stand_in, refuses_words
 
-TOOL = f'{TOP}/tools/fail'
 SCRIPT = f'{TOP}/examples/run/publish_and_accept.jsonl'
 REPLAYED = f'{TOP}/crates/worked_rows/data/realistic.out'
 # The second word says what a call that fails does.
@@ -44,17 +42,14 @@ int main(int count, char **words) {
 
 
 def run(check):
-    with compiled('tools/fail', PROGRAM) as program:
-        if program:
-            tries(check, program)
+    on_stand_in(check, 'tools/fail', PROGRAM, tries)
 
 
-def tries(check, program):
+def tries(check, lines_of):
     def told(*words, data=b'in\nof\n', **settings):
-        done = subprocess.run([TOOL, '--program', program, '--seconds', '1', *words], input=data, capture_output=True, env=os.environ | settings)
-        lines = done.stdout.decode().splitlines()
+        status, lines, errors = lines_of(*words, data=data, **settings)
         rows = [[part.strip() for part in line.split('|')[1:-1]] for line in lines[2:] if line.startswith('|')]
-        return done.returncode, rows, [line for line in lines if not line.startswith('|')], done.stderr
+        return status, rows, [line for line in lines if not line.startswith('|')], errors
 
     wanted = [['replay', '1', '7', '6', '7', '6', '2', '0'], ['replay', '7', '2', '1', '2', '1', '2', '0'],
               ['replay', '65,536', '2', '1', '2', '1', '2', '0']]
@@ -65,10 +60,7 @@ def tries(check, program):
     check(some[1] == [['replay', '1', '7 (2 tried)', '6 (2 tried)', '2', '2', '2', '0']], f'fail of some calls: {some}')
     wrongs(check, told)
     journals(check, told)
-    for words in ([], ['--all', 'replay'], ['--pieces', '0', 'replay'], ['--numbers', '0', 'replay'], ['--jobs', '0', 'replay'],
-                  ['--program', '/no/such', 'replay']):
-        status = told(*words)[0]
-        check(status == 2, f'fail {words}: status {status}')
+    refuses_words(check, 'tools/fail', lines_of, ['--pieces', '0', 'replay'], ['--jobs', '0', 'replay'])
     every = told('--numbers', '1', '--all', FIRST=REPLAYED, SECOND=REPLAYED)
     check(every[0] == 0 and len(every[1]) == 9 and every[1][3][0] == '`run` of `realistic.in`' and every[2] == [
         'Not tried, as the program hasn\'t the command: audit, chains, dns, dump, sotw, tls'], f'fail --all: {every}')

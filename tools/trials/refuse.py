@@ -1,11 +1,9 @@
 """tools/refuse on a stand-in for the program, which makes a few allocations and ends otherwise than it should where it is told to."""
 import os
-import subprocess
 from types import SimpleNamespace
 
-from trials import TOP, compiled, content, loaded
+from trials import TOP, content, loaded, on_stand_in, refuses_words
 
-TOOL = f'{TOP}/tools/refuse'
 SCRIPT = f'{TOP}/examples/run/publish_and_accept.jsonl'
 REPLAYED = f'{TOP}/crates/worked_rows/data/realistic.out'
 # Reads its input and makes ten blocks of memory; writes a line a block behind them. The word says what a refused third block does.
@@ -56,17 +54,13 @@ int main(int count, char **words) {
 
 
 def run(check):
-    with compiled('tools/refuse', PROGRAM) as program:
-        if program:
-            tries(check, program)
+    on_stand_in(check, 'tools/refuse', PROGRAM, tries)
 
 
-def tries(check, program):
-    def told(*words, data=b'in\n', **settings):
-        done = subprocess.run([TOOL, '--program', program, '--seconds', '1', *words], input=data, capture_output=True, text=False,
-                              env=os.environ | settings)
-        lines = done.stdout.decode().splitlines()
-        return done.returncode, [part.strip() for part in lines[2].split('|')[1:-1]] if len(lines) > 2 else [], lines[3:], done.stderr
+def tries(check, lines_of):
+    def told(*words, **settings):
+        status, lines, errors = lines_of(*words, **settings)
+        return status, [part.strip() for part in lines[2].split('|')[1:-1]] if len(lines) > 2 else [], lines[3:], errors
 
     status, row, other, errors = told('replay')
     check((status, row[0], row[1], row[3:]) == (0, 'replay', '10', ['0', '9', '1', '0']) and row[2].endswith(' MB'),
@@ -83,10 +77,7 @@ def tries(check, program):
               f'refuse of a program that {word}: {status} {row} {other}')
     journals(check, told)
     tables(check, told)
-    for words in ([], ['--all', 'replay'], ['--every', '-1', 'replay'], ['--numbers', '0', 'replay'], ['--repeat', '0', 'replay'],
-                  ['--program', '/no/such', 'replay']):
-        status = told(*words)[0]
-        check(status == 2, f'refuse {words}: status {status}')
+    refuses_words(check, 'tools/refuse', lines_of, ['--every', '-1', 'replay'], ['--repeat', '0', 'replay'])
 
 
 def journals(check, told):
