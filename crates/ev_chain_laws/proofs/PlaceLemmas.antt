@@ -14,7 +14,7 @@ there [] k lt = absurd (omega arith)
 there (event ∷ events) zero lt = record { event = event; at = refl }
 there (event ∷ events) (suc k) lt = let t = there events k (omega arith) in record { event = t.event; at = t.at }
 
--- the state behind an event
+-- the state after an event
 behind : (state : ChainState) (events : List Event) (k : ℕ) (event : Event) → event_at events k ≡ Some event
     → state_after state (take (suc k) events) ≡ (chain_step (state_after state (take k events)) event).0
 behind state [] k event at = absurd (cc at)

@@ -78,7 +78,7 @@ pub record MadeAt (events : List Event) (place : ℕ) (row : Row) : Type 0 where
   pub new : (state_at events place).made < row.number
   pub serving : list_any (is_row row) (state_at events (suc place)).serving ≡ true
 
--- a listener that was accepted behind the one place and before the other has no chain that equals this one
+-- a listener that was accepted after the one place and before the other has no chain that equals this one
 pub record LacksSince (events : List Event) (start place : ℕ) (chain : Chain) : Type 0 where
   pub at : ℕ
   pub behind : start < at

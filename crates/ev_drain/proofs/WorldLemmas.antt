@@ -194,7 +194,7 @@ module _ {X : Type 0} (le : X → X → Bool) (o : IsOrder le) where
   sorted_middle x [] bs all = refl
   sorted_middle x (a ∷ us) bs all = ap (put_by le a) (sorted_middle x us bs all.1) ∙ put_put le o a x all.0 (sorted_by le (us ++ bs))
 
--- where none of two lists behind one another passes, none of the first does
+-- where none of two lists after one another passes, none of the first does
 any_first : {X : Type 0} (p : X → Bool) (xs ys : List X) → list_any p (xs ++ ys) ≡ false → list_any p xs ≡ false
 any_first p [] ys h = refl
 any_first p (x ∷ xs) ys h =

@@ -37,12 +37,12 @@ HasNoOtherEmpty name kept = (other : List ℕ) → bytes_eq name other ≡ false
 abbrev pub SameUnder : WaitersKept → WaitersKept → Type 0
 SameUnder before after = (name : List ℕ) → numbers_under after name ≡ numbers_under before name
 
--- this number stands behind the others under each name that passes the test, and the same as before under each other name
+-- this number stands after the others under each name that passes the test, and the same as before under each other name
 abbrev pub Enters : (List ℕ → Bool) → ℕ → WaitersKept → WaitersKept → Type 0
 Enters test number before after =
     (name : List ℕ) → numbers_under after name ≡ numbers_under before name ++ (if test name then number ∷ [] else [])
 
--- the number of a row stands behind the others under each name under which it waits, and the same as before under each other name
+-- the number of a row stands after the others under each name under which it waits, and the same as before under each other name
 abbrev pub EntersWaiter : Retired → WaitersKept → WaitersKept → Type 0
 EntersWaiter row before after = Enters (λ name. is_waiting name row) row.number before after
 

@@ -13,7 +13,7 @@
 //!   took would go with it.
 //! - A reaping doesn't go over all that drain. What is asked about is too much at times (a close asks about what it
 //!   was open on, whatever else is open there), never too little, which is the invariant; so each change first asks,
-//!   which may fail for want of memory, and then changes what can't fail.
+//!   which may fail out of memory, and then changes what can't fail.
 //! - By the rules of format 1 a reaping goes over all that drain: no timer is waited for there, so a list of those
 //!   whose timeout came would leave some out. The program makes journals of format 2 alone.
 //! - What holds a generation is looked for in this order: a connection, then a picture, then its timer. One that is

@@ -127,7 +127,7 @@
 //! the history.
 //!
 //! Of `newest`: that an answer is the last version there is, or that it comes within some time after a commit.
-//! Between the end of a turn and its raise the word is behind, and a pass that has seen nothing new can be told the
+//! Between the end of a turn and its raise the word lags, and a pass that has seen nothing new can be told the
 //! older version. No clause says that the call looks at the word at all: a body that answers the version that the
 //! pass knows would meet every clause. The tests alone refuse it: a pass that made no turn is told a version that
 //! another published, and after two seats have published 300 times each, every pass is told 600.

@@ -237,7 +237,7 @@ module _ (es : List (ℕ × GenRow)) (number : ℕ) (row : GenRow) (own : row.nu
       (stored-push row es made drawn s more (omega arith)
       (subst (λ (gs : List (ℕ × GenRow)). IsDistinct nat_eq (keys_of gs)) (inserted fs e) (apart_from_sorted (keys_of fs) sorted)))
 
--- the entries behind a number are the rows of higher numbers
+-- the entries after a number are the rows of higher numbers
 pub entries-after : (made : ℕ) (es : List (ℕ × GenRow)) → AreNumbered es → entries_between nat_cmp (Excluded made) Unbounded es ≡ by_number (filter (is_after made) (values_of es))
 entries-after made [] h = refl
 entries-after made (e ∷ es) h =

@@ -34,7 +34,7 @@ StandsAfter change before after = (opened : List OpenMember) → StandsFor befor
 abbrev pub IsAnswerOf : {A : Type 0} → (List OpenMember → A) → List OpenMember → A → Type 0
 IsAnswerOf question ledger answer = (opened : List OpenMember) → StandsFor ledger opened → answer ≡ question opened
 
--- whatever open connections the first ledger has, the second has one more behind them
+-- whatever open connections the first ledger has, the second has one more after them
 abbrev pub Opens : OpenMember → List OpenMember → List OpenMember → Type 0
 Opens member before after = StandsAfter (λ opened. opened ++ member ∷ []) before after
 

@@ -36,17 +36,17 @@ entry_told script row = option_map (λ o. entry_of o row.answer) (operation_told
 abbrev pub journal_told : ScriptParts → List Row → List Entry
 journal_told script rows = filter_map (entry_told script) rows
 
--- the operations of an actor that stand behind all of its entries
+-- the operations of an actor that stand after all of its entries
 abbrev pub operations_left : ScriptParts → List Entry → Actor → List Operation
 operations_left script journal actor =
     filter (λ o. list_all (λ done. is_earlier done o) (entries_of journal actor)) (operations_of script actor)
 
--- the actor rests behind its last deed; before the first it rests
+-- the actor rests after its last deed; before the first it rests
 abbrev pub rests_by : Option Deed → Bool
 rests_by None = true
 rests_by (Some deed) = deed.rests
 
--- the actor rests behind the journal
+-- the actor rests after the journal
 abbrev pub is_resting : Format → ScriptParts → List Entry → Actor → Bool
 is_resting format script journal actor = rests_by (last_or None (deeds_of format script journal actor))
 
@@ -55,11 +55,11 @@ abbrev pub may_pass : Format → Bool → List Operation → ℕ
 may_pass One resting os = 0
 may_pass Two resting os = if resting then prefix_len (λ (o : Operation). is_settle o.event) os else 0
 
--- how many operations of an actor may be left out behind the journal
+-- how many operations of an actor may be left out after the journal
 abbrev pub passed : Format → ScriptParts → List Entry → Actor → ℕ
 passed format script journal actor = may_pass format (is_resting format script journal actor) (operations_left script journal actor)
 
--- the operations of an actor that may come next behind the journal: the first one left, and each behind those that may be left out
+-- the operations of an actor that may come next after the journal: the first one left, and each after those that may be left out
 abbrev pub next_operations : Format → ScriptParts → List Entry → Actor → List Operation
 next_operations format script journal actor = take (passed format script journal actor + 1) (operations_left script journal actor)
 
@@ -76,17 +76,17 @@ abbrev pub breaks_batch : Option Entry → Entry → Bool
 breaks_batch None entry = false
 breaks_batch (Some before) entry = is_batched before.event && not (actor_same entry.actor before.actor)
 
--- behind the journal the entry isn't answered as the machine answers it, or breaks into a batch
+-- after the journal the entry isn't answered as the machine answers it, or breaks into a batch
 abbrev pub is_wrong : Format → ScriptParts → List Entry → Entry → Bool
 is_wrong format script journal entry =
     not (answer_same entry.answer (step format (world_after format (opening script.workers script.node) journal) entry.actor entry.event).1)
     || breaks_batch (last_or None journal) entry
 
--- the row is an illegal entry behind the journal
+-- the row is an illegal entry after the journal
 abbrev pub is_illegal : Format → ScriptParts → List Entry → Row → Bool
 is_illegal format script journal row = unwrap_or (option_map (is_wrong format script journal) (entry_told script row)) false
 
--- what is found of the row of this number behind the journal, if anything
+-- what is found of the row of this number after the journal, if anything
 abbrev pub row_finding : Format → ScriptParts → List Entry → ℕ → Row → Option Finding
 row_finding format script journal number row =
     if is_stray format script journal row then Some (NotTheScript number)
@@ -97,14 +97,14 @@ abbrev pub finding_at : Format → ScriptParts → List Row → ℕ → Option F
 finding_at format script rows place =
     option_and_then (row_finding format script (journal_told script (take place rows)) (place + 1)) (slice_get rows place)
 
--- what is found behind the last row: an operation is missing there, or nothing is wrong
+-- what is found after the last row: an operation is missing there, or nothing is wrong
 abbrev pub end_finding : Format → ScriptParts → List Row → Finding
 end_finding format script rows =
     if list_any (λ (o : Operation). is_unfinished format script (journal_told script rows) o.actor) (all_operations script)
     then NotTheScript (length rows + 1)
     else Legal
 
--- what is found of a journal: what is found at the first place where there is anything, or behind the last row
+-- what is found of a journal: what is found at the first place where there is anything, or after the last row
 abbrev pub finding_of : Format → ScriptParts → List Row → Finding
 finding_of format script rows =
     unwrap_or (slice_get (filter_map (finding_at format script rows) (range_with_len 0 (length rows))) 0) (end_finding format script rows)

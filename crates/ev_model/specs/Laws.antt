@@ -59,7 +59,7 @@ abbrev pub HasBeenAnswered : Option Dependency → MadeRow → List Entry → Ty
 HasBeenAnswered None row entries = ⊤
 HasBeenAnswered (Some d) row entries = IsTrue (list_any (has_arrived_for row) entries)
 
--- the generation of this number was made, and answered by entries not behind place q
+-- the generation of this number was made, and answered by entries not after place q
 pub record WasAnswered (told : Told) (number q : ℕ) : Type 0 where
   pub row : MadeRow
   pub made : made_of told.journal number ≡ Some row

@@ -30,11 +30,11 @@ pub record Operation : Type 0 where
 abbrev pub line_operation : Line → Operation
 line_operation line = record { actor = line.actor; at = line.at; step = 0; event = line.event }
 
--- a step of the line's actor behind the line
+-- a step of the line's actor after the line
 abbrev pub step_behind : Line → ℕ → Event → Operation
 step_behind line step event = record { actor = line.actor; at = line.at; step = step; event = event }
 
--- each worker settles once more behind the script's last line
+-- each worker settles once more after the script's last line
 abbrev pub last_settle : ScriptParts → ℕ → Operation
 last_settle script worker = record { actor = Worker worker; at = script.count + 1; step = 0; event = Settle }
 
@@ -84,7 +84,7 @@ abbrev pub settles_between : Line → Line → Line → Bool
 settles_between earlier line other =
     is_settle other.event && actor_same other.actor line.actor && nat_lt earlier.at other.at && nat_le other.at line.at
 
--- an accept or close of the same worker, not behind this line, with no settle of the worker's own between
+-- an accept or close of the same worker, not after this line, with no settle of the worker's own between
 abbrev pub is_since_settle : List Line → Line → Line → Bool
 is_since_settle lines line other =
     is_batched other.event && actor_same other.actor line.actor && nat_le other.at line.at && not (list_any (settles_between other line) lines)
@@ -94,7 +94,7 @@ abbrev pub batch_limit : ℕ
 batch_limit = 256
 
 -- A batch is full at a line: it is an accept or close, and with it those since the worker's last settle line are so many.
--- A settle is forced behind each full batch, so twice so many make a full batch again, and so on.
+-- A settle is forced after each full batch, so twice so many make a full batch again, and so on.
 abbrev pub is_full_at : List Line → Line → Bool
 is_full_at lines line = is_batched line.event && (length (filter (is_since_settle lines line) lines) % batch_limit == 0)
 
@@ -173,11 +173,11 @@ is_held_by Timer member = false
 is_held_by Main member = false
 is_held_by (Worker worker) member = member.worker == worker
 
--- an actor rests behind an operation of its own that leads to this world: it has settled, and has no connection open
+-- an actor rests after an operation of its own that leads to this world: it has settled, and has no connection open
 abbrev pub rests_behind : World → Operation → Bool
 rests_behind world o = is_settle o.event && not (list_any (is_held_by o.actor) world.opened)
 
--- an operation that an actor has done, and whether the actor rests behind it
+-- an operation that an actor has done, and whether the actor rests after it
 pub record Deed : Type 0 where
   pub operation : Operation
   pub rests : Bool
@@ -204,7 +204,7 @@ AreDone rests (o ∷ os) (deed ∷ deeds) =
     ⊎ (IsTrue (is_settle o.event && rests) × AreDone rests os (deed ∷ deeds))
 
 -- The journal holds the actor's operations of the script, in order. In format 2 settles may be left out while the actor rests:
--- from the start, or from a settle behind which it has no connection open.
+-- from the start, or from a settle after which it has no connection open.
 abbrev pub Fits : Format → ScriptParts → List Entry → Actor → Type 0
 Fits One script journal actor = entries_of journal actor ≡ operations_of script actor
 Fits Two script journal actor = AreDone true (operations_of script actor) (deeds_of Two script journal actor)

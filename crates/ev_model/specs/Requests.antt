@@ -137,7 +137,7 @@ abbrev pub changes_asked : Watched → Watched → Bool → List KeptVersion →
 changes_asked before after asked versions =
     watch_change Eds before.endpoints after.endpoints ++ (listeners_asked asked versions ++ watch_change Rds before.routes after.routes)
 
--- the requests of an event, by whether a stream is open behind it: the reply first, where there is one
+-- the requests of an event, by whether a stream is open after it: the reply first, where there is one
 abbrev pub requests_by : Bool → Watched → Watched → Bool → List KeptVersion → Option Request → List Request
 requests_by stream before after asked versions reply =
     option_to_list reply ++ (if stream then changes_asked before after asked versions else [])

@@ -46,7 +46,7 @@ abbrev pub GoesOnWith : Actor → List Entry → Type 0
 GoesOnWith actor [] = ⊥
 GoesOnWith actor (entry ∷ entries) = entry.actor ≡ actor
 
--- no batch is broken: directly behind an accept or a close stands an entry of the same worker
+-- no batch is broken: directly after an accept or a close stands an entry of the same worker
 abbrev pub IsUnbroken : List Entry → Type 0
 IsUnbroken [] = ⊤
 IsUnbroken (entry ∷ entries) = (is_batched entry.event ≡ true → GoesOnWith entry.actor entries) × IsUnbroken entries

@@ -42,7 +42,7 @@ answers_before =
     ∷ (12, settled 2)
     ∷ []
 
--- in format 2 the first reaping finds nothing, and the one behind the drain timeout the old listener
+-- in format 2 the first reaping finds nothing, and the one after the drain timeout the old listener
 abbrev pub Answers : Type 0
 Answers = answers_by Two (script_of deeds)
     ≡ answers_before ++ (13, Reaped []) ∷ (14, Done) ∷ (15, Reaped (2 ∷ [])) ∷ (16, settled 2) ∷ []

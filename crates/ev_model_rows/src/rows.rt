@@ -142,7 +142,7 @@ pub fn drained_listeners_wait()
     ensures answers_of_format_1 { AnswersOfFormat1 }
 {}
 
-/// A batch is full with 256 lines: a settle is forced behind the 256th, and not behind its neighbours. It does nothing.
+/// A batch is full with 256 lines: a settle is forced after the 256th, and not after its neighbours. It does nothing.
 pub fn full_batch()
     ensures { IsFull }
 {}

@@ -1,4 +1,4 @@
--- What layers have, one behind the other.
+-- What layers have, one after the other.
 use Rattle.std.proofs.Common.{◌≡◌, ◌∙◌, ℕ, ◌+◌, ◌<◌, Bool, true, false, cond, List, [], ◌∷◌, ◌++◌, drop, get_or, length, Option, Some, None, refl, sym, ap}
 use Rattle.std.proofs.Math.Numerals.{add-one}
 use Rattle.std.proofs.Math.Seq.{drop-cons}
@@ -17,14 +17,14 @@ pub or_none : {X : Type 0} (a : Option X) → option_or a None ≡ a
 or_none None = refl
 or_none (Some a) = refl
 
--- layers behind others have what these lack
+-- layers after others have what these lack
 pub entry_behind : {K V S : Type 0} (test : K → Bool) (layers others : List (IndexMap K V S))
     → entry_in test (layers ++ others) ≡ option_or (entry_in test layers) (entry_in test others)
 entry_behind test [] others = refl
 entry_behind test (layer ∷ layers) others =
     ap (option_or (get_by test layer)) (entry_behind test layers others) ∙ sym (or_or (get_by test layer) (entry_in test layers) (entry_in test others))
 
--- entries behind others have what these lack
+-- entries after others have what these lack
 lookup_behind : {K V : Type 0} (test : K → Bool) (es others : List (K × V)) → lookup test (es ++ others) ≡ option_or (lookup test es) (lookup test others)
 lookup_behind test [] others = refl
 lookup_behind test (e ∷ es) others = by (test e.0) (lookup_behind test es others)
@@ -51,6 +51,6 @@ layers_more test top new_top layer left new_left rest same =
     ∙ sym (entry_behind test (top ∷ left ++ layer ∷ []) rest)
     ∙ ap (λ ls. entry_in test (top ∷ ls)) (push_front left layer rest)
 
--- the element at a place, before those behind it
+-- the element at a place, before those after it
 pub next_at : {X : Type 0} (xs : List X) (i : ℕ) (x : X) → i < length xs → x ≡ get_or xs i x → x ∷ drop (i + 1) xs ≡ drop i xs
 next_at xs i x within is = (λ j. is j ∷ drop (add-one i j) xs) ∙ sym (drop-cons xs i x within)

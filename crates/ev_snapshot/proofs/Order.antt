@@ -36,7 +36,7 @@ never a h = true≢false (sym h ∙ ap is_lt (tied_itself nat_list_cmp_total a))
 pub once : (a b : List ℕ) → is_before a b ≡ true → is_before b a ≡ true → ⊥
 once a b h k = never a (before_then a b a h k)
 
--- a name behind another is another one
+-- a name after another is another one
 pub behind : (a b n : List ℕ) → is_before a b ≡ true → bytes_eq a n ≡ true → bytes_eq b n ≡ false
 behind a b n h same = by (bytes_eq b n) refl
   where
@@ -51,7 +51,7 @@ ahead a b n h same = by (bytes_eq a n) refl
     by false e = refl
     by true e = absurd (never a (subst (λ c. is_before a c ≡ true) (same_name b n same ∙ sym (same_name a n e)) h))
 
--- of two names that differ, the one that isn't before the other is behind it
+-- of two names that differ, the one that isn't before the other is after it
 pub turned : (a b : List ℕ) → is_before a b ≡ false → bytes_eq b a ≡ false → is_before b a ≡ true
 turned a b h apart = by (slice_cmp nat_cmp a b) refl
   where

@@ -90,12 +90,12 @@ picture_after changes picture =
 abbrev pub IsNext : {Z : Type 0} → Changes → Picture → Option (Arc Picture Z) → Type 0
 IsNext changes picture next = option_map arc_value next ≡ picture_after changes picture
 
--- the test is true of each element and each one behind it
+-- the test is true of each element and each one after it
 abbrev pub IsPairwise : {X : Type 0} → (X → X → Bool) → List X → Type 0
 IsPairwise test [] = ⊤
 IsPairwise test (x ∷ xs) = AllByRecursion (λ other. test x other ≡ true) xs × IsPairwise test xs
 
--- each name stands before the names behind it, and no number stands twice
+-- each name stands before the names after it, and no number stands twice
 pub record IsInOrder {X : Type 0} (number : X → ℕ) (name : X → List ℕ) (xs : List X) : Type 0 where
   pub names : IsPairwise (λ one other. is_before (name one) (name other)) xs
   pub numbers : IsPairwise (λ one other. not (number one == number other)) xs

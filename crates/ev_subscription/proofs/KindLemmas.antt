@@ -46,7 +46,7 @@ kept_with_other new k other (kept ∷ others) =
     further true is rest = simp (is) (ap (λ vs. kept ∷ vs) rest)
     further false is rest = simp (is) rest
 
--- before a version nothing is that it stands behind of
+-- a version that stands before all others is put first
 before_all : (new : KeptVersion) (versions : List KeptVersion) → ByRecursion (λ (other : KeptVersion). is_before new.name other.name ≡ true) versions
     → with_version new versions ≡ new ∷ versions
 before_all new [] all = refl
@@ -363,7 +363,7 @@ left_kept_name kind response names name versions stays =
         (λ same. ap (is_removed response) ((bytes_eq-Decides kept.name name).0 same) ∙ stays)
         ∙ ap (λ m. not (kind_same kept.kind kind && (is_removed response kept.name && m))) (sym (among_more names name kept.name))
 
--- behind the last name those are left that the response doesn't remove
+-- after the last name those are left that the response doesn't remove
 pub left_all : (kind : Kind) (response : ResponseParts) (versions : List KeptVersion) → filter (is_left kind response response.removed) versions ≡ versions_left kind response versions
 left_all kind response versions = same_filter (is_left kind response response.removed) (is_version_left kind response) one versions
   where
@@ -395,7 +395,7 @@ left_more kind response names i name text versions within is same =
     by true goes = left_removed kind response (take i names) name versions goes
     by false stays = left_kept_name kind response (take i names) name versions stays
 
--- behind the last name
+-- after the last name
 pub left_end : (kind : Kind) (response : ResponseParts) (names : List (List ℕ)) (i : ℕ) (versions : List KeptVersion) → length names ≤ i → names ≡ response.removed
     → filter (is_left kind response (take i names)) versions ≡ versions_left kind response versions
 left_end kind response names i versions past are =

@@ -56,7 +56,7 @@ item_more kind verdicts items place verdict item world within here i =
     (λ j. add_items kind (drop (place + 1) verdicts) (drop (place + 1) items) (add_item kind (get_or verdicts place verdict) (i j) world))
     ∙ sym (λ j. add_items kind (drop_more verdicts place verdict within j) (drop_more items place item here j) world)
 
--- behind the last resource
+-- after the last resource
 pub items_done : (kind : Kind) (verdicts : List Verdict) (items : List ItemParts) (place : ℕ) (world : World) → length verdicts ≤ place → length items ≤ place
     → add_items kind (drop place verdicts) (drop place items) world ≡ world
 items_done kind verdicts items place world v i = λ j. add_items kind (drop_all place verdicts v j) (drop_all place items i j) world

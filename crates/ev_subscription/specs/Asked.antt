@@ -16,7 +16,7 @@ bare_request kind versions =
 abbrev pub clusters_request_in : World → Request
 clusters_request_in world = clusters_request world.node world.versions
 
--- in every world that the subscription stands for, the new requests ask behind the old ones for all of these names of a kind
+-- in every world that the subscription stands for, the new requests ask after the old ones for all of these names of a kind
 abbrev pub AsksWhole : Kind → List (List ℕ) → SubscriptionParts → List Request → List Request → Type 0
 AsksWhole kind names subscription old new = InWorlds subscription (λ world. new ≡ old ++ whole_request kind names world.versions)
 

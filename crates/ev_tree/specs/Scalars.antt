@@ -67,7 +67,7 @@ unfoldable pub seconds_span : Bool → List ℕ → Option Span
 seconds_span minus s =
     if is_some (position (λ c. c == 46) s) then fraction_span minus (before_first (λ c. c == 46) s) (after_first (λ c. c == 46) s) else whole_span minus s
 
--- seconds, behind a minus or not
+-- seconds, after a minus or not
 unfoldable pub signed_span : List ℕ → Option Span
 signed_span [] = seconds_span false []
 signed_span (c ∷ cs) = if c == 45 then seconds_span true cs else seconds_span false (c ∷ cs)

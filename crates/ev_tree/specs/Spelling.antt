@@ -7,7 +7,7 @@ use Rattle.std.specs.Char.{to_ascii_uppercase, encode_utf8}
 abbrev pub is_underscore : ℕ → Bool
 is_underscore b = b == 95
 
--- what a byte gives, behind an underscore or not: an underscore nothing, and a letter behind one its capital
+-- what a byte gives, after an underscore or not: an underscore nothing, and a letter after one its capital
 abbrev pub cased : Bool → ℕ → List ℕ
 cased after_underscore b = if is_underscore b then [] else ((if after_underscore then to_ascii_uppercase b else b) ∷ [])
 

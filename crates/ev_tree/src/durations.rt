@@ -14,7 +14,7 @@ pub fn span(text: &str) -> Option<Span>
     signed_span(text.strip_suffix('s')?)
 }
 
-// Of the seconds, behind a minus or not.
+// Of the seconds, after a minus or not.
 #[tactic(auto, unfolding(crate::specs::Scalars::signed_span))]
 fn signed_span(text: &str) -> Option<Span>
     ensures { result ≡ signed_span text.now }

@@ -12,7 +12,7 @@ pub const MAX_U32_DIGITS: usize = 10;
 /// The most digits of a duration's whole seconds.
 pub const MAX_SECONDS_DIGITS: usize = 12;
 
-/// The most digits behind a duration's point.
+/// The most digits after a duration's point.
 pub const MAX_FRACTION_DIGITS: usize = 9;
 
 /// The most whole seconds of a duration: ten thousand years, as protobuf's `Duration` has it.

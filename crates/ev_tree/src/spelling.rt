@@ -18,7 +18,7 @@ pub fn camel_case(alloc: Global, name: &str) -> Result<String, AllocError>
     Ok(spelled)
 }
 
-// Appends what a character gives: an underscore nothing, and a letter behind one its capital.
+// Appends what a character gives: an underscore nothing, and a letter after one its capital.
 fn push_cased(spelled: &mut String, after_underscore: bool, c: char) -> Result<(), AllocError>
     ensures { OnOk result (string_bytes spelled.new ≡ string_bytes spelled.old ++ cased_char after_underscore c) }
 {

@@ -20,7 +20,7 @@ none_in [] ys none k h = absurd (omega arith)
 none_in (x ∷ xs) ys none zero h = none.0
 none_in (x ∷ xs) ys none (suc k) h = none_in xs ys none.1 k (omega arith)
 
--- the byte behind it is one
+-- the byte after it is one
 feed_behind : (xs ys : List ℕ) → get_or (xs ++ 10 ∷ ys) (length xs) 0 ≡ 10
 feed_behind [] ys = refl
 feed_behind (x ∷ xs) ys = feed_behind xs ys
@@ -36,7 +36,7 @@ line_is tree = refl
 line_long : (tree : Data) → length (line_text tree) ≡ length (compact_text tree) + 1
 line_long tree = ap length (line_is tree) ∙ length-append (compact_text tree) (10 ∷ [])
 
--- a text is closed behind a tree's line
+-- a text is closed after a tree's line
 closed_line : (front : List ℕ) (tree : Data) → IsClosed (front ++ line_text tree)
 closed_line front tree =
     let all : take (length (compact_text tree) + 1) (line_text tree) ≡ line_text tree = take_all (length (compact_text tree) + 1) (line_text tree) (omega (arith, line_long tree)) in
@@ -51,7 +51,7 @@ lines_with front tree closed =
     ∙ length-append (lines_of front) (lines_of (line_text tree))
     ∙ ap (λ (texts : List (List ℕ)). length (lines_of front) + length texts) (line_alone tree)
 
--- behind a closed front without fault, trees within what is left of the limits
+-- after a closed front without fault, trees within what is left of the limits
 sound_from : (front : List ℕ) (trees : List Data) → IsClosed front → IsSoundUpTo (front ++ text_of_trees trees) (length front)
     → All (λ tree. length (compact_text tree) ≤ MAX_LINE_BYTES) trees
     → length (lines_of front) + length trees ≤ MAX_LINES → length front + length (text_of_trees trees) ≤ MAX_INPUT_BYTES

@@ -33,7 +33,7 @@ some_line = record { at = 0; actor = Stream; event = Connect }
 next_is : (i : ℕ) → i + 1 ≡ suc i
 next_is i = omega arith
 
--- the tree of a line behind the first
+-- the tree of a line after the first
 tree_behind : (header : Header) (lines : List Line) (head : Data) (trees : List Data) → AreScript header lines head trees
     → (i : ℕ) → i < length lines → tree_of (get_or (texts_of head trees) (suc i) []) ≡ Some (get_or trees i null)
 tree_behind header lines head trees are i h =

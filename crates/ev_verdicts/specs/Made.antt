@@ -15,10 +15,10 @@ names_in table address = unwrap_or (get host_same table address) []
 abbrev pub AreByAddress : {S : Type 0} → MadeKept → IndexMap Host (List (List ℕ)) S → Type 0
 AreByAddress made table = (address : Host) → names_in table address ≡ names_at address made
 
--- the new table has the name with its address behind the others
+-- the new table has the name with its address after the others
 abbrev pub AddsName : {S : Type 0} → IndexMap (List ℕ) (Option Host) S → IndexMap (List ℕ) (Option Host) S → List ℕ → Option Host → Type 0
 AddsName old new name address = new.entries ≡ old.entries ++ (name, address) ∷ []
 
--- at the address, where there is one, the new table has the name behind the others, and at each other the names that it had
+-- at the address, where there is one, the new table has the name after the others, and at each other the names that it had
 abbrev pub AddsAt : {S : Type 0} → IndexMap Host (List (List ℕ)) S → IndexMap Host (List (List ℕ)) S → List ℕ → Option Host → Type 0
 AddsAt old new name address = (a : Host) → names_in new a ≡ names_in old a ++ (if shares_address address (Some a) then name ∷ [] else [])

@@ -54,7 +54,7 @@ AreAnswered format worker world (line ∷ lines) =
 
 -- The worker's batch was begun with these connections open. At any world in which the worker holds its picture and has these
 -- open, each line of the batch is answered as the machine answers it there, one after another, by the choice that it makes there,
--- and behind them the worker stands for the world.
+-- and after them the worker stands for the world.
 pub record IsMadeFrom (begun : List OpenMember) (worker : WorkerParts) : Type 0 where
   pub answers : (format : Format) (workers : ℕ) (world : World) → worker.number < workers
       → HasWorker worker.number worker.picture begun world

@@ -11,7 +11,7 @@
 //! - A batch and its line numbers speak of the script's lines alone; that a line is an accept or a close is seen in
 //!   its event. The answer in a line names the place of a host, and becomes the host once the line is an entry.
 //! - What the law takes as the beginning of a batch is a list of connections in the clauses, and no part of the
-//!   worker: a closed connection leaves nothing behind.
+//!   worker: a closed connection leaves nothing.
 //! - `adopt` requires room for 256 connections, which `prepare` ensures. The lines need no memory anew: an empty
 //!   batch keeps its room.
 //! - `Settled` has the version beside the snapshot, for whoever writes the entry; `adopt` doesn't look at it.

@@ -3,7 +3,7 @@ use Rattle.std.specs.Vec.Iter.{into_iter_items}
 use Rattle.ev_chains.specs.State.{numbered, made_by}
 use Rattle.ev_chains.proofs.changes.number_chains.Given as goal
 
--- what is done, and the rest of the chains behind it
+-- what is done, and the rest of the chains after it
 abbrev pub invariant-loop-chain : goal.invariant-loop-chain
 invariant-loop-chain l =
     let rest = into_iter_items l.chain-iterator in
