@@ -1,11 +1,14 @@
 -- What holds of every journal that is a run, so that operators may rely on it. This project's own; each law speaks of the
 -- journal, by the rules of its format, and the worlds that it leads through.
-use Rattle.std.specs.Prelude.{ℕ, ◌≡◌, ◌<◌, ◌≤◌, ◌+◌, ◌⊎◌, false, IsTrue, List, filter, take, drop, Contains, Option, Some, None, slice_get, ⊤}
-use Rattle.std.specs.List.{list_any}
+use Rattle.std.specs.Prelude.{ℕ, ◌≡◌, ◌<◌, ◌≤◌, ◌+◌, ◌⊎◌, ◌↔◌, false, if◌then◌else◌, IsTrue, List, [], ◌∷◌, map, filter, filter_map, take, drop, All, Contains, Option, Some, None, slice_get, ⊤}
+use Rattle.std.specs.List.{list_any, zip}
 use Rattle.std.specs.List.Sorted.{IsStrictlyIncreasing}
+use Rattle.std.specs.Option.{option_or}
 use Rattle.ev_types.specs.Items.{ItemParts, ResponseParts}
 use Rattle.ev_types.specs.declared.contents.Kind.{Kind}
 use Rattle.ev_types.specs.declared.contents.Kind.TheVariants.{Cds, Eds, Lds, Rds}
+use Rattle.ev_types.specs.declared.contents.Body.{Body}
+use Rattle.ev_types.specs.declared.contents.Body.TheVariants.{Good}
 use Rattle.ev_types.specs.declared.contents.Request.{Request}
 use Rattle.ev_types.specs.declared.events.Actor.{Actor}
 use Rattle.ev_types.specs.declared.events.Actor.TheVariants.{Worker}
@@ -14,16 +17,19 @@ use Rattle.ev_types.specs.declared.events.Answer.TheVariants.{Done, Replied}
 use Rattle.ev_types.specs.declared.journals.Format.{Format}
 use Rattle.ev_types.specs.declared.journals.Format.TheVariants.{Two}
 use Rattle.ev_types.specs.declared.events.Verdict.{Verdict}
-use Rattle.ev_types.specs.declared.events.Verdict.TheVariants.{Refused}
+use Rattle.ev_types.specs.declared.events.Verdict.TheVariants.{New, Same, Kept, Unasked, Renewed, Refused}
 use Rattle.ev_types.specs.declared.events.Entry.{Entry}
 use Rattle.ev_types.specs.declared.rows.GenRow.{GenRow}
 use Rattle.ev_types.specs.declared.rows.KeptVersion.{KeptVersion}
+use Rattle.ev_types.specs.declared.rows.Live.{Live}
 use Rattle.ev_types.specs.declared.rows.RowStatus.{RowStatus}
 use Rattle.ev_types.specs.declared.rows.RowStatus.TheVariants.{Active, Draining}
 use Rattle.ev_model.specs.declared.pictures.Shown.{Shown}
 use Rattle.ev_model.specs.World.{World, last_version}
 use Rattle.ev_model.specs.Live.{lives_of}
 use Rattle.ev_model.specs.Versions.{is_version_of}
+use Rattle.ev_model.specs.Verdicts.{rule_of, is_taken, verdict_of, lives_after, lives_left}
+use Rattle.ev_model.specs.Requests.{refusal_text, message_of}
 use Rattle.ev_model.specs.Watching.{Dependency, dependency_of, is_watched}
 use Rattle.ev_model.specs.Warming.{is_ready, value_of}
 use Rattle.ev_model.specs.Rows.{is_row_of}
@@ -208,6 +214,63 @@ Stays told =
     → IsReplied told k kind response verdicts → IsRefusedAt response verdicts place item
     → Keeps (world_told told k) (world_told told (k + 1)) kind item.name
 
+-- 15: it is a listener, and a live row of another name has its address
+abbrev pub taken_rule : Kind → List Live → List ℕ → Body → Option ℕ
+taken_rule Lds lives name (Good content) = if is_taken lives name content then Some 15 else None
+taken_rule kind lives name body = None
+
+-- the written rule that a resource breaks: the least, and the taken address only where it breaks no other
+abbrev pub broken_rule : Kind → ResponseParts → List KeptVersion → List Live → ItemParts → Option ℕ
+broken_rule kind response versions lives item =
+    option_or (rule_of kind response lives versions item) (taken_rule kind lives item.name item.body)
+
+-- the rules that these resources break, one after another, each over the live rows that those before it leave
+abbrev pub rules_from : Kind → ResponseParts → List KeptVersion → List Live → List ItemParts → List (Option ℕ)
+rules_from kind response versions lives [] = []
+rules_from kind response versions lives (item ∷ items) =
+    let left = lives_after kind (verdict_of kind response lives versions item) item.name item.body lives in
+    broken_rule kind response versions lives item ∷ rules_from kind response versions left items
+
+-- of each resource of a response the written rule that it breaks, if any, at the world before it
+abbrev pub rules_broken : World → Kind → ResponseParts → List (Option ℕ)
+rules_broken world kind response =
+    rules_from kind response world.versions (lives_left kind response (lives_of world)) response.items
+
+-- what is said of a resource that breaks this rule
+abbrev pub complaint_of : Option ℕ → List ℕ → Option (List ℕ)
+complaint_of None name = None
+complaint_of (Some rule) name = Some (refusal_text name rule)
+
+-- what is said of the resources that break a rule, in order
+abbrev pub complaints : List (Option ℕ) → List ItemParts → List (List ℕ)
+complaints rules items = filter_map (λ (one : Option ℕ × ItemParts). complaint_of one.0 one.1.name) (zip rules items)
+
+-- the rule that a resource with this verdict was refused by
+abbrev pub refused_by : Verdict → Option ℕ
+refused_by New = None
+refused_by Same = None
+refused_by Kept = None
+refused_by Unasked = None
+refused_by Renewed = None
+refused_by (Refused rule) = Some rule
+
+-- the first request carries the response's nonce, has no error exactly where no resource breaks a written rule, and names
+-- those that break one, in order; they alone are refused
+pub record IsRepliedByRules (world : World) (kind : Kind) (response : ResponseParts) (requests : List Request) (verdicts : List Verdict) : Type 0 where
+  pub reply : Request
+  pub first : slice_get requests 0 ≡ Some reply
+  pub typed : reply.kind ≡ kind
+  pub nonce : reply.nonce ≡ Some response.nonce
+  pub acknowledged : (reply.error ≡ None) ↔ All (λ (rule : Option ℕ). rule ≡ None) (rules_broken world kind response)
+  pub named : reply.error ≡ message_of (complaints (rules_broken world kind response) response.items)
+  pub refused : map refused_by verdicts ≡ rules_broken world kind response
+
+-- a response is acknowledged exactly where all its resources meet the written rules
+abbrev pub Acknowledged : Told → Type 0
+Acknowledged told =
+    (k : ℕ) (kind : Kind) (response : ResponseParts) (verdicts : List Verdict) (replied : IsReplied told k kind response verdicts)
+    → IsRepliedByRules (world_told told k) kind response replied.requests verdicts
+
 -- after the first k entries the generation is one of this kind, name and status
 pub record StandsAt (told : Told) (k number : ℕ) (kind : Kind) (name : List ℕ) (status : RowStatus) : Type 0 where
   pub row : GenRow
@@ -239,13 +302,14 @@ Waited told =
     (j k number : ℕ) (name : List ℕ) → told.format ≡ Two → j ≤ k → StandsAt told j number Lds name Active → Reaps told k number
     → HasWaited told number name k
 
--- all six
+-- all seven
 pub record Laws (told : Told) : Type 0 where
   pub warmed : Warmed told
   pub forward : Forward told
   pub unused : Unused told
   pub once : Once told
   pub stays : Stays told
+  pub acknowledged : Acknowledged told
   pub waited : Waited told
 
 -- every run has the laws

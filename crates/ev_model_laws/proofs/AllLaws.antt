@@ -1,10 +1,11 @@
--- Every run has all six laws.
+-- Every run has all seven laws.
 use Rattle.ev_model.specs.Laws.{Told, Laws}
 use Rattle.ev_model_laws.proofs.PlaceLemmas.{Runs}
 use Rattle.ev_model_laws.proofs.WarmedLemmas.{runs_warmed}
 use Rattle.ev_model_laws.proofs.LawLemmas.{runs_forward, runs_unused}
 use Rattle.ev_model_laws.proofs.OnceLemmas.{runs_once}
 use Rattle.ev_model_laws.proofs.RefusedLemmas.{runs_stay}
+use Rattle.ev_model_laws.proofs.ReplyLemmas.{runs_acknowledge}
 use Rattle.ev_model_laws.proofs.WaitedLemmas.{runs_waited}
 
 pub all_laws : (told : Told) → Runs told → Laws told
@@ -14,5 +15,6 @@ all_laws told run = record {
   unused = runs_unused told run;
   once = runs_once told run;
   stays = runs_stay told run;
+  acknowledged = runs_acknowledge told run;
   waited = runs_waited told run;
 }

@@ -1,6 +1,6 @@
 -- Laws of every run, in both formats.
 use Rattle.ev_model.specs.Runs.{IsRun}
-use Rattle.ev_model.specs.Laws.{Told, Warmed, Forward, Unused, Once, Stays, Waited}
+use Rattle.ev_model.specs.Laws.{Told, Warmed, Forward, Unused, Once, Stays, Acknowledged, Waited}
 use Rattle.ev_model_laws.specs.Kept.{HasParts}
 use Rattle.std.specs.Prelude.{ℕ, ◌≤◌, length}
 
@@ -31,6 +31,10 @@ RunsReapOnce = (told : Told) → IsRunTold told → Once told
 -- a refused update takes nothing away
 abbrev pub RunsKeepRefused : Type 0
 RunsKeepRefused = (told : Told) → IsRunTold told → Stays told
+
+-- a response is acknowledged exactly where all its resources meet the written rules
+abbrev pub RunsAcknowledge : Type 0
+RunsAcknowledge = (told : Told) → IsRunTold told → Acknowledged told
 
 -- in format 2 a listener that has served is destroyed only when its drain timeout has come
 abbrev pub RunsWait : Type 0

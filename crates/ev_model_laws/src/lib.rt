@@ -24,7 +24,7 @@ pub use phase_forward::phase_never_goes_back;
 pub use run_laws::{
     connections_go_to_warmed_generations, drained_listeners_have_waited,
     generations_are_reaped_once, reaped_generations_are_unused, refused_updates_take_nothing_away,
-    runs_have_the_laws, runs_keep_their_parts, snapshots_never_go_back,
+    responses_are_acknowledged, runs_have_the_laws, runs_keep_their_parts, snapshots_never_go_back,
 };
 pub use tidying::tidies_once;
 pub use versions_kept::versions_are_kept_once;

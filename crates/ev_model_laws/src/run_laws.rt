@@ -1,4 +1,4 @@
-ghost use Rattle.ev_model_laws.specs.RunLaws.{RunsHaveParts, RunsOpenWarmed, RunsGoForward, RunsReapUnused, RunsReapOnce, RunsKeepRefused, RunsWait};
+ghost use Rattle.ev_model_laws.specs.RunLaws.{RunsHaveParts, RunsOpenWarmed, RunsGoForward, RunsReapUnused, RunsReapOnce, RunsKeepRefused, RunsAcknowledge, RunsWait};
 ghost use Rattle.ev_model.specs.Laws.{RunsHaveLaws};
 
 /// Of every run, in both formats: the parts that each event keeps hold after any first entries. It does nothing.
@@ -37,13 +37,20 @@ pub fn refused_updates_take_nothing_away()
     ensures { RunsKeepRefused }
 {}
 
+/// A law of every run, in both formats: a response is acknowledged exactly where all its resources meet the written rules. The
+/// first request carries the response's nonce, has no error exactly where no resource breaks a rule, and names those that break
+/// one, in order. It does nothing.
+pub fn responses_are_acknowledged()
+    ensures { RunsAcknowledge }
+{}
+
 /// A law of every run in format 2: a listener that has served is destroyed only when its drain timeout has come. It does
 /// nothing.
 pub fn drained_listeners_have_waited()
     ensures { RunsWait }
 {}
 
-/// Every run has the six laws, in both formats. It does nothing.
+/// Every run has the seven laws, in both formats. It does nothing.
 pub fn runs_have_the_laws()
     ensures { RunsHaveLaws }
 {}
