@@ -4,6 +4,7 @@ import threading
 import time
 
 import grpc
+from shared.progress import ERASE, EVERY, Progress, put
 from shared.shown import quoted
 
 from .addresses import why_not
@@ -12,12 +13,26 @@ from .protocols import METHODS, REQUESTS
 from .wires import channel_to
 
 POLL, SOON, LONGEST = 0.2, 1, 30
+# So long a stream that this side ends may take: what was sent last has to go out.
+SENT = 0.5
 FIRST_PAUSE = 0.5
 HINTS = {
     grpc.StatusCode.UNIMPLEMENTED: 'it has no aggregated stream of this protocol: the other one is asked for with --sotw, or without it',
     grpc.StatusCode.UNAUTHENTICATED: 'a login may be missing: --header-env, --node-json, --upstream-cert',
     grpc.StatusCode.PERMISSION_DENIED: 'a login may be missing: --header-env, --node-json, --upstream-cert',
 }
+
+
+class ResponsesSoFar(Progress):
+    """How many responses have come, where that is shown."""
+
+    def __init__(self):
+        super().__init__('record', 'responses', None)
+
+    def at(self, done):
+        if self.shown and time.monotonic() >= self.next:
+            self.next = time.monotonic() + EVERY
+            put(f'{ERASE}{self.tool}: {done} {self.what}', ERASE)
 
 
 class Limits:
@@ -121,8 +136,9 @@ class Client:
                 self.take(data, outgoing)
         finally:
             outgoing.put(None)
+            reader.join(SENT)
             call.cancel()
-            reader.join(1)
+            reader.join(SENT)
             self.note_unread(incoming)
             self.recording.disconnect()
             self.replies.requests()

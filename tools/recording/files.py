@@ -234,8 +234,7 @@ class Recording:
         line = response_line(tree)
         if len(line) - 1 > script.MAX_LINE:
             came.lost.append(f'its line has more than {script.MAX_LINE} bytes')
-            self.whole.end(f'{self.whole.path} ends before nonce {quoted(tree.get("nonce", ""))}, whose line is over the limit and '
-                           'can\'t be split: the incremental script has it')
+            self.whole.end(f'{self.whole.path} ends before nonce {quoted(tree.get("nonce", ""))}, whose line is over the limit and can\'t be split')
             return
         words = self.put(self.whole, line)
         if words:
