@@ -2,7 +2,7 @@
 from shared.fields import DISCOVERY, enumeration
 from shared.resources import URLS
 
-from .capture import Unreadable, get, list_in, text_in, type_of_body
+from .capture import Unreadable, get, text_in, type_of_body
 from .statuses import assignment_of
 
 NAMES = {'cds': 'name', 'eds': 'cluster_name', 'lds': 'name', 'rds': 'name'}
@@ -17,10 +17,26 @@ def wrapped(kind, body, version, name=None):
     return {'name': get(body, NAMES[kind]) or name or '', 'version': version or '', 'resource': body}
 
 
+def listed(part, member):
+    """The entries of a list of a dump."""
+    found = get(part, member)
+    if found is not None and not (isinstance(found, list) and all(isinstance(entry, dict) for entry in found)):
+        raise Unreadable(f'{member} of a part of the dump isn\'t an array of objects')
+    return found or []
+
+
+def body_in(entry, member):
+    """The body that an entry has; None where it has none."""
+    found = get(entry, member)
+    if found is not None and not isinstance(found, dict):
+        raise Unreadable(f'{member} of an entry of the dump isn\'t an object')
+    return found
+
+
 def entries(part, member, body):
-    """(version, body) of each entry of a list of a dump."""
-    for entry in list_in(part, member):
-        if isinstance(get(entry, body), dict):
+    """(version, body) of each entry of a list of a dump that has a body."""
+    for entry in listed(part, member):
+        if body_in(entry, body) is not None:
             yield get(entry, 'version_info'), get(entry, body)
 
 
@@ -84,18 +100,18 @@ class Dump:
         self.static += [wrapped('cds', body, '') for _, body in entries(part, 'static_clusters', 'cluster')]
         for member, rows in (('dynamic_active_clusters', self.clusters), ('dynamic_warming_clusters', self.warming_clusters)):
             rows += [wrapped('cds', body, version) for version, body in entries(part, member, 'cluster')]
-            for entry in list_in(part, member):
+            for entry in listed(part, member):
                 self.failure('cds', entry, text_in(get(entry, 'cluster'), 'name'))
 
     def of_endpoints(self, part):
         for member in ('dynamic_endpoint_configs', 'static_endpoint_configs'):
             self.endpoints += [wrapped('eds', body, version) for version, body in entries(part, member, 'endpoint_config')]
-            for entry in list_in(part, member):
+            for entry in listed(part, member):
                 self.failure('eds', entry, text_in(get(entry, 'endpoint_config'), 'cluster_name'))
 
     def of_routes(self, part):
         self.routes += [wrapped('rds', body, version) for version, body in entries(part, 'dynamic_route_configs', 'route_config')]
-        for entry in list_in(part, 'dynamic_route_configs'):
+        for entry in listed(part, 'dynamic_route_configs'):
             self.failure('rds', entry, text_in(get(entry, 'route_config'), 'name'))
         for _, body in entries(part, 'static_route_configs', 'route_config'):
             self.report.add('not-sent', 'rds', get(body, 'name'), before='static routes: they stand in their listener')
@@ -105,10 +121,10 @@ class Dump:
             self.listeners.append(wrapped('lds', body, ''))
             self.give_name(self.listeners[-1])
         states = {'active_state': self.listeners, 'warming_state': self.warming_listeners, 'draining_state': self.draining}
-        for entry in list_in(part, 'dynamic_listeners'):
+        for entry in listed(part, 'dynamic_listeners'):
             for member, found in states.items():
-                state = get(entry, member)
-                if isinstance(get(state, 'listener'), dict):
+                state = body_in(entry, member)
+                if body_in(state, 'listener') is not None:
                     found.append(wrapped('lds', get(state, 'listener'), get(state, 'version_info'), text_in(entry, 'name')))
             self.failure('lds', entry, text_in(entry, 'name'))
 
@@ -125,11 +141,11 @@ class Dump:
 
     def failure(self, kind, entry, name):
         """Notes that Envoy refused the last update of a resource, and keeps that update."""
-        state = get(entry, 'error_state')
-        if not isinstance(state, dict):
+        state = body_in(entry, 'error_state')
+        if state is None:
             return
-        body = get(state, 'failed_configuration')
-        is_there = isinstance(body, dict)
+        body = body_in(state, 'failed_configuration')
+        is_there = body is not None
         if is_there:
             self.failed[kind].append(wrapped(kind, body, get(state, 'version_info'), name))
             name = self.failed[kind][-1]['name']
@@ -172,8 +188,7 @@ def configs_of(tree):
     """The parts of a document of a dump."""
     if isinstance(get(tree, 'bootstrap'), dict) and not text_in(tree, '@type'):
         return [{'@type': 'BootstrapConfigDump', **tree}]
-    configs = tree.get('configs', tree if 'configs' not in tree else [])
-    return [part for part in (configs if isinstance(configs, list) else [configs]) if isinstance(part, dict)]
+    return listed(tree, 'configs') if 'configs' in tree else [tree]
 
 
 def part_name(part):
