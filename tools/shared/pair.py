@@ -38,7 +38,7 @@ class Pair:
             raise NotTheJournal(f'the journal has {workers} workers, and the script has {reading.workers}')
 
     def entries(self):
-        ended, count, progress = None, 0, Progress(self.tool, 'entry', len(self.texts))
+        ended, count, progress = None, 0, Progress(self.tool, 'entry', len(self.texts), prints=True)
         for place, text in enumerate(self.texts[1:], 2):
             progress.at(place)
             if ended is not None:
@@ -51,6 +51,7 @@ class Pair:
                 raise NotTheJournal(f'line {place} of the journal {words}' + (cause([text]) if text.endswith(b'\r') else ''))
             count += 1
             yield Entry(row, line_of(self.reading, row, place), place)
+        progress.end()
         if ended is None:
             raise NotTheJournal('the journal\'s end line is missing: it was cut off')
         if ended != count:

@@ -1,18 +1,47 @@
-"""How far a tool is, on standard error, where it takes longer than two seconds."""
+"""How far a tool is: one line on a terminal, written anew, where it takes longer than two seconds; nothing elsewhere."""
+import os
 import sys
 import time
 
 SECONDS = 2
+EVERY = 0.2
+ERASE = '\r\033[K'
+
+
+def is_terminal(stream):
+    """Whether a stream is a terminal whose lines can be written anew and painted."""
+    try:
+        return stream is not None and stream.isatty() and os.environ.get('TERM', '') not in ('', 'dumb')
+    except (AttributeError, ValueError):
+        return False
+
+
+def wants_colors(stream):
+    return is_terminal(stream) and not os.environ.get('NO_COLOR')
 
 
 class Progress:
-    """`at(done)` says every two seconds how much of `total` is done. `what` are the words of the things that are counted."""
+    """`at(done)` says how much of `total` is done. `what` are the words of the things that are counted. A tool that prints as it counts
+    says nothing where its output goes to a terminal too."""
 
-    def __init__(self, tool, what, total):
+    def __init__(self, tool, what, total, prints=False):
         self.tool, self.what, self.total = tool, what, total
+        self.shown = is_terminal(sys.stderr) and not (prints and is_terminal(sys.stdout))
         self.next = time.monotonic() + SECONDS
 
     def at(self, done):
-        if done % 256 == 0 and time.monotonic() >= self.next:
-            self.next = time.monotonic() + SECONDS
-            print(f'{self.tool}: {self.what} {done} of {self.total}', file=sys.stderr, flush=True)
+        if self.shown and done % 256 == 0 and time.monotonic() >= self.next:
+            self.next = time.monotonic() + EVERY
+            put(f'{ERASE}{self.tool}: {self.what} {done} of {self.total}', ERASE)
+
+    def end(self):
+        """Takes the line away."""
+        if self.shown:
+            put(ERASE, '')
+
+
+def put(text, before):
+    """Writes a line that isn't closed; what goes to standard error next begins with `before`. Only a guarded one has such a line."""
+    if hasattr(sys.stderr, 'put'):
+        sys.stderr.put(text)
+        sys.stderr.before = before

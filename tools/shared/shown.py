@@ -65,7 +65,8 @@ class Output(io.FileIO):
 
 
 class Errors:
-    """Standard error, escaped but for line ends. `raw` is the stream below, or None; what can't be written there is lost."""
+    """Standard error, escaped but for line ends. `raw` is the stream below, or None; what can't be written there is lost. `before` takes
+    away the line of a progress."""
 
     def __init__(self, raw):
         self.raw, self.before = raw, ''
@@ -86,6 +87,10 @@ class Errors:
 
     def flush(self):
         self.put('')
+
+    def end(self):
+        self.put(self.before)
+        self.before = ''
 
     def __getattr__(self, name):
         return getattr(self.raw, name)
@@ -113,6 +118,7 @@ def run(main):
     name = os.path.basename(sys.argv[0])
     status = ended(name, lambda: main(sys.argv[1:]))
     written = ended(name, sys.stdout.flush)
+    sys.stderr.end()
     if WRITE in (status, written):
         os.dup2(os.open(os.devnull, os.O_WRONLY), sys.stdout.fileno())
     sys.exit(written or status)

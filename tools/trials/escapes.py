@@ -1,6 +1,9 @@
-"""What comes from outside, in what the tools print; and their statuses: a full device, a closed pipe, words and inputs that are wrong."""
+"""What comes from outside, in what the tools print; their statuses: a full device, a closed pipe, words and inputs that are wrong; and what
+they say of themselves: how far they are, and their version."""
 import json
 import os
+import pty
+import re
 import subprocess
 import sys
 import tempfile
@@ -30,11 +33,36 @@ def main(words):
 run(main)
 '''
 
+# Counts to 1024, of which it says something at each 256, and prints a line on standard error between.
+COUNTER = '''import argparse
+import sys
+sys.path.insert(0, {tools!r})
+from shared import progress
+from shared.shown import run
+from shared.version import Version
+
+def main(words):
+    parser = argparse.ArgumentParser(prog='counter')
+    parser.add_argument('--version', action=Version)
+    parser.parse_args(words)
+    progress.SECONDS = progress.EVERY = -1
+    told = progress.Progress('counter', 'line', 1024, prints=True)
+    for number in range(1, 1025):
+        told.at(number)
+        if number == 600:
+            print('a line', file=sys.stderr)
+    told.end()
+    print('out')
+
+run(main)
+'''
+
 
 def run(check):
     texts(check)
     with tempfile.TemporaryDirectory() as folder:
         statuses(check, written(f'{folder}/tool', TOOL.format(tools=f'{TOP}/tools')))
+        progress(check, written(f'{folder}/counter', COUNTER.format(tools=f'{TOP}/tools')))
 
 
 def texts(check):
@@ -65,3 +93,20 @@ def statuses(check, tool):
     check(done.returncode == 5, f'a tool without standard output: {done}')
     done = subprocess.run(f'{sys.executable} {tool} a | head -c 1; echo ${{PIPESTATUS[0]}}', shell=True, capture_output=True, executable='/bin/bash')
     check(done.stdout == b'x5\n' and done.stderr == b'a\n', f'a tool whose reader ends: {done}')
+
+
+def progress(check, tool):
+    """One line that is written anew where standard error is a terminal, and nothing elsewhere."""
+    erase = '\r\x1b[K'
+    wanted = ''.join(f'{erase}counter: line {number} of 1024' for number in (256, 512)) + f'{erase}a line\r\n'
+    wanted += ''.join(f'{erase}counter: line {number} of 1024' for number in (768, 1024)) + erase
+    for words, wanted in (({'TERM': 'xterm'}, wanted), ({'TERM': 'dumb'}, 'a line\r\n')):
+        above, below = pty.openpty()
+        done = subprocess.run([sys.executable, tool], stdout=subprocess.PIPE, stderr=below, env={**os.environ, **words})
+        os.close(below)
+        found = os.read(above, 4096).decode()
+        os.close(above)
+        check(done.stdout == b'out\n' and found == wanted, f'progress on a terminal {words}: {found!r}, {done}')
+    check(ran(sys.executable, tool) == (0, b'out\n', b'a line\n'), 'progress where there is no terminal')
+    status, out, errors = ran(sys.executable, tool, '--version')
+    check(status == 0 and re.fullmatch(rb'counter of warmgate, commit: [^\n]+\n', out) and not errors, f'--version: {status} {out} {errors}')
