@@ -86,6 +86,7 @@ def documents(text):
     while True:
         place = BLANK.match(text, place).end()
         if place >= len(text):
+            progress.end()
             return
         line, counted = line + text.count('\n', counted, place), place
         progress.at(place - place % 256)

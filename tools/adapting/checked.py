@@ -18,6 +18,7 @@ def check(lines, origins, is_whole):
         if fault:
             raise Unreadable(words_of(fault, origins[min(number, len(origins)) - 1]))
         reading.lines.clear()
+    progress.end()
 
 
 def words_of(fault, origin):

@@ -1,7 +1,8 @@
 """What the profile refuses and Envoy takes, left out or stood in for; each such change has a line in the report."""
 import copy
+import pickle
 
-from shared import rules
+from shared import came, rules
 from shared.fields import DISCOVERY, Reader, camel, enumeration
 from shared.resources import MANAGER, TCP_PROXY, read_address, read_route
 from shared.words import few
@@ -60,8 +61,12 @@ class Projection:
             body = resource.get('resource') if isinstance(resource, dict) else None
             self.kind, self.name = kind, text_in(resource, 'name')
             if isinstance(body, dict):
+                before = pickle.loads(pickle.dumps(body))
                 getattr(self, kind)(body)
-                added += [dict(resource, name=get(one, 'name'), resource=one) for one in self.parts_of(kind, body, removed)]
+                outer = {name: value for name, value in resource.items() if name != came.MEMBER}
+                added += [dict(outer, name=get(one, 'name'), resource=one) for one in self.parts_of(kind, body, removed)]
+                if body != before:
+                    came.keep(resource, before)
         if kind == 'lds':
             for name in list_in(message, 'removed_resources'):
                 removed += self.stood.pop(name, []) if isinstance(name, str) else []

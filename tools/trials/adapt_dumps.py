@@ -5,7 +5,7 @@ import os
 import tempfile
 
 import trials
-from shared import rules, script
+from shared import script
 from shared.resources import URLS
 from trials.adapt import adapted, messages
 
@@ -105,8 +105,6 @@ def unnamed(check):
     names = [(one['name'], one['resource']['name']) for one in messages(data)[0]['resources']]
     check([name for name, _ in names] == ['0.0.0.0:15021', '0.0.0.0:15021#2', '/run/x', 'n'] and all(name == inner for name, inner in names), f'unnamed listeners: {names} {errors}')
     check(len(lines_of(report, 'named')) == 3 and not any(line['rule'] == 'V2' for line in report), f'their report: {report}')
-    check(rules.whose(2, 'lds', [('name', 'is empty')]) == rules.PROFILE, 'an unnamed listener is said to be refused by Envoy too')
-    check(rules.whose(2, 'cds', [('name', 'is empty')]) == rules.ENVOY, 'an unnamed cluster is said to be taken by Envoy')
 
 
 def several_files(check):
