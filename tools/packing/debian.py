@@ -69,7 +69,7 @@ def placed(checkout, entries):
     files = {f'{LIB}/{path}': entry for path, entry in entries.items() if path in ('bin/warmgate', 'PROVENANCE') or path.startswith('tools/') and path != COMPLETION}
     files.update((f'{DOC}/{path}', (data, False)) for path, (data, _) in entries.items() if path.startswith(('docs/', 'examples/')) or path.endswith('.md'))
     del files[f'{DOC}/{MAN_PAGE}']
-    files = {path: (for_python(data), is_command) if is_command else (data, False) for path, (data, is_command) in files.items()}
+    files.update((path, (for_python(data), True)) for path, (data, is_command) in files.items() if is_command and path != PROGRAM)
     files[f'{LIB}/warmgate'] = (installed_words(entries['warmgate'][0]), True)
     commands = {'warmgate': '../lib/warmgate/warmgate'}
     commands.update((f'warmgate-{path[6:]}', f'../lib/warmgate/{path}') for path in helpers(entries))
@@ -80,7 +80,7 @@ def placed(checkout, entries):
         if name != 'warmgate':
             files[f'{MAN}/{name}.1.gz'] = (Link('warmgate.1.gz'), False)
             files[f'{COMPLETIONS}/{name}'] = (Link('warmgate'), False)
-    files[f'{DOC}/copyright'] = (COPYRIGHT.format(author=checkout.author).encode(), False)
+    files[f'{DOC}/copyright'] = (COPYRIGHT.format(year=checkout.date[:4], author=checkout.author).encode(), False)
     files[f'{DOC}/changelog.gz'] = (zipped(changelog(checkout).encode()), False)
     files['usr/share/lintian/overrides/warmgate'] = (OVERRIDES.encode(), False)
     return files
