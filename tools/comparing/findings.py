@@ -116,7 +116,7 @@ def envoy_waits(old, new):
     """Where Envoy would wait by the new script and not by the old one."""
     for name, wait in new.envoy.waits.items():
         if name not in old.envoy.waits:
-            yield Finding(UNJUDGED, 'cds', name, f'Envoy would wait on, since line {wait.at} of the new script{wait.until()}; here it doesn\'t wait')
+            yield Finding(UNJUDGED, 'cds', name, f'Envoy would wait on, since line {wait.at} of the new script{wait.again()}; here it doesn\'t wait')
     was = Counter((wait.kind, wait.name, wait.changed) for wait in old.anew)
     for wait in new.anew:
         was[wait.kind, wait.name, wait.changed] -= 1

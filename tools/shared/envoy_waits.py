@@ -13,24 +13,31 @@ MOST = 3
 
 
 class Wait:
-    """A wait of a cluster's generation, or of the one that Envoy would make (`anew`), for endpoints to be sent again."""
+    """What Envoy would do at a line otherwise than here: wait until the endpoints `key` are sent again, where it isn't None; and make a new
+    generation where there is `changed`, which says what differs. `number` is that of the generation here. `until` is the line at which the
+    wait ended."""
 
     def __init__(self, kind, name, number, at, key, limited, changed):
         self.kind, self.name, self.number, self.at, self.key, self.limited, self.changed = kind, name, number, at, key, limited, changed
+        self.until = None
 
     def words(self):
         """What Envoy would do at its line."""
         changed = f'Envoy would warm a new generation, since what isn\'t read here differs: {self.changed}' if self.changed else ''
         if self.key is None:
             return changed
-        limit = ', or their fetch timeout comes' if self.limited else ', without limit'
-        return f'{changed}; it would wait{self.until()}{limit}' if changed else f'Envoy would wait here{self.until()}{limit}'
+        again = self.again() + (', or their fetch timeout comes' if self.limited else ', without limit')
+        return f'{changed}; it would wait{again}' if changed else f'Envoy would wait here{again}'
 
-    def until(self):
+    def again(self):
         return f' until endpoints {quoted(self.key[1])} are sent again'
 
+    def goes_on(self):
+        """Whether it waits, and nothing ended that so far."""
+        return self.key is not None and self.until is None
+
     def title(self):
-        return f'{WORD[self.kind]} {quoted(self.name)}' + (f' (generation {self.number})' if self.number else '')
+        return f'{WORD[self.kind]} {quoted(self.name)}' + ('' if self.changed else f' (generation {self.number})')
 
 
 class EnvoyWaits:
@@ -38,7 +45,7 @@ class EnvoyWaits:
     `waits` are those that go on, by the cluster's name."""
 
     def __init__(self, reading):
-        self.is_other = getattr(reading, 'profile', None) != 'envoy'
+        self.is_other, self.whole = getattr(reading, 'profile', None) != 'envoy', reading.whole is not None
         self.bodies, self.waits, self.begun, self.over = {}, {}, [], []
 
     def take(self, line, op, answer, first, machine):
@@ -47,7 +54,7 @@ class EnvoyWaits:
         if not self.is_other or line is None:
             return
         if op == 'fetchTimeout' and line.members['type'] == 'eds':
-            self.come({line.members['name']}, limited=True)
+            self.come(line.at, {line.members['name']}, limited=True)
         elif op == 'response' and isinstance(answer, dict):
             self.respond(line, answer['verdicts'], first, machine)
 
@@ -55,13 +62,14 @@ class EnvoyWaits:
         response = line.response
         names = {item.name for item in response.items}
         if response.kind == 'eds':
-            self.come({item.name for item, verdict in zip(response.items, verdicts) if verdict != 'renewed'} | set(response.removed))
+            self.come(line.at, {item.name for item, verdict in zip(response.items, verdicts) if verdict != 'renewed'} | set(response.removed))
         if response.kind not in ('cds', 'lds'):
             return
         for name in set(response.removed) - names:
             self.bodies.pop((response.kind, name), None)
-            self.forget(response.kind, name)
-        for item, verdict, resource in zip(response.items, verdicts, resources_of(line)):
+            self.forget(response.kind, name, line.at)
+        found = resources_of(line)
+        for item, verdict, resource in zip(response.items, verdicts, [{'resource': body} for body in found] if self.whole else found):
             if verdict in ('new', 'same'):
                 self.update(line.at, response.kind, item, verdict, resource, number, machine)
             number += verdict == 'new'
@@ -73,23 +81,26 @@ class EnvoyWaits:
         row = machine.rows.get(number) if verdict == 'new' else machine.newest(kind, item.name)
         if row is None or (verdict == 'same' and not changed):
             return
-        self.forget(kind, item.name)
+        self.forget(kind, item.name, at)
         name = row.depends() if kind == 'cds' and machine.is_answered(row) else None
         if name or changed:
-            found = Wait(kind, item.name, row.number if verdict == 'new' else None, at, name, row.limited(), changed)
+            found = Wait(kind, item.name, row.number, at, name, row.limited(), changed)
             self.begun.append(found)
             if name:
                 self.waits[item.name] = found
 
-    def forget(self, kind, name):
-        if kind == 'cds':
-            self.waits.pop(name, None)
+    def forget(self, kind, name, at):
+        """An update or a removal ends the wait of the one before."""
+        wait = self.waits.pop(name, None) if kind == 'cds' else None
+        if wait:
+            wait.until = at
 
-    def come(self, names, limited=False):
+    def come(self, at, names, limited=False):
         """Endpoints of these names came, or with `limited` their fetch timeouts."""
         found = [wait for wait in self.waits.values() if wait.key[1] in names and (wait.limited or not limited)]
         for wait in found:
             del self.waits[wait.name]
+            wait.until = at
         self.over = found
 
 

@@ -7,6 +7,7 @@ import collections
 import itertools
 
 from . import rules
+from .envoy_waits import EnvoyWaits
 from .guarded import SECRET, told_secrets
 from .resources import KINDS, WORD, WORDS
 from .shown import quoted, shown
@@ -39,13 +40,14 @@ def refusal_words(line, index, verdict):
 class Teller:
     def __init__(self, page, reading, machine):
         self.page, self.reading, self.machine = page, reading, machine
-        self.said_waits, self.refusals = {}, collections.Counter()
+        self.said_waits, self.refusals, self.envoy = {}, collections.Counter(), EnvoyWaits(reading)
 
     def entry(self, entry):
         row, line, machine = entry.row, entry.line, self.machine
         phase, first, held = machine.phase, machine.next, machine.held.get(entry.worker)
         before = self.before(row, line)
         machine.step(line, row.op, row.answer, entry.worker, row.at)
+        self.envoy.take(line, row.op, row.answer, first, machine)
         self.page.head(place_of(self.reading, row), row.actor, self.title(row, line), self.is_news(row, held))
         if row.op == 'response' and isinstance(row.answer, dict):
             self.resources(line, row.answer['verdicts'], first, before)
@@ -57,6 +59,7 @@ class Teller:
             self.published()
         self.changes()
         self.waiting()
+        self.envoy_waits()
         if machine.phase != phase:
             self.page.line(ACTIVE[machine.phase], news=True)
         self.doubts(row)
@@ -292,6 +295,14 @@ class Teller:
             self.said_waits[number] = found
         self.more(told - MOST_CHANGES, 'generations more that warm', 'wait')
 
+    def envoy_waits(self):
+        """Where Envoy would wait, or warm anew, and nothing does here."""
+        for wait in self.envoy.begun[:MOST_CHANGES]:
+            self.page.line(f'{wait.title()}: {wait.words()}', 'wait', news=True)
+        self.more(len(self.envoy.begun) - MOST_CHANGES, 'for which Envoy would wait or warm anew', 'wait', news=True)
+        for wait in self.envoy.over[:MOST_CHANGES]:
+            self.page.line(f'{wait.title()}: Envoy would wait no longer than up to here, since line {wait.at}')
+
     def doubts(self, row):
         """Where the journal's requests and this tool's reckoning differ."""
         if row.op in ('accept', 'close', 'settle', 'publish', 'reap') or not isinstance(row.answer, dict):
@@ -330,6 +341,10 @@ class Teller:
             else:
                 self.page.line(f'not destroyed: {row.words()}, {row.status}', news=True)
         self.more(len(rows) - MOST_CHANGES, 'generations more that warm or are not destroyed', news=True)
+        left = list(self.envoy.waits.values())
+        for wait in left[:MOST_CHANGES]:
+            self.page.line(f'Envoy would still wait: {wait.title()} since line {wait.at},{wait.again()}', 'wait', news=True)
+        self.more(len(left) - MOST_CHANGES, 'for which Envoy would still wait', 'wait', news=True)
         for kind, phase in (('cds', 'clusters'), ('lds', 'listeners')):
             if self.machine.phase == phase:
                 waits = self.machine.phase_waits(kind)

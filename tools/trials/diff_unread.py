@@ -86,7 +86,7 @@ CHANGES = [
      (3, 'UNJUDGED', 'lds', 'virtualInbound', 'filterChains[virtualInbound-blackhole].filterChainMatch.destinationPort differs')),
     (route_to_nothing, (3, 'UNJUDGED', 'rds', '9080', '.route.cluster differs'), (3, 'UNJUDGED', 'rds', '9080', '.route.cluster differs')),
     (another_host, (3, 'UNJUDGED', 'cds', PARTNER, 'api.other.example'), (3, None, 'cds', PARTNER, 'api.other.example')),
-    (without_listener, (3, 'CHANGED', 'lds', 'virtualInbound', 'is gone; it was refused by V16 (profile)'), (3, 'CHANGED', 'lds', 'virtualInbound', 'is gone')),
+    (without_listener, (3, 'CHANGED', 'lds', 'virtualInbound', 'is gone; it was refused by V16 (profile)'), (1, 'CHANGED', 'lds', 'virtualInbound', 'is gone')),
 ]
 
 

@@ -95,6 +95,7 @@ class History:
         self.streams, self.responses, self.lost, self.late = [], [], [], []
         self.words, self.open, self.closing = [], {}, collections.defaultdict(list)
         self.end = len(self.reading.lines) + 2
+        self.waits, self.waits_of = [], collections.defaultdict(list)  # what Envoy would do otherwise, and by generation: shared.envoy_waits
 
     # The page of the teller
 
@@ -115,6 +116,7 @@ class History:
             self.at = entry.row.at
             teller.entry(entry)
             self.look(entry)
+            self.look_at_envoy(entry.row, teller.envoy.begun)
         for life in self.lives.values():
             if not life.spans:
                 # A journal whose answers aren't the machine's: the generation came and went, and nothing was told of it between.
@@ -149,6 +151,12 @@ class History:
             self.streams[-1][1] = x
         elif row.op in SIGNALS and row.answer != 'ignored':
             self.look_at_signal(x, row.op, line)
+
+    def look_at_envoy(self, row, begun):
+        for wait in begun:
+            self.band(wait.kind, wait.name).marks.append((row.at + row.step / 4, 'waits', f'line {wait.at}: {wait.words()}'))
+            self.waits.append(wait)
+            self.waits_of[wait.number].append(wait)
 
     def look_at_changes(self, x):
         for number in sorted({*self.machine.changes, *self.machine.touched}):
