@@ -77,6 +77,10 @@ class ScriptOf:
 
     def request(self, tree):
         self.named(text_in(get(tree, 'node'), 'id'))
+        error = get(tree, 'error_detail')
+        if isinstance(error, dict):
+            self.report.add('nack', kind_in(tree), None, 'error_detail', envoy='refuses', before=text_in(error, 'message') or 'without details',
+                            after=f'nonce {text_in(tree, "response_nonce")}')
 
     def named(self, node):
         if node and 'node' not in self.header:
