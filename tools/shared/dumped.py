@@ -4,7 +4,8 @@ import json
 from .finding import Walk
 from .json_text import compact
 from .resources import WORD
-from .shown import shown
+from .shown import named
+from .statuses import WrongInput
 from .words import counted
 
 PHASES = {'clusters': 'it waits for the first clusters', 'listeners': 'it waits for the first listeners', 'serving': 'it serves'}
@@ -12,7 +13,7 @@ COUNTERS = ('ack', 'nack', 'opened', 'reaped')
 HEAD = ('generation', 'kind', 'status', 'connections', 'name')
 
 
-class NoDump(Exception):
+class NoDump(WrongInput):
     """A text isn't the line that a dump writes, in words."""
 
 
@@ -45,7 +46,7 @@ def tell(page, tree):
     for number, kind, row in sorted(rows, key=lambda found: found[0]):
         color = {'active': 'good', 'warming': 'wait', 'draining': 'dim'}.get(row['status'], 'bad')
         status = page.paint(color, f'{row["status"]:<8}')
-        page.end('  '.join([f'{number:>10}', f'{WORD[kind]:<8}', status, f'{row["connections"]:>11}', shown(row['name'], 200)]))
+        page.end('  '.join([f'{number:>10}', f'{WORD[kind]:<8}', status, f'{row["connections"]:>11}', named(row['name'], 200)]))
 
 
 def refusal(reading, count):

@@ -6,6 +6,7 @@ from . import rules
 from .finding import ILLEGAL, LEGAL, NOT_THE_SCRIPT, walked
 from .json_text import compact
 from .shown import quoted, shown
+from .statuses import WrongInput
 from .teller import Teller, place_of
 from .words import counted, few
 
@@ -28,7 +29,7 @@ RULES = {
 FORMAT_2 = '; a listener that drains waits for its drain timeout too'
 
 
-class NoFinding(Exception):
+class NoFinding(WrongInput):
     """A text isn't the line that an audit writes, in words."""
 
 

@@ -16,8 +16,9 @@ def is_terminal(stream):
         return False
 
 
-def wants_colors(stream):
-    return is_terminal(stream) and not os.environ.get('NO_COLOR')
+def wants_colors(stream, when='auto'):
+    """Whether to paint what goes to a stream: `when` is auto, always or never, and auto is on a terminal, unless NO_COLOR is set."""
+    return when == 'always' or when == 'auto' and is_terminal(stream) and not os.environ.get('NO_COLOR')
 
 
 class Progress:

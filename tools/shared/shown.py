@@ -2,7 +2,7 @@
 
 What comes from outside (names, paths, a server's words, keys of another machine's lines) may hold control characters, those of U+0080 to
 U+009F, marks of direction, line ends of any kind and what no font shows. All of them are printed as escapes. A name that could imitate a
-row of the output stands in quotes: `quoted` escapes those inside.
+row of the output stands in quotes: `quoted` escapes those inside, and `named` leaves them away from a single word.
 """
 import io
 import json
@@ -10,6 +10,8 @@ import os
 import sys
 
 from .statuses import DONE, INPUT, MEMORY, MISTAKE, READ, WRITE, CantWrite, WrongInput
+
+BREAKS = set(' \'"\\')
 
 
 def escaped(text, keep=''):
@@ -29,6 +31,12 @@ def shown(text, most=80):
 def quoted(text, most=80):
     """A name in quotes: what stands between them can't end them."""
     return "'" + shown(str(text).replace('\\', '\\\\').replace("'", "\\'"), most) + "'"
+
+
+def named(text, most=80):
+    """A name as it is where it is one word; in quotes where it could imitate what stands beside it, or is empty."""
+    text = str(text)
+    return shown(text, most) if text and text.isprintable() and not set(text) & BREAKS else quoted(text, most)
 
 
 def json_shown(tree, **how):

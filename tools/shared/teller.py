@@ -10,7 +10,7 @@ from . import rules
 from .envoy_waits import EnvoyWaits
 from .guarded import SECRET, told_secrets
 from .resources import KINDS, WORD, WORDS
-from .shown import quoted, shown
+from .shown import named, quoted, shown
 from .spelling import spelled
 from .words import cluster_words, content_words, counted, few, listener_words
 
@@ -96,7 +96,7 @@ class Teller:
             return 'the stream is lost' if not ignored else 'disconnect: ignored, no stream is open'
         if row.op == 'health':
             state = 'healthy' if members['healthy'] else 'unhealthy'
-            return f'{shown(members["address"])}:{members["port"]} of cluster {quoted(members["cluster"])} is {state}' + (
+            return f'{named(members["address"])}:{members["port"]} of cluster {quoted(members["cluster"])} is {state}' + (
                 ': ignored, no live checked cluster of that name has this host' if ignored else '')
         if row.op == 'fetchTimeout':
             name = f' {quoted(members["name"])}' if 'name' in members else ''
@@ -136,7 +136,7 @@ class Teller:
                 f'; closes connections {closed}, whose listener\'s drain timeout came' if closed else '')
         if row.op == 'close':
             return f'connection {members["conn"]} ' + ('closes' if answer == 'done' else 'isn\'t open')
-        where = f'{shown(members["address"])}:{members["port"]}'
+        where = f'{named(members["address"])}:{members["port"]}'
         asked = f'connection {members["conn"]} to {where}, host {quoted(members["host"])}, path {quoted(members["path"])}'
         if answer == 'inUse':
             return f'{asked}: the number is in use, ignored'
@@ -146,7 +146,7 @@ class Teller:
             return f'{asked}: no listener: {row.actor} holds picture {held}; {behind}'
         listener = f'listener generation {answer["listener"]}'
         if answer['result'] == 'served':
-            return (f'{asked}: {self.page.paint("good", "served")} by {shown(answer["address"])}:{answer["port"]} of cluster '
+            return (f'{asked}: {self.page.paint("good", "served")} by {named(answer["address"])}:{answer["port"]} of cluster '
                     f'generation {answer["cluster"]}, {listener}')
         if answer['result'] == 'local':
             return f'{asked}: answered with status {answer["status"]}, {listener}'
@@ -155,14 +155,14 @@ class Teller:
     def resources(self, line, verdicts, first, before):
         response, (live, watched) = line.response, before
         number, names = first, {item.name for item in response.items}
-        width = min(40, max((len(shown(item.name, 40)) for item in response.items), default=0))
+        width = min(40, max((len(named(item.name, 40)) for item in response.items), default=0))
         removed = [name for name in response.removed if name not in names]
         for name in removed[:MOST_RESOURCES]:
-            self.page.line(f'{shown(name, 40):<{width}}  {self.removal(response.kind, name, live, watched)}')
+            self.page.line(f'{named(name, 40):<{width}}  {self.removal(response.kind, name, live, watched)}')
         self.more(len(removed) - MOST_RESOURCES, 'removals more')
         refused = left = 0
         for index, (item, verdict) in enumerate(zip(response.items, verdicts)):
-            text = f'{shown(item.name, 40):<{width}}  version {quoted(item.version, 40)}  '
+            text = f'{named(item.name, 40):<{width}}  version {quoted(item.version, 40)}  '
             if verdict[0] == 'V':
                 refused += 1
                 self.refused(text, line, index, verdict, refused <= MOST_RESOURCES)

@@ -8,7 +8,7 @@ import collections
 from .. import rules
 from ..machine import Machine
 from ..resources import WORD, WORDS
-from ..shown import quoted, shown
+from ..shown import named, quoted
 from ..teller import ENDS, Teller, refusal_words
 from ..words import clusters_of, targets
 
@@ -44,7 +44,7 @@ class Life:
         return bool(self.of('serves', 'empty'))
 
     def title(self):
-        return f'{WORD[self.kind]} {shown(self.name, 60)} g{self.number}'
+        return f'{WORD[self.kind]} {named(self.name, 60)} g{self.number}'
 
 
 class Connection:
@@ -216,7 +216,7 @@ class History:
         members, at = line.members, line.at
         if op == 'health':
             state = 'healthy' if members['healthy'] else 'unhealthy'
-            words = f'line {at}: {shown(members["address"])}:{members["port"]} is {state}'
+            words = f'line {at}: {named(members["address"])}:{members["port"]} is {state}'
             self.band('cds', members['cluster']).marks.append((x, state, words))
         elif op == 'drainTimeout':
             self.band('lds', members['listener']).marks.append((x, 'timeout', f'line {at}: the drain timeout came'))
@@ -263,7 +263,7 @@ class History:
         if not isinstance(row.answer, dict):
             return
         answer = row.answer
-        target = f'{shown(answer["address"])}:{answer["port"]}' if answer['result'] == 'served' else ENDS.get(answer['result'], 'answered here')
+        target = f'{named(answer["address"])}:{answer["port"]}' if answer['result'] == 'served' else ENDS.get(answer['result'], 'answered here')
         found = Connection(worker, members['conn'], x, answer, target)
         self.open[worker, members['conn']] = found
         self.connections.append(found)

@@ -1,7 +1,7 @@
 """The rows of the picture: what stands above the names, and a band for each name."""
 from .. import rules
 from ..resources import WORD
-from ..shown import shown
+from ..shown import named, shown
 from ..words import counted
 from . import drawing
 from .cards import CLASSES, SIGNS, TAG_WORDS, holdings, line_words
@@ -233,7 +233,7 @@ class BandDrawer:
             spans[4:-4] = [f'{len(spans) - 8} changes more']
         stop = number_of(life.stop or 0)
         end = {'dropped': f'; dropped at line {stop}, it never served', 'reaped': f'; reaped at line {stop}', None: ''}[life.end]
-        return f'{life.title()}, version {shown(life.version, 40)}: {"; ".join(spans)}{end}{self.envoy_words(life)}{self.kept_by(life)}'
+        return f'{life.title()}, version {named(life.version, 40)}: {"; ".join(spans)}{end}{self.envoy_words(life)}{self.kept_by(life)}'
 
     def envoy_words(self, life):
         """What Envoy would do otherwise with a generation."""
@@ -312,7 +312,7 @@ class BandDrawer:
 
     def connection_words(self, connection):
         life = self.view.history.lives.get(connection.cluster)
-        name = f'{shown(life.name, 30)} g{life.number} ' if life else ''
+        name = f'{named(life.name, 30)} g{life.number} ' if life else ''
         return f'w{connection.worker} {connection.conn} {"✕" if connection.not_served() else "→"} {name}{connection.target}'
 
     def connection_title(self, connection):
