@@ -18,7 +18,7 @@ HEALTH = {'UNKNOWN': 0, 'HEALTHY': 1, 'UNHEALTHY': 2, 'DRAINING': 3, 'TIMEOUT': 
 PROTOCOL = {'TCP': 0, 'UDP': 1}
 
 
-@functools.lru_cache(4096)
+@functools.lru_cache(1024)
 def camel(name):
     return re.sub(r'_([a-z])', lambda found: found.group(1).upper(), name)
 
