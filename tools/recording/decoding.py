@@ -55,13 +55,13 @@ class Printer:
     def tree(self, message):
         """The object of a message: its members in lowerCamelCase, and the unknown ones as unknownField and the number."""
         full = FULL_NAMES.get(message.DESCRIPTOR.name, message.DESCRIPTOR.full_name)
-        tree = {}
-        for field, value in message.ListFields():
-            tree[camel(field.name)] = self.member(full, field, value)
+        tree = {camel(field.name): self.member(full, field, value) for field, value in message.ListFields()}
+        unknown = {}
         for name, value in self.unknown_members(message.UnknownFields()):
             self.unknown[f'{full} has {name}'] += 1
-            tree.setdefault(name, []).append(value)
-        return {name: value[0] if name.startswith('unknownField') and len(value) == 1 else value for name, value in tree.items()}
+            unknown.setdefault(name, []).append(value)
+        tree.update((name, values[0] if len(values) == 1 else values) for name, values in unknown.items())
+        return tree
 
     def member(self, full, field, value):
         if field.label != field.LABEL_REPEATED:

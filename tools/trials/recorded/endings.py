@@ -2,6 +2,8 @@
 import contextlib
 import json
 import os
+import pty
+import re
 import signal
 import stat
 import subprocess
@@ -95,6 +97,24 @@ def varint(number):
     return found + bytes([number])
 
 
+def hostile_names(check, program, folder):
+    """Types, names and nonces with control characters are escaped wherever they are told."""
+    own = '\x1b[31m\u202e\x85'
+    odd = {'type_url': TYPE + f'x.{own}', 'value': b''}
+    steps = [CLASSES[RESPONSES[DELTA]](type_url=URLS['cds'], resources=[{'name': own, 'version': own, 'resource': odd}]),
+             response('cds', {'c': bodies.cluster('c', f"s{own}' alike")}, 'v2')]
+    with serving(StepsPlane(steps)) as port:
+        status, _, errors = recorded('--connect', f'127.0.0.1:{port}', '--until-quiet', '2', '--out', f'{folder}/out', '--program', program)
+    check(status == 0 and is_plain(errors) and 'a body of the type \'x.\\x1b' in errors, f'hostile types and names: {status} {errors!r}')
+    check(is_plain(text_of(f'{folder}/out/client.notes.txt')), 'the notes have control characters')
+    status, out, errors = recorded('--compare', f'{folder}/out/client.jsonl', f'{folder}/out/client.requests.jsonl', '--program', program)
+    check(is_plain(out + errors) and "names +'s\\x1b[31m\\u202e\\x85\\' alike'" in out, f'hostile names compared: {status} {out!r} {errors!r}')
+
+
+def is_plain(text):
+    return all(line.isprintable() for line in text.split('\n'))
+
+
 def lost(check, program, folder):
     """A response over the limit is answered by an error, what comes later is recorded, and the status tells it."""
     steps = [response('cds', {'big': too_large(), 'a': bodies.cluster('a')}, 'v1'), response('cds', {'b': bodies.cluster('b', 's')}, 'v2'),
@@ -133,12 +153,30 @@ def undecoded(check, program, folder):
 
 
 def unread(check, program, folder):
-    """What came and wasn't read when the time was over."""
+    """What came and wasn't read when the time was over; and how far it is, in one line on a terminal, which is gone in the end."""
     many = response('cds', {f'c{number}': bodies.static_cluster(f'c{number}', 80, 81, 82) for number in range(400)}, 'v1')
     many.nonce = 'n'
     with serving(RawPlane(*[many.SerializeToString()] * 400)) as port:
-        status, _, errors = recorded('--connect', f'127.0.0.1:{port}', '--seconds', '2', '--out', f'{folder}/out', '--program', program)
-    check(status == 1 and 'read when the time was over' in errors, f'unread responses: {status} {errors[-500:]}')
+        status, shown = on_terminal('--connect', f'127.0.0.1:{port}', '--seconds', '4', '--out', f'{folder}/out', '--program', program)
+    check(status == 1 and 'read when the time was over' in shown, f'unread responses: {status} {shown[-500:]}')
+    lines = shown.replace('\r\n', '\n').split('\n')
+    check(re.search('\r\033\\[Krecord: \\d+ responses\r\033\\[K', shown) and all(line.count('record: ') == 1 for line in lines[1:] if line), f'a terminal shows {shown!r}')
+
+
+def on_terminal(*words):
+    """(status, what is shown) of tools/record whose standard error is a terminal."""
+    own, others = pty.openpty()
+    process = subprocess.Popen([sys.executable, '-B', f'{TOOLS}/record', *words], stderr=others, env={**os.environ, 'TERM': 'xterm'})
+    os.close(others)
+    found = b''
+    with contextlib.suppress(OSError):
+        while True:
+            part = os.read(own, 4096)
+            if not part:
+                break
+            found += part
+    os.close(own)
+    return process.wait(MOST), found.decode()
 
 
 def said_otherwise(check, program, folder):
@@ -266,4 +304,4 @@ def once(check, program, folder):
     check(text_of(f'{folder}/log') == 'run\n', f'for sixty responses the program was run {text_of(f"{folder}/log").count("run")} times')
 
 
-TRIALS = [denied, denied_later, lost, lost_whole, undecoded, unread, said_otherwise, logins, ill_typed, addresses, of_one_type, owners_alone, once]
+TRIALS = [denied, denied_later, hostile_names, lost, lost_whole, undecoded, unread, said_otherwise, logins, ill_typed, addresses, of_one_type, owners_alone, once]
