@@ -37,8 +37,17 @@ def only_profile(kind, broken, numbers):
         rules.whose(rule, kind, [(path, words) for number, path, words in broken if number == rule]) == rules.PROFILE for rule in found)
 
 
-def named_host(name):
-    return {'endpoint': {'address': {'socket_address': {'address': name, 'port_value': 0}}}}
+def named_endpoint(name, port=0):
+    return {'address': {'socket_address': {'address': name, 'port_value': port}}}
+
+
+def place_of(host):
+    """(name, port) for a host without a usable socket address: that of its pipe, of its internal listener, or its address with port 0."""
+    address = get(get(host, 'endpoint'), 'address')
+    socket = get(address, 'socket_address')
+    internal = text_in(get(address, 'envoy_internal_address'), 'server_listener_name')
+    name = text_in(socket, 'address') or text_in(get(address, 'pipe'), 'path') or internal and f'internal:{internal}'
+    return (name, 0) if name else None
 
 
 def host_words(host):
@@ -96,7 +105,7 @@ class Projection:
         self.hosts(assignment)
         hosts = [host for group in objects(assignment, 'endpoints') for host in objects(group, 'lb_endpoints')]
         if words == 'ORIGINAL_DST' or not hosts and words == 'cluster_type':
-            hosts = [named_host('original-dst' if words == 'ORIGINAL_DST' else text_in(get(body, 'cluster_type'), 'name') or words)]
+            hosts = [{'endpoint': named_endpoint('original-dst' if words == 'ORIGINAL_DST' else text_in(get(body, 'cluster_type'), 'name') or words)}]
             body[key_of(body, 'load_assignment')] = {'endpoints': [{'lb_endpoints': hosts}]}
         checks = ', health results not waited for' if list_in(body, 'health_checks') else ''
         take_out(body, 'cluster_type', 'health_checks')
@@ -116,17 +125,20 @@ class Projection:
         self.hosts(body)
 
     def hosts(self, assignment):
-        """Leaves out hosts without an address that can be read."""
+        """Leaves out hosts without an address that can be read, or stands one in that can."""
         for group in objects(assignment, 'endpoints'):
             kept, hosts = [], list_in(group, 'lb_endpoints')
             for host in hosts:
                 reader = Reader()
                 read_address(reader, get(host, 'endpoint'), 'endpoint', 12)
-                if only_profile('eds', reader.broken, {12}):
-                    self.change('left-out', 'host', get(host, 'endpoint') or host, None)
-                else:
+                if not only_profile('eds', reader.broken, {12}):
                     kept.append(host)
-            if len(kept) < len(hosts):
+                elif self.level == 'all' and place_of(host):
+                    self.change('stand-in', 'host', get(get(host, 'endpoint'), 'address'), ':'.join(map(str, place_of(host))))
+                    kept.append({**host, 'endpoint': named_endpoint(*place_of(host))})
+                else:
+                    self.change('left-out', 'host', get(host, 'endpoint') or host, None)
+            if kept != hosts:
                 group[key_of(group, 'lb_endpoints')] = kept
 
     # Routes

@@ -4,6 +4,7 @@ import json
 
 from shared.resources import KINDS, read_message
 from shared.script import MAX_INPUT, MAX_LINE, MAX_LINES
+from shared.shown import quoted
 
 from . import envoy_log
 from .capture import Unreadable, get, kind_of, list_in, text_in
@@ -42,7 +43,7 @@ class ScriptOf:
         self.place, self.origins, self.header_place = 'no input', [], 'the header'  # what a line is made of
         self.state, self.documents = None, 0  # the state of the documents that came last
         self.open, self.nonces, self.known, self.last_full = False, 0, 0, {}
-        self.asked, self.told = {}, set()  # clusters with the endpoints that they wait for; the endpoints that were told
+        self.clusters, self.hosts = {}, {}  # what clusters and endpoints were told to be; None of endpoints that broke a rule or timed out
         self.good = {}  # of the response that was read last: which resources break no rule
 
     def take(self, document, place, source):
@@ -128,7 +129,7 @@ class ScriptOf:
                 self.report.add('made', kind, before=words, after='a response', turns=words.startswith('warming'))
                 self.delta(message)
             if words == 'endpoints':
-                self.timeouts(state)
+                self.first_waits(state)
         for kind, resource in failed:
             self.failure(kind, resource, kept[kind, resource['name']])
 
@@ -136,7 +137,7 @@ class ScriptOf:
         """A dump without any endpoints makes no script, unless that is wanted."""
         clusters = state.of_eds()
         names = {text_in(get(one['resource'], 'eds_cluster_config'), 'service_name') or one['name'] for one in clusters}
-        if not names or 'eds' in state.came or names & self.told:
+        if not names or 'eds' in state.came or names & set(self.hosts):
             return
         words = (f'{len(clusters)} clusters are of type EDS, and there are no endpoints: ask Envoy for /config_dump?include_eds, or give the '
                  'output of `istioctl proxy-config endpoints -o json` too')
@@ -144,19 +145,34 @@ class ScriptOf:
             raise Unreadable(f'{words}. --no-endpoints goes on without them')
         self.report.add('absent', 'eds', before=words)
 
-    def timeouts(self, state):
-        """A line of its fetch timeout for each cluster that is active there and whose endpoints aren't told: else it would warm for ever."""
-        for name in state.active_clusters():
-            asked, limited = self.asked.get(name, (None, None))
-            if asked is None or asked in self.told:
-                continue
-            before = f'cluster {name} is active there, and its endpoints aren\'t in the dump'
-            if limited:
-                self.told.add(asked)
-                self.report.add('made', 'eds', asked, before=before, after='a line of their fetch timeout', turns=True)
-                self.write({'op': 'fetchTimeout', 'type': 'eds', 'name': asked})
-            else:
-                self.report.add('absent', 'eds', asked, before=before, after='it warms on: its initial fetch timeout is 0, without limit')
+    def first_waits(self, state):
+        """The lines that end the waits of clusters that are active there: else they would warm for ever."""
+        for name in dict.fromkeys(state.active_clusters()):
+            content = self.clusters.get(name)
+            if content and content.get('eds') and content['eds'] not in self.hosts:
+                self.timeout(name, content)
+            if content and content['checked']:
+                self.results(name, content)
+
+    def timeout(self, name, content):
+        """A line of its fetch timeout for a cluster whose endpoints aren't told."""
+        before = f'cluster {quoted(name)} is active there, and its endpoints aren\'t in the dump'
+        if content['limited']:
+            self.hosts[content['eds']] = None
+            self.report.add('made', 'eds', content['eds'], before=before, after='a line of their fetch timeout', turns=True)
+            self.write({'op': 'fetchTimeout', 'type': 'eds', 'name': content['eds']})
+        else:
+            self.report.add('absent', 'eds', content['eds'], before=before, after='it warms on: its initial fetch timeout is 0, without limit')
+
+    def results(self, name, content):
+        """A health result for each host of a cluster that is checked: a dump doesn't say how the checks went."""
+        rows = self.hosts.get(content['eds']) if content.get('eds') else content['rows']
+        places = list(dict.fromkeys(place for place, *_ in rows or ()))
+        if places:
+            self.report.add('made', 'cds', name, 'health_checks', before='it is active there, so each of its hosts had a health result',
+                            after=f'{len(places)} lines of health results, taken as healthy', turns=True)
+        for address, port in places:
+            self.write({'op': 'health', 'cluster': name, 'address': address, 'port': port, 'healthy': True})
 
     def failure(self, kind, resource, kept):
         """Sends what Envoy refused; where it breaks no rule here, what Envoy kept is sent again behind it."""
@@ -291,12 +307,12 @@ class ScriptOf:
         self.probes.take(response)
 
     def note(self, response):
-        """Keeps which resources break no rule of their own, and who waits for which endpoints."""
+        """Keeps which resources break no rule of their own, and what clusters and endpoints are."""
         self.good = {item.name: item.content is not None for item in response.items}
         if response.kind == 'eds':
-            self.told.update(self.good)
+            self.hosts.update((item.name, item.content) for item in response.items)
         if response.kind == 'cds':
-            self.asked.update((item.name, (item.content.get('eds'), item.content.get('limited'))) for item in response.items if item.content)
+            self.clusters.update((item.name, item.content) for item in response.items if item.content)
 
     def write(self, operation, made=False):
         if operation['op'] != 'connect' and not self.open:

@@ -97,7 +97,7 @@ class Facts:
         lines = []
         for line in self.report.lines:
             if line['action'] in ('stand-in', 'left-out'):
-                what = f'{shown(value_words(line["after"]), 160)} for {shown(value_words(line["before"]), 160)}'
+                what = f'{shown(value_words(line["after"]), 160)} in place of {shown(value_words(line["before"]), 160)}'
                 words = what if line['action'] == 'stand-in' else f'{shown(line["member"])} left out: {shown(value_words(line["before"]), 160)}'
                 lines.append(f'{WORD[line["type"]]} {quoted(line["name"])}: {words}')
         return Section('Stands in, and for what', list(dict.fromkeys(lines)), 'nothing', alarms=False)

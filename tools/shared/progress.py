@@ -23,21 +23,22 @@ def wants_colors(stream, when='auto'):
 
 class Progress:
     """`at(done)` says how much of `total` is done. `what` are the words of the things that are counted. A tool that prints as it counts
-    says nothing where its output goes to a terminal too."""
+    says nothing where its output goes to a terminal too. The clock is looked at once in `every` calls."""
 
-    def __init__(self, tool, what, total, prints=False):
-        self.tool, self.what, self.total = tool, what, total
+    def __init__(self, tool, what, total, prints=False, every=256):
+        self.tool, self.what, self.total, self.every = tool, what, total, every
         self.shown = is_terminal(sys.stderr) and not (prints and is_terminal(sys.stdout))
-        self.next = time.monotonic() + SECONDS
+        self.next, self.stands = time.monotonic() + SECONDS, False
 
     def at(self, done):
-        if self.shown and done % 256 == 0 and time.monotonic() >= self.next:
-            self.next = time.monotonic() + EVERY
+        if self.shown and done % self.every == 0 and time.monotonic() >= self.next:
+            self.next, self.stands = time.monotonic() + EVERY, True
             put(f'{ERASE}{self.tool}: {self.what} {done} of {self.total}', ERASE)
 
     def end(self):
         """Takes the line away."""
-        if self.shown:
+        if self.stands:
+            self.stands = False
             put(ERASE, '')
 
 

@@ -6,6 +6,7 @@ import tempfile
 
 import trials
 from shared import script
+from shared.replayed import replayed
 from shared.resources import URLS
 from trials.adapt import adapted, messages
 
@@ -79,6 +80,19 @@ def some_endpoints(check):
     check(not ops(adapted(data=dump(clusters(eds('a')), endpoints('a')))[1]), 'a dump with all endpoints gets a timeout')
 
 
+def health_results(check):
+    """A checked cluster that is active there gets a result for each host, so that it doesn't warm for ever."""
+    checked = {'health_checks': [{'timeout': '1s'}]}
+    static = cluster('s', load_assignment={'endpoints': [{'lb_endpoints': [HOST, HOST]}]}, **checked)
+    tree = dump(clusters(static, {**eds('a'), **checked}, {**eds('b'), **checked}, cluster('plain')), endpoints('a'))
+    status, data, report, _ = adapted('--strict', data=tree)
+    found = [(line.op, line.members.get('cluster'), line.members.get('healthy')) for line in script.read_script(data).lines if line.op in ('health', 'fetchTimeout')]
+    check(status == 4 and found == [('health', 's', True), ('health', 'a', True), ('fetchTimeout', None, None)], f'health results of a dump: {status} {found}')
+    check([line['name'] for line in lines_of(report, 'made') if line['member'] == 'health_checks'] == ['s', 'a'], f'their report: {report}')
+    rows = [json.loads(text) for text in replayed(adapted('--auto', data=tree)[1]).splitlines()]
+    check(not any(row.get('answer') == 'ignored' for row in rows), 'a line that ends a wait is ignored')
+
+
 def refused_there(check):
     """A NACK in a dump is told, and what was refused is sent behind all; what Envoy has comes again where nothing here refuses that."""
     bad, taken = eds('a', path='x'), cluster('n', lb_policy='MAGLEV')
@@ -143,5 +157,5 @@ def of_istioctl(check):
 
 
 def run(check):
-    for trial in (without_endpoints, some_endpoints, refused_there, unnamed, several_files, of_istioctl):
+    for trial in (without_endpoints, some_endpoints, health_results, refused_there, unnamed, several_files, of_istioctl):
         trial(check)

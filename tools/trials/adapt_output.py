@@ -89,6 +89,12 @@ def stand_ins(check):
     check(hosts('c.example', 'STRICT_DNS', health_checks=[{}])[1:] == (False, 'STATIC with c.example:443, health results not waited for'), 'a checked stand-in')
     check(hosts('x', 'ORIGINAL_DST')[0] == [('original-dst', 0)], 'the host of an ORIGINAL_DST cluster')
     check(hosts('x', 'STATIC', cluster_type={'name': 'envoy.clusters.dns'})[0] == [('x', 443)], 'the host of a cluster_type with hosts')
+    for endpoint, wanted in (({'pipe': {'path': '/run/x'}}, ('/run/x', 0)), ({'socket_address': {'address': 'h', 'named_port': 'http'}}, ('h', 0)),
+                             ({'envoy_internal_address': {'server_listener_name': 'l'}}, ('internal:l', 0))):
+        body = cluster('c', load_assignment={'endpoints': [{'lb_endpoints': [{'endpoint': {'address': endpoint}}]}]})
+        item, = script.read_script(adapted('--project', 'all', data=dump(clusters(body)))[1]).lines[1].response.items
+        check([row[0] for row in item.content['rows']] == [wanted], f'the stand-in for a host at {endpoint}')
+        check('left-out' in str(adapted('--project', 'safe', data=dump(clusters(body)))[2]), f'--project safe keeps a host at {endpoint}')
     body = cluster('c', cluster_type={'name': 'envoy.clusters.aggregate'})
     item, = script.read_script(adapted('--project', 'all', data=dump(clusters(body)))[1]).lines[1].response.items
     check([row[0] for row in item.content['rows']] == [('envoy.clusters.aggregate', 0)], 'the host of a cluster_type')
