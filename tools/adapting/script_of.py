@@ -53,7 +53,7 @@ class ScriptOf:
             self.tell_state()
         self.place = place
         for key in document.repeated:
-            self.report.add('repeated-key', member=key, before='stands twice in an object', after='the last of them')
+            self.report.add('repeated-key', member=key, before=f'stands twice in an object of {place}', after='the last of them')
         wanted = self.chosen.source
         if wanted in ('delta', 'sotw') and found in ('delta', 'sotw'):
             found = wanted
@@ -121,6 +121,7 @@ class ScriptOf:
         """Writes the responses that bring about the state that was gathered."""
         state, self.state = self.state, None
         self.named(state.node)
+        state.finish()
         self.lacks_endpoints(state)
         failed = [(kind, resource) for kind in state.failed for resource in state.failed[kind]]
         kept = {(kind, resource['name']): copy.deepcopy(state.kept(kind, resource['name'])) for kind, resource in failed}
@@ -139,15 +140,16 @@ class ScriptOf:
         names = {text_in(get(one['resource'], 'eds_cluster_config'), 'service_name') or one['name'] for one in clusters}
         if not names or 'eds' in state.came or names & set(self.hosts):
             return
-        words = (f'{len(clusters)} clusters are of type EDS, and there are no endpoints: ask Envoy for /config_dump?include_eds, or give the '
-                 'output of `istioctl proxy-config endpoints -o json` too')
+        words = (f'{len(clusters)} clusters are of type EDS, and there are no endpoints: ask Envoy for /config_dump?include_eds, or give its '
+                 '/clusters?format=json or the output of `istioctl proxy-config endpoints -o json` too')
         if not self.chosen.no_endpoints:
             raise Unreadable(f'{words}. --no-endpoints goes on without them')
         self.report.add('absent', 'eds', before=words)
 
     def first_waits(self, state):
         """The lines that end the waits of clusters that are active there: else they would warm for ever."""
-        for name in dict.fromkeys(state.active_clusters()):
+        names = dict.fromkeys(state.active_clusters())
+        for name in sorted(names) if self.chosen.stable else names:
             content = self.clusters.get(name)
             if content and content.get('eds') and content['eds'] not in self.hosts:
                 self.timeout(name, content)
@@ -180,6 +182,9 @@ class ScriptOf:
         self.report.add('made', kind, name, before='failed_configuration', after='a response', turns=True)
         self.delta(message_of(kind, [resource]))
         if not self.good.get(name):
+            return
+        if not kept and kind in ('eds', 'rds'):
+            self.report.add('absent', kind, name, before='Envoy has none, and this profile goes on with what Envoy refused', turns=True)
             return
         again = [message_of(kind, [one]) for one in kept] or [message_of(kind, [], [name])]
         for message in again:
