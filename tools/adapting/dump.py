@@ -1,76 +1,185 @@
-"""An admin config dump as messages: a state, told as the responses that would bring it about."""
+"""An admin config dump, or bodies that stand alone, as messages: a state, told as the responses that would bring it about."""
+from shared.fields import DISCOVERY, enumeration
 from shared.resources import URLS
 
-from .capture import get
+from .capture import Unreadable, get, statuses_in, text_in, type_of_body
+from .statuses import assignment_of
 
 NAMES = {'cds': 'name', 'eds': 'cluster_name', 'lds': 'name', 'rds': 'name'}
+PARTS = {'ClustersConfigDump': 'cds', 'EndpointsConfigDump': 'eds', 'ListenersConfigDump': 'lds', 'RoutesConfigDump': 'rds'}
 
 
-def wrapped(kind, body, version):
-    return {'name': get(body, NAMES[kind]) or '', 'version': version or '', 'resource': body}
+def wrapped(kind, body, version, name=None):
+    """A resource round a body. The name is the body's own, else the one that is given."""
+    for found in (get(body, NAMES[kind]), version):
+        if found is not None and not isinstance(found, str):
+            raise Unreadable(f'the name or version of a resource of {kind} isn\'t a text')
+    return {'name': get(body, NAMES[kind]) or name or '', 'version': version or '', 'resource': body}
+
+
+def listed(part, member):
+    """The entries of a list of a dump."""
+    found = get(part, member)
+    if found is not None and not (isinstance(found, list) and all(isinstance(entry, dict) for entry in found)):
+        raise Unreadable(f'{member} of a part of the dump isn\'t an array of objects')
+    return found or []
+
+
+def body_in(entry, member):
+    """The body that an entry has; None where it has none."""
+    found = get(entry, member)
+    if found is not None and not isinstance(found, dict):
+        raise Unreadable(f'{member} of an entry of the dump isn\'t an object')
+    return found
 
 
 def entries(part, member, body):
-    """(version, body) of each entry of a list of a dump."""
-    found = get(part, member)
-    for entry in found if isinstance(found, list) else []:
-        if isinstance(get(entry, body), dict):
+    """(version, body) of each entry of a list of a dump that has a body."""
+    for entry in listed(part, member):
+        if body_in(entry, body) is not None:
             yield get(entry, 'version_info'), get(entry, body)
 
 
-class Dump:
-    """Takes the parts of a dump apart. `messages` has them in an order in which each waits for nothing that comes later."""
+def address_words(body):
+    """A listener's address as a name."""
+    socket = get(get(body, 'address'), 'socket_address')
+    if isinstance(socket, dict):
+        return f'{text_in(socket, "address")}:{get(socket, "port_value") or text_in(socket, "named_port") or 0}'
+    return text_in(get(get(body, 'address'), 'pipe'), 'path') or 'internal'
 
-    def __init__(self, tree, report):
-        self.report, self.node = report, None
+
+class Dump:
+    """Takes the parts of a dump, and bodies that stand alone. `messages` has them in an order in which each waits for nothing that comes
+    later, and `failures` what Envoy refused last."""
+
+    def __init__(self, report):
+        self.report, self.node, self.came = report, None, {}
         self.static, self.clusters, self.warming_clusters = [], [], []
-        self.endpoints, self.routes = [], []
+        self.endpoints, self.routes, self.statuses = [], [], []
         self.draining, self.listeners, self.warming_listeners = [], [], []
-        configs = tree.get('configs', tree if 'configs' not in tree else [])
-        for part in configs if isinstance(configs, list) else [configs]:
-            if isinstance(part, dict):
+        self.failed = {kind: [] for kind in NAMES}
+
+    def joins(self, tree, source):
+        """Whether a document is of this state: none of its parts came from another source. A second such part begins another state."""
+        return all(self.came.get(part, source) == source for part in parts_of(tree))
+
+    def add(self, tree, source):
+        self.came.update(dict.fromkeys(parts_of(tree), source))
+        if type_of_body(tree):
+            self.body(type_of_body(tree), tree)
+        elif statuses_in(tree):
+            self.statuses += [wrapped('eds', assignment_of(status), '') for status in statuses_in(tree)]
+        else:
+            for part in configs_of(tree):
                 self.part(part)
 
+    def body(self, kind, body):
+        """A body as `istioctl proxy-config` prints it."""
+        found = wrapped(kind, {'@type': URLS[kind], **body}, '')
+        if kind == 'lds':
+            self.give_name(found)
+        rows = {'cds': self.clusters, 'eds': self.endpoints, 'lds': self.listeners, 'rds': self.routes}[kind]
+        if kind == 'rds' and found['name'] in {'', *(route['name'] for route in rows)}:
+            self.report.add('not-sent', 'rds', found['name'], before='routes without a name of their own: they stand in their listener')
+            return
+        rows.append(found)
+
     def part(self, part):
-        url = str(part.get('@type', '')).rsplit('.', 1)[-1]
+        name = part_name(part)
         readers = {'BootstrapConfigDump': self.bootstrap, 'ClustersConfigDump': self.of_clusters, 'EndpointsConfigDump': self.of_endpoints,
                    'ListenersConfigDump': self.of_listeners, 'RoutesConfigDump': self.of_routes}
-        if url in readers:
-            readers[url](part)
+        if name in readers:
+            readers[name](part)
         else:
-            self.report.add('not-sent', name=url, before='a part of the dump that no response of the four types brings')
+            self.report.add('not-sent', name=name, before='a part of the dump that no response of the four types brings')
 
     def bootstrap(self, part):
-        found = get(get(get(part, 'bootstrap'), 'node'), 'id')
-        self.node = found if isinstance(found, str) and found else None
+        self.node = text_in(get(get(part, 'bootstrap'), 'node'), 'id') or self.node
 
     def of_clusters(self, part):
-        self.static = [wrapped('cds', body, '') for _, body in entries(part, 'static_clusters', 'cluster')]
-        self.clusters = [wrapped('cds', body, version) for version, body in entries(part, 'dynamic_active_clusters', 'cluster')]
-        self.warming_clusters = [wrapped('cds', body, version) for version, body in entries(part, 'dynamic_warming_clusters', 'cluster')]
+        self.static += [wrapped('cds', body, '') for _, body in entries(part, 'static_clusters', 'cluster')]
+        for member, rows in (('dynamic_active_clusters', self.clusters), ('dynamic_warming_clusters', self.warming_clusters)):
+            rows += [wrapped('cds', body, version) for version, body in entries(part, member, 'cluster')]
+            for entry in listed(part, member):
+                self.failure('cds', entry, text_in(get(entry, 'cluster'), 'name'))
 
     def of_endpoints(self, part):
         for member in ('dynamic_endpoint_configs', 'static_endpoint_configs'):
             self.endpoints += [wrapped('eds', body, version) for version, body in entries(part, member, 'endpoint_config')]
+            for entry in listed(part, member):
+                self.failure('eds', entry, text_in(get(entry, 'endpoint_config'), 'cluster_name'))
 
     def of_routes(self, part):
-        self.routes = [wrapped('rds', body, version) for version, body in entries(part, 'dynamic_route_configs', 'route_config')]
+        self.routes += [wrapped('rds', body, version) for version, body in entries(part, 'dynamic_route_configs', 'route_config')]
+        for entry in listed(part, 'dynamic_route_configs'):
+            self.failure('rds', entry, text_in(get(entry, 'route_config'), 'name'))
         for _, body in entries(part, 'static_route_configs', 'route_config'):
             self.report.add('not-sent', 'rds', get(body, 'name'), before='static routes: they stand in their listener')
 
     def of_listeners(self, part):
-        self.listeners = [wrapped('lds', body, '') for _, body in entries(part, 'static_listeners', 'listener')]
+        for _, body in entries(part, 'static_listeners', 'listener'):
+            self.listeners.append(wrapped('lds', body, ''))
+            self.give_name(self.listeners[-1])
         states = {'active_state': self.listeners, 'warming_state': self.warming_listeners, 'draining_state': self.draining}
-        for entry in get(part, 'dynamic_listeners') or []:
+        for entry in listed(part, 'dynamic_listeners'):
             for member, found in states.items():
-                state = get(entry, member)
-                if isinstance(get(state, 'listener'), dict):
-                    found.append(wrapped('lds', get(state, 'listener'), get(state, 'version_info')))
-            if get(entry, 'error_state'):
-                self.report.add('not-sent', 'lds', get(entry, 'name'), 'error_state', before='an update that was refused there')
+                state = body_in(entry, member)
+                if body_in(state, 'listener') is not None:
+                    found.append(wrapped('lds', get(state, 'listener'), get(state, 'version_info'), text_in(entry, 'name')))
+            self.failure('lds', entry, text_in(entry, 'name'))
+
+    def give_name(self, resource):
+        """Names a listener without a name by its address, as Envoy gives it a name of its own."""
+        if resource['name']:
+            return
+        name, count = address_words(resource['resource']), 1
+        while any(one['name'] == name for one in self.listeners if one is not resource):
+            count += 1
+            name = f'{address_words(resource["resource"])}#{count}'
+        resource['name'] = resource['resource']['name'] = name
+        self.report.add('named', 'lds', name, 'name', after='a listener without a name, which Envoy names by itself, has that of its address')
+
+    def failure(self, kind, entry, name):
+        """Notes that Envoy refused the last update of a resource, and keeps that update."""
+        state = body_in(entry, 'error_state')
+        if state is None:
+            return
+        body = body_in(state, 'failed_configuration')
+        is_there = body is not None
+        if is_there:
+            self.failed[kind].append(wrapped(kind, body, get(state, 'version_info'), name))
+            name = self.failed[kind][-1]['name']
+        self.report.add('nack', kind, name, 'error_state', envoy='refuses', before=text_in(state, 'details') or 'without details',
+                        after='failed_configuration, sent behind all else' if is_there else 'no failed_configuration: nothing is sent')
+
+    def of_eds(self):
+        """The clusters of type EDS of this state, as their resources."""
+        return [resource for resource in self.static + self.clusters + self.warming_clusters
+                if enumeration(get(resource['resource'], 'type'), DISCOVERY) == DISCOVERY['EDS']]
+
+    def finish(self):
+        """Turns the hosts of clusters into the endpoints that these ask for."""
+        asked = {resource['name']: text_in(get(resource['resource'], 'eds_cluster_config'), 'service_name') or resource['name'] for resource in self.of_eds()}
+        has_clusters = bool(self.static or self.clusters or self.warming_clusters)
+        for resource in self.statuses:
+            name = resource['name']
+            if name in asked or not has_clusters:
+                resource['name'] = resource['resource']['cluster_name'] = asked.get(name, name)
+                self.endpoints.append(resource)
+            else:
+                self.report.add('not-sent', 'eds', name, before='hosts of a cluster that doesn\'t ask for endpoints')
+
+    def active_clusters(self):
+        return [resource['name'] for resource in self.static + self.clusters]
+
+    def kept(self, kind, name):
+        """The resources of a name that Envoy has, the active one first."""
+        rows = {'cds': self.static + self.clusters + self.warming_clusters, 'eds': self.endpoints,
+                'lds': self.listeners + self.warming_listeners, 'rds': self.routes}[kind]
+        return [resource for resource in rows if resource['name'] == name]
 
     def messages(self):
-        """(type, resources, removed names, what they are) in order."""
+        """(type, message, what it is) in order."""
         kept = {resource['name'] for resource in self.listeners}
         gone = [resource['name'] for resource in self.draining if resource['name'] not in kept]
         steps = [('cds', self.static, [], 'static clusters'), ('cds', self.clusters, [], 'active clusters'), ('eds', self.endpoints, [], 'endpoints')]
@@ -79,5 +188,29 @@ class Dump:
         steps += [('lds', self.listeners, gone, 'active listeners'), ('rds', self.routes, [], 'routes'),
                   ('cds', self.warming_clusters, [], 'warming clusters'), ('lds', self.warming_listeners, [], 'warming listeners')]
         for kind, resources, removed, words in steps:
-            if resources or removed:
-                yield kind, {'typeUrl': URLS[kind], 'resources': resources, 'removedResources': removed}, words
+            if resources or removed or words == 'endpoints':
+                yield kind, message_of(kind, resources, removed), words
+
+
+def message_of(kind, resources, removed=()):
+    return {'typeUrl': URLS[kind], 'resources': list(resources), 'removedResources': list(removed)}
+
+
+def configs_of(tree):
+    """The parts of a document of a dump."""
+    if isinstance(get(tree, 'bootstrap'), dict) and not text_in(tree, '@type'):
+        return [{'@type': 'BootstrapConfigDump', **tree}]
+    return listed(tree, 'configs') if 'configs' in tree else [tree]
+
+
+def part_name(part):
+    return text_in(part, '@type').rsplit('.', 1)[-1]
+
+
+def parts_of(tree):
+    """What a document has of a state: types, and the names of other parts of a dump."""
+    if type_of_body(tree):
+        return [type_of_body(tree)]
+    if statuses_in(tree):
+        return ['eds']
+    return [PARTS.get(part_name(part), part_name(part)) for part in configs_of(tree)]

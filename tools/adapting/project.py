@@ -1,14 +1,16 @@
 """What the profile refuses and Envoy takes, left out or stood in for; each such change has a line in the report."""
 import copy
+import pickle
 
-from shared import rules
+from shared import came, rules
 from shared.fields import DISCOVERY, Reader, camel, enumeration
 from shared.resources import MANAGER, TCP_PROXY, read_address, read_route
+from shared.words import few
 
-from .capture import get
+from .capture import get, list_in, text_in
 
 OTHER_SOURCES = ('path', 'path_config_source', 'api_config_source')
-NO_HOSTS = ('STRICT_DNS', 'LOGICAL_DNS', 'ORIGINAL_DST')
+BY_NAME = ('STRICT_DNS', 'LOGICAL_DNS', 'ORIGINAL_DST')
 EMPTY_MANAGER = {'name': 'stand-in', 'typed_config': {'@type': MANAGER, 'route_config': {}}}
 
 
@@ -35,6 +37,24 @@ def only_profile(kind, broken, numbers):
         rules.whose(rule, kind, [(path, words) for number, path, words in broken if number == rule]) == rules.PROFILE for rule in found)
 
 
+def named_endpoint(name, port=0):
+    return {'address': {'socket_address': {'address': name, 'port_value': port}}}
+
+
+def place_of(host):
+    """(name, port) for a host without a usable socket address: that of its pipe, of its internal listener, or its address with port 0."""
+    address = get(get(host, 'endpoint'), 'address')
+    socket = get(address, 'socket_address')
+    internal = text_in(get(address, 'envoy_internal_address'), 'server_listener_name')
+    name = text_in(socket, 'address') or text_in(get(address, 'pipe'), 'path') or internal and f'internal:{internal}'
+    return (name, 0) if name else None
+
+
+def host_words(host):
+    socket = get(get(get(host, 'endpoint'), 'address'), 'socket_address')
+    return f'{get(socket, "address")}:{get(socket, "port_value")}'
+
+
 class Projection:
     """`level` is none, safe or all. `apply` changes the resources of a message in place and gives those that stand in its stead."""
 
@@ -45,21 +65,23 @@ class Projection:
     def apply(self, kind, message):
         if self.level == 'none':
             return
-        resources, added, removed = get(message, 'resources') or [], [], []
+        resources, added, removed = list_in(message, 'resources'), [], []
         for resource in resources:
             body = resource.get('resource') if isinstance(resource, dict) else None
-            self.kind, self.name = kind, get(resource, 'name') or ''
+            self.kind, self.name = kind, text_in(resource, 'name')
             if isinstance(body, dict):
+                before = pickle.loads(pickle.dumps(body))
                 getattr(self, kind)(body)
-                added += [dict(resource, name=get(one, 'name'), resource=one) for one in self.parts_of(kind, body, removed)]
+                outer = {name: value for name, value in resource.items() if name != came.MEMBER}
+                added += [dict(outer, name=get(one, 'name'), resource=one) for one in self.parts_of(kind, body, removed)]
+                if body != before:
+                    came.keep(resource, before)
         if kind == 'lds':
-            names = get(message, 'removed_resources')
-            for name in list(names) if isinstance(names, list) else []:
-                removed += self.stood.pop(name, [])
+            for name in list_in(message, 'removed_resources'):
+                removed += self.stood.pop(name, []) if isinstance(name, str) else []
             resources += added
             if removed:
-                key = key_of(message, 'removed_resources')
-                message[key] = (message.get(key) or []) + removed
+                message[key_of(message, 'removed_resources')] = list_in(message, 'removed_resources') + removed
 
     def change(self, action, member, before, after):
         self.report.add(action, self.kind, self.name, member, before=before, after=after, turns=True)
@@ -68,19 +90,27 @@ class Projection:
 
     def cds(self, body):
         kind = enumeration(get(body, 'type'), DISCOVERY) if get(body, 'type') is not None else 0
-        words = next((word for word in NO_HOSTS if kind == DISCOVERY[word]), None)
+        words = next((word for word in BY_NAME if kind == DISCOVERY[word]), None)
         if self.level == 'all' and (words or isinstance(get(body, 'cluster_type'), dict)):
-            self.without_hosts(body, words or 'cluster_type')
+            self.by_name(body, words or 'cluster_type')
         elif kind == DISCOVERY['EDS'] and self.level == 'all':
             self.source(get(body, 'eds_cluster_config'), 'eds_config')
         elif kind == 0:
             self.hosts(get(body, 'load_assignment'))
 
-    def without_hosts(self, body, words):
-        hosts = sum(len(objects(group, 'lb_endpoints')) for group in objects(get(body, 'load_assignment'), 'endpoints'))
-        take_out(body, 'cluster_type', 'load_assignment')
+    def by_name(self, body, words):
+        """A static cluster for one that finds its hosts by itself: they are the names by which it does, `original-dst` where it takes what
+        the connection asked for, and else the name of its cluster type."""
+        assignment = get(body, 'load_assignment')
+        self.hosts(assignment)
+        hosts = [host for group in objects(assignment, 'endpoints') for host in objects(group, 'lb_endpoints')]
+        if words == 'ORIGINAL_DST' or not hosts and words == 'cluster_type':
+            hosts = [{'endpoint': named_endpoint('original-dst' if words == 'ORIGINAL_DST' else text_in(get(body, 'cluster_type'), 'name') or words)}]
+            body[key_of(body, 'load_assignment')] = {'endpoints': [{'lb_endpoints': hosts}]}
+        checks = ', health results not waited for' if list_in(body, 'health_checks') else ''
+        take_out(body, 'cluster_type', 'health_checks')
         body['type'] = 'STATIC'
-        self.change('stand-in', 'type', f'{words} with {hosts} host names', 'STATIC without hosts')
+        self.change('stand-in', 'type', words, f'STATIC with {few(map(host_words, hosts)) or "no host"}{checks}')
 
     def source(self, holder, name):
         """`ads` for another config source."""
@@ -95,27 +125,28 @@ class Projection:
         self.hosts(body)
 
     def hosts(self, assignment):
-        """Leaves out hosts without an address that can be read."""
+        """Leaves out hosts without an address that can be read, or stands one in that can."""
         for group in objects(assignment, 'endpoints'):
-            kept = []
-            hosts = get(group, 'lb_endpoints')
-            for host in hosts if isinstance(hosts, list) else []:
+            kept, hosts = [], list_in(group, 'lb_endpoints')
+            for host in hosts:
                 reader = Reader()
                 read_address(reader, get(host, 'endpoint'), 'endpoint', 12)
-                if only_profile('eds', reader.broken, {12}):
-                    self.change('left-out', 'host', get(host, 'endpoint') or host, None)
-                else:
+                if not only_profile('eds', reader.broken, {12}):
                     kept.append(host)
-            if isinstance(hosts, list) and len(kept) < len(hosts):
+                elif self.level == 'all' and place_of(host):
+                    self.change('stand-in', 'host', get(get(host, 'endpoint'), 'address'), ':'.join(map(str, place_of(host))))
+                    kept.append({**host, 'endpoint': named_endpoint(*place_of(host))})
+                else:
+                    self.change('left-out', 'host', get(host, 'endpoint') or host, None)
+            if kept != hosts:
                 group[key_of(group, 'lb_endpoints')] = kept
 
     # Routes
 
     def rds(self, body):
         for host in objects(body, 'virtual_hosts'):
-            kept = []
-            routes = get(host, 'routes')
-            for place, route in enumerate(routes if isinstance(routes, list) else []):
+            kept, routes = [], list_in(host, 'routes')
+            for place, route in enumerate(routes):
                 reader = Reader()
                 if isinstance(route, dict):
                     read_route(reader, route, '')
@@ -123,7 +154,7 @@ class Projection:
                     self.change('left-out', f'route {place} of virtual host {get(host, "name")}', route, None)
                 else:
                     kept.append(route)
-            if isinstance(routes, list) and len(kept) < len(routes):
+            if len(kept) < len(routes):
                 host[key_of(host, 'routes')] = kept
 
     # Listeners
@@ -162,7 +193,7 @@ class Projection:
                 take_out(socket, 'named_port')
                 socket['port_value'] = 0
         elif isinstance(outer, dict) or outer is None:
-            path = get(get(outer, 'pipe'), 'path') or f'internal:{self.name}'
+            path = text_in(get(outer, 'pipe'), 'path') or f'internal:{self.name}'
             body[key_of(body, 'address')] = {'socket_address': {'address': path, 'port_value': 0}}
             self.change('stand-in', 'address', outer, f'{path}, port 0')
 
@@ -173,14 +204,14 @@ class Projection:
         chains = objects(body, 'filter_chains')
         default = get(body, 'default_filter_chain')
         if isinstance(default, dict):
-            chains.append(dict(default, name=get(default, 'name') or 'default'))
+            chains.append(dict(default, name=text_in(default, 'name') or 'default'))
             take_out(body, 'default_filter_chain')
             self.change('stand-in', 'default_filter_chain', 'a default chain', 'the last chain')
         if not chains and not self.of_udp:
             return []
         chains = chains or [{}]
         body[key_of(body, 'filter_chains')] = [self.alone(chains[0])]
-        names = [get(chain, 'name') for chain in chains]
+        names = [text_in(chain, 'name') for chain in chains]
         beside = []
         for place, chain in enumerate(chains[1:], 2):
             label = names[place - 1]
@@ -210,6 +241,6 @@ class Projection:
             self.change('stand-in', 'filter_chain_match', match, 'no match')
         kinds = [get(get(one, 'typed_config'), '@type') for one in objects(chain, 'filters')]
         if MANAGER not in kinds and TCP_PROXY not in kinds:
-            chain[key_of(chain, 'filters')] = (get(chain, 'filters') or []) + [copy.deepcopy(EMPTY_MANAGER)]
+            chain[key_of(chain, 'filters')] = list_in(chain, 'filters') + [copy.deepcopy(EMPTY_MANAGER)]
             self.change('stand-in', 'filters', 'no connection manager or TCP proxy', 'one more filter, a connection manager without routes')
         return chain

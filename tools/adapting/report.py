@@ -1,11 +1,10 @@
 """The report of tools/adapt: a JSON line for each thing that isn't as it came, or that is passed over or refused."""
-import json
-
 from shared import rules
+from shared.shown import json_shown
 
 TAKES = {rules.ENVOY: 'refuses', rules.PROFILE: 'takes', rules.UNKNOWN: 'not known'}
 # Actions that change nothing of the input.
-NOTES = ('refused', 'passed-over', 'absent')
+NOTES = ('refused', 'passed-over', 'absent', 'nack')
 
 
 class Report:
@@ -31,10 +30,11 @@ class Report:
         self.add('refused', kind, item.name, path and path.split('.resource.', 1)[-1], rule, TAKES[item.whose(kind, f'V{rule}')], before=words)
 
     def text(self):
-        return ''.join(json.dumps(line, ensure_ascii=False, separators=(',', ':')) + '\n' for line in self.lines)
+        return ''.join(json_shown(line) + '\n' for line in self.lines)
 
     def sum(self):
         return ', '.join(f'{count} {action}' for action, count in sorted(self.counts.items())) or 'nothing changed'
 
     def status(self):
+        """The exit status of --strict."""
         return 4 if self.turns else 1 if self.changed else 0

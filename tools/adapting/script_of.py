@@ -1,17 +1,23 @@
 """Makes the lines of a script of documents: the work of tools/adapt between what it reads and what it writes."""
+import copy
 import json
 
 from shared.resources import KINDS, read_message
 from shared.script import MAX_INPUT, MAX_LINE, MAX_LINES
+from shared.shown import quoted
 
 from . import envoy_log
-from .capture import Unreadable, get, kind_of
-from .dump import Dump, wrapped
+from .capture import Unreadable, get, kind_of, list_in, text_in
+from .checked import check
+from .dump import Dump, message_of, wrapped
 from .passed import passed_over
 from .probe import Probes
 from .project import Projection, key_of, take_out
+from .whole_of import WholeOf
 
 RESOURCE = 'envoy.service.discovery.v3.Resource'
+# Documents of a state, which are told once all of it is there.
+OF_STATE = ('config-dump', 'body', 'statuses')
 
 
 def compact(tree):
@@ -21,38 +27,65 @@ def compact(tree):
         raise Unreadable('a text has half a pair of surrogates') from None
 
 
+def kind_in(message):
+    """The type of a response that is read; None for any other, and where its type isn't a text."""
+    return KINDS.get(text_in(message, 'type_url'))
+
+
 class ScriptOf:
     """`take` each document, then `finish`; `lines` are the script's, each bytes without its end."""
 
     def __init__(self, chosen, report):
         self.chosen, self.report = chosen, report
         self.projection, self.probes = Projection(chosen.project, report), Probes()
+        self.whole = WholeOf(report) if chosen.sotw else None
         self.header, self.lines, self.size = {}, [], 0
+        self.place, self.origins, self.header_place = 'no input', [], 'the header'  # what a line is made of
+        self.state, self.documents = None, 0  # the state of the documents that came last
         self.open, self.nonces, self.known, self.last_full = False, 0, 0, {}
+        self.clusters, self.hosts = {}, {}  # what clusters and endpoints were told to be; None of endpoints that broke a rule or timed out
+        self.good = {}  # of the response that was read last: which resources break no rule
 
-    def take(self, tree, line):
-        found = kind_of(tree)
+    def take(self, document, place, source):
+        """Takes a document. `place` says where it stands, `source` which input it is of."""
+        tree, found = document.tree, kind_of(document.tree)
+        if self.state and found not in OF_STATE:
+            self.tell_state()
+        self.place = place
+        for key in document.repeated:
+            self.report.add('repeated-key', member=key, before=f'stands twice in an object of {place}', after='the last of them')
         wanted = self.chosen.source
         if wanted in ('delta', 'sotw') and found in ('delta', 'sotw'):
             found = wanted
-        takers = {'config-dump': self.dump, 'script': self.operation, 'header': self.take_header, 'request': self.request, 'delta': self.delta,
+        takers = {'script': self.operation, 'header': self.take_header, 'request': self.request, 'delta': self.delta,
                   'sotw': self.full, 'health': self.health, 'log': self.log}
-        if found in takers:
+        if found in OF_STATE:
+            self.known += 1
+            self.documents += 1
+            self.gather(tree, self.documents if found == 'config-dump' else source)
+        elif found in takers:
             self.known += 1
             takers[found](tree)
         else:
-            self.report.add('not-sent', before=f'line {line} of the input: no document that is known')
+            self.report.add('not-sent', before=f'{place}: no document that is known')
 
     # Documents
 
     def take_header(self, tree):
         if not self.lines:
             self.header = dict(tree)
+            self.header_place = self.place
 
     def request(self, tree):
-        node = get(get(tree, 'node'), 'id')
-        if isinstance(node, str) and node:
-            self.header.setdefault('node', node)
+        self.named(text_in(get(tree, 'node'), 'id'))
+        error = get(tree, 'error_detail')
+        if isinstance(error, dict):
+            self.report.add('nack', kind_in(tree), None, 'error_detail', envoy='refuses', before=text_in(error, 'message') or 'without details',
+                            after=f'nonce {text_in(tree, "response_nonce")}')
+
+    def named(self, node):
+        if node and 'node' not in self.header:
+            self.header['node'], self.header_place = node, self.place
 
     def health(self, event):
         found = envoy_log.of_health(event)
@@ -76,36 +109,116 @@ class ScriptOf:
             self.probes.conn = max(self.probes.conn, tree['conn'])
         self.put(compact(tree))
 
-    def dump(self, tree):
-        dump = Dump(tree, self.report)
-        if dump.node:
-            self.header.setdefault('node', dump.node)
-        if dump.clusters and not dump.endpoints:
-            self.report.add('absent', 'eds', before='the dump has no endpoints: ask for /config_dump?include_eds')
-        for kind, message, words in dump.messages():
-            self.report.add('made', kind, before=words, after='a response', turns=words.startswith('warming'))
+    # A state
+
+    def gather(self, tree, source):
+        if self.state and not self.state.joins(tree, source):
+            self.tell_state()
+        self.state = self.state or Dump(self.report)
+        self.state.add(tree, source)
+
+    def tell_state(self):
+        """Writes the responses that bring about the state that was gathered."""
+        state, self.state = self.state, None
+        self.named(state.node)
+        state.finish()
+        self.lacks_endpoints(state)
+        failed = [(kind, resource) for kind in state.failed for resource in state.failed[kind]]
+        kept = {(kind, resource['name']): copy.deepcopy(state.kept(kind, resource['name'])) for kind, resource in failed}
+        for kind, message, words in state.messages():
+            if message['resources'] or message['removedResources']:
+                self.report.add('made', kind, before=words, after='a response', turns=words.startswith('warming'))
+                self.delta(message)
+            if words == 'endpoints':
+                self.first_waits(state)
+        for kind, resource in failed:
+            self.failure(kind, resource, kept[kind, resource['name']])
+
+    def lacks_endpoints(self, state):
+        """A dump without any endpoints makes no script, unless that is wanted."""
+        clusters = state.of_eds()
+        names = {text_in(get(one['resource'], 'eds_cluster_config'), 'service_name') or one['name'] for one in clusters}
+        if not names or 'eds' in state.came or names & set(self.hosts):
+            return
+        words = (f'{len(clusters)} clusters are of type EDS, and there are no endpoints: ask Envoy for /config_dump?include_eds, or give its '
+                 '/clusters?format=json or the output of `istioctl proxy-config endpoints -o json` too')
+        if not self.chosen.no_endpoints:
+            raise Unreadable(f'{words}. --no-endpoints goes on without them')
+        self.report.add('absent', 'eds', before=words)
+
+    def first_waits(self, state):
+        """The lines that end the waits of clusters that are active there: else they would warm for ever."""
+        names = dict.fromkeys(state.active_clusters())
+        for name in sorted(names) if self.chosen.stable else names:
+            content = self.clusters.get(name)
+            if content and content.get('eds') and content['eds'] not in self.hosts:
+                self.timeout(name, content)
+            if content and content['checked']:
+                self.results(name, content)
+
+    def timeout(self, name, content):
+        """A line of its fetch timeout for a cluster whose endpoints aren't told."""
+        before = f'cluster {quoted(name)} is active there, and its endpoints aren\'t in the dump'
+        if content['limited']:
+            self.hosts[content['eds']] = None
+            self.report.add('made', 'eds', content['eds'], before=before, after='a line of their fetch timeout', turns=True)
+            self.write({'op': 'fetchTimeout', 'type': 'eds', 'name': content['eds']})
+        else:
+            self.report.add('absent', 'eds', content['eds'], before=before, after='it warms on: its initial fetch timeout is 0, without limit')
+
+    def results(self, name, content):
+        """A health result for each host of a cluster that is checked: a dump doesn't say how the checks went."""
+        rows = self.hosts.get(content['eds']) if content.get('eds') else content['rows']
+        places = list(dict.fromkeys(place for place, *_ in rows or ()))
+        if places:
+            self.report.add('made', 'cds', name, 'health_checks', before='it is active there, so each of its hosts had a health result',
+                            after=f'{len(places)} lines of health results, taken as healthy', turns=True)
+        for address, port in places:
+            self.write({'op': 'health', 'cluster': name, 'address': address, 'port': port, 'healthy': True})
+
+    def failure(self, kind, resource, kept):
+        """Sends what Envoy refused; where it breaks no rule here, what Envoy kept is sent again behind it."""
+        name = resource['name']
+        self.report.add('made', kind, name, before='failed_configuration', after='a response', turns=True)
+        self.delta(message_of(kind, [resource]))
+        if not self.good.get(name):
+            return
+        if not kept and kind in ('eds', 'rds'):
+            self.report.add('absent', kind, name, before='Envoy has none, and this profile goes on with what Envoy refused', turns=True)
+            return
+        again = [message_of(kind, [one]) for one in kept] or [message_of(kind, [], [name])]
+        for message in again:
+            self.report.add('made', kind, name, before='Envoy refused the one before, and this profile doesn\'t',
+                            after='a response with what Envoy has' if kept else 'a removal: Envoy has none', turns=True)
             self.delta(message)
+
+    # Responses
 
     def full(self, message):
         """A state-of-the-world response as an incremental one: clusters and listeners that it hasn't any more are removed."""
-        url, resources = get(message, 'type_url'), get(message, 'resources') or []
-        kind, version = KINDS.get(url), get(message, 'version_info') or ''
-        found = [self.of_full(kind, body, version) for body in resources if isinstance(body, dict)]
+        kind, version = kind_in(message), get(message, 'version_info')
+        if not isinstance(get(message, 'resources') or [], list) or not isinstance(version or '', str):
+            raise Unreadable('the resources of a response aren\'t an array, or its versionInfo is no text')
+        found = [self.of_full(kind, body, version or '') for body in list_in(message, 'resources')]
         names = {resource['name'] for resource in found}
         gone = sorted(self.last_full.get(kind, set()) - names) if kind in ('cds', 'lds') else []
         self.last_full[kind] = names
-        self.report.add('made', kind, before='a state-of-the-world response', after='an incremental response')
-        for name in gone:
-            self.report.add('removed', kind, name, before='not in the response any more', after='removedResources')
-        self.delta({'typeUrl': url, 'nonce': get(message, 'nonce'), 'resources': found, 'removedResources': gone})
+        if not self.whole:
+            self.report.add('made', kind, before='a state-of-the-world response', after='an incremental response')
+            for name in gone:
+                self.report.add('removed', kind, name, before='not in the response any more', after='removedResources')
+        made = {'typeUrl': get(message, 'type_url'), 'nonce': get(message, 'nonce'), 'resources': found, 'removedResources': gone}
+        self.delta(made, version or '')
 
     def of_full(self, kind, body, version):
-        if str(body.get('@type', '')).endswith(RESOURCE):
-            return {'version': version, **{name: value for name, value in body.items() if name != '@type'}, 'name': get(body, 'name') or ''}
-        return wrapped(kind, body, version) if kind else {'name': '', 'resource': body}
+        if isinstance(body, dict) and text_in(body, '@type').endswith(RESOURCE):
+            found = {'version': version, **{name: value for name, value in body.items() if name != '@type'}}
+            return {**found, 'name': text_in(body, 'name')}
+        return wrapped(kind, body, version) if kind and isinstance(body, dict) else {'name': '', 'version': version, 'resource': body}
 
-    def delta(self, message):
-        kind = KINDS.get(get(message, 'type_url'))
+    def delta(self, message, whole_version=None):
+        """Writes an incremental response. With `whole_version` it came as one of the state of the world."""
+        kind = kind_in(message)
         if not self.open:
             self.write({'op': 'connect'}, made=bool(self.lines))
             self.open = True
@@ -117,18 +230,21 @@ class ScriptOf:
             if self.chosen.stable:
                 self.sort(kind, message)
         else:
-            self.report.add('passed-over', name=str(get(message, 'type_url')), before='a response of a type that isn\'t read')
+            self.report.add('passed-over', name=text_in(message, 'type_url'), before='a response of a type that isn\'t read')
+        if self.whole and kind:
+            self.look_at(message)
+            self.write_response(self.whole.response(kind, message, whole_version))
+            return
         take_out(message, *[name for name in ('resources', 'removed_resources') if get(message, name) == []])
         self.write_response(message)
 
     def resources(self, message):
-        found = get(message, 'resources')
-        return [resource for resource in found if isinstance(resource, dict)] if isinstance(found, list) else []
+        return [resource for resource in list_in(message, 'resources') if isinstance(resource, dict)]
 
     def unwrap(self, resource):
         """Takes a body out of the wrapper of a resource that stands round it."""
         body = resource.get('resource')
-        if isinstance(body, dict) and str(body.get('@type', '')).endswith(RESOURCE):
+        if isinstance(body, dict) and text_in(body, '@type').endswith(RESOURCE):
             for name, value in body.items():
                 if name != '@type' and (name == 'resource' or resource.get(name) is None):
                     resource[name] = value
@@ -137,15 +253,17 @@ class ScriptOf:
     def give_nonce(self, message):
         self.nonces += 1
         nonce = get(message, 'nonce')
-        if self.chosen.stable or not isinstance(nonce, str) or not nonce:
+        if nonce is not None and not isinstance(nonce, str):
+            raise Unreadable('the nonce of a response isn\'t a text')
+        if self.chosen.stable or not nonce:
             message[key_of(message, 'nonce')] = str(self.nonces)
             if nonce != str(self.nonces):
                 self.report.add('nonce', before=nonce, after=str(self.nonces))
 
     def sort(self, kind, message):
         for member, key in (('resources', lambda resource: str(get(resource, 'name') or '')), ('removed_resources', str)):
-            found = get(message, member)
-            if isinstance(found, list) and found:
+            found = list_in(message, member)
+            if found:
                 ordered = sorted(found, key=key)
                 if any(one is not other for one, other in zip(ordered, found)):
                     message[key_of(message, member)] = ordered
@@ -159,15 +277,18 @@ class ScriptOf:
         if len(data) > MAX_LINE:
             if len(resources) < 2:
                 raise Unreadable(f'a resource has more than {MAX_LINE} bytes, the most of a line: {get(resources[0], "name") if resources else ""}')
+            if self.whole and kind_in(message) in ('cds', 'lds'):
+                raise Unreadable(f'a response has more than {MAX_LINE} bytes, the most of a line, and one of the state of the world can\'t be split')
             self.split(message, resources)
             return
-        self.look_at(message)
+        if not self.whole:
+            self.look_at(message)
         self.put(data)
 
     def split(self, message, resources):
         half = len(resources) // 2
         nonce = get(message, 'nonce')
-        self.report.add('split', KINDS.get(get(message, 'type_url')), before=f'{len(resources)} resources in response {nonce}',
+        self.report.add('split', kind_in(message), before=f'{len(resources)} resources in response {nonce}',
                         after=f'{half} and {len(resources) - half}', turns=True)
         for place, part in enumerate((resources[:half], resources[half:])):
             one = dict(message, **{key_of(message, 'resources'): part, key_of(message, 'nonce'): f'{nonce}-{place}'})
@@ -182,12 +303,21 @@ class ScriptOf:
             raise Unreadable('a message is no response: ' + '; '.join(f'{path} {words}' for path, words in complaints[:3]))
         if response.kind is None:
             return
+        self.note(response)
         for item, resource in zip(response.items, self.resources(message)):
             if item.least:
                 self.report.refused(response.kind, item)
             for member, path in passed_over(resource.get('resource')).items():
                 self.report.add('passed-over', response.kind, item.name, member, before=path)
         self.probes.take(response)
+
+    def note(self, response):
+        """Keeps which resources break no rule of their own, and what clusters and endpoints are."""
+        self.good = {item.name: item.content is not None for item in response.items}
+        if response.kind == 'eds':
+            self.hosts.update((item.name, item.content) for item in response.items)
+        if response.kind == 'cds':
+            self.clusters.update((item.name, item.content) for item in response.items if item.content)
 
     def write(self, operation, made=False):
         if operation['op'] != 'connect' and not self.open:
@@ -199,6 +329,7 @@ class ScriptOf:
 
     def put(self, data):
         self.lines.append(data)
+        self.origins.append(self.place)
         self.size += len(data) + 1
         self.report.line = len(self.lines) + 2
         if len(self.lines) >= MAX_LINES or self.size > MAX_INPUT - 4096:
@@ -206,7 +337,10 @@ class ScriptOf:
 
     def finish(self):
         """All lines, the header first."""
+        if self.state:
+            self.tell_state()
         if self.chosen.probe:
+            self.place = '--probe'
             found, more = self.probes.lines(MAX_LINES - len(self.lines) - 2)
             self.report.add('probe', before=f'{len(found) - 2} connections', after='accepts at the end' + (', and more were wanted' if more else ''))
             for operation in found:
@@ -215,5 +349,6 @@ class ScriptOf:
             self.header['workers'] = self.chosen.workers
         if self.chosen.auto:
             self.header['auto'] = True
-        return [compact({'workers': 1, **self.header}), *self.lines]
-
+        lines = [compact({'workers': 1, **self.header}), *self.lines]
+        check(lines, [self.header_place, *self.origins], self.chosen.sotw)
+        return lines

@@ -2,30 +2,41 @@
 from collections import Counter
 
 from shared import rules
+from shared.bodies import differences
 from shared.resources import WORD, WORDS
 from shared.shown import quoted, shown
 from shared.words import content_words, counted, few
 
-from .outcome import of_kinds
-from .unread import differing
+from .outcome import Sent, of_kinds
 
 REGRESSION, CHANGED, UNJUDGED = 'REGRESSION', 'CHANGED', 'UNJUDGED'
 ANSWERED = ('served', 'local', 'redirect')
 RESULTS = {'redirect': 'a redirect', 'noListener': 'no listener', 'noRoute': 'no route', 'noCluster': 'its cluster isn\'t there',
            'noEndpoint': 'its cluster has no host that may be chosen'}
+# The most places that are told of one pair of bodies.
+MOST_PLACES = 20
 
 
 class Finding:
-    def __init__(self, kind, of, name, said, generation=None):
-        self.kind, self.of, self.name, self.said, self.generation = kind, of, name, said, generation
+    """`path` is the place in a body that differs, where the finding has one."""
+
+    def __init__(self, kind, of, name, said, generation=None, path=None):
+        self.kind, self.of, self.name, self.said, self.generation, self.path = kind, of, name, said, generation, path
 
     def words(self):
-        what = f'{WORD[self.of]} {quoted(self.name)}' if self.of in WORD else shown(self.name, 200)
         which = f', generation {self.generation} of the name' if self.generation and self.generation > 1 else ''
-        return f'{what}{which}: {shown(self.said, 400)}'
+        return f'{self.title()}{which}: {shown(self.said, 400)}'
+
+    def title(self):
+        if self.of in WORD:
+            return f'{WORD[self.of]} {quoted(self.name)}'
+        if self.of in ('connection', 'run'):
+            return shown(self.name, 200)
+        return f'{shown(self.of.rsplit("/", 1)[-1]) or "a resource without a type"} {quoted(self.name)}'
 
     def tree(self):
-        return {'class': self.kind, 'type': self.of, 'name': self.name, 'generation': self.generation, 'words': self.said}
+        found = {'class': self.kind, 'type': self.of, 'name': self.name, 'generation': self.generation, 'words': self.said}
+        return {**found, 'path': self.path} if self.path else found
 
 
 def compared(old, new, also, strict):
@@ -34,6 +45,7 @@ def compared(old, new, also, strict):
     findings = phase(old, new)
     for key in keys:
         findings += [*refusals(key, old, new, strict), *states(key, old, new), *contents(key, old, new)]
+    findings += [*unjudged(old, new), *envoy_waits(old, new)]
     asked = connections(old, new)
     findings += asked + forms(old, new, also)
     touched = {(finding.of, finding.name) for finding in findings}
@@ -51,21 +63,85 @@ def phase(old, new):
 # Refusals
 
 def refusals(key, old, new, strict):
-    """Resources that are refused more often, or less, by a rule."""
-    was, now = (Counter(verdict for verdict, _, _ in side.refusals.get(key, ())) for side in (old, new))
-    for verdict in sorted(set(was) | set(now)):
-        if now[verdict] > was[verdict]:
-            of, complaints = next((of, complaints) for found, of, complaints in reversed(new.refusals[key]) if found == verdict)
+    """Resources that are refused more often, or less, by a rule, and what differs in those that are refused as before."""
+    was, now = (Counter((verdict, of) for verdict, of, _, _ in side.refusals.get(key, ())) for side in (old, new))
+    for verdict in sorted({verdict for verdict, _ in [*was, *now]}):
+        more = [of for of in sorted({of for _, of in now}) if now[verdict, of] > was[verdict, of]]
+        less = [of for of in sorted({of for _, of in was}) if now[verdict, of] < was[verdict, of]]
+        for of in more:
             kind = CHANGED if of == rules.PROFILE and not strict else REGRESSION
-            why = ', '.join(f'{path.split(".resource.", 1)[-1]} {words}' for path, words in complaints[:2])
-            yield Finding(kind, *key, f'newly refused by {verdict} ({of}): {why or rules.WORDS.get(int(verdict[1:]), "")}')
-        elif now[verdict] < was[verdict]:
-            yield Finding(CHANGED, *key, f'not refused by {verdict} any more')
+            how = f'refused by {verdict} as before, which was ({less[0]}) and is' if less else f'newly refused by {verdict}'
+            yield Finding(kind, *key, f'{how} ({of}): {reason(new.refusals[key], verdict, of)}')
+        if less and not more and key in new.present:
+            left = sum(count for (found, _), count in now.items() if found == verdict)
+            yield Finding(CHANGED, *key, f'refused by {verdict} less often' if left else f'not refused by {verdict} any more')
+        bodies = [Sent(one[3] for one in side.refusals.get(key, ()) if one[0] == verdict) for side in (old, new)]
+        yield from unread(key, *bodies, True, f'; refused by {verdict}, so not judged')
+
+
+def reason(refused, verdict, of):
+    complaints = next(complaints for found, tag, complaints, _ in reversed(refused) if (found, tag) == (verdict, of))
+    return ', '.join(f'{path.split(".resource.", 1)[-1]} {words}' for path, words in complaints[:2]) or rules.WORDS.get(int(verdict[1:]), '')
+
+
+# What nothing here judges
+
+def unread(key, olds, news, alike, why='', generation=None):
+    """What differs between bodies, the last with the last, and isn't told otherwise: one finding a place. `alike` is that of `differences`."""
+    places, counts = {}, [len(side.resources) for side in (olds, news)]
+    for (old, was), (new, now) in zip(reversed(olds.resources), reversed(news.resources)):
+        if was != now:
+            for difference in differences(key[0], old, new, alike):
+                places.setdefault(difference.words(), difference.path)
+    for words in list(places)[:MOST_PLACES]:
+        yield Finding(UNJUDGED, *key, words + why, generation, places[words])
+    if len(places) > MOST_PLACES:
+        yield Finding(UNJUDGED, *key, f'{len(places) - MOST_PLACES} places more differ{why}', generation)
+    if 0 < counts[0] != counts[1] > 0:
+        yield Finding(UNJUDGED, *key, f'its body came in {counts[1]} ways that are judged alike, before in {counts[0]}{why}', generation)
+
+
+def unjudged(old, new):
+    """Endpoints and routes that nothing depends on, resources of types that aren't read, and what comes on no stream."""
+    for key in dict.fromkeys([*old.unjudged, *new.unjudged]):
+        was, now = old.unjudged.get(key), new.unjudged.get(key)
+        why = '; nothing here depends on it' if key[0] in ('eds', 'rds') else '; it came on no stream' if key[0] in WORD else '; its type isn\'t read'
+        if was and now:
+            yield from unread(key, was, now, True, why)
+        elif key not in (new if was else old).generations:
+            yield Finding(UNJUDGED, *key, ('is gone' if was else 'is new') + why)
+
+
+def envoy_waits(old, new):
+    """Where Envoy would wait by the new script and not by the old one."""
+    for name, wait in new.envoy.waits.items():
+        if name not in old.envoy.waits:
+            yield Finding(UNJUDGED, 'cds', name, f'Envoy would wait on, since line {wait.at} of the new script{wait.again()}; here it doesn\'t wait')
+    was = Counter((wait.kind, wait.name, wait.changed) for wait in old.anew)
+    for wait in new.anew:
+        was[wait.kind, wait.name, wait.changed] -= 1
+        if was[wait.kind, wait.name, wait.changed] < 0:
+            yield Finding(UNJUDGED, wait.kind, wait.name, f'line {wait.at} of the new script: {wait.words()}; here it is the same')
+
+
+# What is there at the end
+
+def gone(key, old, new):
+    """A name that was sent and is gone at the end by one script alone, where no generation of it served by the other."""
+    is_there = 'are' if key[0] in ('eds', 'rds') else 'is'
+    served = [side.live(key)[0] if key[0] in ('cds', 'lds') else None for side in (old, new)]
+    if key in old.present and key not in new.present and not served[0]:
+        refused = old.refusals.get(key)
+        before = f'; it was refused by {refused[-1][0]} ({refused[-1][1]})' if refused and key not in old.generations else ''
+        yield Finding(CHANGED, *key, f'{is_there} gone{before}')
+    elif key in new.present and key not in old.present and (key in old.generations or key in old.refusals) and not served[1]:
+        yield Finding(CHANGED, *key, f'{is_there} there, and gone before')
 
 
 # Clusters and listeners at the end
 
 def states(key, old, new):
+    yield from gone(key, old, new)
     if key[0] not in ('cds', 'lds'):
         return
     (old_serves, old_warms), (serves, warms) = old.live(key), new.live(key)
@@ -74,11 +150,22 @@ def states(key, old, new):
         before = 'the generation before it serves' if serves else 'nothing of the name serves'
         yield Finding(REGRESSION, *key, f'warms on: it waits for {", ".join(new.machine.waits(warms))}; {before}', generation)
     if old_serves and not serves and not warms:
-        yield Finding(CHANGED, *key, 'is gone')
+        yield Finding(CHANGED, *key, 'doesn\'t serve any more' if key in new.present else 'is gone')
     elif serves and not old_serves:
         yield Finding(CHANGED, *key, 'serves' + (', and warmed on before' if old_warms else ', and is new'), generation)
+    if key[0] == 'cds' and old_serves and serves and old_serves.results != serves.results:
+        yield from results(key, old_serves, serves, generation)
     if key[0] == 'cds' and old_serves and serves and old_serves.eligible and not serves.eligible:
         yield Finding(REGRESSION, *key, f'has no host that may be chosen; it had {old_serves.eligible}', generation)
+
+
+def results(key, was, now, generation):
+    """Health results at the end that differ, of hosts that both have."""
+    hosts = [host for host in was.results if host in now.results and was.results[host] != now.results[host]]
+    for healthy in (False, True):
+        found = [f'{shown(address, 60)}:{port}' for address, port in hosts if now.results[address, port] is healthy]
+        if found:
+            yield Finding(CHANGED, *key, f'{"healthy" if healthy else "unhealthy"}, and wasn\'t: {few(found)}', generation)
 
 
 # Contents by generation
@@ -88,9 +175,8 @@ def contents(key, old, new):
     for place, (before, after) in enumerate(zip(was, now), 1):
         if before.content != after.content:
             yield Finding(CHANGED, *key, change_words(key[0], before.content, after.content), place)
-        for path, what in differing(key[0], before.body, after.body):
-            yield Finding(UNJUDGED, *key, f'{shown(path, 200)} {what}', place)
-    if len(was) != len(now) and (was and now or key[0] in ('eds', 'rds')):
+        yield from unread(key, before.sent, after.sent, before.content == after.content, generation=place)
+    if len(was) != len(now) and (was and now or key[0] in ('eds', 'rds') and not (key in old.present and key not in new.present)):
         yield Finding(CHANGED, *key, f'{counted(len(now), "generation")}, before {len(was)}', len(now) or None)
 
 

@@ -1,24 +1,42 @@
-"""What a script came to by its journal: generations by name, refusals, and what connections got."""
+"""What a script came to by its journal: generations by name, refusals, what connections got, and what was sent and isn't read."""
+from shared.bodies import resources_of, sent
+from shared.envoy_waits import EnvoyWaits
 from shared.fields import Reader
 from shared.machine import Machine
 from shared.pair import NotTheJournal
 from shared.resources import KINDS
 
 
-class Generation:
-    """A generation of a cluster or listener, or a value of endpoints or routes; the body is the last that was acknowledged for it."""
+class Sent:
+    """Resources that were sent one after the other, without those that repeat the one before, each with the text of all that stands in it
+    beside its name and version."""
 
-    def __init__(self, content, body):
-        self.content, self.body = content, body
+    def __init__(self, resources=()):
+        self.resources = []
+        for resource in resources:
+            self.add(resource)
+
+    def add(self, resource):
+        text = sent(resource)
+        if not self.resources or text != self.resources[-1][1]:
+            self.resources.append((resource, text))
+
+
+class Generation:
+    """A generation of a cluster or listener, or a value of endpoints or routes, with the resources that brought it."""
+
+    def __init__(self, content):
+        self.content, self.sent = content, Sent()
 
 
 class Outcome:
-    """Follows a journal to its end. Keys are (type, name)."""
+    """Follows a journal to its end. Keys are (type, name); of a type that isn't read, (its URL, name)."""
 
     def __init__(self, pair):
         self.reading = pair.reading
-        self.machine = Machine(pair.reading.workers, pair.format)
+        self.machine, self.envoy = Machine(pair.reading.workers, pair.format), EnvoyWaits(pair.reading)
         self.generations, self.refusals, self.asks = {}, {}, {}
+        self.unjudged, self.present, self.anew = {}, set(), []
         self.names, self.versions, self.nonces, self.order = {}, {}, [], []
         self.lines = pair.reading.count
         for entry in pair.entries():
@@ -28,38 +46,54 @@ class Outcome:
         row, line = entry.row, entry.line
         first = self.machine.next
         self.machine.step(line, row.op, row.answer, entry.worker, row.at)
-        if row.op == 'response' and isinstance(row.answer, dict):
-            self.respond(line, row.answer['verdicts'], first)
+        self.envoy.take(line, row.op, row.answer, first, self.machine)
+        self.anew += [found for found in self.envoy.begun if found.changed]
+        if row.op == 'response':
+            self.respond(line, row.answer, first)
         elif row.op == 'accept' and row.answer != 'inUse':
             members = line.members
             ask = members['address'], members['port'], members['host'], members['path'], members['pick']
             self.asks.setdefault(ask, []).append(self.result(row.answer))
 
-    def respond(self, line, verdicts, number):
-        response, reader = line.response, Reader()
-        bodies = reader.any(line.members['message'], 'resources', '') or []
+    def respond(self, line, answer, number):
+        response = line.response
         self.nonces.append(response.nonce)
-        for item, verdict, resource in zip(response.items, verdicts, bodies):
+        if not isinstance(answer, dict):
+            self.ignore(line)
+            return
+        self.present -= {(response.kind, name) for name in response.removed}
+        for item, verdict, resource in zip(response.items, answer['verdicts'], resources_of(line)):
             key = response.kind, item.name
             self.order.append(key)
+            self.present.add(key)
             if verdict[0] == 'V':
-                self.refusals.setdefault(key, []).append((verdict, item.whose(response.kind, verdict), item.complaints(verdict)))
-                continue
-            if verdict in ('new', 'same', 'kept'):
+                self.refusals.setdefault(key, []).append((verdict, item.whose(response.kind, verdict), item.complaints(verdict), resource))
+            elif verdict in ('new', 'same', 'kept'):
                 self.versions[key] = item.version
-                self.settle(key, verdict, item.content, reader.any(resource, 'resource', ''))
+                self.settle(key, verdict, item.content, resource)
+            elif verdict == 'unasked':
+                self.unjudged.setdefault(key, Sent()).add(resource)
             if verdict == 'new':
                 self.names[number] = item.name
                 number += 1
         if number != self.machine.next:
             raise NotTheJournal('its generations aren\'t those of the script')
 
-    def settle(self, key, verdict, content, body):
+    def settle(self, key, verdict, content, resource):
         found = self.generations.setdefault(key, [])
-        if found and (verdict == 'same' or (verdict == 'kept' and found[-1].content == content)):
-            found[-1].body = body
-        else:
-            found.append(Generation(content, body))
+        if not found or not (verdict == 'same' or (verdict == 'kept' and found[-1].content == content)):
+            found.append(Generation(content))
+        found[-1].sent.add(resource)
+
+    def ignore(self, line):
+        """Notes what a response brings that is ignored: of a type that isn't read, or on no stream."""
+        response = line.response
+        of = response.kind or response.url or ''
+        for resource in resources_of(line):
+            self.unjudged.setdefault((of, name_of(resource)), Sent()).add(resource)
+        removed = Reader().any(line.members['message'], 'removed_resources', '')
+        for name in removed if isinstance(removed, list) else []:
+            self.unjudged.setdefault((of, name if isinstance(name, str) else ''), Sent()).add({'removed': True})
 
     def result(self, answer):
         """What a connection got: (result, name of the cluster or status, host)."""
@@ -75,9 +109,15 @@ class Outcome:
         return found.get('active'), found.get('warming')
 
 
+def name_of(resource):
+    name = resource.get('name') if isinstance(resource, dict) else None
+    return name if isinstance(name, str) else ''
+
+
 def of_kinds(keys):
     """How many keys there are of each type."""
     counts = {kind: 0 for kind in KINDS.values()}
     for kind, _ in keys:
-        counts[kind] += 1
+        if kind in counts:
+            counts[kind] += 1
     return counts

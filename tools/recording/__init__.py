@@ -1,1 +1,5 @@
-"""What tools/record is made of. No part of warmgate's program, and nothing here is proved."""
+"""The parts of tools/record. Nothing here is proved."""
+
+
+class WrongWords(Exception):
+    """What the command line asks for can't be done: words, for status 2."""

@@ -3,15 +3,17 @@ from collections import Counter, deque
 
 from shared.json_text import NotJson, read_tree
 from shared.resources import KINDS, WORDS
-from shared.shown import quoted, shown
+from shared.shown import quoted, value_shown
+from shared.statuses import WrongInput
 
 from .protocols import DELTA, STATE_OF_THE_WORLD
 
 ASKS, ACKNOWLEDGES, REFUSES = 'asks', 'acknowledged', 'refused'
 
 
-class NoRequests(Exception):
-    """The file isn't one of requests: words."""
+# The forms of the members of a request that are looked at.
+FORMS = {'typeUrl': (str, 'a text'), 'responseNonce': (str, 'a text'), 'versionInfo': (str, 'a text'), 'errorDetail': (dict, 'an object'),
+         'resourceNames': (list, 'an array'), 'resourceNamesSubscribe': (list, 'an array'), 'resourceNamesUnsubscribe': (list, 'an array')}
 
 
 class Message:
@@ -24,7 +26,7 @@ class Message:
         kind = WORDS.get(KINDS.get(self.url), quoted(self.url))
         nonce = f', nonce {quoted(self.nonce)}' if self.nonce else ''
         version = f', version {quoted(self.version)}' if self.version else ''
-        names = ', '.join(shown(name) for name in self.names[:5]) + (f' and {len(self.names) - 5} more' if len(self.names) > 5 else '')
+        names = ', '.join(quoted_name(name) for name in self.names[:5]) + (f' and {len(self.names) - 5} more' if len(self.names) > 5 else '')
         return f'{kind}{nonce}: {self.answer}{version}{", names " + names if names else ""}'
 
     def differs(self, other):
@@ -35,22 +37,38 @@ class Message:
         return found
 
 
-def read_requests(data):
+def quoted_name(name):
+    """A name in quotes, behind the sign that it may have."""
+    return name[:1] + quoted(name[1:]) if name[:1] in '+-' else quoted(name)
+
+
+def read_requests(data, path='the requests'):
     """The streams of a file of requests: (protocol, messages as trees) for each."""
     streams = []
-    for number, text in enumerate(data.splitlines(), 1):
+    for number, text in enumerate(data.split(b'\n'), 1):
+        if not text and number > data.count(b'\n'):
+            break
         try:
             tree = read_tree(text)
         except NotJson as refused:
-            raise NoRequests(f'line {number} {refused.words}') from None
+            raise WrongInput(f'{path}: line {number}: {refused.words}') from None
         op = tree.get('op') if isinstance(tree, dict) else None
         if op == 'connect' and tree.get('protocol') in (DELTA, STATE_OF_THE_WORLD):
             streams.append((tree['protocol'], []))
         elif op == 'request' and streams and isinstance(tree.get('message'), dict):
+            look_at_forms(tree['message'], f'{path}: line {number}')
             streams[-1][1].append(tree['message'])
         elif op != 'disconnect':
-            raise NoRequests(f'line {number} is no line of requests as tools/record writes them')
+            raise WrongInput(f'{path}: line {number} is no line of requests as tools/record writes them')
     return streams
+
+
+def look_at_forms(message, place):
+    for name, (form, words) in FORMS.items():
+        if name in message and not isinstance(message[name], form):
+            raise WrongInput(f'{place}: {name} is {value_shown(message[name])} and not {words}')
+        if form is list and not all(isinstance(part, str) for part in message.get(name, ())):
+            raise WrongInput(f'{place}: {name} has an element that is no text')
 
 
 def of_client(protocol, trees):
@@ -191,12 +209,12 @@ class Comparison:
         return not (self.counts['differ'] or self.counts['program alone'] or self.counts['client alone'])
 
 
-def compared(reading, rows, requests, answers_alone):
-    """Prints what the client sent beside what the program says. Whether they agree."""
-    real = read_requests(requests)
+def compared(reading, rows, requests, path, answers_alone):
+    """Prints what the client sent beside what the program says. Whether they agree. `path` is the file of the requests."""
+    real = read_requests(requests, path)
     expected = Expected(reading, rows).streams([protocol for protocol, _ in real])
     if len(expected) != len(real):
-        raise NoRequests(f'there are {len(real)} streams in it and {len(expected)} in the script: is it of this recording?')
+        raise WrongInput(f'{path} has {len(real)} streams, and the script has {len(expected)}: is it of this recording?')
     page = Comparison(answers_alone)
     for number, ((protocol, trees), wanted) in enumerate(zip(real, expected), 1):
         page.stream(number, protocol, wanted, of_client(protocol, trees))

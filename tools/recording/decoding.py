@@ -6,9 +6,11 @@ know. Here both are printed and counted.
 import base64
 from collections import Counter
 
+from google.protobuf import empty_pb2
 from google.protobuf.message import DecodeError
 
 from shared.fields import camel
+from shared.shown import escaped, quoted
 
 from .messages import CLASSES, ENUMS, FULL_NAMES
 
@@ -26,7 +28,22 @@ def decoded(name, data):
     try:
         return CLASSES[name].FromString(data)
     except (DecodeError, UnicodeDecodeError, ValueError) as refused:
-        raise NotDecoded(f'{len(data)} bytes are no {name}: {refused}') from None
+        raise NotDecoded(f'{len(data)} bytes are no {name}: {escaped(refused)}') from None
+
+
+OUTLINE = {4: 0, 5: 1}
+
+
+def outline(data):
+    """(type, nonce) of a response that can't be decoded, which both protocols have at the same numbers; None where they can't be read."""
+    found = [None, None]
+    try:
+        for field in empty_pb2.Empty.FromString(data).UnknownFields():
+            if field.field_number in OUTLINE and field.wire_type == LENGTH_DELIMITED:
+                found[OUTLINE[field.field_number]] = field.data.decode()
+    except (DecodeError, UnicodeDecodeError, ValueError, TypeError):
+        pass
+    return found
 
 
 class Printer:
@@ -38,13 +55,13 @@ class Printer:
     def tree(self, message):
         """The object of a message: its members in lowerCamelCase, and the unknown ones as unknownField and the number."""
         full = FULL_NAMES.get(message.DESCRIPTOR.name, message.DESCRIPTOR.full_name)
-        tree = {}
-        for field, value in message.ListFields():
-            tree[camel(field.name)] = self.member(full, field, value)
+        tree = {camel(field.name): self.member(full, field, value) for field, value in message.ListFields()}
+        unknown = {}
         for name, value in self.unknown_members(message.UnknownFields()):
             self.unknown[f'{full} has {name}'] += 1
-            tree.setdefault(name, []).append(value)
-        return {name: value[0] if name.startswith('unknownField') and len(value) == 1 else value for name, value in tree.items()}
+            unknown.setdefault(name, []).append(value)
+        tree.update((name, values[0] if len(values) == 1 else values) for name, values in unknown.items())
+        return tree
 
     def member(self, full, field, value):
         if field.label != field.LABEL_REPEATED:
@@ -75,7 +92,7 @@ class Printer:
             except NotDecoded:
                 self.unknown[f'a body is no {name}, though it says so'] += 1
         else:
-            self.unknown[f'a body of the type {name or "(none)"}'] += 1
+            self.unknown[f'a body of the type {quoted(name, 120) if name else "(none)"}'] += 1
         return {'@type': value.type_url, 'value': base64.b64encode(value.value).decode()}
 
     def unknown_members(self, fields):
@@ -119,8 +136,34 @@ def encoded(name, tree):
                 target.add(key=key, value=version)
         elif field.label == field.LABEL_REPEATED:
             target.extend(value)
+        elif field.message_type is not None and field.message_type.full_name == 'google.protobuf.Struct':
+            put_struct(target, value)
         elif field.message_type is not None:
             target.CopyFrom(encoded(FULL_NAMES[field.message_type.name], value))
         else:
             setattr(message, field.name, value)
     return message
+
+
+def put_struct(target, tree):
+    """The members of a JSON object into a struct."""
+    target.SetInParent()
+    for key, value in tree.items():
+        put_value(target.fields[key], value)
+
+
+def put_value(target, value):
+    if isinstance(value, dict):
+        put_struct(target.struct_value, value)
+    elif isinstance(value, list):
+        target.list_value.SetInParent()
+        for part in value:
+            put_value(target.list_value.values.add(), part)
+    elif value is None:
+        target.null_value = 0
+    elif isinstance(value, bool):
+        target.bool_value = value
+    elif isinstance(value, str):
+        target.string_value = value
+    else:
+        target.number_value = value

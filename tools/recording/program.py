@@ -4,9 +4,12 @@ import os
 import subprocess
 
 from shared import journal
+from shared.shown import shown
 
 TOP = os.path.dirname(os.path.dirname(os.path.dirname(os.path.realpath(__file__))))
 BUILT = f'{TOP}/crates/warmgate/out/warmgate'
+OF_PACKAGE = f'{TOP}/bin/warmgate'
+WRAPPER = f'{TOP}/warmgate'
 
 
 class NoProgram(Exception):
@@ -14,8 +17,8 @@ class NoProgram(Exception):
 
 
 def program_at(path):
-    """The path of the program: the one that is given, or the built one."""
-    found = path or BUILT
+    """The path of the program: the one that is given, that of a package, or the built one."""
+    found = path or (WRAPPER if os.path.exists(OF_PACKAGE) else BUILT)
     if not os.access(found, os.X_OK) or os.path.isdir(found):
         hint = '' if path else ': ./warmgate replay builds it, or --program names another'
         raise NoProgram(f'{found} isn\'t there{hint}')
@@ -32,7 +35,7 @@ def written_by(program, command, data):
     """The lines of the entries of the journal that a command writes of an input."""
     done = subprocess.run([program, command], input=data, capture_output=True)
     if done.returncode:
-        said = done.stderr.decode(errors='replace').strip()
+        said = shown(done.stderr.decode(errors='replace').strip(), 300)
         raise NoProgram(f'{program} {command} ended with status {done.returncode}: {said}')
     return done.stdout.split(b'\n')[1:-2]
 

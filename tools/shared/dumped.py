@@ -1,32 +1,36 @@
 """Dumps: the line that `warmgate dump K` writes, as a table, and the same reckoned from a journal. Not proved."""
-import json
-
 from .finding import Walk
-from .json_text import compact
+from .journal import generation, has, list_of, name, u32, u64
+from .json_text import NotJson, compact, read_tree
 from .resources import WORD
-from .shown import shown
+from .shown import named
+from .statuses import WrongInput
 from .words import counted
 
 PHASES = {'clusters': 'it waits for the first clusters', 'listeners': 'it waits for the first listeners', 'serving': 'it serves'}
 COUNTERS = ('ack', 'nack', 'opened', 'reaped')
+STATUSES = ('warming', 'active', 'draining', 'dropped')
+ROW = {'connections': u64, 'name': name, 'number': generation, 'status': lambda value: isinstance(value, str) and value in STATUSES}
+ROWS = list_of(lambda value: has(value, **ROW))
+DUMP = {'clusters': ROWS, 'counters': lambda value: has(value, **dict.fromkeys(COUNTERS, u64)), 'entries': u32, 'listeners': ROWS,
+        'phase': lambda value: isinstance(value, str) and value in PHASES, 'version': u64}
 HEAD = ('generation', 'kind', 'status', 'connections', 'name')
 
 
-class NoDump(Exception):
+class NoDump(WrongInput):
     """A text isn't the line that a dump writes, in words."""
 
 
 def read_dump(data):
     """The object of a dump's line."""
     try:
-        tree = json.loads(data)
-    except ValueError:
-        tree = None
-    if not isinstance(tree, dict) or data != compact(tree) + b'\n':
-        raise NoDump('standard input isn\'t the line that warmgate dump writes')
-    if 'finding' in tree:
+        tree = read_tree(data.rstrip(b'\n'))
+        is_line = isinstance(tree, dict) and data == compact(tree) + b'\n'
+    except (NotJson, ValueError):
+        is_line = False
+    if is_line and 'finding' in tree:
         raise NoDump('the journal isn\'t legal, so nothing was dumped: tools/explain --finding BOTH says why')
-    if set(tree) != {'clusters', 'counters', 'entries', 'listeners', 'phase', 'version'}:
+    if not is_line or not has(tree, **DUMP):
         raise NoDump('standard input isn\'t the line that warmgate dump writes')
     return tree
 
@@ -45,7 +49,7 @@ def tell(page, tree):
     for number, kind, row in sorted(rows, key=lambda found: found[0]):
         color = {'active': 'good', 'warming': 'wait', 'draining': 'dim'}.get(row['status'], 'bad')
         status = page.paint(color, f'{row["status"]:<8}')
-        page.end('  '.join([f'{number:>10}', f'{WORD[kind]:<8}', status, f'{row["connections"]:>11}', shown(row['name'], 200)]))
+        page.end('  '.join([f'{number:>10}', f'{WORD[kind]:<8}', status, f'{row["connections"]:>11}', named(row['name'], 200)]))
 
 
 def refusal(reading, count):

@@ -2,6 +2,7 @@
 
 A Reader collects what is broken: (rule, path, words). A form gives the value, None where the field is absent, or WRONG.
 """
+import functools
 import re
 
 from .shown import value_shown
@@ -17,6 +18,7 @@ HEALTH = {'UNKNOWN': 0, 'HEALTHY': 1, 'UNHEALTHY': 2, 'DRAINING': 3, 'TIMEOUT': 
 PROTOCOL = {'TCP': 0, 'UDP': 1}
 
 
+@functools.lru_cache(1024)
 def camel(name):
     return re.sub(r'_([a-z])', lambda found: found.group(1).upper(), name)
 

@@ -1,11 +1,11 @@
 """Tells what an audit found to a page: the entry, the operation that was due, what the machine answers there, and why. Not proved."""
 import itertools
-import json
 
 from . import rules
 from .finding import ILLEGAL, LEGAL, NOT_THE_SCRIPT, walked
-from .json_text import compact
+from .json_text import NotJson, compact, read_tree
 from .shown import quoted, shown
+from .statuses import WrongInput
 from .teller import Teller, place_of
 from .words import counted, few
 
@@ -28,18 +28,18 @@ RULES = {
 FORMAT_2 = '; a listener that drains waits for its drain timeout too'
 
 
-class NoFinding(Exception):
+class NoFinding(WrongInput):
     """A text isn't the line that an audit writes, in words."""
 
 
 def read_finding(data):
     """(word, entry or None) of the line that `warmgate audit` writes."""
     try:
-        tree = json.loads(data)
+        tree = read_tree(data.rstrip(b'\n'))
         word, entry = tree['finding'], tree.get('entry')
         if data == compact(tree) + b'\n' and (word == LEGAL and set(tree) == {'finding'} or word in (ILLEGAL, NOT_THE_SCRIPT) and type(entry) is int):
             return word, entry
-    except (ValueError, TypeError, KeyError, AttributeError):
+    except (NotJson, ValueError, TypeError, KeyError, AttributeError):
         pass
     raise NoFinding(f'standard input isn\'t the line that warmgate audit writes: {quoted(data[:80].decode(errors="replace")) if data else "it is empty"}')
 

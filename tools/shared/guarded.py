@@ -2,6 +2,7 @@
 from .fields import MAX_NAME, WRONG, Reader, size
 from .resources import TYPE, WORDS
 from .shown import quoted
+from .statuses import WrongInput
 from .words import few
 
 SECRET = TYPE + 'envoy.extensions.transport_sockets.tls.v3.Secret'
@@ -10,7 +11,7 @@ PREFIX = 'tls/'
 MOST = 20
 
 
-class NotWritten(Exception):
+class NotWritten(WrongInput):
     """The script isn't what the command writes of the input, in words."""
 
 

@@ -10,9 +10,10 @@ import heapq
 
 from . import rules
 from .resources import WORD, WORDS
-from .shown import quoted, shown
+from .shown import named, quoted
 
 EMPTY = ()
+MOST_HOSTS = 8
 PICTURE = 'the last picture'
 
 
@@ -137,15 +138,16 @@ class Machine:
         name = row.depends()
         return not name or name in self.told or (name in self.timed and row.limited())
 
-    def waits(self, row):
-        """What a warming generation still waits for, in words; empty where it is ready."""
+    def waits(self, row, all_hosts=False):
+        """What a warming generation still waits for, in words; empty where it is ready. Of many hosts the first are told, or all."""
         found, name = [], row.depends()
         if not self.is_answered(row):
             found += self.guards.waits(name) if self.guards and name in self.guards.of else [f'{WORDS[name[0]]} {quoted(name[1])}']
         if row.missing:
-            found += [f'a health result of {shown(address)}:{port}' for _, (address, port) in row.missing[:8]]
-            if len(row.missing) > 8:
-                found.append(f'and of {len(row.missing) - 8} hosts more')
+            most = len(row.missing) if all_hosts else MOST_HOSTS
+            found += [f'a health result of {named(address)}:{port}' for _, (address, port) in row.missing[:most]]
+            if len(row.missing) > most:
+                found.append(f'and of {len(row.missing) - most} hosts more')
         return found
 
     def without(self, row):

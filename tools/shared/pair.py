@@ -5,13 +5,14 @@ from . import journal, script
 from .progress import Progress
 from .resources import WORDS
 from .shown import read_file
+from .statuses import DONE, INPUT, WrongInput
 
 
 # Verdicts that a resource of a kind never has.
 NEVER = {'cds': ('kept',), 'lds': ('kept',), 'eds': ('new', 'same'), 'rds': ('new', 'same')}
 
 
-class NotTheJournal(Exception):
+class NotTheJournal(WrongInput):
     """The journal isn't one, or isn't this script's: in words."""
 
 
@@ -38,7 +39,7 @@ class Pair:
             raise NotTheJournal(f'the journal has {workers} workers, and the script has {reading.workers}')
 
     def entries(self):
-        ended, count, progress = None, 0, Progress(self.tool, 'entry', len(self.texts))
+        ended, count, progress = None, 0, Progress(self.tool, 'entry', len(self.texts), prints=True)
         for place, text in enumerate(self.texts[1:], 2):
             progress.at(place)
             if ended is not None:
@@ -51,6 +52,7 @@ class Pair:
                 raise NotTheJournal(f'line {place} of the journal {words}' + (cause([text]) if text.endswith(b'\r') else ''))
             count += 1
             yield Entry(row, line_of(self.reading, row, place), place)
+        progress.end()
         if ended is None:
             raise NotTheJournal('the journal\'s end line is missing: it was cut off')
         if ended != count:
@@ -64,18 +66,18 @@ def cause(texts):
 
 
 def open_pair(tool, script_path, journal_path, command=None):
-    """(pair, 0), or (None, exit status) with the words on standard error. `command` is the one whose input the script is."""
+    """(pair, DONE), or (None, exit status) with the words on standard error. `command` is the one whose input the script is."""
     reading = script.read_script(read_file(script_path, script.MAX_INPUT + 1), progress=tool, command=command)
     if reading.faults:
         fault = reading.faults[0]
         swapped = '. Is it the journal? SCRIPT comes first' if fault.kind == 5 and fault.hints[:1] == script.JOURNAL_HINT else ''
         print(f'{tool}: the script has a fault: line {fault.line}, kind {fault.kind}{swapped}. tools/why says more', file=sys.stderr)
-        return None, 3
+        return None, INPUT
     try:
-        return Pair(tool, reading, read_file(journal_path)), 0
+        return Pair(tool, reading, read_file(journal_path)), DONE
     except NotTheJournal as error:
         print(f'{tool}: {error}', file=sys.stderr)
-        return None, 1
+        return None, INPUT
 
 
 def line_of(reading, row, place):

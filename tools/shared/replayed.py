@@ -57,29 +57,42 @@ def replayed(data):
 
 # The state of the world
 
-class WholeReplay(Replay):
-    """The same with the requests of the state of the world."""
+class WholeRequests:
+    """Makes the requests of an answer those of the state of the world: all names that a machine watches, the version last acknowledged, and
+    the nonce that came last on the stream."""
 
-    def __init__(self, reading):
-        self.acknowledged, self.nonces = {}, {}
-        super().__init__(reading)
+    def __init__(self, machine):
+        self.machine, self.acknowledged, self.nonces = machine, {}, {}
 
-    def keep(self, actor, at, step, op, answer):
-        if isinstance(answer, dict) and 'requests' in answer:
-            self.nonces = {} if op == 'connect' else self.nonces
-            answer = {**answer, 'requests': [self.request(request, at) for request in answer['requests']]}
-        super().keep(actor, at, step, op, answer)
+    def answer(self, op, answer, version):
+        """The answer to an operation; `version` is that of its response."""
+        if not isinstance(answer, dict) or 'requests' not in answer:
+            return answer
+        self.nonces = {} if op == 'connect' else self.nonces
+        return {**answer, 'requests': [self.request(request, version) for request in answer['requests']]}
 
-    def request(self, request, at):
+    def request(self, request, version):
         kind = KINDS[request['typeUrl']]
         made = {name: request[name] for name in ('typeUrl', 'node', 'errorDetail') if name in request}
         if 'responseNonce' in request:
             self.nonces[kind] = request['responseNonce']
             if 'errorDetail' not in request:
-                self.acknowledged[kind] = self.reading.line_at(at).response.version
+                self.acknowledged[kind] = version
         names = sorted(name for of, name in self.machine.dependents if of == kind) if kind in ('eds', 'rds') else []
         more = {'resourceNames': names, 'responseNonce': self.nonces.get(kind), 'versionInfo': self.acknowledged.get(kind)}
         return {**made, **{name: value for name, value in more.items() if value}}
+
+
+class WholeReplay(Replay):
+    """The same with the requests of the state of the world."""
+
+    whole = None
+
+    def keep(self, actor, at, step, op, answer):
+        self.whole = self.whole or WholeRequests(self.machine)
+        line = self.reading.line_at(at)
+        version = line.response.version if line and line.response and line.response.kind else None
+        super().keep(actor, at, step, op, self.whole.answer(op, answer, version))
 
 
 def replayed_whole(data):

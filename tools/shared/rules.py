@@ -38,11 +38,11 @@ ADVICE = {
 
 ENVOY, PROFILE, UNKNOWN = 'Envoy too', 'profile', 'not known'
 
-# Whose a rule is: that of each complaint of it whose words or path the pattern fits, the first that does. Made from documentation and
+# Whose a rule is: that of each complaint of it whose type, path and words the pattern fits, the first that does. Made from documentation and
 # memory, and not checked on Envoy: docs/RULES.md, which `tools/check` holds against this table, and docs/ENVOY.md.
 WHOSE = [
     (1, r'@type', ENVOY), (1, r'', UNKNOWN),
-    (2, r' bytes, and ', UNKNOWN), (2, r'', ENVOY),
+    (2, r' bytes, and ', UNKNOWN), (2, r'^lds .* is empty$', PROFILE), (2, r'', ENVOY),
     (3, r'', UNKNOWN), (5, r'', UNKNOWN), (6, r'', UNKNOWN),
     (7, r'', PROFILE), (8, r'', ENVOY), (9, r'', ENVOY),
     (10, r'is given: only ads and self', PROFILE), (10, r'negative', UNKNOWN), (10, r'', ENVOY),
@@ -77,5 +77,5 @@ def whose(rule, kind, complaints):
         return ENVOY if kind in ('cds', 'lds') else UNKNOWN
     found = set()
     for path, words in telling(complaints) or [('', '')]:
-        found.add(next((of for number, pattern, of in WHOSE if number == rule and re.search(pattern, f'{path} {words}')), UNKNOWN))
+        found.add(next((of for number, pattern, of in WHOSE if number == rule and re.search(pattern, f'{kind} {path} {words}')), UNKNOWN))
     return next((of for of in (ENVOY, UNKNOWN, PROFILE) if of in found), UNKNOWN)

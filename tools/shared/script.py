@@ -53,13 +53,21 @@ def read_script(data, audit=False, go_on=False, progress=None, command=None):
     if not data:
         reading.faults.append(Fault(1, 8, [(None, 'the input is empty')]))
         return reading
-    ended, told = None, Progress(progress, 'line', data.count(b'\n')) if progress else None
+    told = Progress(progress, 'line', data.count(b'\n')) if progress else None
+    read_lines(reading, data, audit, go_on, told)
+    if told:
+        told.end()
+    return reading
+
+
+def read_lines(reading, data, audit, go_on, told):
+    ended = None
     for number, text, fault in cut(data):
         if told:
             told.at(number)
         if fault:
             reading.faults.append(fault)
-            return reading
+            return
         reading.count = number
         if reading.format is None:
             fault = read_line(reading, number, text, audit)
@@ -68,13 +76,12 @@ def read_script(data, audit=False, go_on=False, progress=None, command=None):
         if fault:
             reading.faults.append(fault)
             if not go_on or fault.kind == 9:
-                return reading
+                return
             if number > 1:
                 reading.lines.append(None)
     if audit and not ended:
         words = 'the journal\'s end line is missing' if reading.format else 'the journal behind the script is missing'
         reading.faults.append(Fault(reading.count + 1, 9, [(None, words)]))
-    return reading
 
 
 def cut(data):

@@ -1,4 +1,5 @@
 """Paths of members in the spelling of the file: `load_assignment` where the file writes that, else `loadAssignment`."""
+import functools
 import re
 
 from .fields import camel
@@ -6,6 +7,7 @@ from .fields import camel
 PART = re.compile(r'([^.\[]+)|\[([0-9]+)\]')
 
 
+@functools.lru_cache(4096)
 def snake(name):
     return re.sub(r'[A-Z]', lambda found: '_' + found.group().lower(), name)
 

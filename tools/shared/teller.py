@@ -7,9 +7,10 @@ import collections
 import itertools
 
 from . import rules
+from .envoy_waits import EnvoyWaits
 from .guarded import SECRET, told_secrets
 from .resources import KINDS, WORD, WORDS
-from .shown import quoted, shown
+from .shown import named, quoted, shown
 from .spelling import spelled
 from .words import cluster_words, content_words, counted, few, listener_words
 
@@ -39,13 +40,14 @@ def refusal_words(line, index, verdict):
 class Teller:
     def __init__(self, page, reading, machine):
         self.page, self.reading, self.machine = page, reading, machine
-        self.said_waits, self.refusals = {}, collections.Counter()
+        self.said_waits, self.refusals, self.envoy = {}, collections.Counter(), EnvoyWaits(reading)
 
     def entry(self, entry):
         row, line, machine = entry.row, entry.line, self.machine
         phase, first, held = machine.phase, machine.next, machine.held.get(entry.worker)
         before = self.before(row, line)
         machine.step(line, row.op, row.answer, entry.worker, row.at)
+        self.envoy.take(line, row.op, row.answer, first, machine)
         self.page.head(place_of(self.reading, row), row.actor, self.title(row, line), self.is_news(row, held))
         if row.op == 'response' and isinstance(row.answer, dict):
             self.resources(line, row.answer['verdicts'], first, before)
@@ -57,6 +59,7 @@ class Teller:
             self.published()
         self.changes()
         self.waiting()
+        self.envoy_waits()
         if machine.phase != phase:
             self.page.line(ACTIVE[machine.phase], news=True)
         self.doubts(row)
@@ -93,7 +96,7 @@ class Teller:
             return 'the stream is lost' if not ignored else 'disconnect: ignored, no stream is open'
         if row.op == 'health':
             state = 'healthy' if members['healthy'] else 'unhealthy'
-            return f'{shown(members["address"])}:{members["port"]} of cluster {quoted(members["cluster"])} is {state}' + (
+            return f'{named(members["address"])}:{members["port"]} of cluster {quoted(members["cluster"])} is {state}' + (
                 ': ignored, no live checked cluster of that name has this host' if ignored else '')
         if row.op == 'fetchTimeout':
             name = f' {quoted(members["name"])}' if 'name' in members else ''
@@ -133,7 +136,7 @@ class Teller:
                 f'; closes connections {closed}, whose listener\'s drain timeout came' if closed else '')
         if row.op == 'close':
             return f'connection {members["conn"]} ' + ('closes' if answer == 'done' else 'isn\'t open')
-        where = f'{shown(members["address"])}:{members["port"]}'
+        where = f'{named(members["address"])}:{members["port"]}'
         asked = f'connection {members["conn"]} to {where}, host {quoted(members["host"])}, path {quoted(members["path"])}'
         if answer == 'inUse':
             return f'{asked}: the number is in use, ignored'
@@ -143,7 +146,7 @@ class Teller:
             return f'{asked}: no listener: {row.actor} holds picture {held}; {behind}'
         listener = f'listener generation {answer["listener"]}'
         if answer['result'] == 'served':
-            return (f'{asked}: {self.page.paint("good", "served")} by {shown(answer["address"])}:{answer["port"]} of cluster '
+            return (f'{asked}: {self.page.paint("good", "served")} by {named(answer["address"])}:{answer["port"]} of cluster '
                     f'generation {answer["cluster"]}, {listener}')
         if answer['result'] == 'local':
             return f'{asked}: answered with status {answer["status"]}, {listener}'
@@ -152,14 +155,14 @@ class Teller:
     def resources(self, line, verdicts, first, before):
         response, (live, watched) = line.response, before
         number, names = first, {item.name for item in response.items}
-        width = min(40, max((len(shown(item.name, 40)) for item in response.items), default=0))
+        width = min(40, max((len(named(item.name, 40)) for item in response.items), default=0))
         removed = [name for name in response.removed if name not in names]
         for name in removed[:MOST_RESOURCES]:
-            self.page.line(f'{shown(name, 40):<{width}}  {self.removal(response.kind, name, live, watched)}')
+            self.page.line(f'{named(name, 40):<{width}}  {self.removal(response.kind, name, live, watched)}')
         self.more(len(removed) - MOST_RESOURCES, 'removals more')
         refused = left = 0
         for index, (item, verdict) in enumerate(zip(response.items, verdicts)):
-            text = f'{shown(item.name, 40):<{width}}  version {quoted(item.version, 40)}  '
+            text = f'{named(item.name, 40):<{width}}  version {quoted(item.version, 40)}  '
             if verdict[0] == 'V':
                 refused += 1
                 self.refused(text, line, index, verdict, refused <= MOST_RESOURCES)
@@ -292,6 +295,14 @@ class Teller:
             self.said_waits[number] = found
         self.more(told - MOST_CHANGES, 'generations more that warm', 'wait')
 
+    def envoy_waits(self):
+        """Where Envoy would wait, or warm anew, and nothing does here."""
+        for wait in self.envoy.begun[:MOST_CHANGES]:
+            self.page.line(f'{wait.title()}: {wait.words()}', 'wait', news=True)
+        self.more(len(self.envoy.begun) - MOST_CHANGES, 'for which Envoy would wait or warm anew', 'wait', news=True)
+        for wait in self.envoy.over[:MOST_CHANGES]:
+            self.page.line(f'{wait.title()}: Envoy would wait no longer than up to here, since line {wait.at}')
+
     def doubts(self, row):
         """Where the journal's requests and this tool's reckoning differ."""
         if row.op in ('accept', 'close', 'settle', 'publish', 'reap') or not isinstance(row.answer, dict):
@@ -330,6 +341,10 @@ class Teller:
             else:
                 self.page.line(f'not destroyed: {row.words()}, {row.status}', news=True)
         self.more(len(rows) - MOST_CHANGES, 'generations more that warm or are not destroyed', news=True)
+        left = list(self.envoy.waits.values())
+        for wait in left[:MOST_CHANGES]:
+            self.page.line(f'Envoy would still wait: {wait.title()} since line {wait.at},{wait.again()}', 'wait', news=True)
+        self.more(len(left) - MOST_CHANGES, 'for which Envoy would still wait', 'wait', news=True)
         for kind, phase in (('cds', 'clusters'), ('lds', 'listeners')):
             if self.machine.phase == phase:
                 waits = self.machine.phase_waits(kind)

@@ -1,5 +1,5 @@
 """What resources contain, in words: addresses, routes and where they lead."""
-from .shown import quoted, shown
+from .shown import named, quoted
 
 MOST = 8
 
@@ -44,11 +44,11 @@ def listener_words(content):
         to = f'to {few(quoted(name, 40) for name in clusters_of(serves["target"]))}'
     else:
         to = f'by routes of its own: {routes_words(serves.get("routes") or ())}'
-    return f'{shown(address, 60)}:{port}, {to}'
+    return f'{named(address, 60)}:{port}, {to}'
 
 
 def hosts_words(rows):
-    hosts = [f'{shown(address, 60)}:{port}' for (address, port), *_ in rows]
+    hosts = [f'{named(address, 60)}:{port}' for (address, port), *_ in rows]
     return 'no hosts' if not hosts else 'hosts ' + few(hosts)
 
 

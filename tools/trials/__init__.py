@@ -1,5 +1,7 @@
-"""Trials of single tools. Each module has `run(check)`; tools/check calls them all. What they share stands here."""
+"""Trials of the tools, the documents and the examples. Each module has `run(check)`; tools/check calls them all, from the repository's top.
+What they share stands here."""
 import contextlib
+import functools
 import importlib.machinery
 import importlib.util
 import io
@@ -12,6 +14,14 @@ import traceback
 TOP = os.path.dirname(os.path.dirname(os.path.dirname(os.path.realpath(__file__))))
 
 
+class Chosen:
+    """What tools/check was asked for: the program of --program, the folder of --rows, the number of --fuzz, --write."""
+    program, rows, fuzz, write = None, None, 2000, False
+
+
+chosen = Chosen()
+
+
 def loaded(path):
     """The module that a script without an ending is."""
     name = 'loaded_' + os.path.basename(path)
@@ -19,6 +29,12 @@ def loaded(path):
     module = importlib.util.module_from_spec(importlib.util.spec_from_loader(name, loader))
     loader.exec_module(module)
     return module
+
+
+@functools.lru_cache(None)
+def tool(name):
+    """The main of a tool."""
+    return loaded(f'tools/{name}').main
 
 
 def called(main, *words):
@@ -78,6 +94,18 @@ def ran(*words, data=b'', **how):
 def content(path):
     with open(path, 'rb') as file:
         return file.read()
+
+
+def scripts_in(folder):
+    """The paths of the scripts of a folder, without the journals beside them."""
+    return [f'{folder}/{name}' for name in sorted(os.listdir(folder)) if name.endswith('.jsonl') and not name.endswith('.journal.jsonl')]
+
+
+def text_is(check, path, text):
+    """Tries that a page is what a tool prints, and writes it so where --write asks for that."""
+    if chosen.write:
+        written(path, text)
+    check(os.path.exists(path) and content(path).decode() == text, f'{path} isn\'t what the tool prints')
 
 
 def program():

@@ -1,22 +1,21 @@
 """tools/adapt on the captures of examples/captures: nothing is lost, what changes is told, and what Envoy takes is taken."""
-import contextlib
 import gzip
-import importlib.machinery
-import importlib.util
-import io
 import json
 import os
 import subprocess
 import tempfile
 
+import trials
 from adapting.capture import documents, get, kind_of, text_of
 from shared import rules, script
 from shared.pair import Pair
+from shared.replayed import replayed
+from shared.shown import json_shown
+from trials import TOP, content
 
-TOP = os.path.dirname(os.path.dirname(os.path.dirname(os.path.realpath(__file__))))
 CAPTURES = f'{TOP}/examples/captures'
 ADAPTED = f'{CAPTURES}/adapted'
-# Exit statuses for none, safe and all.
+# Exit statuses of --strict for none, safe and all.
 LEVELS = {
     'istio_sidecar.json': (4, 4, 4), 'go_control_plane.json': (1, 1, 4), 'envoy_gateway.jsonl': (1, 4, 4),
     'consul.json': (1, 4, 4), 'delta_push.jsonl': (4, 4, 4),
@@ -36,14 +35,7 @@ ENCODINGS = {
 CDS = 'type.googleapis.com/envoy.config.cluster.v3.Cluster'
 
 
-def loaded():
-    loader = importlib.machinery.SourceFileLoader('loaded_adapt', f'{TOP}/tools/adapt')
-    module = importlib.util.module_from_spec(importlib.util.spec_from_loader('loaded_adapt', loader))
-    loader.exec_module(module)
-    return module.main
-
-
-ADAPT = loaded()
+ADAPT = trials.loaded('tools/adapt').main
 
 
 def adapted(*arguments, data=None):
@@ -53,24 +45,14 @@ def adapted(*arguments, data=None):
         if data is not None:
             write(paths[2], data)
             arguments = [*arguments, paths[2]]
-        errors = io.StringIO()
-        with contextlib.redirect_stderr(errors):
-            try:
-                status = ADAPT(['--to', paths[0], '--report', paths[1], *arguments])
-            except SystemExit as ended:
-                status = ended.code
+        status, _, errors = trials.called(ADAPT, '--to', paths[0], '--report', paths[1], *arguments)
         script_bytes, report = (content(path) if os.path.exists(path) else b'' for path in paths[:2])
-    return status, script_bytes, [json.loads(line) for line in report.splitlines()], errors.getvalue()
+    return status, script_bytes, [json.loads(line) for line in report.split(b'\n')[:-1]], errors
 
 
 def write(path, data):
     with open(path, 'wb') as file:
         file.write(data)
-
-
-def content(path):
-    with open(path, 'rb') as file:
-        return file.read()
 
 
 def messages(data):
@@ -85,7 +67,7 @@ def names_of(data):
 def levels(check, name, statuses):
     found = {}
     for level, wanted in zip(('none', 'safe', 'all'), statuses):
-        status, data, report, errors = adapted('--project', level, *FLAGS, f'{CAPTURES}/{name}')
+        status, data, report, errors = adapted('--strict', '--project', level, *FLAGS, f'{CAPTURES}/{name}')
         check(status == wanted, f'adapt --project {level} {name}: status {status}, wanted {wanted}: {errors}')
         check(not script.read_script(data).faults, f'adapt --project {level} {name} is no script')
         found[level] = data
@@ -100,18 +82,26 @@ def levels(check, name, statuses):
 
 
 def stored(check, name, data):
-    """The stored script is what adapt makes, and its journal has no refusal of this profile alone."""
-    base = f'{ADAPTED}/{name.rsplit(".", 1)[0]}'
-    check(content(f'{base}.jsonl') == data, f'{base}.jsonl isn\'t what tools/adapt --project all {" ".join(FLAGS)} makes')
-    reading, pages = script.read_script(data), content(f'{base}.journal.jsonl')
+    """The stored script, report, journal and account are what the tools make, and the journal has no refusal of this profile alone."""
+    base, reading = f'{ADAPTED}/{name.rsplit(".", 1)[0]}', script.read_script(data)
+    pages = replayed(data)
+    report = adapted('--project', 'all', *FLAGS, f'{CAPTURES}/{name}')[2]
+    texts = {'jsonl': data, 'journal.jsonl': pages, 'report.jsonl': ''.join(json_shown(line) + '\n' for line in report).encode()}
+    with tempfile.TemporaryDirectory() as folder:
+        for ending in ('jsonl', 'journal.jsonl'):
+            write(f'{folder}/{ending}', texts[ending])
+        texts['txt'] = trials.ran(f'{TOP}/tools/explain', f'{folder}/jsonl', f'{folder}/journal.jsonl')[1]
+    for ending, text in texts.items():
+        if os.environ.get('WARMGATE_WRITE'):
+            write(f'{base}.{ending}', text)
+        check(content(f'{base}.{ending}') == text, f'{base}.{ending} isn\'t what the tools make with --project all {" ".join(FLAGS)}')
+    check(b'reckoned' not in texts['txt'], f'{base}.txt has a doubt')
+    if trials.program():
+        check(trials.ran(trials.program(), 'replay', data=data)[:2] == (0, pages), f'the program writes another journal of {base}.jsonl')
     for entry in Pair('adapt', reading, pages).entries():
         if entry.row.op == 'response':
             for item, verdict in zip(entry.line.response.items, entry.row.answer['verdicts']):
                 check(verdict[0] != 'V' or item.whose(entry.line.response.kind, verdict) != rules.PROFILE, f'{base}: {item.name} {verdict}')
-    for words in (['explain', f'{base}.jsonl', f'{base}.journal.jsonl'], ['timeline', f'{base}.jsonl', f'{base}.journal.jsonl']):
-        if os.path.exists(f'{TOP}/tools/{words[0]}'):
-            done = subprocess.run([f'{TOP}/tools/{words[0]}', *words[1:]], capture_output=True)
-            check(done.returncode == 0 and b'reckoned' not in done.stdout, f'{words}: status {done.returncode} {done.stderr}')
 
 
 def encodings(check):
@@ -139,7 +129,7 @@ def stable(check):
 def long_response(check):
     resources = [{'name': f'c{n}', 'version': '1', 'resource': {'@type': CDS, 'name': f'c{n}', 'metadata': {'filter_metadata': {'x': 'y' * 1200}}}}
                  for n in range(5000)]
-    status, data, report, errors = adapted(data=json.dumps({'typeUrl': CDS, 'nonce': '1', 'resources': resources}).encode())
+    status, data, report, errors = adapted('--strict', data=json.dumps({'typeUrl': CDS, 'nonce': '1', 'resources': resources}).encode())
     check(status == 4 and any(line['action'] == 'split' for line in report), f'adapt of a long response: status {status} {errors}')
     names = [resource['name'] for message in messages(data) for resource in message['resources']]
     check(names == [f'c{n}' for n in range(5000)], 'adapt splits a long response and loses its order')
@@ -178,7 +168,7 @@ def log_events(check):
 
 def endings(check):
     same = content(f'{TOP}/examples/realistic.jsonl')
-    status, data, report, _ = adapted(data=same)
+    status, data, report, _ = adapted('--strict', data=same)
     check((status, report) == (0, []) and list(map(json.loads, data.splitlines())) == list(map(json.loads, same.splitlines())),
           f'adapt of a script changes it: {status} {report}')
     for words, data in (('nothing', b''), ('no JSON', b'{"typeUrl":'), ('YAML', b'resources:\n- a\n'), ('bytes', b'\x08\x01\xff\xfe\x80'),

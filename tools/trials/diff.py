@@ -21,7 +21,7 @@ PLANTED = {
     'cluster_refused': (1, [('REGRESSION', 'cds', 'cart', 'newly refused by V11'), ('REGRESSION', 'connection', None, "path '/cart'")]),
     'route_dropped': (1, [('REGRESSION', 'connection', None, "path '/'"), ('CHANGED', 'rds', 'web', 'routes, 2 and before 3')]),
     'one_host_gone': (3, [('CHANGED', 'eds', 'cart', 'hosts gone: 10.8.0.2:8080')]),
-    'tls_changed': (3, [('UNJUDGED', 'cds', 'catalog', 'transportSocket differs')]),
+    'tls_changed': (3, [('UNJUDGED', 'cds', 'catalog', 'transportSocket.typedConfig.sni differs')]),
 }
 REFUSED = f'{TOP}/examples/refused_here'
 

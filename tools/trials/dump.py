@@ -48,8 +48,8 @@ def words(check):
         status, out, errors = called(why, '--dump', count, place)
         check((status, out[:16] == 'line 32: fault 1') == ((1, True) if wanted else (0, False)) and (wanted or '') in out, f'why --dump {count}: {status} {out}{errors}')
     empty = {'clusters': [], 'counters': dict.fromkeys(('ack', 'nack', 'opened', 'reaped'), 0), 'entries': 0, 'listeners': [], 'phase': 'clusters', 'version': 0}
-    for data, status, told in ((compact(empty) + b'\n', 0, 'No generation is there'), (b'{"entry":3,"finding":"illegal"}\n', 1, '--finding BOTH says why'),
-                               (b'', 1, 'isn\'t the line'), (json.dumps(empty).encode() + b'\n', 1, 'isn\'t the line'), (b'{}\n', 1, 'isn\'t the line')):
+    for data, status, told in ((compact(empty) + b'\n', 0, 'No generation is there'), (b'{"entry":3,"finding":"illegal"}\n', 3, '--finding BOTH says why'),
+                               (b'', 3, 'isn\'t the line'), (json.dumps(empty).encode() + b'\n', 3, 'isn\'t the line'), (b'{}\n', 3, 'isn\'t the line')):
         before, sys.stdin = sys.stdin, io.TextIOWrapper(io.BytesIO(data))
         found = called(explain, '--dump')
         sys.stdin = before

@@ -145,7 +145,7 @@ def words(check, folder):
         with open(f'{folder}/found', 'wb') as file:
             file.write(data)
         status, out, errors = with_input(f'{folder}/found', '--finding', AUDIT)
-        check(status == 1 and 'isn\'t the line' in errors, f'explain of {data} as a finding: {status} {errors}')
+        check(status == 3 and 'isn\'t the line' in errors, f'explain of {data} as a finding: {status} {errors}')
     status, out, errors = explained(folder, content(AUDIT)[:-3], 'legal', None)
     check(status == 3 and 'why --audit' in errors, f'explain of a finding whose input has a fault: {status} {errors}')
     for arguments in ([], ['--finding', '-'], ['--finding', AUDIT, AUDIT]):

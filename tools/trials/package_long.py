@@ -5,7 +5,7 @@ import subprocess
 import tempfile
 
 from trials import called, loaded, written
-from trials.package import PROGRAM, made
+from trials.package import PROGRAM, made, made_deb
 
 
 def run(check):
@@ -15,7 +15,10 @@ def run(check):
     module = loaded('tools/package')
     with tempfile.TemporaryDirectory() as folder:
         written(f'{folder}/good.log', '12 passed, 0 failed\n')
-        in_a_root(check, module, folder, made(check, module, folder, written(f'{folder}/program', PROGRAM, 0o755)))
+        program = written(f'{folder}/program', PROGRAM, 0o755)
+        in_a_root(check, module, folder, made(check, module, folder, program))
+        status, out, errors = called(module.main, '--try', made_deb(check, module, folder, program))
+        check(status == 0 and ' passed, 0 failed' in out, f'tools/package --try of a Debian package: {status} {out} {errors}')
 
 
 def is_root_possible():
@@ -30,7 +33,8 @@ def in_a_root(check, module, folder, package):
         if os.path.basename(path).partition('.')[0] not in ('connect', 'auto', 'empty', 'from_zero', 'legal'):
             os.remove(path)
     status, out, errors = tried(module, folder, top)
-    check(status == 0 and out.endswith(': 14 passed, 0 failed\n'), f'tools/package --try: {status} {out} {errors}')
+    helpers = len([name for name in os.listdir(f'{top}/tools') if os.path.isfile(f'{top}/tools/{name}')])
+    check(status == 0 and out.endswith(f': {14 + helpers} passed, 0 failed\n'), f'tools/package --try: {status} {out} {errors}')
     for path in ('examples/connect.journal.jsonl', 'examples/broken/empty.txt', 'bin/warmgate'):
         with open(f'{top}/{path}', 'a') as file:
             file.write('# \n')

@@ -1,11 +1,13 @@
-"""tools/tally: the line of a recording by a stand-in for the program, its statuses, the table, and a folder by GNU parallel."""
+"""tools/tally: the line of a recording by a stand-in for the program, its statuses, pipes, the table, and a folder by GNU parallel."""
 import json
 import os
 import shutil
 import subprocess
 import tempfile
 
-from trials import TOP, called, content, loaded, written
+from shared.replayed import replayed
+from shared.resources import URLS
+from trials import TOP, called, content, loaded, ran, written
 
 TALLY = f'{TOP}/tools/tally'
 WAITS = f'{TOP}/tools/trials/data/tally/waits'
@@ -35,7 +37,10 @@ def run(check):
     with tempfile.TemporaryDirectory() as folder:
         program = written(f'{folder}/program', PROGRAM, 0o755)
         lines(check, main, folder, program)
+        pipes(check, program)
+        waits(check, main, folder)
         table(check, main, folder)
+        hostile_lines(check, folder)
         if shutil.which('parallel'):
             folder_by_parallel(check, folder, program)
         else:
@@ -65,6 +70,42 @@ def lines(check, main, folder, program):
     check(called(main, '--help')[0] == 0, 'tally --help')
 
 
+def pipes(check, program):
+    """A recording that can be read once alone."""
+    for words in (f'{TALLY} <(cat {WAITS}.jsonl) --program {program}', f'{TALLY} - --program {program} < {WAITS}.jsonl', f'cat {WAITS}.jsonl | {TALLY} /dev/stdin --program {program}'):
+        done = subprocess.run(['bash', '-c', words], capture_output=True)
+        line = json.loads(done.stdout or b'{}')
+        check(done.returncode == 0 and {**line, 'recording': 'waits.jsonl'} == WAITING, f'{words}: {done}')
+
+
+def waits(check, main, folder):
+    """All generations that warm on, and all that they wait for, where it is asked for."""
+    hosts = [{'endpoint': {'address': {'socketAddress': {'address': f'10.0.0.{place}', 'portValue': 80}}}} for place in range(20)]
+    body = lambda place: {'@type': URLS['cds'], 'name': f'c{place}', 'healthChecks': [{}], 'loadAssignment': {'endpoints': [{'lbEndpoints': hosts}]}}
+    message = {'typeUrl': URLS['cds'], 'nonce': '1', 'resources': [{'name': f'c{place}', 'resource': body(place)} for place in range(7)]}
+    path = written(f'{folder}/many.jsonl', ''.join(json.dumps(line) + '\n' for line in ({'workers': 1}, {'op': 'connect'}, {'op': 'response', 'message': message})))
+    journal = written(f'{folder}/many.journal', replayed(content(path)).decode())
+    program = written(f'{folder}/many', f'#!/bin/sh\ncat {journal}\n', 0o755)
+    few, many = (json.loads(called(main, path, '--program', program, *words)[1])['waits'] for words in ((), ('--all-waits',)))
+    check(len(few) == 5 and all(len(words) < 180 for words in few), f'the waits of a tally: {few}')
+    check(len(many) == 7 and all(words.count('a health result of') == 20 for words in many), f'all waits of a tally: {many}')
+    status, out, errors = ran(TALLY, path, '--program', program, '--journals', '/dev/full/x')
+    check(status == 5 and not out, f'tally whose journal can\'t be written: {status} {errors}')
+    status, out, errors = called(main, path, '--program', f'{folder}/missing')
+    check(status == 125 and json.loads(out)['status'] == 125, f'tally without the program: {status} {out} {errors}')
+
+
+def hostile_lines(check, folder):
+    """Lines of another machine reach the table escaped, and those of other forms don't."""
+    line = {**NOTHING, 'recording': 'a', 'status': 0, 'lines': 2}
+    odd = {**line, 'recording': 'a: waits\u202e\x9b', 'warming': 1, 'waits': ['\x1b[31m'], 'refused': {'\x1b[2J': 1}, 'rules': {'V7\nstatus 0': 1}}
+    wrong = [{**line, 'refused': {'profile': 'x'}}, {**line, 'waits': [[]]}, {**line, 'fault': {}}, {**line, 'status': True}, [], 'text']
+    texts = [json.dumps(one) for one in (odd, *wrong)] + ['{"lines":' + '9' * 5000 + '}', '[' * 100000, json.dumps(line).replace('"lines": 2', '"lines": 1e400')]
+    status, out, errors = ran(TALLY, '--table', '-', data='\n'.join(texts).encode())
+    good = all(row.isprintable() for row in (out + errors).decode().split('\n')) and b'mistake' not in errors
+    check(status == 3 and good and out.startswith(b'recordings   1\n') and b"'a: waits\\u202e\\x9b': \\x1b[31m" in out, f'a table of hostile lines: {status} {out} {errors}')
+
+
 def table(check, main, folder):
     line = {**NOTHING, 'recording': 'a', 'status': 0, 'lines': 2}
     given = [{**line, 'status': 3, 'fault': 'line 1: fault 5'}, line, {**WAITING, 'recording': 'w'}, {**line, 'recording': 'z', 'status': 6, 'fault': 'out of memory'},
@@ -78,7 +119,7 @@ def table(check, main, folder):
     check(names == ['z', 'w', 'q'], f'the rows of a table, the worst first: {names}')
     check('and 2 recordings more\n' in told(data, '--most', '1')[1], 'a table of many')
     status, out, errors = told(data + '{"recording":"x"}\nnothing\n')
-    check(status == 1 and out.startswith('recordings   4\n') and 'line 6 is none' in errors and 'line 7 is none' in errors, f'a table of what is no line: {errors}')
+    check(status == 3 and out.startswith('recordings   4\n') and 'line 6 is none' in errors and 'line 7 is none' in errors, f'a table of what is no line: {errors}')
     check(told('')[:2] == (0, 'recordings   0\nrefused      none\nby rule      none\nwarm on      0 generations in 0 recordings\n'), 'a table of nothing')
 
 

@@ -224,7 +224,7 @@ def large(check, folder):
 def commands(check, folder):
     script, journal = f'{TOP}/examples/auto.jsonl', f'{TOP}/examples/auto.journal.jsonl'
     other = f'{TOP}/examples/connect.journal.jsonl'
-    for words, status in ((['--help'], 0), (['--no-such'], 2), ([script, journal], 0), ([script, other], 1), ([journal, script], 3),
+    for words, status in ((['--help'], 0), (['--no-such'], 2), ([script, journal], 0), ([script, other], 3), ([journal, script], 3),
                           ([f'{folder}/missing', journal], 4), ([folder, journal], 4), (['-', '-'], 2), ([script, journal, '--svg', '--text'], 2),
                           ([script, journal, '--from', '0'], 2), ([script, journal, '--from', '9', '--to', '3'], 2),
                           ([script, journal, '--from', '999'], 2), ([script, journal, '--from', '20', '--to', '999', '--only', 'none'], 0)):
@@ -234,9 +234,9 @@ def commands(check, folder):
     with open(journal, 'rb') as file:
         whole = file.read()
     check(called('timeline', '--text', script, data=whole)[0] == 0, 'timeline with the journal on standard input')
-    check(called('timeline', script, data=whole[:-5])[0] == 1, 'timeline with a journal cut off')
+    check(called('timeline', script, data=whole[:-5])[0] == 3, 'timeline with a journal cut off')
     status, out, errors = called('timeline', script, data=whole.replace(b'\n', b'\r\n'))
-    check(status == 1 and 'carriage return' in errors, f'timeline with a journal of CRLF: {errors}')
+    check(status == 3 and 'carriage return' in errors, f'timeline with a journal of CRLF: {errors}')
     for data, words in ((b'\x28\xb5\x2f\xfd\x00\xff', 'zstd -dc'), (b'{\n"configs": [{}]\n}\n', 'config dump'), (b'{"versionInfo":"1","resources":[]}\n', 'one response'),
                         (b'{"typeUrl":"t",\n"nonce":"1"}\n', 'one response')):
         status, out, errors = called('why', data=data)

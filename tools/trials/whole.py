@@ -15,8 +15,8 @@ MESSAGES = [
     ('"typeUrl":"other","nonce":"1","versionInfo":5,"resources":5', None), ('"nonce":"1"', None), ('"typeUrl":5,"nonce":"1"', 'message.typeUrl: is the number 5'),
 ]
 # Changes of the journal of the example, and whether it is no journal then.
-CHANGES = [('"resourceNames":["pay-eu"]', '"resourceNames":["pay"]', 0), ('"versionInfo":"1"', '"versionInfo":""', 1),
-           ('"resourceNames":["pay-eu"]', '"resourceNamesSubscribe":["pay-eu"]', 1), ('"versionInfo":"7"', '"systemVersionInfo":"7"', 1)]
+CHANGES = [('"resourceNames":["pay-eu"]', '"resourceNames":["pay"]', 0), ('"versionInfo":"1"', '"versionInfo":""', 3),
+           ('"resourceNames":["pay-eu"]', '"resourceNamesSubscribe":["pay-eu"]', 3), ('"versionInfo":"7"', '"systemVersionInfo":"7"', 3)]
 
 
 def run(check):
@@ -29,11 +29,11 @@ def run(check):
             check(good and not errors, f'why --for sotw of {members}: {status} {out}{errors}')
         journal = content(f'{PLACE}.out').decode()
         for old, new, status in CHANGES:
-            path = written(f'{folder}/journal', journal.replace(old, new, 1))
+            path = written(f'{folder}/journal', journal.replace(old, new, 3))
             told = called(explain, '--sotw', f'{PLACE}.jsonl', path)
             check(told[0] == status and ('reckoned' in told[1]) == (status == 0), f'explain --sotw of {new}: {told}')
         check(called(explain, '--sotw', '--dump')[0] == 2 and called(explain, '--sotw', '--secrets', 'x', 'y')[0] == 2, 'explain --sotw without a script')
-        check(called(explain, f'{PLACE}.jsonl', f'{PLACE}.out')[0] == 1, 'explain of a journal of the state of the world, unasked')
+        check(called(explain, f'{PLACE}.jsonl', f'{PLACE}.out')[0] == 3, 'explain of a journal of the state of the world, unasked')
     check(replayed_whole(content(f'{PLACE}.jsonl')) == content(f'{PLACE}.out'), f'{PLACE}.out is reckoned otherwise')
     for name in sorted(os.listdir(f'{TOP}/examples')):
         if name.endswith('.journal.jsonl'):

@@ -4,6 +4,9 @@ from shared import rules
 CASES = [
     (1, 'cds', [('resource.@type', 'is that of a listener')], rules.ENVOY),
     (1, 'cds', [('resource', 'is missing')], rules.UNKNOWN),
+    (2, 'lds', [('name', 'is empty')], rules.PROFILE),
+    (2, 'cds', [('name', 'is empty')], rules.ENVOY),
+    (2, 'lds', [('rds.routeConfigName', 'is missing, empty or too long')], rules.ENVOY),
     (4, 'lds', [], rules.ENVOY),
     (4, 'eds', [], rules.UNKNOWN),
     (7, 'cds', [('type', 'is LOGICAL_DNS: only STATIC and EDS are read')], rules.PROFILE),

@@ -62,11 +62,19 @@ def never_served(view):
     passed = [(life, span) for life in lives for span in life.of('empty') if span is not life.spans[-1] or life.end]
     items += [empty_words(*pair) for pair in sorted(passed, key=lambda pair: (pair[1][1] - pair[1][2], pair[0].number))]
     items += [dropped_words(life) for life in sorted(dropped, key=lambda life: (-(life.stop - life.born), life.number))]
+    items += envoy_items(view)
     if not count and not empty and not passed:
-        return Card('Never came to serve', 0, 'Every generation came to serve.', [], False)
+        return Card('Never came to serve', 0, 'Every generation came to serve.', items, bool(view.left))
     summary = (f'Still wait: {len(waits)}; dropped, since an update or a removal came first: {len(dropped)}; '
                f'serve without hosts or routes: {len(empty)}, for a while: {len(passed)}.')
     return Card('Never came to serve', count, summary, items, bool(waits or empty))
+
+
+def envoy_items(view):
+    """Generations that serve here and for which Envoy would wait on, and those that it would warm."""
+    link_of = lambda wait: link(view.history.lives[wait.number]) if wait.number in view.history.lives else text(wait.title(), 60)
+    yield from (f'{link_of(wait)} serves here; Envoy would wait since line {wait.at} <b>{text(wait.again().strip())}</b>' for wait in view.left)
+    yield from (f'{link_of(wait)}, line {wait.at}: {text(wait.words(), 300)}' for wait in view.anew if wait not in view.left)
 
 
 def wait_words(life, serving):

@@ -11,6 +11,7 @@ SYMBOLS = {
     'healthy': '<circle r="2.6" class="ink"/>',
     'unhealthy': '<circle r="3" class="line"/><path class="line" d="M-4.5 4.5 4.5-4.5"/>',
     'timeout': '<circle r="4" class="line"/><path class="line" d="M0-2.5V0H2.5"/>',
+    'waits': '<path class="line" d="M-4-5H4L-4 5H4Z"/>',
     'removed': '<path class="line" d="M-4 0H4"/>',
     'dropped': '<path class="halo" d="M-5-5 5 5M-5 5 5-5"/><path class="cross" d="M-5-5 5 5M-5 5 5-5"/>',
     'goes': '<path class="goes" d="M-5-4 0 0-5 4Z"/>',

@@ -8,7 +8,7 @@ import collections
 from .. import rules
 from ..machine import Machine
 from ..resources import WORD, WORDS
-from ..shown import quoted, shown
+from ..shown import named, quoted
 from ..teller import ENDS, Teller, refusal_words
 from ..words import clusters_of, targets
 
@@ -44,7 +44,7 @@ class Life:
         return bool(self.of('serves', 'empty'))
 
     def title(self):
-        return f'{WORD[self.kind]} {shown(self.name, 60)} g{self.number}'
+        return f'{WORD[self.kind]} {named(self.name, 60)} g{self.number}'
 
 
 class Connection:
@@ -95,6 +95,7 @@ class History:
         self.streams, self.responses, self.lost, self.late = [], [], [], []
         self.words, self.open, self.closing = [], {}, collections.defaultdict(list)
         self.end = len(self.reading.lines) + 2
+        self.waits, self.waits_of = [], collections.defaultdict(list)  # what Envoy would do otherwise, and by generation: shared.envoy_waits
 
     # The page of the teller
 
@@ -115,6 +116,7 @@ class History:
             self.at = entry.row.at
             teller.entry(entry)
             self.look(entry)
+            self.look_at_envoy(entry.row, teller.envoy.begun)
         for life in self.lives.values():
             if not life.spans:
                 # A journal whose answers aren't the machine's: the generation came and went, and nothing was told of it between.
@@ -149,6 +151,12 @@ class History:
             self.streams[-1][1] = x
         elif row.op in SIGNALS and row.answer != 'ignored':
             self.look_at_signal(x, row.op, line)
+
+    def look_at_envoy(self, row, begun):
+        for wait in begun:
+            self.band(wait.kind, wait.name).marks.append((row.at + row.step / 4, 'waits', f'line {wait.at}: {wait.words()}'))
+            self.waits.append(wait)
+            self.waits_of[wait.number].append(wait)
 
     def look_at_changes(self, x):
         for number in sorted({*self.machine.changes, *self.machine.touched}):
@@ -208,7 +216,7 @@ class History:
         members, at = line.members, line.at
         if op == 'health':
             state = 'healthy' if members['healthy'] else 'unhealthy'
-            words = f'line {at}: {shown(members["address"])}:{members["port"]} is {state}'
+            words = f'line {at}: {named(members["address"])}:{members["port"]} is {state}'
             self.band('cds', members['cluster']).marks.append((x, state, words))
         elif op == 'drainTimeout':
             self.band('lds', members['listener']).marks.append((x, 'timeout', f'line {at}: the drain timeout came'))
@@ -255,7 +263,7 @@ class History:
         if not isinstance(row.answer, dict):
             return
         answer = row.answer
-        target = f'{shown(answer["address"])}:{answer["port"]}' if answer['result'] == 'served' else ENDS.get(answer['result'], 'answered here')
+        target = f'{named(answer["address"])}:{answer["port"]}' if answer['result'] == 'served' else ENDS.get(answer['result'], 'answered here')
         found = Connection(worker, members['conn'], x, answer, target)
         self.open[worker, members['conn']] = found
         self.connections.append(found)

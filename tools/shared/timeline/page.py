@@ -35,6 +35,7 @@ def legend_items():
     yield from ((symbol(CLASSES[tag]), f'refused: {words}') for tag, words in TAG_WORDS.items())
     yield from ((symbol(name), words) for name, words in (
         ('arrival', 'endpoints or routes came'), ('removed', 'removed'), ('healthy', 'healthy'), ('unhealthy', 'unhealthy'), ('timeout', 'timeout'),
+        ('waits', 'Envoy would wait or warm anew'),
         ('opened', 'connection')))
     counted_line = '<svg width="26" height="8"><line class="connection counted" x1="1" y1="5" x2="25" y2="5"/></svg>'
     yield counted_line, 'closed, counted as open until its worker settles'

@@ -1,7 +1,7 @@
 """The rows of the picture: what stands above the names, and a band for each name."""
 from .. import rules
 from ..resources import WORD
-from ..shown import shown
+from ..shown import named, shown
 from ..words import counted
 from . import drawing
 from .cards import CLASSES, SIGNS, TAG_WORDS, holdings, line_words
@@ -233,7 +233,12 @@ class BandDrawer:
             spans[4:-4] = [f'{len(spans) - 8} changes more']
         stop = number_of(life.stop or 0)
         end = {'dropped': f'; dropped at line {stop}, it never served', 'reaped': f'; reaped at line {stop}', None: ''}[life.end]
-        return f'{life.title()}, version {shown(life.version, 40)}: {"; ".join(spans)}{end}{self.kept_by(life)}'
+        return f'{life.title()}, version {named(life.version, 40)}: {"; ".join(spans)}{end}{self.envoy_words(life)}{self.kept_by(life)}'
+
+    def envoy_words(self, life):
+        """What Envoy would do otherwise with a generation."""
+        found = self.view.history.waits_of.get(life.number, ())
+        return ''.join(f'; from line {wait.at} on {wait.words()}' + (', as it does at the end' if wait.goes_on() else '') for wait in found[:3])
 
     def kept_by(self, life):
         """What kept it, the last first."""
@@ -307,7 +312,7 @@ class BandDrawer:
 
     def connection_words(self, connection):
         life = self.view.history.lives.get(connection.cluster)
-        name = f'{shown(life.name, 30)} g{life.number} ' if life else ''
+        name = f'{named(life.name, 30)} g{life.number} ' if life else ''
         return f'w{connection.worker} {connection.conn} {"✕" if connection.not_served() else "→"} {name}{connection.target}'
 
     def connection_title(self, connection):
@@ -330,6 +335,8 @@ class BandDrawer:
         for life in view.lives(self.band):
             for _, start, stop, lacks in life.of('empty'):
                 words.append(f'g{life.number} serves {lacks}: lines {number_of(start)}–{"end" if stop >= view.history.end else number_of(stop)}')
+        wait = view.left_of.get((self.band.kind, self.band.name))
+        words += [f'Envoy would wait since line {wait.at}{wait.again()}'] if wait else []
         found = [r for r in self.band.refusals if view.at(r.x)]
         if found:
             listed = ', '.join(f'{SIGNS[r.tag]}{r.rule} (line {r.at})' for r in found[:3])

@@ -22,6 +22,8 @@ class View:
         self.whole = self.first == 1 and self.after == history.end
         self.bands = [band for key, band in sorted(history.bands.items(), key=lambda item: (item[0][0] == 'cds', item[0][1]))
                       if self.names(band.name) and (self.lives(band) or any(self.at(r.x) for r in band.refusals))]
+        self.left, self.anew = self.envoy_waits()
+        self.left_of = {(wait.kind, wait.name): wait for wait in self.left}
         self.ranks = {id(band): self.rank(band) for band in self.bands}
 
     def names(self, name):
@@ -61,6 +63,11 @@ class View:
     def pictures(self):
         return [(x, version) for x, version in self.history.pictures if self.at(x)]
 
+    def envoy_waits(self):
+        """What Envoy would do otherwise: (waits that go on at the end, new generations that it would warm)."""
+        found = [wait for wait in self.history.waits if self.at(wait.at) and self.names(wait.name)]
+        return [wait for wait in found if wait.goes_on()], [wait for wait in found if wait.changed]
+
     # Trouble
 
     def long_wait(self):
@@ -75,6 +82,8 @@ class View:
             return 1
         if any(self.at(refusal.x) for refusal in band.refusals) or any(c.not_served() and self.at(c.x) for c in band.connections):
             return 2
+        if (band.kind, band.name) in self.left_of:
+            return 3
         if any(stop - start >= self.long_wait() for life in lives for _, start, stop, _ in life.of('warms')):
             return 3
         if any(life.drained is not None and (life.end is None or life.stop - life.drained > self.span() * 0.05) for life in lives):

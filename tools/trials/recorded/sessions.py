@@ -20,12 +20,15 @@ from shared.shown import read_file
 
 from trials import written
 
-from . import bodies, units
+from . import bodies, endings, units
 from .grpc_session import GrpcSession, OtherwiseSession
 from .planes import RawPlane, Server, StepsPlane
 from .processes import MOST, OUTPUT, TOOLS, called, free_port, joined, lines_of, recorded, relay_started, text_of, until
 
 DELTA_METHOD = next(method for method, protocol in METHODS.items() if protocol == DELTA)
+
+
+AT_ONCE = 12
 
 
 def run(check, program):
@@ -37,8 +40,8 @@ def run(check, program):
     units.run(check)
     trials = [grpc_through_relay, grpc_otherwise, client_alone, raw_through_relay, relay_without_upstream, relay_on_full_disk, wrong_arguments]
     trials += [client_with_steps, client_of_the_whole, relay_with_tls]
-    with futures.ThreadPoolExecutor(len(trials)) as pool:
-        for going in [pool.submit(in_folder, trial, told, program) for trial in trials]:
+    with futures.ThreadPoolExecutor(AT_ONCE) as pool:
+        for going in [pool.submit(in_folder, trial, told, program) for trial in trials] + [pool.submit(with_a_program, trial, told, program) for trial in endings.TRIALS]:
             going.result()
 
 
@@ -66,6 +69,12 @@ def in_folder(trial, check, program):
         trial(check, program, folder)
 
 
+def with_a_program(trial, check, program):
+    """The same with the program, or with a stand-in for it where it isn't built."""
+    with tempfile.TemporaryDirectory() as folder:
+        trial(check, with_command(program, 'sotw', folder), folder)
+
+
 def is_script(check, *paths):
     for path in paths:
         faults = script.read_script(read_file(path)).faults
@@ -80,9 +89,9 @@ def grpc_through_relay(check, program, folder):
     check(not missed, f'gRPC\'s client through the relay: {missed}; it said {session.heard()[-3:]}')
     out = f'{session.folder}/out'
     names = sorted(os.listdir(out))
-    wanted = [f'stream-{number:03}.{ending}' for number in (1, 2) for ending in ('jsonl', 'requests.jsonl', 'sotw.jsonl')]
-    check(names == wanted, f'the relay\'s files are {names}')
-    is_script(check, *(f'{out}/{name}' for name in wanted if 'requests' not in name))
+    wanted = [f'stream-{number:03}.{ending}' for number in (1, 2) for ending in ('jsonl', 'requests.jsonl', 'sotw.jsonl')] + ['stream-001.notes.txt']
+    check(names == sorted(wanted), f'the relay\'s files are {names}')
+    is_script(check, *(f'{out}/{name}' for name in wanted if 'requests' not in name and 'notes' not in name))
     own, requests = joined(session.folder, 'client', f'{out}/stream-001', f'{out}/stream-002')
     is_script(check, own)
     refused = [line['message'] for line in lines_of(requests) if 'errorDetail' in line.get('message', {})]
@@ -98,12 +107,12 @@ def grpc_through_relay(check, program, folder):
 
 # Rows of docs/ENVOY.md's table: what the comparison of that session says, as patterns.
 OTHERWISE = {
-    'it asks by name': r'the client, in names: clusters: asks, names a\n',
-    'the order of asking': r"differ +listeners, nonce 'n1': asks.*\n +the client, in nonce and names and version: listeners: asks, names svc\n",
+    'it asks by name': r'the client, in names: clusters: asks, names \'a\'\n',
+    'the order of asking': r"differ +listeners, nonce 'n1': asks.*\n +the client, in nonce and names and version: listeners: asks, names 'svc'\n",
     'a refusal beside a good one': r"clusters, nonce '(n\d+)': refused, version '2'\n +the client, in names and version: clusters, nonce '\1': refused, version '3'",
     'a burst': r"(program alone +endpoints, nonce 'n\d+': acknowledged.*\n *){5}",
     'a host twice': r"endpoints, nonce '(n\d+)': acknowledged.*\n +the client, in answer.*: endpoints, nonce '\1': refused",
-    'names from before': r"endpoints, nonce '(n\d+)': acknowledged, version '(\d+)', names a, t\n +the client, in names: endpoints, nonce '\1': .* names a, b, t\n",
+    'names from before': r"endpoints, nonce '(n\d+)': acknowledged, version '(\d+)', names 'a', 't'\n +the client, in names: endpoints, nonce '\1': .* names 'a', 'b', 't'\n",
     'weights of 60': r"routes, nonce '(n\d+)': acknowledged.*\n +the client, in answer and version: routes, nonce '\1': refused",
     'no address': r"listeners, nonce '(n\d+)': refused.*\n +the client, in answer.*: listeners, nonce '\1': acknowledged",
     'STATIC': r"clusters, nonce '(n\d+)': acknowledged.*\n +the client, in answer.*: clusters, nonce '\1': refused",
@@ -215,8 +224,11 @@ def client_alone(check, program, folder):
     """What the client says where nothing is there."""
     status, _, errors = recorded('--connect', f'127.0.0.1:{free_port()}', '--seconds', '1', '--out', f'{folder}/out',
                             '--program', program or '/bin/true')
-    check(status == 1 and 'can\'t be reached' in errors, f'the client without a control plane: {status} {errors}')
-    is_script(check, f'{folder}/out/client.jsonl')
+    check(status == 1 and 'nothing listens at port' in errors, f'the client without a control plane: {status} {errors}')
+    check(os.listdir(f'{folder}/out') == [], f'a client without a control plane leaves {os.listdir(f"{folder}/out")}')
+    status, _, errors = recorded('--connect', 'no-such-host.invalid:18000', '--seconds', '2', '--out', f'{folder}/out', '--program', '/bin/true')
+    check(status == 1 and 'isn\'t known (DNS)' in errors, f'the client with a name that isn\'t known: {status} {errors}')
+    written(f'{folder}/out/client.jsonl', '')
     status, _, errors = recorded('--connect', '127.0.0.1:1', '--seconds', '1', '--out', f'{folder}/out', '--program', '/bin/true')
     check(status == 2 and 'has a recording already' in errors, f'the client with a folder that is taken: {status} {errors}')
 
@@ -266,6 +278,7 @@ def raw_through_relay(check, program, folder):
     check([line.get('op') for line in lines] == [None, 'connect', 'response', 'response', 'disconnect'], f'the script is {lines}')
     check(lines[0]['node'] == 'raw-1' and lines[2]['message']['unknownField100'] == 'eA==', f'the script is {lines}')
     notes = text_of(f'{folder}/out/stream-001.notes.txt')
+    check(text_of(f'{folder}/relay.status') == '1', f'a relay with a message that can\'t be decoded ends with {text_of(f"{folder}/relay.status")}')
     check('a response isn\'t written: 2 bytes are no' in notes and 'DeltaDiscoveryResponse has unknownField100' in notes, f'notes: {notes}')
 
 
@@ -300,6 +313,7 @@ def relay_on_full_disk(check, program, folder):
     check(came == answers, 'with a full disk the stream didn\'t go on')
     is_script(check, f'{folder}/out/stream-001.jsonl')
     check(1 < len(lines_of(f'{folder}/out/stream-001.jsonl')) < 7, 'the script ends where the disk was full')
+    check(text_of(f'{folder}/relay.status') == '5', f'a relay on a full disk ends with {text_of(f"{folder}/relay.status")}')
     check('can\'t be written' in text_of(f'{folder}/relay.err'), f'the relay says {text_of(f"{folder}/relay.err")}')
 
 

@@ -2,6 +2,7 @@
 import contextlib
 import io
 import os
+import sys
 import tempfile
 
 from google.protobuf import struct_pb2
@@ -10,8 +11,10 @@ from recording.decoding import Printer, decoded, encoded
 from recording.files import Recording
 from recording.messages import CLASSES
 from recording.protocols import DELTA, DISCOVERY, STATE_OF_THE_WORLD
+from recording.replies import Replies
 from shared import script
 from shared.resources import TYPE, URLS
+from shared.statuses import WrongInput
 
 from . import bodies
 from .processes import lines_of
@@ -67,6 +70,7 @@ def run(check):
     check(Printer().tree(request) == REQUEST, f'a request is sent as {request}')
     with tempfile.TemporaryDirectory() as folder, contextlib.redirect_stderr(io.StringIO()):
         split(check, folder)
+        costs(check, folder)
         wrapped(check, folder)
     comparisons(check)
 
@@ -88,16 +92,57 @@ def split(check, folder):
                 answer = CLASSES[DISCOVERY + 'DiscoveryResponse'](type_url=answer.type_url, nonce='n', version_info='1',
                                                                   resources=[resource.resource for resource in answer.resources])
             recording.connect('n')
-            parts = recording.response(answer.SerializeToString())
+            came = recording.response(answer.SerializeToString())
             recording.close()
             found = lines_of(recording.script.path)
+            parts = [line['message'] for line in found if 'message' in line]
             names = [resource['name'] for line in found if 'message' in line for resource in line['message']['resources']]
             check(names == [f'c{number}' for number in range(20)], f'{protocol}: the parts have {names}')
             check([part['nonce'] for part in parts] == [f'n-{place}' for place in range(len(parts))] and len(parts) > 1, f'{parts}')
+            check(recording.notes.lost == bool(came.lost) == (protocol == STATE_OF_THE_WORLD), f'{protocol}: what is told of a split is {came.lost}')
             check([part.get('removedResources') for part in parts] == [['x'] if protocol == DELTA else None] + [None] * (len(parts) - 1), f'{parts}')
         check(len(lines_of(f'{folder}/state.sotw.jsonl')) == 2 and os.path.exists(f'{folder}/state.notes.txt'), 'the sotw script ends')
     finally:
         script.MAX_LINE = limit
+
+
+def costs(check, folder):
+    """A response costs what it is: each line and each resource is read once, and a later response takes as many calls of functions as an
+    earlier one of the same size."""
+    for protocol in (DELTA, STATE_OF_THE_WORLD):
+        replies = Replies(protocol)
+        recording = Recording(folder, f'costs-{protocol.split()[0]}', protocol, replies)
+        recording.connect('n')
+        calls = [calls_of(lambda: (recording.response(pushed(number, protocol)), replies.requests())) for number in range(60)]
+        recording.close()
+        read = {file.path.rpartition('/')[2]: lines.count for file, lines in recording.lines.items()}
+        check(all(count == 62 for count in read.values()), f'{protocol}: of sixty responses these lines were read: {read}')
+        check(max(calls[40:]) < 1.2 * max(calls[5:20]), f'{protocol}: sixty responses took these calls of functions: {calls}')
+
+
+def pushed(number, protocol):
+    """A response as bytes: 20 clusters more, or of the state of the world, where clusters come all at once, 20 endpoints."""
+    if protocol == STATE_OF_THE_WORLD:
+        made = [bodies.any_of(*bodies.assignment(f'e{number}-{place}', 80)) for place in range(20)]
+        return CLASSES[DISCOVERY + 'DiscoveryResponse'](type_url=URLS['eds'], nonce=f'n{number}', version_info='1', resources=made).SerializeToString()
+    made = [{'name': f'c{number}-{place}', 'version': '1', 'resource': bodies.any_of(*bodies.cluster(f'c{number}-{place}'))} for place in range(20)]
+    return CLASSES[DISCOVERY + 'DeltaDiscoveryResponse'](type_url=URLS['cds'], nonce=f'n{number}', resources=made).SerializeToString()
+
+
+def calls_of(call):
+    """How many functions a call calls."""
+    count = 0
+
+    def counted(frame, event, argument):
+        nonlocal count
+        count += event == 'call'
+
+    sys.setprofile(counted)
+    try:
+        call()
+    finally:
+        sys.setprofile(None)
+    return count
 
 
 def wrapped(check, folder):
@@ -150,6 +195,6 @@ def comparisons(check):
     for data, wanted in REQUEST_FILES:
         try:
             found = compare.read_requests(data)
-        except compare.NoRequests:
+        except WrongInput:
             found = None
         check(found == wanted, f'{data}: {found}')

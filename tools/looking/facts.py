@@ -1,0 +1,119 @@
+"""What is worth a look: Envoy's own errors, what waits for what, what was refused and by whom, what stands in for what."""
+import json
+from collections import Counter
+
+from shared import rules
+from shared.machine import Machine
+from shared.resources import WORD, WORDS
+from shared.shown import quoted, shown
+from shared.teller import refusal_words
+from shared.words import counted
+
+MOST_WORDS = 400
+
+
+class Section:
+    """A title with its lines; `none` is said where there is no line. `alarms` is whether a line of it is no good news."""
+
+    def __init__(self, title, lines, none='none', alarms=True, count=None):
+        self.title, self.lines, self.none, self.alarms = title, lines, none, alarms and bool(lines)
+        self.count = len(lines) if count is None else count
+
+    def head(self):
+        return f'{self.title}: {self.count or self.none}'
+
+
+class Facts:
+    """Follows a journal to its end beside the report of adapt. `errors` are (type, nonce, words) of a relayed client's refusals."""
+
+    def __init__(self, pair, report, errors):
+        self.report, self.errors = report, list(errors)
+        self.machine = Machine(pair.reading.workers, pair.format)
+        self.verdicts, self.by_nonce, self.refusals, self.answers = {}, {}, Counter(), Counter()
+        for entry in pair.entries():
+            self.take(entry)
+
+    def take(self, entry):
+        row, line = entry.row, entry.line
+        self.machine.step(line, row.op, row.answer, entry.worker, row.at)
+        if row.op == 'response' and isinstance(row.answer, dict):
+            self.respond(line, row.answer['verdicts'])
+        if row.op == 'accept':
+            self.answers[row.answer if isinstance(row.answer, str) else row.answer['result']] += 1
+
+    def respond(self, line, verdicts):
+        response, said = line.response, []
+        for place, (item, verdict) in enumerate(zip(response.items, verdicts)):
+            words = f'taken ({verdict})'
+            if verdict[0] == 'V':
+                words = self.refusal(line, place, verdict)
+                said.append(f'{WORD[response.kind]} {quoted(item.name)} {words}')
+                self.refusals[f'{WORD[response.kind]} {quoted(item.name)}, version {quoted(item.version, 40)}: {words}'] += 1
+            self.verdicts[line.at, item.name] = words
+        self.by_nonce[response.kind, response.nonce] = '; '.join(said) or 'all of it is taken'
+
+    def refusal(self, line, place, verdict):
+        tag, complaints = refusal_words(line, place, verdict)
+        path, words = complaints[0] if complaints else ('', rules.WORDS.get(int(verdict[1:]), 'a rule that this tool does not know'))
+        return f'refused by {verdict} ({tag}): {shown(path, 120)} {shown(words, 200)}'.replace(':  ', ': ')
+
+    # Sections
+
+    def sections(self):
+        return [self.of_envoy(), self.waiting(), self.without(), Section('Refused here', [times(text, count) for text, count in self.refusals.items()]),
+                self.stand_ins(), self.connections()]
+
+    def of_envoy(self):
+        made = {(line['type'], line['name']): line['line'] for line in self.report.lines if line['before'] == 'failed_configuration'}
+        lines = []
+        for line in self.report.lines:
+            if line['action'] == 'nack' and line['name'] is not None:
+                here = self.verdicts.get((made.get((line['type'], line['name'])), line['name']), 'nothing to judge, it isn\'t in the dump')
+                lines.append(f'{WORD[line["type"]]} {quoted(line["name"])}: {quoted(line["before"], MOST_WORDS)}; here: {here}')
+            elif line['action'] == 'nack':
+                lines.append(f'{WORDS.get(line["type"], "another type")}, {shown(line["after"])}: {quoted(line["before"], MOST_WORDS)}')
+        for kind, nonce, words in self.errors:
+            here = self.by_nonce.get((kind, nonce), 'no such response was recorded')
+            lines.append(f'{WORDS.get(kind, "another type")}, nonce {quoted(nonce)}: {quoted(words, MOST_WORDS)}; here: {here}')
+        return Section('Envoy\'s own errors', lines, 'none told')
+
+    def waiting(self):
+        """What warms at the end, and for what."""
+        lines = []
+        for row in self.rows('warming'):
+            before = self.machine.named.get((row.kind, row.name), {}).get('active')
+            beside = f' (generation {before.number} serves)' if before else ''
+            lines.append(f'{WORD[row.kind]} {quoted(row.name)} waits for {", ".join(self.machine.waits(row))}{beside}')
+        return Section('Warms, and for what', lines, 'nothing')
+
+    def without(self):
+        lacking = [(row, self.machine.without(row)) for row in self.rows('active')]
+        return Section('Serves without hosts or routes', [f'{WORD[row.kind]} {quoted(row.name)}: {words}' for row, words in lacking if words], 'nothing')
+
+    def rows(self, status):
+        return [row for _, row in sorted(self.machine.rows.items()) if row.status == status]
+
+    def stand_ins(self):
+        lines = []
+        for line in self.report.lines:
+            if line['action'] in ('stand-in', 'left-out'):
+                what = f'{shown(value_words(line["after"]), 160)} in place of {shown(value_words(line["before"]), 160)}'
+                words = what if line['action'] == 'stand-in' else f'{shown(line["member"])} left out: {shown(value_words(line["before"]), 160)}'
+                lines.append(f'{WORD[line["type"]]} {quoted(line["name"])}: {words}')
+        return Section('Stands in, and for what', list(dict.fromkeys(lines)), 'nothing', alarms=False)
+
+    def connections(self):
+        words = {'served': 'served', 'local': 'answered directly', 'redirect': 'redirected', 'noRoute': 'no route', 'noCluster': 'no cluster',
+                 'noEndpoint': 'no host', 'noListener': 'no listener', 'inUse': 'number in use'}
+        lines = [f'{count} {words[result]}' for result, count in self.answers.most_common()]
+        bad = any(self.answers[result] for result in ('noRoute', 'noCluster', 'noEndpoint', 'noListener'))
+        return Section('Connections tried', lines, alarms=bad, count=sum(self.answers.values()))
+
+
+def times(text, count):
+    return f'{text} ({counted(count, "time")})' if count > 1 else text
+
+
+def value_words(value):
+    """A value of the report in words."""
+    return value if isinstance(value, str) else json.dumps(value, ensure_ascii=False)

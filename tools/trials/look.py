@@ -1,0 +1,108 @@
+"""tools/look on a dump, on folders of recordings and on responses: what it prints, its page, and how it ends. Where no program is built a
+stand-in reckons the journals."""
+import json
+import os
+import stat
+import subprocess
+import sys
+import tempfile
+
+import trials
+from shared import script
+from shared.resources import URLS
+from trials import TOP, content
+from trials.adapt import CAPTURES
+from trials.adapt_dumps import cluster, clusters, dump, eds, endpoints, listener, part
+
+STAND_IN = f'''#!{sys.executable}
+import sys
+sys.path.insert(0, {f"{TOP}/tools"!r})
+from shared.replayed import replayed
+sys.stdout.buffer.write(replayed(sys.stdin.buffer.read()))
+'''
+BROWSER = '#!/bin/sh\nprintf %s "$1" > "$LOOKED_AT"\n'
+
+
+def run(check):
+    with tempfile.TemporaryDirectory() as folder:
+        program = trials.program() or trials.written(f'{folder}/program', STAND_IN, 0o755)
+
+        def looked(*words, **settings):
+            return trials.ran(f'{TOP}/tools/look', '--program', program, '--out', f'{folder}/out', *words, env={**os.environ, 'TMPDIR': folder, **settings})
+
+        for trial in (of_a_dump, of_recordings, of_responses, opened, endings):
+            trial(check, folder, looked)
+
+
+def of_a_dump(check, folder, looked):
+    """Envoy's own errors come first, with the verdict of here; then what waits, what was refused, what stands in."""
+    hostile = '<b>\u202e\x1b[31m'
+    failed = {'cluster': cluster('bad'), 'error_state': {'failed_configuration': eds('bad', path='x'), 'details': f'no such {hostile}'}}
+    tree = dump(part('Clusters', dynamic_active_clusters=[failed, {'cluster': eds('a')}, {'cluster': eds('lost')}, {'cluster': cluster('dns', type='STRICT_DNS')}],
+                     dynamic_warming_clusters=[{'cluster': eds('w')}]), endpoints('a'),
+                part('Listeners', dynamic_listeners=[{'name': 'l', 'active_state': {'listener': listener('l', 80, 'a')}}]))
+    status, out, errors = looked('--project', 'none', trials.written(f'{folder}/dump.json', tree.decode()))
+    lines, page = out.decode().splitlines(), content(f'{folder}/out/page.html').decode()
+    check(status == 0 and not errors, f'look at a dump: status {status} {errors}')
+    wanted = ["Envoy's own errors: 1", "    cluster 'bad': 'no such <b>\\u202e\\x1b[31m'; here: refused by V10 (profile): resource.eds_cluster_config.eds_config.path is given",
+              "Warms, and for what: 1", "    cluster 'w' waits for endpoints 'w'", 'Serves without hosts or routes: 2', "    cluster 'lost': WITHOUT HOSTS: their fetch timeout came",
+              'Refused here: 2', "    cluster 'dns', version '': refused by V7 (profile): resource.type is STRICT_DNS", 'Stands in, and for what: nothing',
+              'Connections tried: 1', '    1 served', 'The page: ']
+    place = iter(lines)
+    for text in wanted:
+        check(any(line.startswith(text) for line in place), f'look at a dump has no line {text!r} there: {lines}')
+    check('<b>\u202e' not in page and '\x1b' not in page and '&lt;b&gt;' in page and page.index('own errors') < page.index('Never came to serve'),
+          'the page has no errors of Envoy on its top, or a name as it is')
+    names = sorted(os.listdir(f'{folder}/out'))
+    check(names == ['journal.jsonl', 'page.html', 'report.jsonl', 'script.jsonl'], f'look writes {names}')
+    check(all(stat.S_IMODE(os.stat(f'{folder}/out/{name}').st_mode) == 0o600 for name in names), 'others may read what look writes')
+    check(not script.read_script(content(f'{folder}/out/script.jsonl')).faults, 'look writes no script')
+
+
+def of_recordings(check, folder, looked):
+    """A recording's folder: of a relay what its client refused is Envoy's own error."""
+    push = {'typeUrl': URLS['cds'], 'nonce': 'n1', 'resources': [{'name': 'c', 'version': '1', 'resource': cluster('c')}]}
+    steps = [{'workers': 1, 'node': 'edge'}, {'op': 'connect'}, {'op': 'response', 'message': push}, {'op': 'disconnect'}]
+    text = ''.join(json.dumps(step) + '\n' for step in steps)
+    asks = [{'op': 'connect', 'protocol': 'delta'}, {'op': 'request', 'message': {'typeUrl': URLS['cds'], 'responseNonce': 'n1', 'errorDetail': {'code': 13, 'message': 'bad proto'}}}]
+    relayed = f'{folder}/relayed'
+    for number in (1, 2):
+        trials.written(f'{relayed}/stream-00{number}.jsonl', text)
+    trials.written(f'{relayed}/stream-001.requests.jsonl', ''.join(json.dumps(step) + '\n' for step in asks))
+    status, out, errors = looked(relayed)
+    check(status == 0 and b"    clusters, nonce 'n1': 'bad proto'; here: all of it is taken" in out, f'look at a relay\'s recording: {status} {out} {errors}')
+    check(content(f'{folder}/out/script.jsonl').count(b'"connect"') == 2, 'look leaves out a stream of a recording')
+    trials.written(f'{folder}/alone/client.jsonl', text)
+    trials.written(f'{folder}/alone/client.sotw.jsonl', 'no script')
+    status, out, errors = looked(f'{folder}/alone')
+    check(status == 0 and b"Envoy's own errors: none told" in out, f'look at a client\'s recording: {status} {out} {errors}')
+    os.makedirs(f'{folder}/empty')
+    status, out, errors = looked(f'{folder}/empty')
+    check(status == 3 and b'is no recording' in errors, f'look at an empty folder: {status} {errors}')
+
+
+def of_responses(check, folder, looked):
+    for name in ('istio_sidecar.json', 'go_control_plane.json', 'delta_push.jsonl'):
+        status, out, errors = looked(f'{CAPTURES}/{name}')
+        check(status == 0 and b'(profile)' not in out, f'look at {name}: {status} {out} {errors}')
+    lines = trials.ran('sort', data=out)[1]
+    check(b'Stands in, and for what: ' in lines, f'look at {name} says nothing of stand-ins')
+
+
+def opened(check, folder, looked):
+    browser = trials.written(f'{folder}/browser', BROWSER, 0o755)
+    status, _, errors = looked('--open', f'{TOP}/examples/realistic.jsonl', BROWSER=f'{browser} %s', LOOKED_AT=f'{folder}/seen')
+    check(status == 0 and content(f'{folder}/seen').decode() == f'file://{folder}/out/page.html', f'look --open: {status} {errors}')
+    status, _, errors = looked('--open', f'{TOP}/examples/realistic.jsonl', BROWSER='/no/such %s', PATH='/nowhere')
+    check(status == 5 or b'env' in errors, f'look --open without a browser: {status} {errors}')
+
+
+def endings(check, folder, looked):
+    good = f'{TOP}/examples/realistic.jsonl'
+    plain = trials.written(f'{folder}/plain.json', dump(clusters(eds('a'))).decode())
+    for words, wanted in ((['--project', 'some', good], 2), ([], 2), ([plain], 3), (['--no-endpoints', plain], 0), (['/no/such/file'], 4), (['--version'], 0), (['--help'], 0),
+                          (['--program', '/no/such', good], 4), (['--program', '/bin/false', good], 7), (['--out', '/proc/no', good], 5), (['--out', '/dev/null', good], 5)):
+        status, out, errors = looked(*words)
+        check(status == wanted and b'Traceback' not in errors and b'this tool has a mistake' not in errors, f'look {words}: status {status} {errors}')
+    done = subprocess.run([f'{TOP}/tools/look', plain], capture_output=True)
+    check(done.returncode in (3, 4), f'look without a program: {done}')
