@@ -1,4 +1,5 @@
 """Makes the lines of a script of documents: the work of tools/adapt between what it reads and what it writes."""
+import contextlib
 import copy
 import json
 
@@ -49,7 +50,8 @@ class ScriptOf:
     def take(self, document, place, source):
         """Takes a document. `place` says where it stands, `source` which input it is of."""
         tree, found = document.tree, kind_of(document.tree)
-        if self.state and found not in OF_STATE:
+        self.documents += 1
+        if found not in OF_STATE or self.state and not self.state.joins(tree, self.source_of(found, source)):
             self.tell_state()
         self.place = place
         for key in document.repeated:
@@ -61,13 +63,27 @@ class ScriptOf:
                   'sotw': self.full, 'health': self.health, 'log': self.log}
         if found in OF_STATE:
             self.known += 1
-            self.documents += 1
-            self.gather(tree, self.documents if found == 'config-dump' else source)
+            self.state = self.state or Dump(self.report)
+            self.state.add(tree, self.source_of(found, source))
         elif found in takers:
             self.known += 1
             takers[found](tree)
         else:
             self.report.add('not-sent', before=f'{place}: no document that is known')
+
+    @contextlib.contextmanager
+    def placing(self):
+        """What is wrong with the input in the block is told with its place."""
+        try:
+            yield
+        except Unreadable as error:
+            raise Unreadable(f'{self.place}: {error}') from None
+        except RecursionError:
+            raise Unreadable(f'{self.place} nests too deep') from None
+
+    def source_of(self, found, source):
+        """What the parts of a state are of: each document of a dump is one, and all bodies of an input."""
+        return ('document', self.documents) if found == 'config-dump' else ('input', source)
 
     # Documents
 
@@ -111,14 +127,10 @@ class ScriptOf:
 
     # A state
 
-    def gather(self, tree, source):
-        if self.state and not self.state.joins(tree, source):
-            self.tell_state()
-        self.state = self.state or Dump(self.report)
-        self.state.add(tree, source)
-
     def tell_state(self):
         """Writes the responses that bring about the state that was gathered."""
+        if not self.state:
+            return
         state, self.state = self.state, None
         self.named(state.node)
         state.finish()
@@ -337,8 +349,6 @@ class ScriptOf:
 
     def finish(self):
         """All lines, the header first."""
-        if self.state:
-            self.tell_state()
         if self.chosen.probe:
             self.place = '--probe'
             found, more = self.probes.lines(MAX_LINES - len(self.lines) - 2)
