@@ -1,4 +1,5 @@
-//! The command `tls`: of the trees of a script's lines the text of a script in which clusters wait for their secrets.
+//! The command `tls`: of the trees of a script's lines the text of a script in which clusters wait for their secrets, and the law
+//! that what is accepted in its runs is sealed.
 //!
 //! # Choices
 //!
@@ -14,6 +15,10 @@ ghost use Rattle.ev_script.specs.Script.{script_of};
 ghost use Rattle.ev_expand.specs.Expanding.{IsExpanded};
 ghost use Rattle.ev_expand_laws.specs.Said.{lines_in, input_of_text, expanded_script};
 ghost use Rattle.ev_secrets.specs.Sealing.{tls_rules};
+
+mod laws;
+
+pub use laws::accepts_are_sealed;
 
 use ev_expand::ExpandError;
 use ev_script::ScriptTrees;
