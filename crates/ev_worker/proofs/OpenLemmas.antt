@@ -244,3 +244,13 @@ opens_apart picture ask false some = refl
 pub absent : (found : Option (ℕ × Option ℕ)) → is_some found ≡ false → found ≡ None
 absent None none = refl
 absent (Some on) none = absurd (true≢false none)
+
+-- where none of the worker's number is open, it stores none
+pub none_stored : (worker : ℕ) (es : List (ℕ × (ℕ × Option ℕ))) → SameOpen worker (members_of worker es) [] → es ≡ []
+none_stored worker [] none = refl
+none_stored worker (e ∷ es) none =
+    absurd (let never : member_of worker e ∷ filter (is_member worker e.0) (members_of worker es) ≡ [] =
+    sym (cond-true (is_member worker e.0 (member_of worker e)) (member_of worker e ∷ filter (is_member worker e.0) (members_of worker es))
+    (filter (is_member worker e.0) (members_of worker es))
+    (ap (λ b. b && (e.0 == e.0)) (same_number worker) ∙ same_number e.0))
+    ∙ none e.0 in cc)
