@@ -5,12 +5,13 @@ import json
 import re
 import zlib
 
-from shared.fields import camel
-from shared.json_text import NotJson, constant, fraction
+from shared.fields import DISCOVERY, WRONG, camel, enumeration
+from shared.json_text import NotJson, fraction
 from shared.progress import Progress
 from shared.resources import KINDS
 
 BLANK = re.compile(r'[ \t\r\n\ufeff\x1e,]*')
+TOKEN = re.compile(r'"(?:[^"\\]|\\.)*"|[^\s",:\[\]{}]+')
 LOG_LINE = re.compile(r'\[?\d{4}-\d\d-\d\d[ T]')
 REQUEST = ('response_nonce', 'resource_names', 'resource_names_subscribe', 'resource_names_unsubscribe', 'error_detail', 'initial_resource_versions')
 # The most that a gzip file may unpack to: four times the most of a script.
@@ -79,8 +80,8 @@ def unpacked(data):
 def documents(text):
     """The documents of a text in order: values a line, one behind the other, or in an array; and lines of logs."""
     repeated = []
-    decoder = json.JSONDecoder(object_pairs_hook=lambda pairs: object_of(pairs, repeated), parse_int=whole, parse_float=fraction,
-                               parse_constant=constant)
+    decoder = json.JSONDecoder(object_pairs_hook=lambda pairs: object_of(pairs, repeated), parse_int=whole, parse_float=in_range,
+                               parse_constant=no_number)
     place, line, counted = 0, 1, 0
     progress = Progress('adapt', 'byte', len(text))
     while True:
@@ -105,10 +106,29 @@ def object_of(pairs, repeated):
     return found
 
 
+class NoNumber(Exception):
+    """A token isn't a number that the program reads."""
+
+    def __init__(self, token, words):
+        super().__init__(words)
+        self.token = token
+
+
+def in_range(text):
+    try:
+        return fraction(text)
+    except NotJson as refused:
+        raise NoNumber(text, refused.words) from None
+
+
 def whole(text):
-    """A whole number with all its digits; `-0` and one beyond the range of floating point as the program reads them."""
-    number = fraction(text)
+    """A whole number with all its digits; `-0` as the program reads it."""
+    number = in_range(text)
     return number if text == '-0' else int(text)
+
+
+def no_number(text):
+    raise NoNumber(text, f'{text} is no JSON')
 
 
 def next_document(decoder, text, place, line):
@@ -121,10 +141,18 @@ def next_document(decoder, text, place, line):
     except json.JSONDecodeError as error:
         at = line + text.count('\n', place, error.pos)
         raise Unreadable(f'line {at} is neither JSON nor a line of a log: {error.msg}') from None
-    except NotJson as error:
-        raise Unreadable(f'the JSON that begins in line {line} isn\'t any: {error.words}') from None
+    except NoNumber as error:
+        raise Unreadable(f'line {line + lines_before(text, place, error.token)} isn\'t JSON: {error}') from None
     except RecursionError:
         raise Unreadable(f'line {line} nests too deep') from None
+
+
+def lines_before(text, place, token):
+    """How many lines stand between a place and the first such token behind it that is no text."""
+    for found in TOKEN.finditer(text, place):
+        if found.group() == token:
+            return text.count('\n', place, found.start())
+    return 0
 
 
 def kind_of(tree):
@@ -146,7 +174,13 @@ def kind_of(tree):
         return 'request'
     if get(tree, 'type_url') is not None or get(tree, 'resources') is not None:
         return 'sotw' if is_full(tree) else 'delta'
-    return 'body' if type_of_body(tree) else 'statuses' if get(tree, 'host_statuses') is not None else None
+    return 'body' if type_of_body(tree) else 'statuses' if statuses_in(tree) else None
+
+
+def statuses_in(tree):
+    """The clusters of a document that have their hosts with their states."""
+    found = list_in(tree, 'cluster_statuses') or [tree]
+    return [status for status in found if get(status, 'host_statuses') is not None]
 
 
 def is_full(message):
@@ -158,22 +192,20 @@ def is_full(message):
     return not delta and get(message, 'version_info') is not None
 
 
-# Members that tell the type of a body without `@type`, as `istioctl proxy-config .. -o json` prints it.
+# What tells the type of a body without `@type`, as `istioctl proxy-config .. -o json` prints it.
 TELLING = {
-    'eds': ('endpoints',),
-    'rds': ('virtual_hosts', 'validate_clusters', 'vhds'),
-    'lds': ('filter_chains', 'default_filter_chain', 'api_listener', 'listener_filters', 'address'),
-    'cds': ('eds_cluster_config', 'load_assignment', 'cluster_type', 'connect_timeout', 'lb_policy', 'type'),
+    'eds': lambda tree: isinstance(get(tree, 'cluster_name'), str) and 'endpoints' in tree,
+    'rds': lambda tree: isinstance(get(tree, 'virtual_hosts'), list) or get(tree, 'validate_clusters') is not None,
+    'lds': lambda tree: isinstance(get(tree, 'address'), dict) or isinstance(get(tree, 'filter_chains'), list),
+    'cds': lambda tree: isinstance(get(tree, 'name'), str) and (
+        any(get(tree, name) is not None for name in ('eds_cluster_config', 'load_assignment', 'cluster_type', 'connect_timeout', 'lb_policy'))
+        or get(tree, 'type') is not None and enumeration(get(tree, 'type'), DISCOVERY) is not WRONG),
 }
 
 
 def type_of_body(tree):
     """The type (`cds` and so on) of a body that stands alone, by its fields; None where they don't tell."""
     url = text_in(tree, '@type')
-    if url:
+    if url or get(tree, 'host_statuses') is not None:
         return KINDS.get(url)
-    if get(tree, 'host_statuses') is not None:
-        return None
-    named = {'eds': get(tree, 'cluster_name') is not None}
-    return next((kind for kind, names in TELLING.items()
-                 if named.get(kind, True) and any(get(tree, name) is not None for name in names)), None)
+    return next((kind for kind, tells in TELLING.items() if tells(tree)), None)

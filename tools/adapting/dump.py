@@ -2,7 +2,7 @@
 from shared.fields import DISCOVERY, enumeration
 from shared.resources import URLS
 
-from .capture import Unreadable, get, text_in, type_of_body
+from .capture import Unreadable, get, statuses_in, text_in, type_of_body
 from .statuses import assignment_of
 
 NAMES = {'cds': 'name', 'eds': 'cluster_name', 'lds': 'name', 'rds': 'name'}
@@ -55,7 +55,7 @@ class Dump:
     def __init__(self, report):
         self.report, self.node, self.came = report, None, {}
         self.static, self.clusters, self.warming_clusters = [], [], []
-        self.endpoints, self.routes = [], []
+        self.endpoints, self.routes, self.statuses, self.route_names = [], [], [], {''}
         self.draining, self.listeners, self.warming_listeners = [], [], []
         self.failed = {kind: [] for kind in NAMES}
 
@@ -67,8 +67,8 @@ class Dump:
         self.came.update(dict.fromkeys(parts_of(tree), source))
         if type_of_body(tree):
             self.body(type_of_body(tree), tree)
-        elif get(tree, 'host_statuses') is not None:
-            self.endpoints.append(wrapped('eds', assignment_of(tree), ''))
+        elif statuses_in(tree):
+            self.statuses += [wrapped('eds', assignment_of(status), '') for status in statuses_in(tree)]
         else:
             for part in configs_of(tree):
                 self.part(part)
@@ -78,11 +78,11 @@ class Dump:
         found = wrapped(kind, {'@type': URLS[kind], **body}, '')
         if kind == 'lds':
             self.give_name(found)
-        rows = {'cds': self.clusters, 'eds': self.endpoints, 'lds': self.listeners, 'rds': self.routes}[kind]
-        if kind == 'rds' and found['name'] in {'', *(route['name'] for route in rows)}:
+        if kind == 'rds' and found['name'] in self.route_names:
             self.report.add('not-sent', 'rds', found['name'], before='routes without a name of their own: they stand in their listener')
             return
-        rows.append(found)
+        self.route_names.update([found['name']] if kind == 'rds' else [])
+        {'cds': self.clusters, 'eds': self.endpoints, 'lds': self.listeners, 'rds': self.routes}[kind].append(found)
 
     def part(self, part):
         name = part_name(part)
@@ -157,6 +157,18 @@ class Dump:
         return [resource for resource in self.static + self.clusters + self.warming_clusters
                 if enumeration(get(resource['resource'], 'type'), DISCOVERY) == DISCOVERY['EDS']]
 
+    def finish(self):
+        """Turns the hosts of clusters into the endpoints that these ask for."""
+        asked = {resource['name']: text_in(get(resource['resource'], 'eds_cluster_config'), 'service_name') or resource['name'] for resource in self.of_eds()}
+        has_clusters = bool(self.static or self.clusters or self.warming_clusters)
+        for resource in self.statuses:
+            name = resource['name']
+            if name in asked or not has_clusters:
+                resource['name'] = resource['resource']['cluster_name'] = asked.get(name, name)
+                self.endpoints.append(resource)
+            else:
+                self.report.add('not-sent', 'eds', name, before='hosts of a cluster that doesn\'t ask for endpoints')
+
     def active_clusters(self):
         return [resource['name'] for resource in self.static + self.clusters]
 
@@ -199,6 +211,6 @@ def parts_of(tree):
     """What a document has of a state: types, and the names of other parts of a dump."""
     if type_of_body(tree):
         return [type_of_body(tree)]
-    if get(tree, 'host_statuses') is not None:
+    if statuses_in(tree):
         return ['eds']
     return [PARTS.get(part_name(part), part_name(part)) for part in configs_of(tree)]

@@ -60,7 +60,7 @@ def without_endpoints(check):
     plain = dump(clusters(eds('a'), eds('b'), cluster('s')))
     for words in ([], ['--project', 'all'], ['--strict'], ['--sotw']):
         status, data, _, errors = adapted(*words, data=plain)
-        check(status == 3 and not data and '2 clusters are of type EDS' in errors and '?include_eds' in errors, f'adapt {words} of a plain dump: {status} {errors}')
+        check(status == 3 and not data and '2 clusters of type EDS' in errors and '?include_eds' in errors, f'adapt {words} of a plain dump: {status} {errors}')
     status, data, report, errors = adapted('--no-endpoints', data=plain)
     check(status == 0 and ops(data) == [('fetchTimeout', 'a'), ('fetchTimeout', 'b')] and '?include_eds' in lines_of(report, 'absent')[0]['before'],
           f'adapt --no-endpoints of a plain dump: {status} {errors} {ops(data)}')
@@ -91,6 +91,9 @@ def health_results(check):
     check([line['name'] for line in lines_of(report, 'made') if line['member'] == 'health_checks'] == ['s', 'a'], f'their report: {report}')
     rows = [json.loads(text) for text in replayed(adapted('--auto', data=tree)[1]).splitlines()]
     check(not any(row.get('answer') == 'ignored' for row in rows), 'a line that ends a wait is ignored')
+    failed = {'cluster': static, 'error_state': {'failed_configuration': cluster('s', lb_policy='MAGLEV')}}
+    ends = [line.op for line in script.read_script(adapted(data=dump(part('Clusters', dynamic_active_clusters=[failed])))[1]).lines]
+    check(ends == ['connect', 'response', 'health', 'response', 'response', 'health'], f'what Envoy has comes again without its health results: {ends}')
 
 
 def refused_there(check):
@@ -150,8 +153,17 @@ def of_istioctl(check):
             rows = [item.content for line in script.read_script(data).lines[1:] for item in line.response.items if line.response.kind == 'eds']
             check(rows == [((('10.0.0.1', 80), 2, 0, False),)], f'hosts of istioctl: {rows}')
             check(len(lines_of(report, 'not-sent')) == 2, f'the report of istioctl\'s routes: {report}')
+        statuses = {'cluster_statuses': [*bodies['endpoint'], {**bodies['endpoint'][0], 'name': 's'}]}
+        other = [{**bodies['cluster'][0], 'edsClusterConfig': {'edsConfig': {'ads': {}}, 'serviceName': 'asked'}}, bodies['cluster'][1]]
+        texts = [trials.written(f'{folder}/{place}.json', json.dumps(tree)) for place, tree in enumerate((other, statuses))]
+        status, data, report, errors = adapted(*texts)
+        names = [(one['name'], one['resource']['cluster_name']) for one in messages(data)[1]['resources']]
+        check(status == 0 and names == [('asked', 'asked')] and [line['name'] for line in lines_of(report, 'not-sent')] == ['s'], f'Envoy\'s /clusters: {names} {errors}')
         status, _, _, errors = adapted(paths[0])
         check(status == 3 and 'istioctl proxy-config endpoints' in errors, f'adapt of istioctl\'s clusters alone: {status} {errors}')
+        for tree in ({'level': 'info', 'type': 'x'}, {'name': 'x', 'type': 'y'}, {'address': '10.0.0.1'}):
+            status, _, _, errors = adapted(data=json.dumps(tree).encode())
+            check(status == 3 and 'has no config dump' in errors, f'adapt takes {tree} for a body: {status} {errors}')
         wrapped = trials.written(f'{folder}/all.json', json.dumps({'bootstrap': {'node': {'id': 'pod'}}}))
         check(os.path.exists(wrapped) and script.read_script(adapted(wrapped)[1]).node == 'pod', 'the node of istioctl\'s bootstrap')
 

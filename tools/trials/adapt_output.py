@@ -15,7 +15,7 @@ from shared.replayed import replayed, replayed_whole
 from shared.resources import URLS
 from trials import TOP, content
 from trials.adapt import CAPTURES, LEVELS, adapted, messages
-from trials.adapt_dumps import cluster, clusters, dump, lines_of
+from trials.adapt_dumps import cluster, clusters, dump, lines_of, part
 
 SCRIPT = '{"workers":1}\n{"op":"connect"}\n'
 ACCEPT = '{"op":"accept","worker":0,"conn":1,"address":"10.0.0.1","port":%s}\n'
@@ -35,9 +35,17 @@ def no_scripts(check):
     for words, data, told in NO_SCRIPT:
         status, out, _, errors = adapted(data=data.encode())
         check(status == 3 and not out and told in errors and 'mistake' not in errors, f'adapt of {words}: status {status} {errors}')
+    pretty = json.dumps(dump_tree(), indent=1).replace('"NaN"', '"a NaN", "y": NaN').encode()
+    wanted = next(place for place, line in enumerate(pretty.splitlines(), 1) if b'y": NaN' in line)
+    status, out, _, errors = adapted(data=pretty)
+    check(status == 3 and not out and f'line {wanted} isn\'t JSON: NaN is no JSON' in errors, f'adapt of NaN in line {wanted}: status {status} {errors}')
     digits = '1' * 60
     status, out, _, errors = adapted(data=(SCRIPT + '{"op":"response","message":{"nonce":"1","x":' + digits + '}}').encode())
     check(status == 0 and digits.encode() in out, f'adapt changes a number of 60 digits: {errors} {out}')
+
+
+def dump_tree():
+    return {'configs': [part('Clusters', static_clusters=[{'cluster': cluster('c', x='NaN')}])]}
 
 
 def whole(check):
