@@ -4,7 +4,7 @@ from collections import Counter
 from shared import rules
 from shared.bodies import differences
 from shared.resources import WORD, WORDS
-from shared.shown import quoted, shown
+from shared.shown import named, quoted, shown
 from shared.words import content_words, counted, few
 
 from .outcome import Sent, of_kinds
@@ -163,7 +163,7 @@ def results(key, was, now, generation):
     """Health results at the end that differ, of hosts that both have."""
     hosts = [host for host in was.results if host in now.results and was.results[host] != now.results[host]]
     for healthy in (False, True):
-        found = [f'{shown(address, 60)}:{port}' for address, port in hosts if now.results[address, port] is healthy]
+        found = [f'{named(address, 60)}:{port}' for address, port in hosts if now.results[address, port] is healthy]
         if found:
             yield Finding(CHANGED, *key, f'{"healthy" if healthy else "unhealthy"}, and wasn\'t: {few(found)}', generation)
 
@@ -192,7 +192,7 @@ def change_words(kind, before, after):
 
 
 def host_words(before, after):
-    was, now = ([f'{address}:{port}' for (address, port), *_ in rows] for rows in (before, after))
+    was, now = ([f'{named(address, 60)}:{port}' for (address, port), *_ in rows] for rows in (before, after))
     gone, more = [host for host in was if host not in set(now)], [host for host in now if host not in set(was)]
     parts = [f'hosts gone: {few(gone)}'] * bool(gone) + [f'hosts new: {few(more)}'] * bool(more)
     return '; '.join(parts) or 'the same hosts with another order, weight, priority or health status'
@@ -224,7 +224,7 @@ def connections(old, new):
 
 def connection(ask, was, now):
     address, port, host, path, pick = ask
-    name = f'connection to {address}:{port}, host {quoted(host, 60)}, path {quoted(path, 60)}' + (f', pick {pick}' if pick else '')
+    name = f'connection to {named(address, 60)}:{port}, host {quoted(host, 60)}, path {quoted(path, 60)}' + (f', pick {pick}' if pick else '')
     if was and was[0] in ANSWERED and (now is None or now[0] not in ANSWERED):
         lost = result_words(now) if now else 'not asked any more: its listener, domain or route is gone'
         return Finding(REGRESSION, 'connection', name, f'{lost}; before {result_words(was)}')
@@ -240,7 +240,7 @@ def connection(ask, was, now):
 def result_words(result):
     kind, what, host = result
     if kind == 'served':
-        return f'served by cluster {quoted(what, 60)} at {host[0]}:{host[1]}'
+        return f'served by cluster {quoted(what, 60)} at {named(host[0], 60)}:{host[1]}'
     return f'answered with status {what}' if kind == 'local' else RESULTS.get(kind, kind)
 
 
