@@ -20,7 +20,7 @@ PROGRAM = f'{LIB}/bin/warmgate'
 OVERRIDES = """# The program is what the gate has built, byte for byte: PROVENANCE has its sum.
 warmgate: unstripped-binary-or-object [usr/lib/warmgate/bin/warmgate]
 """
-COPYRIGHT = """Copyright: {author}, and the others whom the history of the repository names.
+COPYRIGHT = """Copyright (C) {year} {author}, and the others whom the history of the repository names.
 
 The repository states no licence. Ask its owner before you pass this package on.
 """

@@ -38,7 +38,7 @@ class Root:
             unpacked(package, self.folder)
             return
         shutil.copy(package, f'{self.folder}/tmp/')
-        status, out = self.run_at('/tmp', 'export DEBIAN_FRONTEND=noninteractive; apt-get -qq update && apt-get -qq -y install ./warmgate_*.deb')
+        status, out = self.run_at('/tmp', 'export DEBIAN_FRONTEND=noninteractive PATH=$PATH:/usr/sbin:/sbin; apt-get -qq update && apt-get -qq -y install ./warmgate_*.deb')
         if status:
             raise Refused(f'apt-get install ended with status {status}: {out.decode(errors="replace")[-600:]}')
 

@@ -15,6 +15,7 @@ from .replies import Lines
 from .sotw import Incremental
 
 OWNER_ALONE = 0o600
+ENDED = 'the script has ended'
 
 
 def text_of(tree):
@@ -167,12 +168,15 @@ class Recording:
             file.write(text_of(header))
 
     def put(self, file, text):
-        """Writes a line to a script, once it is read and found to be one. None, or why it isn't written."""
+        """Writes a line to a script, once it is read and found to be one. None, or why it isn't written; that a file has ended is told once,
+        by its own note."""
+        if file.ended:
+            return ENDED
         line, words = self.lines[file].read(text)
         if line is None:
             return words
         if not file.write(text):
-            return f'{file.path} has ended'
+            return ENDED
         if self.replies and file is self.asked:
             self.replies.take(line, file.lines)
         return None
@@ -236,23 +240,23 @@ class Recording:
             came.lost.append(f'its line has more than {script.MAX_LINE} bytes')
             self.whole.end(f'{self.whole.path} ends before nonce {quoted(tree.get("nonce", ""))}, whose line is over the limit and can\'t be split')
             return
-        words = self.put(self.whole, line)
-        if words:
+        came.lines = self.put_response(self.whole, line, tree.get('nonce', ''), came)
+
+    def put_response(self, file, line, nonce, came):
+        """Writes a line of a response, or notes that it is lost; how many lines were written."""
+        words = self.put(file, line)
+        if words and file is self.asked:
             came.lost.append(words)
-        else:
-            came.lines = 1
+        if words and words != ENDED:
+            self.notes.lose(f'the response of nonce {quoted(nonce)} isn\'t written: {words}')
+        return int(not words)
 
     def write_parts(self, tree, came):
         parts = parts_of({**tree, 'nonce': tree.get('nonce', '')})
         if len(parts) > 1:
             self.notes.add(f'the response of nonce {quoted(tree.get("nonce", ""))} stands in {len(parts)} parts, since its line is over the limit')
-        for part in parts:
-            words = self.put(self.script, response_line(part))
-            if words:
-                self.notes.lose(f'the response of nonce {quoted(part["nonce"])} isn\'t written: {words}')
-            if not self.whole:
-                came.lost += [words] if words else []
-                came.lines += not words
+        written = sum(self.put_response(self.script, response_line(part), part['nonce'], came) for part in parts)
+        came.lines = came.lines if self.whole else written
 
     def discard(self):
         """Removes the files."""

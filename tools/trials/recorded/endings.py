@@ -14,7 +14,9 @@ import grpc
 from recording.messages import CLASSES
 from recording.protocols import DELTA, DISCOVERY, METHODS, RESPONSES, STATE_OF_THE_WORLD
 from recording.wires import OPTIONS
+from shared import script
 from shared.resources import TYPE, URLS
+from shared.shown import read_file
 
 from trials import written
 
@@ -42,7 +44,7 @@ def serving(plane):
 
 
 class DenyingPlane(grpc.GenericRpcHandler):
-    """Ends each stream with an error, behind these answers. `streams` counts them."""
+    """Ends each stream with an error, after these answers. `streams` counts them."""
 
     def __init__(self, code, *answers):
         self.code, self.answers, self.streams = code, answers, 0
@@ -184,10 +186,23 @@ def said_otherwise(check, program, folder):
     other = written(f'{folder}/other', f'#!/bin/sh\n{program} "$@" | sed \'s/"responseNonce":"n1"/"responseNonce":"n2"/\'\n', 0o755)
     with serving(StepsPlane([response('cds', {'a': bodies.static_cluster('a', 80)}, 'v1')])) as port:
         status, _, errors = recorded('--connect', f'127.0.0.1:{port}', '--until-quiet', '2', '--out', f'{folder}/out', '--program', other)
-    check(status == 1 and 'other requests behind line 3 of' in errors, f'a program that says otherwise: {status} {errors}')
+    check(status == 1 and 'other requests after line 3 of' in errors, f'a program that says otherwise: {status} {errors}')
     with serving(StepsPlane([response('cds', {'a': bodies.static_cluster('a', 80)}, 'v1')])) as port:
         status, _, errors = recorded('--connect', f'127.0.0.1:{port}', '--until-quiet', '2', '--out', f'{folder}/none', '--program', '/bin/false')
     check(status == 3 and 'ended with status 1' in errors, f'a program that takes no script: {status} {errors}')
+
+
+def full_disk(check, program, folder):
+    """Files end at 900 bytes: the status is that of a write, and what is there is a script. The response that has no room is answered."""
+    steps = [response('cds', {name: bodies.static_cluster(name, 80) for name in 'abc'}, 'v1') for _ in range(4)]
+    plane = StepsPlane(steps)
+    with serving(plane) as port:
+        done = subprocess.run(['prlimit', '--fsize=900', sys.executable, '-B', f'{TOOLS}/record', '--connect', f'127.0.0.1:{port}', '--until-quiet', '3', '--out',
+                               f'{folder}/out', '--program', program], capture_output=True, text=True, timeout=2 * MOST)
+    replies = [request.error_detail.message for seen in plane.requests for request in seen if request.response_nonce]
+    check(done.returncode == 5 and 'can\'t be written' in done.stderr, f'a client on a full disk: {done.returncode} {done.stderr}')
+    check(replies[-1:] == ['not recorded: the script has ended'] and not any(replies[:-1]), f'a client on a full disk answers {replies}')
+    check(not script.read_script(read_file(f'{folder}/out/client.jsonl')).faults, 'a client on a full disk leaves no script')
 
 
 # Who the client is
@@ -304,4 +319,4 @@ def once(check, program, folder):
     check(text_of(f'{folder}/log') == 'run\n', f'for sixty responses the program was run {text_of(f"{folder}/log").count("run")} times')
 
 
-TRIALS = [denied, denied_later, hostile_names, lost, lost_whole, undecoded, unread, said_otherwise, logins, ill_typed, addresses, of_one_type, owners_alone, once]
+TRIALS = [denied, denied_later, hostile_names, lost, lost_whole, undecoded, unread, said_otherwise, full_disk, logins, ill_typed, addresses, of_one_type, owners_alone, once]

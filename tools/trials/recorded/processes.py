@@ -81,12 +81,15 @@ def lines_of(path):
 
 @contextlib.contextmanager
 def relay_started(folder, upstream, *words, front=()):
-    """A relay on a free port, which it gives: its files are in folder/out, and what it says in folder/relay.err."""
+    """A relay on a free port, which it gives: its files are in folder/out, what it says in folder/relay.err, and its exit status, once it has
+    ended, in folder/relay.status."""
     port, errors = free_port(), f'{folder}/relay.err'
     command = [f'{TOOLS}/record', '--listen', f'127.0.0.1:{port}', '--upstream', f'127.0.0.1:{upstream}', '--out', f'{folder}/out']
-    with started([*command, '--seconds', str(4 * MOST), *words], errors, front):
+    with started([*command, '--seconds', str(4 * MOST), *words], errors, front) as process:
         until(lambda: 'listening' in text_of(errors))
         yield port
+    with open(f'{folder}/relay.status', 'w') as file:
+        file.write(str(process.returncode))
 
 
 def text_of(path):

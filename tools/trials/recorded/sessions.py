@@ -135,7 +135,7 @@ def grpc_otherwise(check, program, folder):
 # The client
 
 def steps():
-    """A control plane's session: a first start, a refusal, a stream that ends, and removals behind it."""
+    """A control plane's session: a first start, a refusal, a stream that ends, and removals after it."""
     return [
         response('cds', {'c': bodies.cluster('c', 's'), 'd': bodies.static_cluster('d', 81)}, 'v1'),
         response('eds', {'s': bodies.assignment('s', 80)}, 'e1'),
@@ -278,6 +278,7 @@ def raw_through_relay(check, program, folder):
     check([line.get('op') for line in lines] == [None, 'connect', 'response', 'response', 'disconnect'], f'the script is {lines}')
     check(lines[0]['node'] == 'raw-1' and lines[2]['message']['unknownField100'] == 'eA==', f'the script is {lines}')
     notes = text_of(f'{folder}/out/stream-001.notes.txt')
+    check(text_of(f'{folder}/relay.status') == '1', f'a relay with a message that can\'t be decoded ends with {text_of(f"{folder}/relay.status")}')
     check('a response isn\'t written: 2 bytes are no' in notes and 'DeltaDiscoveryResponse has unknownField100' in notes, f'notes: {notes}')
 
 
@@ -312,6 +313,7 @@ def relay_on_full_disk(check, program, folder):
     check(came == answers, 'with a full disk the stream didn\'t go on')
     is_script(check, f'{folder}/out/stream-001.jsonl')
     check(1 < len(lines_of(f'{folder}/out/stream-001.jsonl')) < 7, 'the script ends where the disk was full')
+    check(text_of(f'{folder}/relay.status') == '5', f'a relay on a full disk ends with {text_of(f"{folder}/relay.status")}')
     check('can\'t be written' in text_of(f'{folder}/relay.err'), f'the relay says {text_of(f"{folder}/relay.err")}')
 
 
