@@ -6,6 +6,7 @@ import json
 from shared.resources import KINDS, read_message
 from shared.script import MAX_INPUT, MAX_LINE, MAX_LINES
 from shared.shown import quoted
+from shared.words import counted
 
 from . import envoy_log
 from .capture import Unreadable, get, kind_of, list_in, text_in
@@ -144,7 +145,7 @@ class ScriptOf:
             if words == 'endpoints':
                 self.first_waits(state)
         for kind, resource in failed:
-            self.failure(kind, resource, kept[kind, resource['name']])
+            self.failure(kind, resource, kept[kind, resource['name']], kind == 'cds' and resource['name'] in state.active_clusters())
 
     def lacks_endpoints(self, state):
         """A dump without any endpoints makes no script, unless that is wanted."""
@@ -152,7 +153,7 @@ class ScriptOf:
         names = {text_in(get(one['resource'], 'eds_cluster_config'), 'service_name') or one['name'] for one in clusters}
         if not names or 'eds' in state.came or names & set(self.hosts):
             return
-        words = (f'{len(clusters)} clusters are of type EDS, and there are no endpoints: ask Envoy for /config_dump?include_eds, or give its '
+        words = (f'there are no endpoints, and {counted(len(clusters), "cluster")} of type EDS: ask Envoy for /config_dump?include_eds, or give its '
                  '/clusters?format=json or the output of `istioctl proxy-config endpoints -o json` too')
         if not self.chosen.no_endpoints:
             raise Unreadable(f'{words}. --no-endpoints goes on without them')
@@ -188,8 +189,9 @@ class ScriptOf:
         for address, port in places:
             self.write({'op': 'health', 'cluster': name, 'address': address, 'port': port, 'healthy': True})
 
-    def failure(self, kind, resource, kept):
-        """Sends what Envoy refused; where it breaks no rule here, what Envoy kept is sent again behind it."""
+    def failure(self, kind, resource, kept, is_active):
+        """Sends what Envoy refused; where it breaks no rule here, what Envoy kept is sent again behind it. The first of that is a cluster
+        that is active there, or it isn't."""
         name = resource['name']
         self.report.add('made', kind, name, before='failed_configuration', after='a response', turns=True)
         self.delta(message_of(kind, [resource]))
@@ -199,10 +201,12 @@ class ScriptOf:
             self.report.add('absent', kind, name, before='Envoy has none, and this profile goes on with what Envoy refused', turns=True)
             return
         again = [message_of(kind, [one]) for one in kept] or [message_of(kind, [], [name])]
-        for message in again:
+        for place, message in enumerate(again):
             self.report.add('made', kind, name, before='Envoy refused the one before, and this profile doesn\'t',
                             after='a response with what Envoy has' if kept else 'a removal: Envoy has none', turns=True)
             self.delta(message)
+            if is_active and place == 0 and self.good.get(name) and self.clusters[name]['checked']:
+                self.results(name, self.clusters[name])
 
     # Responses
 

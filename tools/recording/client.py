@@ -1,4 +1,4 @@
-"""The client: it sends what a proxy sends behind each response, and records what comes."""
+"""The client: it sends what a proxy sends after each response, and records what comes."""
 import queue
 import threading
 import time
@@ -12,7 +12,7 @@ from .decoding import encoded
 from .protocols import METHODS, REQUESTS
 from .wires import channel_to
 
-POLL, SOON, LONGEST = 0.2, 1, 30
+POLL, SOON, LONGEST = 0.2, 3, 30
 # So long a stream that this side ends may take: what was sent last has to go out.
 SENT = 0.5
 FIRST_PAUSE = 0.5
@@ -154,7 +154,7 @@ class Client:
         self.progress.at(self.recording.seen['responses'])
 
     def refused(self, came, requests):
-        """The requests behind a response of which something isn't in the script: its reply is an error."""
+        """The requests after a response of which something isn't in the script: its reply is an error."""
         if not came.nonce:
             self.recording.notes.add('a response without a nonce that can be read isn\'t answered')
             return requests

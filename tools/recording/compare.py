@@ -38,7 +38,7 @@ class Message:
 
 
 def quoted_name(name):
-    """A name in quotes, behind the sign that it may have."""
+    """A name in quotes, after the sign that it may have."""
     return name[:1] + quoted(name[1:]) if name[:1] in '+-' else quoted(name)
 
 

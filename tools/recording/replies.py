@@ -1,6 +1,6 @@
-"""What a proxy sends behind each line of a recording, as the lines come.
+"""What a proxy sends after each line of a recording, as the lines come.
 
-The program reads a script as a whole, so it can't be asked behind each response but by replaying all that came before. In its place
+The program reads a script as a whole, so it can't be asked after each response but by replaying all that came before. In its place
 the tools' own reckoning goes along (shared/answers.py): each line is read once. In the end the program replays the script, once, and
 what it says is put beside what was sent.
 """
@@ -18,7 +18,7 @@ from .protocols import COMMANDS, STATE_OF_THE_WORLD
 
 
 class Lines:
-    """Reads the lines of a script behind its header, each once as it comes. Where `whole`, those of the state of the world."""
+    """Reads the lines of a script after its header, each once as it comes. Where `whole`, those of the state of the world."""
 
     def __init__(self, whole=False):
         self.reading = script.Reading()
@@ -41,7 +41,7 @@ class Lines:
 
 
 class Replies:
-    """Takes the lines of a script one after the other, and says what is sent behind them."""
+    """Takes the lines of a script one after the other, and says what is sent after them."""
 
     def __init__(self, protocol):
         self.protocol, self.machine, self.whole = protocol, None, None

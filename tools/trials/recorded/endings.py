@@ -44,7 +44,7 @@ def serving(plane):
 
 
 class DenyingPlane(grpc.GenericRpcHandler):
-    """Ends each stream with an error, behind these answers. `streams` counts them."""
+    """Ends each stream with an error, after these answers. `streams` counts them."""
 
     def __init__(self, code, *answers):
         self.code, self.answers, self.streams = code, answers, 0
@@ -186,7 +186,7 @@ def said_otherwise(check, program, folder):
     other = written(f'{folder}/other', f'#!/bin/sh\n{program} "$@" | sed \'s/"responseNonce":"n1"/"responseNonce":"n2"/\'\n', 0o755)
     with serving(StepsPlane([response('cds', {'a': bodies.static_cluster('a', 80)}, 'v1')])) as port:
         status, _, errors = recorded('--connect', f'127.0.0.1:{port}', '--until-quiet', '2', '--out', f'{folder}/out', '--program', other)
-    check(status == 1 and 'other requests behind line 3 of' in errors, f'a program that says otherwise: {status} {errors}')
+    check(status == 1 and 'other requests after line 3 of' in errors, f'a program that says otherwise: {status} {errors}')
     with serving(StepsPlane([response('cds', {'a': bodies.static_cluster('a', 80)}, 'v1')])) as port:
         status, _, errors = recorded('--connect', f'127.0.0.1:{port}', '--until-quiet', '2', '--out', f'{folder}/none', '--program', '/bin/false')
     check(status == 3 and 'ended with status 1' in errors, f'a program that takes no script: {status} {errors}')

@@ -128,7 +128,7 @@ def taken(requests, came):
 
 
 class RawPlane(grpc.GenericRpcHandler):
-    """Answers each ADS stream with the same bytes, behind its first request, and leaves it open. `metadata` is what came along."""
+    """Answers each ADS stream with the same bytes, after its first request, and leaves it open. `metadata` is what came along."""
 
     def __init__(self, *answers):
         self.answers, self.metadata, self.came = answers, [], []

@@ -135,7 +135,7 @@ def grpc_otherwise(check, program, folder):
 # The client
 
 def steps():
-    """A control plane's session: a first start, a refusal, a stream that ends, and removals behind it."""
+    """A control plane's session: a first start, a refusal, a stream that ends, and removals after it."""
     return [
         response('cds', {'c': bodies.cluster('c', 's'), 'd': bodies.static_cluster('d', 81)}, 'v1'),
         response('eds', {'s': bodies.assignment('s', 80)}, 'e1'),
