@@ -1,11 +1,12 @@
 -- What two steps of taking bytes come to.
-use Rattle.std.proofs.Common.{◌≡◌, ℕ, ◌+◌, ◌<◌, ◌≤◌, ◌⊎◌, inl, inr, List, [], ◌++◌, length, take, Option, None, Some, refl, sym, ap, subst, ◌∙◌, append_assoc, length-append, arith}
+use Rattle.std.proofs.Common.{◌≡◌, ℕ, ◌+◌, ◌<◌, ◌≤◌, ◌⊎◌, inl, inr, Bool, IsTrue, List, [], ◌++◌, length, take, Option, None, Some, refl, sym, ap, subst, ◌∙◌, append_assoc, length-append, arith}
 use Rattle.std.proofs.lemmas.List.{append-nil}
 use Rattle.std.proofs.Math.Seq.{take-append-add}
 use Rattle.ev_io.specs.declared.limits.TheConstants.{MAX_PIECE_BYTES}
 use Rattle.ev_io.specs.Found.{IsOpen}
 use Rattle.ev_io.specs.LinesState.{LinesState, FindsNext, Grows}
 use Rattle.ev_io.specs.Outside.{Takes}
+use Rattle.ev_io.specs.ReadLine.{LeavesOpen}
 use Rattle.ev_io.proofs.Known.{takes_both}
 
 -- bytes that were taken in two steps
@@ -46,6 +47,13 @@ grows_not a old = (
     taken : (b : Option (List ℕ)) → Takes b b []
     taken None = refl
     taken (Some xs) = refl
+
+-- what is left open by two steps was so by each
+pub open_both : {S : Type 0} (ended : S → Bool) (a b d : S) (old now new : LinesState) → LeavesOpen ended a b old now → LeavesOpen ended b d now new → LeavesOpen ended a d old new
+open_both ended a b d old now new first then = record {
+  before = λ goes_on. first.before (then.before goes_on);
+  unended = λ goes_on. then.unended goes_on ∙ first.unended (then.before goes_on);
+}
 
 -- more bytes were wanted at first, where they are wanted now and nothing was done between
 pub wanted_first : {S : Type 0} (source now : S) (old new : LinesState) → ((now ≡ source) × (new ≡ old)) ⊎ FindsNext old None → FindsNext new None → FindsNext old None

@@ -1,11 +1,12 @@
 -- What a source and a sink over memory are: which bytes are left or written, and which calls fail.
-use Rattle.std.specs.Prelude.{◌≡◌, ℕ, ◌+◌, ◌-◌, ◌<◌, ◌⊎◌, List, length, Contains}
+use Rattle.std.specs.Prelude.{◌≡◌, ℕ, Bool, ◌+◌, ◌-◌, ◌<◌, ◌⊎◌, List, length, Contains}
 
--- a source over memory: the bytes left, the most that a call gives, the numbers of the calls that
--- fail, counted from 1, how many calls there were, and how many faults
+-- a source over memory: the bytes left, the most that a call gives, whether it gave its end, the
+-- numbers of the calls that fail, counted from 1, how many calls there were, and how many faults
 pub record MemSourceState : Type 0 where
   pub left : List ℕ
   pub piece : ℕ
+  pub ended : Bool
   pub fails : List ℕ
   pub calls : ℕ
   pub faults : ℕ

@@ -1,5 +1,5 @@
 -- Words for what a source and a sink count and append.
-use Rattle.std.specs.Prelude.{◌≡◌, ℕ, ◌+◌, ◌-◌, ◌^◌, ◌<◌, ◌≤◌, ◌⊎◌, min, List, length, take, Option}
+use Rattle.std.specs.Prelude.{◌≡◌, ℕ, Bool, ◌+◌, ◌-◌, ◌^◌, ◌<◌, ◌≤◌, ◌⊎◌, min, List, length, take, Option}
 use Rattle.std.specs.Io.KnownBytes.{append_known, prepend_known}
 
 -- the last value of a counter of 64 bits
@@ -13,6 +13,11 @@ raised count = min (count + 1) last_count
 -- the count rose: it is greater than before, or stands at the last value of a counter
 abbrev pub Rose : ℕ → ℕ → Type 0
 Rose before after = (before < after) ⊎ (after ≡ last_count)
+
+-- a read failed, and a source that hadn't given its end before didn't give it in between
+pub record ReadFails {S : Type 0} (ended : S → Bool) (faults : S → ℕ) (source source' : S) : Type 0 where
+  pub unended : ended source' ≡ ended source
+  pub rose : Rose (faults source) (faults source')
 
 -- told bytes gained a front of these bytes, and what isn't told stays untold
 abbrev pub AppendsPrefix : Option (List ℕ) → Option (List ℕ) → List ℕ → Type 0

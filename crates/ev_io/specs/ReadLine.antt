@@ -75,6 +75,12 @@ ReadsOn left source source' old new before after answer =
 abbrev pub AsksWhereUnfinished : {S : Type 0} → S → S → LinesState → Type 0
 AsksWhereUnfinished source source' old = (bytes : List ℕ) → HasTaken old bytes → (source' ≡ source) ⊎ IsUnfinished old.given old.ended bytes
 
+-- where a reader doesn't know after a call that the source gave its end, it didn't before, and the source didn't give it in
+-- the call
+pub record LeavesOpen {S : Type 0} (ended : S → Bool) (source source' : S) (old new : LinesState) : Type 0 where
+  pub before : ¬ (IsTrue new.ended) → ¬ (IsTrue old.ended)
+  pub unended : ¬ (IsTrue new.ended) → ended source' ≡ ended source
+
 -- a read failed: one before, as is told ever after, or one of this call, as the count of faults shows
 abbrev pub HasFailed : {S : Type 0} → (S → ℕ) → S → S → LinesState → Type 0
 HasFailed faults source source' old = (old.told ≡ Some Failed) ⊎ Rose (faults source) (faults source')

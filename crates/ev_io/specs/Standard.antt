@@ -1,13 +1,16 @@
 -- What the adapters of the standard streams hold.
-use Rattle.std.specs.Prelude.{ℕ, List, Option, Result}
+use Rattle.std.specs.Prelude.{ℕ, Bool, List, Option, Result}
 use Rattle.std.specs.Io.KnownBytes.{Appends, ReadConsumes}
 use Rattle.ev_io.specs.declared.outside.Failed.{Failed}
 use Rattle.ev_io.specs.declared.standard.StdSource.{StdSource}
 use Rattle.ev_io.specs.declared.standard.StdSink.{StdSink}
 
--- the reader that a source adapts, and how often it failed
+-- the reader that a source adapts, whether it gave its end, and how often it failed
 abbrev pub reader_of : {R : Type 0} → StdSource R → R
 reader_of s = s.reader
+
+abbrev pub gave_end : {R : Type 0} → StdSource R → Bool
+gave_end s = s.ended
 
 abbrev pub read_faults : {R : Type 0} → StdSource R → ℕ
 read_faults s = s.faults

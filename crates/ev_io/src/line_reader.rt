@@ -5,7 +5,7 @@ ghost use Rattle.ev_io.specs.Outside.{Rose, Takes};
 ghost use Rattle.ev_io.specs.Found.{IsLine};
 ghost use Rattle.ev_io.specs.declared.faults.LineFault.{LineFault};
 ghost use Rattle.ev_io.specs.LinesState.{IsFresh, FindsNext, HasTaken, IsWithin, Grows};
-ghost use Rattle.ev_io.specs.ReadLine.{ReadsOn, AsksWhereUnfinished, HasFailed};
+ghost use Rattle.ev_io.specs.ReadLine.{ReadsOn, AsksWhereUnfinished, LeavesOpen, HasFailed};
 
 use super::faults::{LineEnd, LineFault};
 use super::found::{Found, find_next};
@@ -101,8 +101,9 @@ impl Lines {
         ensures again_source { (fault : LineFault) → self.old.told ≡ Some fault → source.new ≡ source.old }
         ensures again_out { (fault : LineFault) → self.old.told ≡ Some fault → out.new.items ≡ out.old.items }
 
-        // The source isn't touched where it isn't needed, and its count rises where a read fails.
+        // The source isn't touched where it isn't needed, nor behind its end, and its count rises where a read fails.
         ensures untouched { AsksWhereUnfinished source.old source.new self.old }
+        ensures unended { LeavesOpen S.ended source.old source.new self.old self.new }
         ensures failed { result ≡ Err LineFault.Failed → HasFailed S.faults source.old source.new self.old }
         ensures same_count { (S.faults source.new ≡ S.faults source.old) ⊎ (result ≡ Err LineFault.Failed) }
         ensures count { S.faults source.old ≤ S.faults source.new }
@@ -171,6 +172,7 @@ impl Lines {
         ensures causes { IfErr result (λ fault. (fault ≡ LineFault.Failed) ⊎ (fault ≡ LineFault.OutOfMemory)) }
         ensures untouched { ((source.new ≡ source.old) × (self.new ≡ self.old)) ⊎ FindsNext self.old None }
         ensures at_end { IsTrue self.new.ended → IsTrue self.old.ended ⊎ IsAtEnd (S.left source.new) }
+        ensures unended { LeavesOpen S.ended source.old source.new self.old self.new }
         ensures at_most { IsWithin self.new }
         ensures same_count { OnOk result (S.faults source.new ≡ S.faults source.old) }
         ensures count { S.faults source.old ≤ S.faults source.new }
@@ -191,6 +193,7 @@ impl Lines {
         ensures told { OnOk result (self.new.told ≡ None) }
         ensures progress { OnOk result (IsTrue self.new.ended ⊎ (self.old.taken < self.new.taken)) }
         ensures at_end { IsTrue self.new.ended → IsAtEnd (S.left source.new) }
+        ensures unended { LeavesOpen S.ended source.old source.new self.old self.new }
         ensures at_most { IsWithin self.new }
         ensures failed { result ≡ Err LineFault.Failed → self.new ≡ record self.old { told = Some LineFault.Failed } }
         ensures rose { result ≡ Err LineFault.Failed → Rose (S.faults source.old) (S.faults source.new) }
@@ -265,6 +268,7 @@ fn append_piece<S: Source>(
     ensures bytes { IfOk result (λ count. bytes.new.items ≡ bytes.old.items ++ take count piece.new) }
     ensures takes { IfOk result (λ count. Takes (S.left source.old) (S.left source.new) (take count piece.new)) }
     ensures end { IfOk result (λ count. count ≡ 0 → IsAtEnd (S.left source.new)) }
+    ensures unended { (S.ended source.new ≡ S.ended source.old) ⊎ (result ≡ Ok 0) }
     ensures same_count { OnOk result (S.faults source.new ≡ S.faults source.old) }
     ensures count { S.faults source.old ≤ S.faults source.new }
     ensures unchanged { OnErr result ((bytes.new.items ≡ bytes.old.items) × (S.left source.new ≡ S.left source.old)) }

@@ -1,4 +1,4 @@
-ghost use Rattle.std.specs.Prelude.{◌≡◌, ◌<◌, ◌≤◌, ◌↔◌, min, length, take, drop, Some, OnOk, OnErr, IfOk, IsErr};
+ghost use Rattle.std.specs.Prelude.{◌≡◌, ◌<◌, ◌≤◌, ◌⊎◌, ◌↔◌, IsTrue, false, min, length, take, drop, Some, Ok, OnOk, OnErr, IfOk, IsErr};
 ghost use Rattle.std.specs.Io.KnownBytes.{prepend_known, IsAtEnd};
 ghost use Rattle.ev_io.specs.Outside.{Rose, raised};
 ghost use Rattle.ev_io.specs.Memory.{MemSourceState, NextReadFails};
@@ -14,6 +14,7 @@ pub struct MemSource {
     bytes: Vec<u8>,
     given: usize,
     most: usize,
+    ended: bool,
     calls: Calls,
 }
 
@@ -23,6 +24,7 @@ impl Model for MemSource {
     ghost view = { λ s. record {
       left = drop s.given s.bytes.items;
       piece = s.most;
+      ended = s.ended;
       fails = s.calls.fails.items;
       calls = s.calls.made;
       faults = s.calls.faults;
@@ -36,12 +38,13 @@ impl MemSource {
     /// numbers, counted from 1, are in `fails`.
     pub fn new(bytes: Vec<u8>, piece: usize, fails: Vec<u64>) -> MemSource
         requires { 0 < piece }
-        ensures { result ≡ record { left = bytes.items; piece = piece; fails = fails.items; calls = 0; faults = 0 } }
+        ensures { result ≡ record { left = bytes.items; piece = piece; ended = false; fails = fails.items; calls = 0; faults = 0 } }
     {
         MemSource {
             bytes,
             given: 0,
             most: piece,
+            ended: false,
             calls: Calls::new(fails),
         }
     }
@@ -50,6 +53,8 @@ impl MemSource {
 impl Source for MemSource {
     ghost left = { λ s. Some s.left };
 
+    ghost ended = { λ s. s.ended };
+
     ghost faults = { λ s. s.faults };
 
     #[tactic(auto, using(crate::proofs::Known::given_more, crate::proofs::Known::nothing_left))]
@@ -57,6 +62,8 @@ impl Source for MemSource {
         ensures bound { IfOk result (λ n. n ≤ length buf.new) }
         ensures bytes { IfOk result (λ n. Some self.old.left ≡ prepend_known (take n buf.new) (Some self.new.left)) }
         ensures end { IfOk result (λ n. n ≡ 0 → 0 < length buf.new → IsAtEnd (Some self.new.left)) }
+        ensures ended { IfOk result (λ n. n ≡ 0 → 0 < length buf.new → IsTrue self.new.ended) }
+        ensures goes_on { (self.new.ended ≡ self.old.ended) ⊎ ((result ≡ Ok 0) × IsTrue self.new.ended) }
         ensures unchanged { OnErr result (Some self.new.left ≡ Some self.old.left) }
         ensures failed { OnErr result (Rose self.old.faults self.new.faults) }
         ensures same_count { OnOk result (self.new.faults ≡ self.old.faults) }
@@ -68,6 +75,7 @@ impl Source for MemSource {
         ensures counts { OnErr result (self.new.faults ≡ raised self.old.faults) }
         ensures plan { self.new ≡ record self.old {
           left = self.new.left;
+          ended = self.new.ended;
           calls = raised self.old.calls;
           faults = self.new.faults;
         } }
@@ -78,6 +86,9 @@ impl Source for MemSource {
         }
         let n = copy_front(&self.bytes[self.given..], self.most, buf);
         self.given += n;
+        if n == 0 && buf.len() > 0 {
+            self.ended = true;
+        }
         Ok(n)
     }
 }

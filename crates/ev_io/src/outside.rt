@@ -1,4 +1,4 @@
-ghost use Rattle.std.specs.Prelude.{◌≡◌, ℕ, ◌<◌, ◌≤◌, List, length, take, Option, OnOk, OnErr, IfOk};
+ghost use Rattle.std.specs.Prelude.{◌≡◌, ℕ, ◌<◌, ◌≤◌, ◌⊎◌, Bool, IsTrue, List, length, take, Option, Ok, OnOk, OnErr, IfOk};
 ghost use Rattle.std.specs.Io.KnownBytes.{prepend_known, append_known, IsAtEnd};
 ghost use Rattle.ev_io.specs.Outside.{Rose, AppendsPrefix};
 
@@ -11,6 +11,9 @@ pub struct Failed;
 pub trait Source {
     // the bytes not yet given, where they are told
     ghost left: { Self → Option (List ℕ) };
+
+    // whether it gave its end: a read with a buffer that isn't empty gave no byte
+    ghost ended: { Self → Bool };
 
     // how many faults there were; a counter that stands still at its last value
     ghost faults: { Self → ℕ };
@@ -25,6 +28,8 @@ pub trait Source {
         ensures bound { IfOk result (λ n. n ≤ length buf.new) }
         ensures bytes { IfOk result (λ n. left self.old ≡ prepend_known (take n buf.new) (left self.new)) }
         ensures end { IfOk result (λ n. n ≡ 0 → 0 < length buf.new → IsAtEnd (left self.new)) }
+        ensures ended { IfOk result (λ n. n ≡ 0 → 0 < length buf.new → IsTrue (ended self.new)) }
+        ensures goes_on { (ended self.new ≡ ended self.old) ⊎ ((result ≡ Ok 0) × IsTrue (ended self.new)) }
         ensures unchanged { OnErr result (left self.new ≡ left self.old) }
         ensures failed { OnErr result (Rose (faults self.old) (faults self.new)) }
         ensures same_count { OnOk result (faults self.new ≡ faults self.old) }

@@ -1,6 +1,6 @@
-ghost use Rattle.std.specs.Prelude.{◌≡◌, ◌<◌, ◌≤◌, length, take, None, OnOk, OnErr, IfOk, IfSome};
+ghost use Rattle.std.specs.Prelude.{◌≡◌, ◌<◌, ◌≤◌, ◌⊎◌, IsTrue, false, length, take, None, Ok, OnOk, OnErr, IfOk, IfSome};
 ghost use Rattle.ev_io.specs.Outside.{Rose, raised};
-ghost use Rattle.ev_io.specs.Standard.{reader_of, read_faults, writer_of, write_faults, ReadsThrough, WritesThrough};
+ghost use Rattle.ev_io.specs.Standard.{reader_of, gave_end, read_faults, writer_of, write_faults, ReadsThrough, WritesThrough};
 
 use super::outside::{Failed, Sink, Source};
 use std::io::{Read, Write};
@@ -9,6 +9,7 @@ use std::io::{Read, Write};
 #[derive(Drop)]
 pub struct StdSource<R> {
     reader: R,
+    ended: bool,
     faults: u64,
 }
 
@@ -23,9 +24,14 @@ impl<R: Read> StdSource<R> {
     /// A source that gives what `reader` does.
     pub fn new(reader: R) -> StdSource<R>
         ensures reader { reader_of result ≡ reader }
+        ensures ended { gave_end result ≡ false }
         ensures count { read_faults result ≡ 0 }
     {
-        StdSource { reader, faults: 0 }
+        StdSource {
+            reader,
+            ended: false,
+            faults: 0,
+        }
     }
 }
 
@@ -42,11 +48,15 @@ impl<W: Write> StdSink<W> {
 impl<R: Read> Source for StdSource<R> {
     ghost left = { λ _. None };
 
+    ghost ended = { λ s. gave_end s };
+
     ghost faults = { λ s. read_faults s };
 
     // An `Err` of the reader is the only cause of `Failed`.
     fn read(&mut self, buf: &mut [u8]) -> Result<usize, Failed>
         ensures bound { IfOk result (λ n. n ≤ length buf.new) }
+        ensures ended { IfOk result (λ n. n ≡ 0 → 0 < length buf.new → IsTrue (gave_end self.new)) }
+        ensures goes_on { (gave_end self.new ≡ gave_end self.old) ⊎ ((result ≡ Ok 0) × IsTrue (gave_end self.new)) }
         ensures failed { OnErr result (Rose (read_faults self.old) (read_faults self.new)) }
         ensures same_count { OnOk result (read_faults self.new ≡ read_faults self.old) }
         ensures count { read_faults self.old ≤ read_faults self.new }
@@ -54,7 +64,12 @@ impl<R: Read> Source for StdSource<R> {
         ensures reader { ReadsThrough R.remaining self.old self.new result buf.new }
     {
         match self.reader.read(buf) {
-            Ok(n) => Ok(n),
+            Ok(n) => {
+                if n == 0 && buf.len() > 0 {
+                    self.ended = true;
+                }
+                Ok(n)
+            }
             Err(_) => {
                 self.faults = self.faults.saturating_add(1);
                 Err(Failed)

@@ -7,11 +7,11 @@ use Rattle.ev_io.specs.declared.faults.LineFault.{LineFault}
 use Rattle.ev_io.specs.declared.faults.LineEnd.{LineEnd}
 use Rattle.ev_io.specs.declared.faults.LineEnd.TheVariants.{Line, End}
 use Rattle.ev_io.specs.declared.faults.ScriptFault.{ScriptFault}
-use Rattle.ev_io.specs.declared.faults.ScriptFault.TheVariants.{Bad, OutOfMemory}
+use Rattle.ev_io.specs.declared.faults.ScriptFault.TheVariants.{Bad, Read, OutOfMemory}
 use Rattle.ev_io.specs.Lines.{lines_of}
-use Rattle.ev_io.specs.Outside.{Takes}
+use Rattle.ev_io.specs.Outside.{Rose, Takes, ReadFails}
 use Rattle.ev_io.specs.LinesState.{LinesState, IsFresh, HasTaken}
-use Rattle.ev_io.specs.ReadLine.{GivesLine, IsUnfinished, ReadsLine}
+use Rattle.ev_io.specs.ReadLine.{GivesLine, IsUnfinished, LeavesOpen, ReadsLine}
 use Rattle.ev_script.specs.declared.content.Content.{Content}
 use Rattle.ev_script.specs.declared.content.Content.TheVariants as is
 use Rattle.ev_script.specs.declared.content.First.TheVariants as first
@@ -22,7 +22,7 @@ use Rattle.ev_script.specs.Members.{tree_of}
 use Rattle.ev_script.specs.Faults.{LineForms, fault_number, IsFaultOf}
 use Rattle.ev_script.specs.Content.{first_content, IsContent, IsLineOf, IsKeptOf}
 use Rattle.ev_script.specs.ReadLines.{AreRead, AreKept}
-use Rattle.ev_script.specs.ReadInput.{input_of, script_fault, IsWhole, IsUpToJournal, IsAnswer, IsHeadAnswer}
+use Rattle.ev_script.specs.ReadInput.{input_of, script_fault, IsTold, IsWhole, IsUpToJournal, IsAnswer, IsHeadAnswer}
 use Rattle.ev_script.proofs.ContentFaults.{IsGiven, first_told, content_told, journal_reached}
 use Rattle.ev_script.proofs.StepLemmas.{same_at, are_read_same, are_kept_same, are_read_more, are_kept_more, given_line, few_lines}
 use Rattle.ev_script.proofs.EndLemmas.{fault_told, nothing_told, whole_read, journal_missing}
@@ -45,6 +45,12 @@ pub record IsReading {A : Type 0} (forms : LineForms) (keeps : ℕ → Data → 
 -- what is ensured at the end
 abbrev pub Exits : {A : Type 0} → LineForms → (ℕ → Data → A → Type 0) → Bool → Option (List ℕ) → Option (List ℕ) → LinesState → Result (ReadLines A) ScriptFault → Type 0
 Exits forms keeps audit before after new result = (bytes : List ℕ) × Takes before after bytes × HasTaken new bytes × IsAnswer forms keeps (input_of audit new bytes) result
+
+-- where a failed read is told, the source isn't known to be at its end
+pub told_open : {A : Type 0} (forms : LineForms) (keeps : ℕ → Data → A → Type 0) (audit : Bool) (before after : Option (List ℕ)) (new : LinesState) (result : Result (ReadLines A) ScriptFault) → Exits forms keeps audit before after new result → result ≡ Err Read → ¬ (IsTrue new.ended)
+told_open {A = A} forms keeps audit before after new result exits failed =
+    let told : IsTold forms (input_of audit new exits.0) Read = subst (λ (r : Result (ReadLines A) ScriptFault). IsAnswer forms keeps (input_of audit new exits.0) r) failed exits.3 in
+    told.1
 
 prepend_known-append : (xs ys : List ℕ) (known : Option (List ℕ)) → prepend_known xs (prepend_known ys known) ≡ prepend_known (xs ++ ys) known
 prepend_known-append xs ys None = refl
@@ -222,6 +228,12 @@ head_memory forms before after old new answer out text fresh call =
     let reads : ReadsLine old new [] call.0 out text answer = call.2 [] (fresh_taken old fresh) in
     (call.0, call.1, reads.taken, λ audit. tt)
 
+-- the same of a header
+pub head_open : (forms : LineForms) (before after : Option (List ℕ)) (new : LinesState) (text : List ℕ) (result : Result ℕ ScriptFault) → HeadExits forms before after new text result → result ≡ Err Read → ¬ (IsTrue new.ended)
+head_open forms before after new text result exits failed =
+    let told : IsTold forms (input_of false new exits.0) Read = (subst (λ (r : Result ℕ ScriptFault). IsHeadAnswer forms new exits.0 text r) failed exits.3) false in
+    told.1
+
 -- what a line is, by equal places and texts
 pub content_at : {A : Type 0} (forms : LineForms) (keeps : ℕ → Data → A → Type 0) (audit : Bool) (workers at given : ℕ) (now text : List ℕ) (content other : Content A) → at ≡ given → now ≡ text → content ≡ other → IsContent forms keeps audit workers at (tree_of now) content → IsContent forms keeps audit workers given (tree_of text) other
 content_at {A = A} forms keeps audit workers at given now text content other e f g h =
@@ -234,6 +246,10 @@ content_at {A = A} forms keeps audit workers at given now text content other e f
 pub left_of : {P Q : Type 0} → (Q → ⊥) → P ⊎ Q → P
 left_of none (inl p) = p
 left_of none (inr q) = absurd (none q)
+
+-- a read that failed where the source isn't known to be at its end
+pub read_fails : {S : Type 0} (ended : S → Bool) (faults : S → ℕ) (source source' : S) (old new : LinesState) → LeavesOpen ended source source' old new → ¬ (IsTrue new.ended) → Rose (faults source) (faults source') → ReadFails ended faults source source'
+read_fails ended faults source source' old new left goes_on rose = record { unended = left.unended goes_on; rose = rose }
 
 -- a source at its end stays there
 pub still_at_end : {S : Type 0} (left : S → Option (List ℕ)) (source other : S) (old new : LinesState) (bytes : List ℕ) → (IsTrue old.ended → IsAtEnd (left source)) → (IsTrue new.ended → IsTrue old.ended ⊎ IsAtEnd (left other)) → (other ≡ source) ⊎ IsUnfinished old.given old.ended bytes → IsTrue new.ended → IsAtEnd (left other)

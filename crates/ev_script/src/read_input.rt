@@ -2,6 +2,7 @@ ghost use Rattle.std.specs.Prelude.{◌≡◌, ◌+◌, ◌<◌, ◌≤◌, ◌�
 ghost use Rattle.std.specs.Io.KnownBytes.{IsAtEnd};
 ghost use Rattle.ev_io.specs.Outside.{Rose, Takes};
 ghost use Rattle.ev_io.specs.LinesState.{IsFresh, HasTaken, IsWithin};
+ghost use Rattle.ev_io.specs.ReadLine.{LeavesOpen};
 ghost use Rattle.ev_script.specs.Faults.{fault_number};
 ghost use Rattle.ev_script.specs.ReadInput.{input_of, script_fault, through_journal, IsAnswer, IsHeadAnswer};
 
@@ -46,8 +47,10 @@ pub fn read_lines_with<S: Source, F: Forms>(
     ensures few { IfOk result (λ read. length read.kept.items < MAX_LINES) }
     ensures untold { OnOk result (lines.new.told ≡ None) }
     ensures at_end { IsTrue lines.new.ended → IsAtEnd (S.left source.new) }
+    ensures unended { LeavesOpen S.ended source.old source.new lines.old lines.new }
     ensures at_most { IsWithin lines.new }
     ensures failed { result ≡ Err ScriptFault.Read → Rose (S.faults source.old) (S.faults source.new) }
+    ensures goes_on { result ≡ Err ScriptFault.Read → ¬ (IsTrue lines.new.ended) }
     ensures same_count { (S.faults source.new ≡ S.faults source.old) ⊎ (result ≡ Err ScriptFault.Read) }
     ensures count { S.faults source.old ≤ S.faults source.new }
 {
@@ -105,8 +108,10 @@ fn read_head<S: Source, F: Forms>(
     ensures reads { (bytes : List ℕ) × Takes (S.left source.old) (S.left source.new) bytes × HasTaken lines.new bytes
         × IsHeadAnswer F.forms lines.new bytes text.new.items result }
     ensures at_end { IsTrue lines.new.ended → IsAtEnd (S.left source.new) }
+    ensures unended { LeavesOpen S.ended source.old source.new lines.old lines.new }
     ensures at_most { IsWithin lines.new }
     ensures failed { result ≡ Err ScriptFault.Read → Rose (S.faults source.old) (S.faults source.new) }
+    ensures goes_on { result ≡ Err ScriptFault.Read → ¬ (IsTrue lines.new.ended) }
     ensures same_count { (S.faults source.new ≡ S.faults source.old) ⊎ (result ≡ Err ScriptFault.Read) }
     ensures count { S.faults source.old ≤ S.faults source.new }
 {

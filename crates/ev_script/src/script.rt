@@ -2,6 +2,7 @@ ghost use Rattle.std.specs.Prelude.{◌≡◌, ◌+◌, ◌<◌, ◌≤◌, ◌�
 ghost use Rattle.std.specs.Io.KnownBytes.{IsAtEnd};
 ghost use Rattle.ev_io.specs.Outside.{Rose, Takes};
 ghost use Rattle.ev_io.specs.LinesState.{IsFresh, HasTaken, IsWithin};
+ghost use Rattle.ev_io.specs.ReadLine.{LeavesOpen};
 ghost use Rattle.ev_types.specs.Scripts.{items_in, items_of};
 ghost use Rattle.ev_script.specs.Members.{tree_of};
 ghost use Rattle.ev_script.specs.Faults.{plain_lines};
@@ -35,8 +36,10 @@ pub fn read_script<S: Source>(
     ensures untold { OnOk result (lines.new.told ≡ None) }
     ensures number { IfOk result (λ script. lines.new.given ≡ script.count) }
     ensures at_end { IsTrue lines.new.ended → IsAtEnd (S.left source.new) }
+    ensures unended { LeavesOpen S.ended source.old source.new lines.old lines.new }
     ensures at_most { IsWithin lines.new }
     ensures failed { result ≡ Err ScriptFault.Read → Rose (S.faults source.old) (S.faults source.new) }
+    ensures goes_on { result ≡ Err ScriptFault.Read → ¬ (IsTrue lines.new.ended) }
     ensures same_count { (S.faults source.new ≡ S.faults source.old) ⊎ (result ≡ Err ScriptFault.Read) }
     ensures count { S.faults source.old ≤ S.faults source.new }
 {
@@ -62,8 +65,10 @@ pub fn read_script_with<S: Source, F: Forms<Kept = Line>>(
     ensures untold { OnOk result (lines.new.told ≡ None) }
     ensures number { IfOk result (λ script. lines.new.given ≡ script.count) }
     ensures at_end { IsTrue lines.new.ended → IsAtEnd (S.left source.new) }
+    ensures unended { LeavesOpen S.ended source.old source.new lines.old lines.new }
     ensures at_most { IsWithin lines.new }
     ensures failed { result ≡ Err ScriptFault.Read → Rose (S.faults source.old) (S.faults source.new) }
+    ensures goes_on { result ≡ Err ScriptFault.Read → ¬ (IsTrue lines.new.ended) }
     ensures same_count { (S.faults source.new ≡ S.faults source.old) ⊎ (result ≡ Err ScriptFault.Read) }
     ensures count { S.faults source.old ≤ S.faults source.new }
 {
@@ -102,8 +107,10 @@ pub fn read_audited_script<S: Source>(
     ensures untold { OnOk result (lines.new.told ≡ None) }
     ensures number { IfOk result (λ audited. lines.new.given ≡ audited.script.count + 1) }
     ensures at_end { IsTrue lines.new.ended → IsAtEnd (S.left source.new) }
+    ensures unended { LeavesOpen S.ended source.old source.new lines.old lines.new }
     ensures at_most { IsWithin lines.new }
     ensures failed { result ≡ Err ScriptFault.Read → Rose (S.faults source.old) (S.faults source.new) }
+    ensures goes_on { result ≡ Err ScriptFault.Read → ¬ (IsTrue lines.new.ended) }
     ensures same_count { (S.faults source.new ≡ S.faults source.old) ⊎ (result ≡ Err ScriptFault.Read) }
     ensures count { S.faults source.old ≤ S.faults source.new }
 {

@@ -3,6 +3,7 @@ ghost use Rattle.std.specs.Io.KnownBytes.{IsAtEnd};
 ghost use Rattle.serde_json.specs.View.{view};
 ghost use Rattle.ev_io.specs.Outside.{Rose, Takes};
 ghost use Rattle.ev_io.specs.LinesState.{IsFresh, HasTaken, IsWithin};
+ghost use Rattle.ev_io.specs.ReadLine.{LeavesOpen};
 ghost use Rattle.ev_script.specs.Faults.{plain_lines};
 ghost use Rattle.ev_script.specs.Members.{tree_of};
 ghost use Rattle.ev_script.specs.ReadInput.{input_of};
@@ -78,8 +79,10 @@ pub fn read_trees<S: Source>(
     ensures untold { OnOk result (lines.new.told ≡ None) }
     ensures number { IfOk result (λ trees. lines.new.given ≡ length trees.lines.items + 1) }
     ensures at_end { IsTrue lines.new.ended → IsAtEnd (S.left source.new) }
+    ensures unended { LeavesOpen S.ended source.old source.new lines.old lines.new }
     ensures at_most { IsWithin lines.new }
     ensures failed { result ≡ Err ScriptFault.Read → Rose (S.faults source.old) (S.faults source.new) }
+    ensures goes_on { result ≡ Err ScriptFault.Read → ¬ (IsTrue lines.new.ended) }
     ensures same_count { (S.faults source.new ≡ S.faults source.old) ⊎ (result ≡ Err ScriptFault.Read) }
     ensures count { S.faults source.old ≤ S.faults source.new }
 {
@@ -104,8 +107,10 @@ pub fn read_trees_with<S: Source, F: Forms<Kept = Value>>(
     ensures untold { OnOk result (lines.new.told ≡ None) }
     ensures number { IfOk result (λ trees. lines.new.given ≡ length trees.lines.items + 1) }
     ensures at_end { IsTrue lines.new.ended → IsAtEnd (S.left source.new) }
+    ensures unended { LeavesOpen S.ended source.old source.new lines.old lines.new }
     ensures at_most { IsWithin lines.new }
     ensures failed { result ≡ Err ScriptFault.Read → Rose (S.faults source.old) (S.faults source.new) }
+    ensures goes_on { result ≡ Err ScriptFault.Read → ¬ (IsTrue lines.new.ended) }
     ensures same_count { (S.faults source.new ≡ S.faults source.old) ⊎ (result ≡ Err ScriptFault.Read) }
     ensures count { S.faults source.old ≤ S.faults source.new }
 {

@@ -4,7 +4,7 @@ use Rattle.ev_io.specs.declared.faults.LineEnd.{LineEnd}
 use Rattle.ev_io.specs.declared.faults.ScriptFault.{ScriptFault}
 use Rattle.ev_script.specs.Content.{first_content}
 use Rattle.ev_script.specs.ReadInput.{script_fault}
-use Rattle.ev_script.proofs.ReadingLemmas.{Reads, HeadExits, few_after, fresh_taken, fresh_untold, head_read, head_fault, head_missing, head_limit, head_memory}
+use Rattle.ev_script.proofs.ReadingLemmas.{Reads, HeadExits, few_after, fresh_taken, fresh_untold, head_read, head_fault, head_missing, head_limit, head_memory, head_open}
 use Rattle.ev_script.proofs.read_input.read_head.Goals as goal
 
 pub script_fault-requires : goal.script_fault-requires
@@ -43,3 +43,7 @@ returns-in-Err-clause-reads g c =
     subst (λ (fault : ScriptFault). HeadExits g.F.Forms.forms (g.S.Source.left c.args.source.now) (g.S.Source.left c.read_line.new.source) c.read_line.new.self c.read_line.new.out.items (Err fault)) (sym (c.script_fault.ensures ∙ ap (λ (n : ℕ). script_fault n c.in-Err.fault) c.number.ensures))
     (head_limit g.F.Forms.forms (g.S.Source.left c.args.source.now) (g.S.Source.left c.read_line.new.source) c.args.lines.now c.read_line.new.self c.in-Err.fault c.args.text.now.items c.read_line.new.out.items c.requires.fresh
     (c.in-Err.ensures.reads (fresh_untold c.args.lines.now c.requires.fresh)))
+
+pub returns-in-Err-clause-goes_on : goal.returns-in-Err-clause-goes_on
+returns-in-Err-clause-goes_on g c =
+    head_open g.F.Forms.forms (g.S.Source.left c.args.source.now) (g.S.Source.left c.read_line.new.source) c.read_line.new.self c.read_line.new.out.items (Err c.script_fault.result) (returns-in-Err-clause-reads g c)
