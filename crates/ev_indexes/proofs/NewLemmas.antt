@@ -32,11 +32,10 @@ module _ (s : State) (rows : s.table.rows ≡ []) (names : s.names ≡ []) (watc
     drawn = λ n h above. (λ i. result_in (results i) n h);
   }
 
-  pub stands-new : s.table.made ≡ 0 → (workers : ℕ) (node : List ℕ) → StandsFor s (opening workers node)
-  stands-new made workers node = record {
+  pub stands-new : (workers : ℕ) (node : List ℕ) → StandsFor s (opening workers node)
+  stands-new workers node = record {
     sound = record { table = empty_table 0; typed = tt; named = tt; heard = λ n h above. refl };
     rows = rows;
-    made = made;
     told = λ q. λ i. (watch_in (watches i) q).told;
     timed = λ q. λ i. (watch_in (watches i) q).timed;
     value = λ q. λ i. (watch_in (watches i) q).value;

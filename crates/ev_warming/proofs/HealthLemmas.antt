@@ -303,7 +303,6 @@ module _ (s : State) (world : World) (stands : StandsFor s world) (x : IsIndexed
   noted-stands healthy results due notes = record {
     sound = record { table = stands.sound.table; typed = stands.sound.typed; named = stands.sound.named; heard = heard_too };
     rows = stands.rows;
-    made = stands.made;
     told = stands.told;
     timed = stands.timed;
     value = stands.value;

@@ -203,7 +203,6 @@ module _ (m : Manager) (number : ℕ) (kept : IsKept m) (forgotten : m.stale ≡
       heard = stands.sound.heard;
     };
     rows = rows ∙ ap (without_row number) stands.rows ∙ kinds-without m.state.kind number world.rows;
-    made = made ∙ stands.made;
     told = stands.told;
     timed = stands.timed;
     value = stands.value;

@@ -18,7 +18,6 @@ use Rattle.ev_indexes.specs.Indexes.{status_in, name_in, depends_on, serves, war
 use Rattle.ev_indexes.specs.Ready.{is_ready_in, is_due_at}
 use Rattle.ev_indexes.specs.Reads.{names_watched}
 use Rattle.ev_indexes.specs.Watched.{watch_in}
-use Rattle.ev_warming.specs.declared.response.Applied.{Applied}
 use Rattle.ev_warming.specs.Promotion.{rows_promoted, status_drained}
 
 -- the row of this number serves after, and it didn't serve before
@@ -47,33 +46,14 @@ abbrev pub status_left_by : Kind → ResponseParts → List (List ℕ) → GenRo
 status_left_by kind response names row =
     if kind_same row.kind kind && (is_among row.name names && is_unlisted response row.name) then removed_status row.status else row.status
 
--- the second list has the first one, and behind it the numbers that were drawn in between, each in its turn
-pub record Draws (made drawn : ℕ) (numbers more : List ℕ) : Type 0 where
-  pub grows : length numbers ≤ length more
-  pub count : drawn + length numbers ≡ made + length more
-  pub same : (k : ℕ) → k < length numbers → slice_index more k ≡ slice_index numbers k
-  pub each : (k : ℕ) → length numbers ≤ k → k < length more → slice_index more k + length numbers ≡ made + k + 1
-
 -- the second list has the first one's numbers and those of the rows that retired in between, and a row that is over stays over
 pub record Tells (before after : List GenRow) (numbers more : List ℕ) : Type 0 where
   pub told : (number : ℕ) → among more number ≡ (among numbers number || has_retired number before after)
   pub stays : (number : ℕ) → is_over (row_in number before) ≡ true → is_over (row_in number after) ≡ true
 
--- the numbers that a response made grow by those that were drawn in between
-abbrev pub DrawsMade : State → State → Applied → Applied → Type 0
-DrawsMade old new applied more = Draws old.table.made new.table.made applied.made more.made
-
--- what a response retired grows by what retired in between
-abbrev pub TellsRetired : State → State → Applied → Applied → Type 0
-TellsRetired old new applied more = Tells old.table.rows new.table.rows applied.retired more.retired
-
--- as many numbers as stand here were drawn in between
-abbrev pub DrawsAll : State → State → List ℕ → Type 0
-DrawsAll old new numbers = new.table.made ≡ old.table.made + length numbers
-
--- these are the next numbers, one after the other
-abbrev pub AreNext : State → List ℕ → Type 0
-AreNext s numbers = EachIndex numbers (λ k. slice_index numbers k ≡ s.table.made + k + 1)
+-- what was told to have retired grows by what retired in between
+abbrev pub TellsRetired : State → State → List ℕ → List ℕ → Type 0
+TellsRetired old new numbers more = Tells old.table.rows new.table.rows numbers more
 
 -- these are the numbers of the rows that retired in between
 abbrev pub HaveRetired : List ℕ → State → State → Type 0

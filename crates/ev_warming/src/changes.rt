@@ -14,7 +14,7 @@ ghost use Rattle.ev_warming.specs.Promotion.{status_drained};
 ghost use Rattle.ev_indexes.specs.Indexes.{IsIndexed, SameMarks, depends_on, status_in, name_in};
 ghost use Rattle.ev_warming.specs.Arrivals.{Hears, UnwatchesNeed, WatchesNeed, with_arrived};
 ghost use Rattle.ev_warming.specs.Changes.{AddsRow, AppendsRow, AreDue, BeganToDrain, CameToServe, EndsRows, KeepsKnown, KeepsResults, LeavesNoneDue, dependents_in, promoted_by, rows_giving_way, rows_retired};
-ghost use Rattle.ev_warming.specs.Worlds.{Follows, with_generation, with_rows_ended};
+ghost use Rattle.ev_warming.specs.Worlds.{Follows, FollowsDrawing, with_generation, with_rows_ended};
 
 use ev_generations::Steps;
 use ev_indexes::{Standing, State, Watches, limited, needed, refresh};
@@ -215,8 +215,9 @@ pub(crate) fn add<L: Ledger>(
     ensures others { OnOk result (KeepsResults state.old state.new) }
     ensures steps { OnOk result (steps.new ≤ steps.old + 2) }
     ensures needs { OnOk result (IsNeedName (name_needed content)) }
-    // Whatever world the state stood for, it stands for that world with the new generation.
-    ensures stands { OnOk result (Follows state.old state.new (with_generation state.old.kind name content)) }
+    // Whatever world the state stood for in which no other number was drawn, it stands for that world with the new generation.
+    ensures stands { OnOk result (FollowsDrawing state.old.table.made state.old state.new
+        (with_generation state.old.kind name content)) }
 {
     let _text = name.as_str();
     drop_warming(state, &name, steps);

@@ -74,4 +74,3 @@ mod response;
 
 pub use changes::Promoted;
 pub use manager::{Added, Manager};
-pub use response::Applied;

@@ -8,7 +8,7 @@ ghost use Rattle.ev_indexes.specs.Indexes.{depends_on};
 ghost use Rattle.ev_indexes.specs.Worlds.{StandsFor, needs_of};
 ghost use Rattle.ev_warming.specs.Arrivals.{with_arrived};
 ghost use Rattle.ev_warming.specs.Changes.{AddsRow, AreDue, BeganToDrain, CameToServe, EndsRows, ServesName, WarmsUnder, WatchesTheSame, dependents_in, watchers_in};
-ghost use Rattle.ev_warming.specs.Worlds.{Follows, with_generation, with_rows_ended, without_unneeded};
+ghost use Rattle.ev_warming.specs.Worlds.{Follows, FollowsDrawing, with_generation, with_rows_ended, without_unneeded};
 
 use crate::changes::{self, Promoted, put_one};
 use crate::forgetting::forget;
@@ -132,8 +132,8 @@ impl Manager {
         ensures rows { OnOk result (AddsRow self.old.state self.new.state name content) }
         ensures made { OnOk result (self.new.state.table.made ≡ self.old.state.table.made + 1) }
         ensures steps { OnOk result (steps.new ≤ steps.old + 2) }
-        // Whatever world the manager stood for, it stands for that world with the new generation.
-        ensures stands { OnOk result (Follows self.old.state self.new.state
+        // Whatever world the manager stood for in which no other number was drawn, it stands for that world with the new generation.
+        ensures stands { OnOk result (FollowsDrawing self.old.state.table.made self.old.state self.new.state
             (with_generation self.old.state.kind name content)) }
     {
         let dropped = self.state.names.standing(&name).warming;

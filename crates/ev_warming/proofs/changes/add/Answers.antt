@@ -10,8 +10,8 @@ returns-clause-stands g c =
     let mid = c.drop_warming.new.state in
     let t = c.append.new.state in
     let d = c.drop_warming.ensures in
-    on_ok4 c.append.result c.append.ensures.rows c.append.ensures.made c.append.ensures.marks c.append.ensures.others (λ rows made marks others world stands.
-    added-stands s t world c.args.name c.args.content c.as_str-text.ensures.named c.requires.typed c.requires.indexed stands
+    on_ok4 c.append.result c.append.ensures.rows c.append.ensures.made c.append.ensures.marks c.append.ensures.others (λ rows made marks others world stands level.
+    added-stands s t world c.args.name c.args.content c.as_str-text.ensures.named c.requires.typed c.requires.indexed stands level
     ((λ i. (others i).kind) ∙ (λ i. (d.others i).kind)) ((λ i. (others i).results) ∙ (λ i. (d.others i).results)) (made ∙ (λ i. d.made i + 1))
     (marks-then s.watches mid.watches t.watches d.marks marks)
     (rows ∙ (λ i. d.rows i ++ new_row (d.others i).kind (d.made i) c.args.name c.args.content ∷ [])))

@@ -10,4 +10,4 @@ returns-clause-indexed c =
 pub returns-clause-stands : goal.returns-clause-stands
 returns-clause-stands c =
     let s : State = record { kind = c.args.kind; table = c.new.result; names = c.new-2.result; watches = c.new-3.result; results = c.new-4.result; due = c.new-5.result } in
-    stands-new s c.new.ensures.rows c.new-2.ensures c.new-3.ensures c.new-4.ensures c.new-5.ensures c.new.ensures.made
+    stands-new s c.new.ensures.rows c.new-2.ensures c.new-3.ensures c.new-4.ensures c.new-5.ensures
