@@ -1,6 +1,4 @@
-use Rattle.std.proofs.Common.{◌≡◌, ◌∙◌, sym, subst}
-use Rattle.ev_types.specs.Items.{ItemParts}
-use Rattle.ev_types.specs.declared.contents.Kind.{Kind}
+use Rattle.std.proofs.Common.{◌≡◌, ◌∙◌, subst}
 use Rattle.ev_model.specs.World.{World}
 use Rattle.ev_model.specs.Rows.{with_removals, add_items}
 use Rattle.ev_indexes.specs.Worlds.{StandsFor}
