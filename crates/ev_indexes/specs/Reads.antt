@@ -15,16 +15,18 @@ use Rattle.ev_model.specs.declared.pictures.Routing.{Routing}
 use Rattle.ev_model.specs.declared.pictures.Routing.TheVariants.{Table, Tcp}
 use Rattle.ev_model.specs.declared.pictures.ServedCluster.{ServedCluster}
 use Rattle.ev_model.specs.declared.pictures.ServedListener.{ServedListener}
-use Rattle.ev_model.specs.Live.{lives_of}
+use Rattle.ev_types.specs.declared.hosts.Host.{Host}
+use Rattle.ev_model.specs.Live.{live_of, lives_of}
 use Rattle.ev_model.specs.Picture.{by_name, table_in}
 use Rattle.ev_model.specs.Signals.{is_awaited}
 use Rattle.ev_model.specs.Warming.{is_checked}
 use Rattle.ev_model.specs.Watching.{sorted_names}
 use Rattle.ev_model.specs.World.{World}
 use Rattle.ev_endpoints.specs.Results.{ResultsKept, result_in}
+use Rattle.ev_mentions.specs.Lives.{is_at}
 use Rattle.ev_indexes.specs.Watched.{WatchesKept, watch_in}
 use Rattle.ev_indexes.specs.Ready.{name_needed, assignment_in}
-use Rattle.ev_indexes.specs.Indexes.{waits_limited, serves, warms}
+use Rattle.ev_indexes.specs.Indexes.{waits_limited, serves, warms, holds}
 
 -- the live ones of these rows
 abbrev pub live_rows : List GenRow → List GenRow
@@ -107,3 +109,11 @@ is_awaited_at world kind name = is_awaited world.arrivals world.rows kind name
 -- what is seen of a world's live rows of this kind
 abbrev pub seen_at : World → Kind → List Live
 seen_at world kind = filter (λ (live : Live). kind_same live.kind kind) (lives_of world)
+
+-- what is seen of the rows that hold the address, in order
+abbrev pub holders_in : List GenRow → Host → List Live
+holders_in rows address = map live_of (filter (holds address) rows)
+
+-- what is seen in a world of the live generations that listen at the address
+abbrev pub holders_of : World → Host → List Live
+holders_of world address = filter (is_at address) (lives_of world)

@@ -1,3 +1,5 @@
+//! Which names generations ceased or began to depend on, by the generations that changed alone.
+
 ghost use Rattle.std.specs.Prelude.{◌≡◌, ◌++◌, IfOk, OnOk};
 ghost use Rattle.ev_indexes.specs.Indexes.{IsIndexed};
 ghost use Rattle.ev_indexes.specs.Moved.{is_held, free_need, need_lost, need_gained, names_lost, names_gained};

@@ -1,3 +1,9 @@
+//! Numbers of the generations that depend on a name. They are lent as a slice, so they stand one after another and not in a tree, and
+//! one is found by halves. The first leaves its place empty, so that generations that retire in the order in which they came cost
+//! no move; the rest moves up after another. That numbers come in rising order is no condition of `push`, so that each clause
+//! holds of every list: each list keeps whether it is known to rise, and is walked where it isn't, which never comes of numbers
+//! in the order in which they are drawn.
+
 ghost use Rattle.std.specs.Prelude.{◌≡◌, ◌++◌, [], ◌∷◌, ◌+◌, ◌-◌, ◌<◌, ◌≤◌, drop, IsTrue, ◌↔◌, length, nat_le, slice_get, OnOk, OnErr};
 ghost use Rattle.std.specs.List.{list_any};
 ghost use Rattle.ev_indexes.specs.Numbers.{is_above, is_first_up_to};

@@ -1,3 +1,5 @@
+//! What is asked of names that generations depend on, and of the live generations.
+
 ghost use Rattle.std.specs.Prelude.{◌≡◌, ◌++◌, [], ◌∷◌, ◌&&◌, ◌||◌, not, map, IfOk, OnOk};
 ghost use Rattle.std.specs.List.{list_any};
 ghost use Rattle.ev_model.specs.Live.{live_of, lives_of};

@@ -71,6 +71,7 @@ indexed-noted s number row host healthy results due x found notes looked = recor
   warming = x.warming;
   watchers = x.watchers;
   limited = x.limited;
+  holders = x.holders;
   due = λ n. looked n ∙ by n (is_among (number ∷ []) n) refl;
   drawn = λ n h above. notes n h ∙ far n h above (nat_eq number n) refl;
 }

@@ -121,16 +121,18 @@ promoted_by s rows = rows_promoted (is_ready_in s.watches s.results) rows
 
 -- the kind and the results stay
 abbrev pub KeepsResults : State → State → Type 0
-KeepsResults old new = new ≡ record old { table = new.table; names = new.names; watches = new.watches; due = new.due }
+KeepsResults old new =
+    new ≡ record old { table = new.table; names = new.names; watches = new.watches; addresses = new.addresses; due = new.due }
 
--- the kind, what is known of names and the results stay
+-- the kind, what is known of names, who holds an address and the results stay
 abbrev pub KeepsKnown : State → State → Type 0
 KeepsKnown old new = new ≡ record old { table = new.table; names = new.names; due = new.due }
 
--- the kind, the rows with their names, and which are due stay
+-- the kind, the rows with their names and addresses, and which are due stay
 abbrev pub KeepsRows : State → State → Type 0
 KeepsRows old new = new ≡ record old { watches = new.watches; results = new.results }
 
 -- the kind and the results stay, and none is due any more
 abbrev pub LeavesNoneDue : State → State → Type 0
-LeavesNoneDue old new = new ≡ record old { table = new.table; names = new.names; watches = new.watches; due = [] }
+LeavesNoneDue old new =
+    new ≡ record old { table = new.table; names = new.names; watches = new.watches; addresses = new.addresses; due = [] }

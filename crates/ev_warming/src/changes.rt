@@ -1,3 +1,6 @@
+//! The single steps, on a `State`: something arrives for a name, a generation is added, serves, or retires. Each keeps every index
+//! a search of the rows, and each look-up of a row is counted.
+
 ghost use Rattle.std.specs.Prelude.{◌≡◌, if◌then◌else◌, ℕ, ◌+◌, ◌*◌, ◌^◌, ◌≤◌, ◌++◌, IfOk, ◌<◌, ◌&&◌, not, nat_eq, true, length, None, OnOk, option_to_list};
 ghost use Rattle.std.specs.List.{list_any};
 ghost use Rattle.ev_model.specs.Rows.{replaced_status, with_statuses};
@@ -82,6 +85,7 @@ fn retire<L: Ledger>(state: &mut State, number: Gen, steps: &mut Steps<L>)
     let warms = row.status.is_warming();
     state.names.set(&row.name, left(standing, warms));
     unwatch(&mut state.watches, &row.content, number);
+    state.addresses.release(&row.content, number);
     state.due.leave(number);
     state.table.gone(number, warms);
 }
@@ -297,6 +301,7 @@ fn append<L: Ledger>(
         .table
         .add(state.kind, name.copy(alloc)?, content.copy(alloc)?)?;
     watch(&mut state.watches, alloc, &content, number)?;
+    state.addresses.hold(alloc, &content, number)?;
     let standing = Standing {
         active,
         warming: Some(number),

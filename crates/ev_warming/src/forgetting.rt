@@ -1,3 +1,8 @@
+//! Forgetting, a step of its own after the promotion of the same event, as in the machine: till then a name that one resource of a
+//! response ceases to depend on and another begins to keeps its value. What it looks at follows from what changed: the
+//! generations that retired, and those whose name something came for. A name that may have to go is one of theirs, so no list
+//! of names is kept.
+
 ghost use Rattle.std.specs.Prelude.{◌≡◌, ◌+◌, false, Some, nat_eq, [], length, OnOk};
 ghost use Rattle.ev_model.specs.Watching.{is_by_name};
 ghost use Rattle.ev_model.specs.Warming.{rows_in};

@@ -1,3 +1,5 @@
+//! What the holder of a manager takes out, and what it reads of the counter of numbers.
+
 ghost use Rattle.std.specs.Prelude.{◌≡◌, [], Some, true};
 ghost use Rattle.ev_generations.specs.Tables.{row_in, without_row};
 ghost use Rattle.ev_warming.specs.Changes.{is_over};
@@ -8,8 +10,8 @@ use crate::Manager;
 use ev_types::{Gen, GenRow};
 
 impl Manager {
-    /// Takes out a generation that drains or was dropped, once all is forgotten that nobody needs. It costs a look-up: no other row
-    /// moves.
+    /// Takes out a generation that drains or was dropped, once all is forgotten that nobody needs: forgetting finds the name that it
+    /// depended on by its row. It costs a look-up: no other row moves.
     pub fn remove(&mut self, number: Gen) -> GenRow
         requires kept { IsKept self.old }
         requires forgotten { self.old.stale ≡ [] }

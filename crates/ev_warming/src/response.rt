@@ -1,3 +1,8 @@
+//! Responses of clusters or listeners. A removed name is a text of any length, and no row has one that is no name of 1 to 512
+//! bytes. Whether it stands at a resource is looked up in a table of what the response mentions, made where it removes names;
+//! the verdicts were made by another, above both managers: with that one as an argument these calls would speak of a table
+//! in place of a response.
+
 ghost use Rattle.std.specs.Prelude.{◌≡◌, ◌+◌, ◌^◌, ◌<◌, ◌≤◌, true, Some, All, length, IfOk, OnOk};
 ghost use Rattle.ev_types.specs.Items.{IsBodyOf, content_kind};
 ghost use Rattle.ev_types.specs.declared.contents.Body.TheVariants.{Good};
