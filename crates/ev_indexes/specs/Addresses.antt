@@ -12,8 +12,8 @@ use Rattle.ev_types.specs.declared.rows.Live.{Live}
 use Rattle.ev_model.specs.Live.{live_of}
 use Rattle.ev_model.specs.Verdicts.{listening_address, shares_address}
 use Rattle.ev_generations.specs.Tables.{row_in}
-use Rattle.ev_indexes.specs.Due.{is_filled}
-use Rattle.ev_indexes.specs.Watched.{without_number}
+use Rattle.ev_indexes.specs.Due.{has_number}
+use Rattle.ev_indexes.specs.Watched.{numbers_without}
 
 -- addresses, each with the numbers of the generations that hold it
 abbrev pub AddressesKept : Type 0
@@ -25,7 +25,7 @@ numbers_at kept address = unwrap_or (lookup (host_same address) kept) []
 
 -- at each address that has an entry there is a number
 abbrev pub HaveNumbers : AddressesKept → Type 0
-HaveNumbers kept = (address : Host) → IsSome (lookup (host_same address) kept) → is_filled (numbers_at kept address) ≡ true
+HaveNumbers kept = (address : Host) → IsSome (lookup (host_same address) kept) → has_number (numbers_at kept address) ≡ true
 
 -- a generation of this content listens at the address: of a cluster none does
 abbrev pub listens_at : Host → Content → Bool
@@ -47,7 +47,7 @@ EntersNumber old new address number = (other : Host) → get host_same new other
 
 -- the entry at an address without this number; where no other number stands there, there is no entry
 abbrev pub entry_without : ℕ → AddressesKept → Host → Option (List ℕ)
-entry_without number kept address = filled_or_none (without_number number (numbers_at kept address))
+entry_without number kept address = filled_or_none (numbers_without number (numbers_at kept address))
 
 -- the number is gone at the address, and at every other address the entry of before stands
 abbrev pub LeavesNumber : {S : Type 0} → IndexMap Host (List ℕ) S → IndexMap Host (List ℕ) S → Host → ℕ → Type 0
@@ -62,7 +62,7 @@ EntersAt old new address number =
 -- the number is gone at the address, and at every other address those of before stand
 abbrev pub LeavesAt : AddressesKept → AddressesKept → Host → ℕ → Type 0
 LeavesAt old new address number = (other : Host) → numbers_at new other
-    ≡ (if host_same address other then without_number number (numbers_at old other) else numbers_at old other)
+    ≡ (if host_same address other then numbers_without number (numbers_at old other) else numbers_at old other)
 
 -- the generation of this number holds the address at which its content listens, after those that hold it already
 abbrev pub HoldsAddress : AddressesKept → AddressesKept → ℕ → Content → Type 0
@@ -72,7 +72,7 @@ HoldsAddress old new number content =
 -- the generation of this number no longer holds the address at which its content listens, and no other address changes
 abbrev pub ReleasesAddress : AddressesKept → AddressesKept → ℕ → Content → Type 0
 ReleasesAddress old new number content = (address : Host) → numbers_at new address
-    ≡ (if listens_at address content then without_number number (numbers_at old address) else numbers_at old address)
+    ≡ (if listens_at address content then numbers_without number (numbers_at old address) else numbers_at old address)
 
 -- what is seen of the generations of these numbers
 abbrev pub lives_numbered : List GenRow → List ℕ → List Live

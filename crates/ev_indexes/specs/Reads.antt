@@ -49,12 +49,12 @@ abbrev pub has_come_in : List GenRow → List ℕ → Bool
 has_come_in rows name = list_any (serves name) rows || not (list_any (warms name) rows)
 
 -- the active ones of these rows
-abbrev pub active_rows : List GenRow → List GenRow
-active_rows rows = filter (λ (row : GenRow). is_active row.status) rows
+abbrev pub serving_rows : List GenRow → List GenRow
+serving_rows rows = filter (λ (row : GenRow). is_active row.status) rows
 
 -- the active rows, in the order of their names
 abbrev pub active_by_name : List GenRow → List GenRow
-active_by_name rows = by_name (active_rows rows)
+active_by_name rows = by_name (serving_rows rows)
 
 -- the host may be chosen for the row
 abbrev pub is_eligible_in : ResultsKept → GenRow → HostRowParts → Bool
@@ -70,7 +70,7 @@ cluster_in watches results row = record { number = row.number; name = row.name; 
 
 -- the active clusters, in the order of the rows
 abbrev pub clusters_found : WatchesKept → ResultsKept → List GenRow → List ServedCluster
-clusters_found watches results rows = map (cluster_in watches results) (active_rows rows)
+clusters_found watches results rows = map (cluster_in watches results) (serving_rows rows)
 
 -- a row's cluster, where the row is active
 abbrev pub cluster_found : WatchesKept → ResultsKept → GenRow → List ServedCluster
@@ -96,7 +96,7 @@ listener_in watches row (routes table) = []
 
 -- the active listeners, in the order of the rows
 abbrev pub listeners_found : WatchesKept → List GenRow → List ServedListener
-listeners_found watches rows = flat_map (λ (row : GenRow). listener_in watches row row.content) (active_rows rows)
+listeners_found watches rows = flat_map (λ (row : GenRow). listener_in watches row row.content) (serving_rows rows)
 
 -- the active listeners, in the order of their names
 abbrev pub listeners_in : WatchesKept → List GenRow → List ServedListener

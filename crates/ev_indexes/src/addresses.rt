@@ -8,7 +8,7 @@ ghost use Rattle.indexmap.specs.IndexMap.{get};
 ghost use Rattle.ev_types.specs.SameHosts.{host_same};
 ghost use Rattle.ev_types.specs.declared.hosts.Host as declared;
 ghost use Rattle.ev_model.specs.Verdicts.{listening_address};
-ghost use Rattle.ev_indexes.specs.Watched.{without_number};
+ghost use Rattle.ev_indexes.specs.Watched.{numbers_without};
 ghost use Rattle.ev_indexes.specs.Addresses.{EntersAt, EntersNumber, HoldsAddress, LeavesAt, LeavesNumber, ReleasesAddress};
 
 use ev_types::{Content, Gen, Host, Seq, TryCopy};
@@ -130,7 +130,7 @@ fn address_of(content: &Content) -> Option<&Host>
 
 // Leaves a number out of these.
 fn leave_out(numbers: &mut Seq<Gen>, number: Gen)
-    ensures { numbers.new ≡ without_number number numbers.old }
+    ensures { numbers.new ≡ numbers_without number numbers.old }
 {
     numbers.retain(|other| number != *other);
 }

@@ -23,7 +23,7 @@ use Rattle.ev_indexes.specs.Addresses.{AddressesKept, HoldsAddress, listens_at}
 use Rattle.ev_indexes.specs.Due.{is_among}
 use Rattle.ev_indexes.specs.Kept.{Sets}
 use Rattle.ev_indexes.specs.Standings.{NamesKept, nobody, standing_in}
-use Rattle.ev_indexes.specs.Watched.{WatchesKept, watch_in, watched_too, without_number}
+use Rattle.ev_indexes.specs.Watched.{WatchesKept, watch_in, watched_too, numbers_without}
 use Rattle.ev_indexes.specs.Ready.{name_needed, is_due_found, is_due_at}
 use Rattle.ev_indexes.specs.Indexes.{IsIndexed, is_needed, depends_on, waits_limited, serves, warms, holds, numbers_where, status_in}
 use Rattle.ev_indexes.proofs.WhereLemmas.{where-left, where-members, found-where, flipped, emptied, without-one}
@@ -93,7 +93,7 @@ module _ (s : State) (x : IsIndexed s) (name : List ℕ) where
         emptied (standing_in t.names name).warming
         (y.warming name ∙ ap (numbers_where (warms name)) (e ∙ (λ i. with_status p (removed i) s.table.rows))
         ∙ where-left (warms name) p Dropped (λ r. refl) s.table.rows
-        ∙ ap (without_number p) members
+        ∙ ap (numbers_without p) members
         ∙ without-one p (Some p) (or-false (nat_eq p p) ∙ eq-eqb p p refl))
 
 where-push : (test : GenRow → Bool) (row : GenRow) (rows : List GenRow) → numbers_where test (rows ++ row ∷ []) ≡ numbers_where test rows ++ cond (test row) (row.number ∷ []) []

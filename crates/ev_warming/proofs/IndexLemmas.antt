@@ -24,7 +24,7 @@ use Rattle.ev_indexes.specs.Addresses.{AddressesKept, ReleasesAddress, listens_a
 use Rattle.ev_indexes.specs.Due.{is_among}
 use Rattle.ev_indexes.specs.Kept.{Sets}
 use Rattle.ev_indexes.specs.Standings.{NamesKept, nobody, standing_in}
-use Rattle.ev_indexes.specs.Watched.{WatchesKept, unwatched, watch_in, watched_less, with_arrival, without_number}
+use Rattle.ev_indexes.specs.Watched.{WatchesKept, unwatched, watch_in, watched_less, with_arrival, numbers_without}
 use Rattle.ev_indexes.specs.Ready.{name_needed, is_ready_in, is_due_found, is_due_at}
 use Rattle.ev_indexes.specs.Indexes.{IsIndexed, is_needed, depends_on, waits_limited, serves, warms, holds, numbers_where}
 use Rattle.ev_indexes.proofs.KeptLemmas.{kept_at-found}
@@ -157,10 +157,10 @@ module _ (s : State) (number : ℕ) (row : GenRow) (status : RowStatus) (x : IsI
       → (test row ≡ true → p ≡ None) → (test row ≡ false → p ≡ o) → option_to_list p ≡ numbers_where test table.rows
   leaves test o p index fails gone stays = by (test row) refl ∙ sym (ap (numbers_where test) rows ∙ where-left test number status fails s.table.rows)
     where
-      by : (b : Bool) → test row ≡ b → option_to_list p ≡ without_number number (numbers_where test s.table.rows)
+      by : (b : Bool) → test row ≡ b → option_to_list p ≡ numbers_without number (numbers_where test s.table.rows)
       by true e =
           ap option_to_list (gone e)
-          ∙ sym ((λ i. without_number number (sym index i))
+          ∙ sym ((λ i. numbers_without number (sym index i))
           ∙ without-one number o ((λ i. is_among (index i) number) ∙ among-where test number row s.table.rows found e))
       by false e = ap option_to_list (stays e) ∙ index ∙ sym (where-absent test number row s.table.rows found x.table.apart e)
 
@@ -198,14 +198,14 @@ module _ (s : State) (number : ℕ) (row : GenRow) (status : RowStatus) (x : IsI
     warming_left q Dropped l b e = absurd (true≢false (sym l))
 
     -- a list of those that wait for a name
-    fewer : (f : Watch → List ℕ) → ((w : Watch) → f (watched_less number w) ≡ without_number number (f w)) → (test : List ℕ → GenRow → Bool)
+    fewer : (f : Watch → List ℕ) → ((w : Watch) → f (watched_less number w) ≡ numbers_without number (f w)) → (test : List ℕ → GenRow → Bool)
         → ((q : List ℕ) (r : GenRow) → test q (row_with status r) ≡ false) → ((q : List ℕ) → is_needed q (name_needed row.content) ≡ false → test q row ≡ false)
         → ((q : List ℕ) → f (watch_in s.watches q) ≡ numbers_where (test q) s.table.rows) → (q : List ℕ) → f (watch_in watches q) ≡ numbers_where (test q) table.rows
     fewer f out test fails apart index q =
         ap f (less q) ∙ by (is_needed q (name_needed row.content)) refl ∙ sym (ap (numbers_where (test q)) rows ∙ where-left (test q) number status (fails q) s.table.rows)
       where
-        by : (b : Bool) → is_needed q (name_needed row.content) ≡ b → f (cond b (watched_less number (watch_in s.watches q)) (watch_in s.watches q)) ≡ without_number number (numbers_where (test q) s.table.rows)
-        by true e = out (watch_in s.watches q) ∙ ap (without_number number) (index q)
+        by : (b : Bool) → is_needed q (name_needed row.content) ≡ b → f (cond b (watched_less number (watch_in s.watches q)) (watch_in s.watches q)) ≡ numbers_without number (numbers_where (test q) s.table.rows)
+        by true e = out (watch_in s.watches q) ∙ ap (numbers_without number) (index q)
         by false e = index q ∙ sym (where-absent (test q) number row s.table.rows found x.table.apart (apart q e))
 
     agrees : (q : List ℕ) → Agrees s.watches watches q
@@ -226,8 +226,8 @@ module _ (s : State) (number : ℕ) (row : GenRow) (status : RowStatus) (x : IsI
         released a ∙ by (listens_at a row.content) refl
         ∙ sym (ap (numbers_where (holds a)) rows ∙ where-left (holds a) number status (λ r. ap (λ b. b && listens_at a r.content) ended) s.table.rows)
       where
-        by : (b : Bool) → listens_at a row.content ≡ b → cond b (without_number number (numbers_at s.addresses a)) (numbers_at s.addresses a) ≡ without_number number (numbers_where (holds a) s.table.rows)
-        by true e = ap (without_number number) (x.holders a)
+        by : (b : Bool) → listens_at a row.content ≡ b → cond b (numbers_without number (numbers_at s.addresses a)) (numbers_at s.addresses a) ≡ numbers_without number (numbers_where (holds a) s.table.rows)
+        by true e = ap (numbers_without number) (x.holders a)
         by false e = x.holders a ∙ sym (where-absent (holds a) number row s.table.rows found x.table.apart (λ i. live i && e i))
 
     pub indexed-retired : IsIndexed (record s { table = table; names = names; watches = watches; addresses = addresses; due = due })

@@ -1,6 +1,5 @@
 -- How generations changed, by their rows before and after.
 use Rattle.std.specs.Prelude.{◌≡◌, ℕ, Bool, true, false, not, ◌&&◌, ◌||◌, nat_le, if◌then◌else◌, List, [], ◌∷◌, ◌++◌, length, Option, None, Some, option_to_list}
-use Rattle.std.specs.List.{list_any}
 use Rattle.ev_types.specs.Items.{ResponseParts}
 use Rattle.ev_types.specs.Kinds.{kind_same}
 use Rattle.ev_types.specs.Statuses.{is_active, is_live}
@@ -83,10 +82,6 @@ ServesName number name s = option_to_list number ≡ numbers_where (serves name)
 abbrev pub WarmsUnder : Option ℕ → List ℕ → State → Type 0
 WarmsUnder number name s = option_to_list number ≡ numbers_where (warms name) s.table.rows
 
--- a row serves the name, or none warms under it
-abbrev pub has_come_in : State → List ℕ → Bool
-has_come_in s name = list_any (serves name) s.table.rows || not (list_any (warms name) s.table.rows)
-
 -- the numbers of the live rows that depend on the name
 abbrev pub dependents_in : State → List ℕ → List ℕ
 dependents_in s name = numbers_where (depends_on name) s.table.rows
@@ -103,7 +98,7 @@ EndsRows old new name = new.table.rows ≡ rows_ended old.kind name old.table.ro
 abbrev pub AddsRow : State → State → List ℕ → Content → Type 0
 AddsRow old new name content = new.table.rows ≡ rows_with_new old.kind old.table.made name content old.table.rows
 
--- the rows and a new one behind them
+-- the rows and a new one after them
 abbrev pub AppendsRow : State → State → List ℕ → Content → Type 0
 AppendsRow old new name content = new.table.rows ≡ old.table.rows ++ new_row old.kind old.table.made name content ∷ []
 
@@ -129,8 +124,8 @@ abbrev pub KeepsKnown : State → State → Type 0
 KeepsKnown old new = new ≡ record old { table = new.table; names = new.names; due = new.due }
 
 -- the kind, the rows with their names and addresses, and which are due stay
-abbrev pub KeepsRows : State → State → Type 0
-KeepsRows old new = new ≡ record old { watches = new.watches; results = new.results }
+abbrev pub KeepsTable : State → State → Type 0
+KeepsTable old new = new ≡ record old { watches = new.watches; results = new.results }
 
 -- the kind and the results stay, and none is due any more
 abbrev pub LeavesNoneDue : State → State → Type 0

@@ -207,12 +207,11 @@ pub(crate) fn add<L: Ledger>(
     name: Name,
     content: Content,
     steps: &mut Steps<L>,
-) -> Result<Gen, AllocError>
+) -> Result<(), AllocError>
     requires indexed { IsIndexed state.old }
     requires typed { content_kind content ≡ state.old.kind }
     requires room { state.old.table.made + 1 < 2 ^ 32 }
     ensures indexed { OnOk result (IsIndexed state.new) }
-    ensures number { IfOk result (λ number. number ≡ state.old.table.made + 1) }
     ensures rows { OnOk result (AddsRow state.old state.new name content) }
     ensures made { OnOk result (state.new.table.made ≡ state.old.table.made + 1) }
     ensures marks { OnOk result (SameMarks state.old.watches state.new.watches) }
@@ -225,7 +224,8 @@ pub(crate) fn add<L: Ledger>(
 {
     let _text = name.as_str();
     drop_warming(state, &name, steps);
-    append(state, alloc, name, content, steps)
+    append(state, alloc, name, content, steps)?;
+    Ok(())
 }
 
 /// What a name stands for has come to its end, or is removed: the generation that warms under it is dropped, and the one that
@@ -283,12 +283,11 @@ fn append<L: Ledger>(
     name: Name,
     content: Content,
     steps: &mut Steps<L>,
-) -> Result<Gen, AllocError>
+) -> Result<(), AllocError>
     requires indexed { IsIndexed state.old }
     requires alone { (standing_in state.old.names name).warming ≡ None }
     requires room { state.old.table.made + 1 < 2 ^ 32 }
     ensures indexed { OnOk result (IsIndexed state.new) }
-    ensures number { IfOk result (λ number. number ≡ state.old.table.made + 1) }
     ensures rows { OnOk result (AppendsRow state.old state.new name content) }
     ensures made { OnOk result (state.new.table.made ≡ state.old.table.made + 1) }
     ensures marks { OnOk result (SameMarks state.old.watches state.new.watches) }
@@ -315,7 +314,7 @@ fn append<L: Ledger>(
         &[number],
         steps,
     )?;
-    Ok(number)
+    Ok(())
 }
 
 // Puts a number to the others, where there is one.

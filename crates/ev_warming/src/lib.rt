@@ -17,4 +17,4 @@ mod removal;
 mod response;
 
 pub use changes::Promoted;
-pub use manager::{Added, Manager};
+pub use manager::Manager;

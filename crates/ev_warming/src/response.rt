@@ -14,7 +14,7 @@ ghost use Rattle.ev_warming.specs.Changes.{HaveRetired, TellsRetired};
 ghost use Rattle.ev_warming.specs.Worlds.{Follows, FollowsDrawing, with_generation, with_name_left, unchanged, with_response, with_rows_ended, with_rows_left};
 
 use crate::Manager;
-use crate::changes::put_one;
+use crate::changes::{add, put_one};
 use ev_generations::Steps;
 use ev_mentions::Mentions;
 use ev_types::{Body, Content, Gen, Item, Name, NameError, Response, Seq, Text, TryCopy, Verdict};
@@ -174,7 +174,7 @@ impl Manager {
         Ok(())
     }
 
-    // One resource comes in.
+    // One resource comes in: one that is new makes a generation, where it has content.
     fn take_item<L: Ledger>(
         &mut self,
         alloc: Global,
@@ -189,43 +189,19 @@ impl Manager {
         ensures kept { OnOk result (IsKept self.new) }
         ensures kind { OnOk result (self.new.state.kind ≡ self.old.state.kind) }
         ensures grows { OnOk result (self.old.state.table.made ≤ self.new.state.table.made) }
-        ensures told { OnOk result (TellsRetired self.old.state self.new.state retired.old retired.new) }
         ensures few { OnOk result (self.new.state.table.made ≤ self.old.state.table.made + 1) }
+        ensures told { OnOk result (TellsRetired self.old.state self.new.state retired.old retired.new) }
         ensures stands { OnOk result (FollowsDrawing self.old.state.table.made self.old.state self.new.state
             (add_item self.old.state.kind verdict item.now)) }
     {
-        match verdict {
-            Verdict::New => self.take_new(alloc, item, retired, steps),
+        match (verdict, &item.body) {
+            (Verdict::New, Body::Good(content)) => self.make(alloc, item, content, retired, steps),
             _ => Ok(()),
         }
     }
 
-    // A resource that is new makes a generation, where it has content.
-    fn take_new<L: Ledger>(
-        &mut self,
-        alloc: Global,
-        item: &Item,
-        retired: &mut Seq<Gen>,
-        steps: &mut Steps<L>,
-    ) -> Result<(), AllocError>
-        requires kept { IsKept self.old }
-        requires typed { IsBodyOf self.old.state.kind item.now.body }
-        requires room { self.old.state.table.made + 1 < 2 ^ 32 }
-        ensures kept { OnOk result (IsKept self.new) }
-        ensures kind { OnOk result (self.new.state.kind ≡ self.old.state.kind) }
-        ensures grows { OnOk result (self.old.state.table.made ≤ self.new.state.table.made) }
-        ensures told { OnOk result (TellsRetired self.old.state self.new.state retired.old retired.new) }
-        ensures few { OnOk result (self.new.state.table.made ≤ self.old.state.table.made + 1) }
-        ensures stands { OnOk result (FollowsDrawing self.old.state.table.made self.old.state self.new.state
-            (add_item self.old.state.kind New item.now)) }
-    {
-        match &item.body {
-            Body::Good(content) => self.make(alloc, item, content, retired, steps),
-            _ => Ok(()),
-        }
-    }
-
-    // A resource makes a generation of this content, which is the resource's.
+    // A generation of this name and content, which are the resource's, warms, and one that warmed under the name is dropped. It
+    // costs at most two look-ups.
     fn make<L: Ledger>(
         &mut self,
         alloc: Global,
@@ -240,14 +216,17 @@ impl Manager {
         requires room { self.old.state.table.made + 1 < 2 ^ 32 }
         ensures kept { OnOk result (IsKept self.new) }
         ensures kind { OnOk result (self.new.state.kind ≡ self.old.state.kind) }
-        ensures grows { OnOk result (self.old.state.table.made ≤ self.new.state.table.made) }
-        ensures few { OnOk result (self.new.state.table.made ≤ self.old.state.table.made + 1) }
+        ensures made { OnOk result (self.new.state.table.made ≡ self.old.state.table.made + 1) }
         ensures told { OnOk result (TellsRetired self.old.state self.new.state retired.old retired.new) }
+        ensures steps { OnOk result (steps.new ≤ steps.old + 2) }
         ensures stands { OnOk result (FollowsDrawing self.old.state.table.made self.old.state self.new.state
             (with_generation self.old.state.kind item.now.name content.now)) }
     {
         let name = item.resource_name(alloc)?;
-        let added = self.add(alloc, name, content.copy(alloc)?, steps)?;
-        put_one(retired, &added.dropped)
+        let dropped = self.state.names.standing(&name).warming;
+        put_one(&mut self.stale, &dropped)?;
+        put_one(retired, &dropped)?;
+        add(&mut self.state, alloc, name, content.copy(alloc)?, steps)?;
+        Ok(())
     }
 }
