@@ -1,5 +1,5 @@
 -- Who holds an address: by the index, by the rows, and in the world.
-use Rattle.std.proofs.Common.{◌≡◌, ◌∙◌, ℕ, Bool, true, false, cond, ◌&&◌, List, [], ◌∷◌, ◌++◌, Some, option_to_list, filter, map, refl, sym, ap, true≢false}
+use Rattle.std.proofs.Common.{◌≡◌, ◌∙◌, Bool, true, false, cond, List, [], ◌∷◌, ◌++◌, Some, option_to_list, filter, map, refl, sym, ap, true≢false}
 use Rattle.std.specs.List.{flat_map, AllByRecursion}
 use Rattle.ev_types.specs.Items.{content_kind}
 use Rattle.ev_types.specs.Kinds.{kind_same}
