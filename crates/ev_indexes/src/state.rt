@@ -26,6 +26,7 @@ impl State {
     pub fn new(alloc: Global, kind: Kind) -> State
         ensures kind { result.kind ≡ kind }
         ensures indexed { IsIndexed result }
+        ensures made { result.table.made ≡ 0 }
         ensures stands { (workers : ℕ) (node : List ℕ) → StandsFor result (opening workers node) }
     {
         State {

@@ -47,6 +47,7 @@ impl Manager {
         ensures kind { result.state.kind ≡ kind }
         ensures kept { IsKept result }
         ensures done { result.stale ≡ [] }
+        ensures made { result.state.table.made ≡ 0 }
         ensures stands { (workers : ℕ) (node : List ℕ) → StandsFor result.state (opening workers node) }
     {
         Manager {

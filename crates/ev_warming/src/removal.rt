@@ -19,6 +19,7 @@ impl Manager {
         ensures kept { IsKept self.new }
         ensures row { row_in number self.old.state.table.rows ≡ Some result }
         ensures rows { self.new.state.table.rows ≡ without_row number self.old.state.table.rows }
+        ensures made { self.new.state.table.made ≡ self.old.state.table.made }
         ensures others { self.new ≡ record self.old { state = record self.old.state { table = self.new.state.table } } }
         // Whatever world the manager stood for, it stands for that world without the generation.
         ensures stands { Follows self.old.state self.new.state (without_generation number) }
