@@ -2,6 +2,7 @@ use Rattle.std.proofs.Common.{◌≡◌, Bool, true, sym, ap, subst, ◌∙◌}
 use Rattle.ev_model.specs.World.{World}
 use Rattle.ev_model.specs.Tidy.{tidy}
 use Rattle.ev_retirement.specs.Holders.{timed_out, with_expired}
+use Rattle.ev_retirement.specs.Holders.{timeout_answer}
 use Rattle.ev_state.proofs.FrameLemmas.{at-frame}
 use Rattle.ev_proxy.specs.declared.proxy.Proxy.{Proxy}
 use Rattle.ev_proxy.specs.Proxies.{IsAt}
@@ -24,3 +25,10 @@ returns-clause-at g c =
     let meant : c.in_ok-meant.meant ≡ true = c.if-not-meant.false in
     subst (IsAt c.note.new.self)
     (sym (c.in_ok-meant.ensures.machine g.here c.requires.held ∙ ap (λ (b : Bool). timed_out b c.args.listener.now g.here) meant)) over
+
+pub returns-clause-deferred : goal.returns-clause-deferred
+returns-clause-deferred g c = c.in_ok-answer.ensures.noted.deferred
+
+pub returns-clause-answer : goal.returns-clause-answer
+returns-clause-answer g c =
+    c.in_ok-answer.ensures.answer ∙ sym (c.in_ok-meant.ensures.answer g.here c.requires.held ∙ ap timeout_answer c.if-not-meant.false)
