@@ -1,5 +1,5 @@
-//! Warming, Envoy's init manager: what changes the generations of one kind. A generation is an init target while it warms: it
-//! waits for a word on the name that it depends on and for a first health result of each of its hosts, and then it serves in
+//! Warming: what changes the generations of one kind. A generation that warms waits, as an init manager of Envoy for its init
+//! targets, for a word on the name that it depends on and for a first health result of each of its hosts; then it serves in
 //! place of the one before it. A `Manager` takes responses, arrivals, health results and ends; promotion and then forgetting
 //! follow each of them. The kind is a value, so that clusters and listeners share all of it.
 //!
