@@ -1,4 +1,7 @@
-//! Health results by generation and host, found without a walk.
+//! Health results by generation and host, found without a walk. `trim` makes the map of the hosts that stay anew, and so takes
+//! memory, in place of going over hosts times rows. Whether a first round is done is answered by counts where it isn't: a
+//! generation with fewer results than its assignment has different hosts lacks one, and only where the counts fit are the
+//! hosts gone over.
 #![tactic(auto)]
 
 ghost use Rattle.std.specs.Prelude.{◌≡◌, [], ◌∷◌, ◌++◌, nat_eq, ◌&&◌, ◌||◌, not, false, None, Some, IfOk, unwrap_or, is_some, length, OnOk, OnErr};

@@ -12,3 +12,4 @@ pub mod NewestLemmas
 pub mod SeenLemmas
 pub mod MovedLemmas
 pub mod RowLemmas
+pub mod HolderLemmas

@@ -6,18 +6,19 @@ use Rattle.ev_model.specs.World.{opening}
 use Rattle.ev_endpoints.specs.Results.{result_in}
 use Rattle.ev_generations.specs.Tables.{IsTable, row_in}
 use Rattle.ev_indexes.specs.declared.state.State.{State}
+use Rattle.ev_indexes.specs.Addresses.{numbers_at}
 use Rattle.ev_indexes.specs.Due.{is_among}
 use Rattle.ev_indexes.specs.Standings.{standing_in}
 use Rattle.ev_indexes.specs.Watched.{watch_in}
 use Rattle.ev_indexes.specs.Ready.{is_due_at}
-use Rattle.ev_indexes.specs.Indexes.{IsIndexed, serves, warms, depends_on, waits_limited, numbers_where}
+use Rattle.ev_indexes.specs.Indexes.{IsIndexed, serves, warms, depends_on, waits_limited, holds, numbers_where}
 use Rattle.ev_indexes.specs.Worlds.{StandsFor}
 
 empty_table : (made : ℕ) → IsTable (record { rows = []; made = made })
 unfolding IsDistinct
 empty_table made = record { apart = tt; drawn = λ number above. refl }
 
-module _ (s : State) (rows : s.table.rows ≡ []) (names : s.names ≡ []) (watches : s.watches ≡ []) (results : s.results ≡ []) (due : s.due ≡ []) where
+module _ (s : State) (rows : s.table.rows ≡ []) (names : s.names ≡ []) (watches : s.watches ≡ []) (addresses : s.addresses ≡ []) (results : s.results ≡ []) (due : s.due ≡ []) where
   pub indexed-new : IsIndexed s
   indexed-new = record {
     table =
@@ -28,15 +29,15 @@ module _ (s : State) (rows : s.table.rows ≡ []) (names : s.names ≡ []) (watc
     warming = λ q. (λ i. option_to_list (standing_in (names i) q).warming) ∙ (λ i. numbers_where (warms q) (sym rows i));
     watchers = λ q. (λ i. (watch_in (watches i) q).rows) ∙ (λ i. numbers_where (depends_on q) (sym rows i));
     limited = λ q. (λ i. (watch_in (watches i) q).limited) ∙ (λ i. numbers_where (waits_limited q) (sym rows i));
+    holders = λ a. (λ i. numbers_at (addresses i) a) ∙ (λ i. numbers_where (holds a) (sym rows i));
     due = λ n. (λ i. is_among (due i) n) ∙ (λ i. is_due_at s.watches s.results n (sym rows i));
     drawn = λ n h above. (λ i. result_in (results i) n h);
   }
 
-  pub stands-new : s.table.made ≡ 0 → (workers : ℕ) (node : List ℕ) → StandsFor s (opening workers node)
-  stands-new made workers node = record {
+  pub stands-new : (workers : ℕ) (node : List ℕ) → StandsFor s (opening workers node)
+  stands-new workers node = record {
     sound = record { table = empty_table 0; typed = tt; named = tt; heard = λ n h above. refl };
     rows = rows;
-    made = made;
     told = λ q. λ i. (watch_in (watches i) q).told;
     timed = λ q. λ i. (watch_in (watches i) q).timed;
     value = λ q. λ i. (watch_in (watches i) q).value;

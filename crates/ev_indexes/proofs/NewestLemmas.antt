@@ -17,7 +17,7 @@ use Rattle.ev_model.specs.Rows.{is_row_of}
 use Rattle.ev_generations.specs.Tables.{row_in, numbers_of}
 use Rattle.ev_indexes.specs.declared.names.Standing.{Standing}
 use Rattle.ev_indexes.specs.declared.state.State.{State}
-use Rattle.ev_indexes.specs.Due.{is_filled}
+use Rattle.ev_indexes.specs.Due.{has_number}
 use Rattle.ev_indexes.specs.Standings.{standing_in}
 use Rattle.ev_indexes.specs.Indexes.{IsIndexed, serves, warms, numbers_where}
 use Rattle.ev_indexes.specs.Newest.{is_live_as, newest_in, later_of_two, later_number, found_in}
@@ -205,9 +205,9 @@ newest-world s world name stands = (λ i. newest_in (stands.rows i) name) ∙ sy
 
 -- a name is found to stand where a row passes the test
 some-listed : (test : GenRow → Bool) (rows : List GenRow) (o : Option ℕ) → option_to_list o ≡ numbers_where test rows → is_some o ≡ list_any test rows
-some-listed test rows o e = by o ∙ ap is_filled e ∙ sym (any-some test rows)
+some-listed test rows o e = by o ∙ ap has_number e ∙ sym (any-some test rows)
   where
-    by : (o : Option ℕ) → is_some o ≡ is_filled (option_to_list o)
+    by : (o : Option ℕ) → is_some o ≡ has_number (option_to_list o)
     by None = refl
     by (Some n) = refl
 

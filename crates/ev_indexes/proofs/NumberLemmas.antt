@@ -1,4 +1,4 @@
--- Numbers that rise: one more behind them, one of them left out, and what the first of them decides; and how they are stored.
+-- Numbers that rise: one more after them, one of them left out, and what the first of them decides; and how they are stored.
 use Rattle.std.proofs.Common.{◌≡◌, ◌∙◌, ℕ, zero, suc, ◌+◌, ◌-◌, drop, ◌<◌, ◌≤◌, Bool, true, false, cond, not, ◌||◌, List, [], ◌∷◌, ◌++◌, Result, Ok, Err, MatchResult, get_or, length, nat_eq, nat_le, nat_lt, nat_cmp, remove, slice_get, length-append, Less, refl, sym, ap, subst, arith}
 use Rattle.std.specs.Cmp.{ranks, nat_cmp_is}
 use Rattle.std.specs.Ordering.{MatchOrdering}
@@ -10,8 +10,8 @@ use Rattle.std.proofs.lemmas.Bool.{eq-eqb, eqb-true, leb-true, leb-false, ltb-tr
 use Rattle.std.proofs.lemmas.Cmp.{nat_cmp_total}
 use Rattle.std.proofs.lemmas.List.Sorted.{searched}
 use Rattle.std.proofs.lemmas.Map.Keys.{below_from_sorted, non_decreasing_from_sorted}
-use Rattle.ev_indexes.specs.Numbers.{Rise, AreStored, is_above, is_first_up_to}
-use Rattle.ev_indexes.specs.Watched.{without_number}
+use Rattle.ev_indexes.specs.Numbers.{Rise, AreStored, is_above_other, is_first_up_to}
+use Rattle.ev_indexes.specs.Watched.{numbers_without}
 
 -- each of these is above the number
 abbrev Above : ℕ → List ℕ → Type 0
@@ -36,49 +36,49 @@ pub rise-none : Rise []
 unfolding IsStrictlySortedBy
 rise-none = tt
 
--- a number above the last goes behind them
-pub rise-more : (n : ℕ) (xs : List ℕ) → Rise xs → is_above n (slice_get xs (length xs - 1)) ≡ true → Rise (xs ++ n ∷ [])
+-- a number above the last goes after them
+pub rise-more : (n : ℕ) (xs : List ℕ) → Rise xs → is_above_other n (slice_get xs (length xs - 1)) ≡ true → Rise (xs ++ n ∷ [])
 unfolding IsStrictlySortedBy
 rise-more n [] h e = (tt, tt)
 rise-more n (x ∷ []) h e = ((sym (nat_cmp_is x n Less (ltb-true x n e)), tt), (tt, tt))
 rise-more n (x ∷ y ∷ ys) h e =
     let last : length (x ∷ y ∷ ys) - 1 ≡ suc (length (y ∷ ys) - 1) = omega arith in
-    let rest = rise-more n (y ∷ ys) h.1 (sym (ap (λ k. is_above n (slice_get (x ∷ y ∷ ys) k)) last) ∙ e) in
+    let rest = rise-more n (y ∷ ys) h.1 (sym (ap (λ k. is_above_other n (slice_get (x ∷ y ∷ ys) k)) last) ∙ e) in
     ((h.0.0, above-lower x y (ys ++ n ∷ []) h.0.0 rest.0), rest)
 
 -- a number is none of those above it
-kept-above : (x : ℕ) (ys : List ℕ) → Above x ys → without_number x ys ≡ ys
+kept-above : (x : ℕ) (ys : List ℕ) → Above x ys → numbers_without x ys ≡ ys
 kept-above x [] all = refl
 kept-above x (y ∷ ys) all =
     let far : nat_eq x y ≡ false = apart x y (λ e. omega (arith, less x y all.0, e)) in
-    (λ i. cond (not (far i)) (y ∷ without_number x ys) (without_number x ys)) ∙ ap (λ zs. y ∷ zs) (kept-above x ys all.1)
+    (λ i. cond (not (far i)) (y ∷ numbers_without x ys) (numbers_without x ys)) ∙ ap (λ zs. y ∷ zs) (kept-above x ys all.1)
 
 -- the place where a number stands is the only one
-without-at : (x : ℕ) (xs : List ℕ) (i : ℕ) → Rise xs → i < length xs → get_or xs i 0 ≡ x → remove xs i ≡ without_number x xs
+without-at : (x : ℕ) (xs : List ℕ) (i : ℕ) → Rise xs → i < length xs → get_or xs i 0 ≡ x → remove xs i ≡ numbers_without x xs
 unfolding IsStrictlySortedBy
 without-at x [] i h l e = absurd (omega (arith, l))
 without-at x (y ∷ ys) zero h l e =
-    sym ((λ i. cond (not (eq-eqb x y (sym e) i)) (y ∷ without_number x ys) (without_number x ys)) ∙ kept-above x ys (subst (λ z. Above z ys) e h.0))
+    sym ((λ i. cond (not (eq-eqb x y (sym e) i)) (y ∷ numbers_without x ys) (numbers_without x ys)) ∙ kept-above x ys (subst (λ z. Above z ys) e h.0))
 without-at x (y ∷ ys) (suc i) h l e =
     let before : y < get_or ys i 0 = below_from_sorted (y ∷ ys) 0 (suc i) 0 h (omega arith) l in
     let far : nat_eq x y ≡ false = apart x y (λ s. omega (arith, before, e, s)) in
-    ap (λ zs. y ∷ zs) (without-at x ys i h.1 (omega (arith, l)) e) ∙ sym (λ j. cond (not (far j)) (y ∷ without_number x ys) (without_number x ys))
+    ap (λ zs. y ∷ zs) (without-at x ys i h.1 (omega (arith, l)) e) ∙ sym (λ j. cond (not (far j)) (y ∷ numbers_without x ys) (numbers_without x ys))
 
 -- a number that stands nowhere
-without-none : (x : ℕ) (xs : List ℕ) → ((k : ℕ) → k < length xs → nat_eq x (get_or xs k 0) ≡ false) → xs ≡ without_number x xs
+without-none : (x : ℕ) (xs : List ℕ) → ((k : ℕ) → k < length xs → nat_eq x (get_or xs k 0) ≡ false) → xs ≡ numbers_without x xs
 without-none x [] none = refl
 without-none x (y ∷ ys) none =
     ap (λ zs. y ∷ zs) (without-none x ys (λ k l. none (suc k) (omega (arith, l))))
-    ∙ sym (λ j. cond (not (none 0 (omega arith) j)) (y ∷ without_number x ys) (without_number x ys))
+    ∙ sym (λ j. cond (not (none 0 (omega arith) j)) (y ∷ numbers_without x ys) (numbers_without x ys))
 
 -- what a search by halves finds is the number, and where it finds none, the number stands nowhere
 pub halves : (x : ℕ) (xs : List ℕ) (r : Result ℕ ℕ) → Rise xs → IsBinarySearchResult (λ y. nat_cmp y x) xs r
-    → MatchResult r (λ i. remove xs i ≡ without_number x xs) (λ i. xs ≡ without_number x xs)
+    → MatchResult r (λ i. remove xs i ≡ numbers_without x xs) (λ i. xs ≡ numbers_without x xs)
 halves x xs r h found = by r (searched xs x r found (λ i j le lt. non_decreasing_from_sorted xs h i j 0 le lt))
   where
     by : (r : Result ℕ ℕ)
         → MatchResult r (λ i. (i < length xs) × (get_or xs i 0 ≡ x)) (λ i. (i ≤ length xs) × ((k : ℕ) → k < i → get_or xs k 0 < x) × ((k : ℕ) → i ≤ k → k < length xs → x < get_or xs k 0))
-        → MatchResult r (λ i. remove xs i ≡ without_number x xs) (λ i. xs ≡ without_number x xs)
+        → MatchResult r (λ i. remove xs i ≡ numbers_without x xs) (λ i. xs ≡ numbers_without x xs)
     by (Ok i) at = without-at x xs i h at.0 at.1
     by (Err i) parts = without-none x xs far
       where
@@ -109,7 +109,7 @@ first-decides made (x ∷ xs) h = by (nat_le x made) refl
     by true e = refl
     by false e = sym (none (leb-false x made e) xs h.0)
 
--- of numbers behind places that are empty, one is taken out behind them
+-- of numbers after places that are empty, one is taken out after them
 pub remove-behind : (gone i : ℕ) (xs : List ℕ) → gone ≤ length xs → drop gone (remove xs (gone + i)) ≡ remove (drop gone xs) i
 remove-behind zero i xs l = let here : 0 + i ≡ i = omega arith in ap (remove xs) here
 remove-behind (suc gone) i [] l = absurd (omega (arith, l))
@@ -126,16 +126,16 @@ within-behind (suc gone) i (x ∷ xs) l =
     subst (λ k. suc gone ≤ length (remove (x ∷ xs) k)) (sym next) (omega (arith, within-behind gone i xs (omega (arith, l))))
 
 -- they are stored as before, where one number was left out
-pub stored-less : (x gone : ℕ) (rise : Bool) (stored numbers : List ℕ) → gone ≤ length stored → drop gone stored ≡ without_number x numbers
+pub stored-less : (x gone : ℕ) (rise : Bool) (stored numbers : List ℕ) → gone ≤ length stored → drop gone stored ≡ numbers_without x numbers
     → (rise ≡ true → Rise numbers) → AreStored gone rise stored
 stored-less x gone rise stored numbers within left rising = record {
   within = within;
   rising = λ known. subst Rise (sym left) (IsStrictlySortedBy-filter nat_cmp (λ n. not (nat_eq x n)) numbers (rising known));
 }
 
--- and where one more is stored behind them
+-- and where one more is stored after them
 pub stored-more : (n gone : ℕ) (rise more : Bool) (stored : List ℕ) → AreStored gone rise stored
-    → (more ≡ true → (rise ≡ true) × (is_above n (slice_get (drop gone stored) (length (drop gone stored) - 1)) ≡ true)) → AreStored gone more (stored ++ n ∷ [])
+    → (more ≡ true → (rise ≡ true) × (is_above_other n (slice_get (drop gone stored) (length (drop gone stored) - 1)) ≡ true)) → AreStored gone more (stored ++ n ∷ [])
 stored-more n gone rise more stored kept last = record {
   within = longer stored kept.within;
   rising = λ known. subst Rise (sym (drop-append-le gone stored (n ∷ []) kept.within)) (rise-more n (drop gone stored) (kept.rising (last known).0) (last known).1);

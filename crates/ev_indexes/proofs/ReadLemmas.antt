@@ -23,7 +23,7 @@ use Rattle.ev_model.specs.Signals.{is_waiting, is_awaited}
 use Rattle.ev_model.specs.Watching.{Dependency, dependency_of, discovery_dependency, serve_dependency, is_by_name, is_dependency, is_limited, is_watched, name_awaited, sorted_names, watched_of}
 use Rattle.ev_indexes.specs.declared.state.State.{State}
 use Rattle.ev_indexes.specs.declared.watches.Watch.{Watch}
-use Rattle.ev_indexes.specs.Due.{is_filled}
+use Rattle.ev_indexes.specs.Due.{has_number}
 use Rattle.ev_indexes.specs.Watched.{unwatched, watch_in}
 use Rattle.ev_indexes.specs.Ready.{name_needed}
 use Rattle.ev_indexes.specs.Indexes.{IsIndexed, is_needed, depends_on, waits_limited}
@@ -210,12 +210,12 @@ names-world s world stands rowed =
 
 -- a look-up of a name finds who depends on it
 module _ (s : State) (x : IsIndexed s) (name : List ℕ) (o : Option Watch) (found : lookup (bytes_eq name) s.watches ≡ o) where
-  pub rows-found : is_filled (unwrap_or o unwatched).rows ≡ list_any (depends_on name) s.table.rows
+  pub rows-found : has_number (unwrap_or o unwatched).rows ≡ list_any (depends_on name) s.table.rows
   rows-found =
-      (λ i. is_filled (sym (kept_at-found unwatched s.watches name o found) i).rows) ∙ ap is_filled (x.watchers name) ∙ sym (any-some (depends_on name) s.table.rows)
+      (λ i. has_number (sym (kept_at-found unwatched s.watches name o found) i).rows) ∙ ap has_number (x.watchers name) ∙ sym (any-some (depends_on name) s.table.rows)
 
-  pub timeout-found : (is_filled (unwrap_or o unwatched).limited && not ((unwrap_or o unwatched).told || (unwrap_or o unwatched).timed)) ≡ is_timeout_due s.watches s.table.rows name
+  pub timeout-found : (has_number (unwrap_or o unwatched).limited && not ((unwrap_or o unwatched).told || (unwrap_or o unwatched).timed)) ≡ is_timeout_due s.watches s.table.rows name
   timeout-found =
-      (λ i. is_filled (sym (kept_at-found unwatched s.watches name o found) i).limited
+      (λ i. has_number (sym (kept_at-found unwatched s.watches name o found) i).limited
       && not ((sym (kept_at-found unwatched s.watches name o found) i).told || (sym (kept_at-found unwatched s.watches name o found) i).timed))
-      ∙ (λ i. (ap is_filled (x.limited name) ∙ sym (any-some (waits_limited name) s.table.rows)) i && not ((watch_in s.watches name).told || (watch_in s.watches name).timed))
+      ∙ (λ i. (ap has_number (x.limited name) ∙ sym (any-some (waits_limited name) s.table.rows)) i && not ((watch_in s.watches name).told || (watch_in s.watches name).timed))

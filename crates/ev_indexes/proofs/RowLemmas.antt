@@ -9,7 +9,7 @@ use Rattle.ev_types.specs.declared.rows.GenRow.{GenRow}
 use Rattle.ev_generations.specs.Tables.{row_in, numbers_of}
 use Rattle.ev_types.specs.declared.rows.RowStatus.{RowStatus}
 use Rattle.ev_model.specs.Rows.{with_statuses}
-use Rattle.ev_indexes.specs.Due.{is_filled}
+use Rattle.ev_indexes.specs.Due.{has_number}
 use Rattle.ev_indexes.specs.Indexes.{numbers_where}
 use Rattle.ev_indexes.specs.Worlds.{rows_of_kind}
 
@@ -48,11 +48,11 @@ all-at P n row (r ∷ rows) at all = by (nat_eq n r.number) at (λ h. all-at P n
         subst P same all.0
     by false h rest = rest h
 
-pub any-some : (test : GenRow → Bool) (rows : List GenRow) → list_any test rows ≡ is_filled (numbers_where test rows)
+pub any-some : (test : GenRow → Bool) (rows : List GenRow) → list_any test rows ≡ has_number (numbers_where test rows)
 any-some test [] = refl
 any-some test (row ∷ rows) = by (test row) (any-some test rows)
   where
-    by : (t : Bool) → list_any test rows ≡ is_filled (numbers_where test rows) → (t || list_any test rows) ≡ is_filled (numbers_of (cond t (row ∷ filter test rows) (filter test rows)))
+    by : (t : Bool) → list_any test rows ≡ has_number (numbers_where test rows) → (t || list_any test rows) ≡ has_number (numbers_of (cond t (row ∷ filter test rows) (filter test rows)))
     by true rest = refl
     by false rest = rest
 

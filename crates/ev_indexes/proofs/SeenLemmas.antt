@@ -31,7 +31,6 @@ pub seen-stands : (s : State) (before after : World) → SameSeen before after �
 seen-stands s before after seen stands = record {
   sound = seen-sound before after seen stands.sound;
   rows = stands.rows ∙ ap (rows_of_kind s.kind) (sym seen.rows);
-  made = stands.made ∙ sym seen.made;
   told = λ q. stands.told q ∙ ap (λ (came : List Arrived). is_told_by came (needs_of s.kind) q) (sym seen.arrivals);
   timed = λ q. stands.timed q ∙ ap (λ (came : List Arrived). is_timed_by came (needs_of s.kind) q) (sym seen.arrivals);
   value = λ q. stands.value q ∙ ap (λ (came : List Arrived). value_by came (needs_of s.kind) q) (sym seen.arrivals);

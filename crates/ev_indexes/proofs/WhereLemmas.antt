@@ -10,7 +10,7 @@ use Rattle.ev_types.specs.declared.rows.GenRow.{GenRow}
 use Rattle.ev_generations.specs.Tables.{row_in, numbers_of, with_status}
 use Rattle.ev_generations.proofs.TableLemmas.{with_status-absent}
 use Rattle.ev_indexes.specs.Due.{is_among}
-use Rattle.ev_indexes.specs.Watched.{without_number}
+use Rattle.ev_indexes.specs.Watched.{numbers_without}
 use Rattle.ev_indexes.specs.Indexes.{numbers_where}
 
 -- the row with another status
@@ -35,7 +35,7 @@ among-where test number row (other ∷ rows) found passes = by (nat_eq number ot
 
 -- where the row of this number no longer passes with its new status, its number is left out
 pub where-left : (test : GenRow → Bool) (number : ℕ) (status : RowStatus) → ((row : GenRow) → test (row_with status row) ≡ false) → (rows : List GenRow)
-    → numbers_where test (with_status number status rows) ≡ without_number number (numbers_where test rows)
+    → numbers_where test (with_status number status rows) ≡ numbers_without number (numbers_where test rows)
 where-left test number status fails [] = refl
 where-left test number status fails (row ∷ rows) =
     by (nat_eq number row.number) refl (where-left test number status fails rows)
@@ -46,19 +46,19 @@ where-left test number status fails (row ∷ rows) =
     old : List GenRow
     old = filter test rows
 
-    kept : (t b : Bool) → nat_eq number row.number ≡ b → numbers_of new ≡ without_number number (numbers_of old) → b ≡ false
-        → numbers_of (cond t (row ∷ new) new) ≡ without_number number (numbers_of (cond t (row ∷ old) old))
-    kept true b e rest apart = ap (λ ns. row.number ∷ ns) rest ∙ (λ i. cond (not ((sym apart ∙ sym e) i)) (row.number ∷ without_number number (numbers_of old)) (without_number number (numbers_of old)))
+    kept : (t b : Bool) → nat_eq number row.number ≡ b → numbers_of new ≡ numbers_without number (numbers_of old) → b ≡ false
+        → numbers_of (cond t (row ∷ new) new) ≡ numbers_without number (numbers_of (cond t (row ∷ old) old))
+    kept true b e rest apart = ap (λ ns. row.number ∷ ns) rest ∙ (λ i. cond (not ((sym apart ∙ sym e) i)) (row.number ∷ numbers_without number (numbers_of old)) (numbers_without number (numbers_of old)))
     kept false b e rest apart = rest
 
-    gone : (t : Bool) → nat_eq number row.number ≡ true → numbers_of new ≡ without_number number (numbers_of old)
-        → numbers_of new ≡ without_number number (numbers_of (cond t (row ∷ old) old))
-    gone true e rest = rest ∙ (λ i. cond (not (sym e i)) (row.number ∷ without_number number (numbers_of old)) (without_number number (numbers_of old)))
+    gone : (t : Bool) → nat_eq number row.number ≡ true → numbers_of new ≡ numbers_without number (numbers_of old)
+        → numbers_of new ≡ numbers_without number (numbers_of (cond t (row ∷ old) old))
+    gone true e rest = rest ∙ (λ i. cond (not (sym e i)) (row.number ∷ numbers_without number (numbers_of old)) (numbers_without number (numbers_of old)))
     gone false e rest = rest
 
-    by : (b : Bool) → nat_eq number row.number ≡ b → numbers_of new ≡ without_number number (numbers_of old)
+    by : (b : Bool) → nat_eq number row.number ≡ b → numbers_of new ≡ numbers_without number (numbers_of old)
         → numbers_of (cond (test (row_with (cond b status row.status) row)) (row_with (cond b status row.status) row ∷ new) new)
-        ≡ without_number number (numbers_of (cond (test row) (row ∷ old) old))
+        ≡ numbers_without number (numbers_of (cond (test row) (row ∷ old) old))
     by true e rest = (λ i. numbers_of (cond (fails row i) (row_with status row ∷ new) new)) ∙ gone (test row) e rest
     by false e rest = kept (test row) false e rest refl
 
@@ -73,31 +73,31 @@ later_none number row rows apart here =
 
 -- a number whose row doesn't pass isn't among those that pass
 pub where-absent : (test : GenRow → Bool) (number : ℕ) (row : GenRow) (rows : List GenRow) → row_in number rows ≡ Some row → IsDistinct nat_eq (numbers_of rows) → test row ≡ false
-    → without_number number (numbers_where test rows) ≡ numbers_where test rows
+    → numbers_without number (numbers_where test rows) ≡ numbers_where test rows
 where-absent test number row [] found apart fails = refl
 where-absent test number row (other ∷ rows) found apart fails =
     by (nat_eq number other.number) refl (test other) refl found (where-absent test number row rows)
   where
-    none : (rs : List GenRow) → row_in number rs ≡ None → without_number number (numbers_where test rs) ≡ numbers_where test rs
+    none : (rs : List GenRow) → row_in number rs ≡ None → numbers_without number (numbers_where test rs) ≡ numbers_where test rs
     none [] h = refl
     none (r ∷ rs) h = over (nat_eq number r.number) refl (test r) h (none rs)
       where
         over : (b : Bool) → nat_eq number r.number ≡ b → (t : Bool) → cond b (Some r) (row_in number rs) ≡ None
-            → (row_in number rs ≡ None → without_number number (numbers_where test rs) ≡ numbers_where test rs)
-            → without_number number (numbers_of (cond t (r ∷ filter test rs) (filter test rs))) ≡ numbers_of (cond t (r ∷ filter test rs) (filter test rs))
+            → (row_in number rs ≡ None → numbers_without number (numbers_where test rs) ≡ numbers_where test rs)
+            → numbers_without number (numbers_of (cond t (r ∷ filter test rs) (filter test rs))) ≡ numbers_of (cond t (r ∷ filter test rs) (filter test rs))
         over true e t at rest = cc
-        over false e true at rest = (λ i. cond (not (e i)) (r.number ∷ without_number number (numbers_where test rs)) (without_number number (numbers_where test rs))) ∙ ap (λ ns. r.number ∷ ns) (rest at)
+        over false e true at rest = (λ i. cond (not (e i)) (r.number ∷ numbers_without number (numbers_where test rs)) (numbers_without number (numbers_where test rs))) ∙ ap (λ ns. r.number ∷ ns) (rest at)
         over false e false at rest = rest at
 
     by : (b : Bool) → nat_eq number other.number ≡ b → (t : Bool) → test other ≡ t → cond b (Some other) (row_in number rows) ≡ Some row
-        → (row_in number rows ≡ Some row → IsDistinct nat_eq (numbers_of rows) → test row ≡ false → without_number number (numbers_where test rows) ≡ numbers_where test rows)
-        → without_number number (numbers_of (cond t (other ∷ filter test rows) (filter test rows))) ≡ numbers_of (cond t (other ∷ filter test rows) (filter test rows))
+        → (row_in number rows ≡ Some row → IsDistinct nat_eq (numbers_of rows) → test row ≡ false → numbers_without number (numbers_where test rows) ≡ numbers_where test rows)
+        → numbers_without number (numbers_of (cond t (other ∷ filter test rows) (filter test rows))) ≡ numbers_of (cond t (other ∷ filter test rows) (filter test rows))
     by true e true t at rest =
         let same : other ≡ row = cc in
         absurd (true≢false (sym t ∙ ap test same ∙ fails))
     by true e false t at rest = none rows (later_none number other rows apart e)
     by false e true t at rest =
-        (λ i. cond (not (e i)) (other.number ∷ without_number number (numbers_where test rows)) (without_number number (numbers_where test rows)))
+        (λ i. cond (not (e i)) (other.number ∷ numbers_without number (numbers_where test rows)) (numbers_without number (numbers_where test rows)))
         ∙ ap (λ ns. other.number ∷ ns) (rest at (IsDistinct-tail nat_eq other.number (numbers_of rows) apart) fails)
     by false e false t at rest = rest at (IsDistinct-tail nat_eq other.number (numbers_of rows) apart) fails
 
@@ -166,7 +166,7 @@ where-some test (row ∷ rows) any none = by (test row) any none (where-some tes
     by false a n rest = rest a n
 
 -- the number that is the only one leaves nothing
-pub without-one : (number : ℕ) (o : Option ℕ) → is_among (option_to_list o) number ≡ true → without_number number (option_to_list o) ≡ []
+pub without-one : (number : ℕ) (o : Option ℕ) → is_among (option_to_list o) number ≡ true → numbers_without number (option_to_list o) ≡ []
 without-one number None here = refl
 without-one number (Some n) here = by (nat_eq number n) here
   where

@@ -7,6 +7,6 @@ abbrev pub is_among : List ℕ → ℕ → Bool
 is_among numbers number = list_any (nat_eq number) numbers
 
 -- there is a number
-abbrev pub is_filled : List ℕ → Bool
-is_filled [] = false
-is_filled (number ∷ numbers) = true
+abbrev pub has_number : List ℕ → Bool
+has_number [] = false
+has_number (number ∷ numbers) = true

@@ -10,6 +10,7 @@ use Rattle.ev_types.specs.declared.hosts.Host.{Host}
 use Rattle.ev_model.specs.Watching.{is_limited}
 use Rattle.ev_endpoints.specs.Results.{result_in}
 use Rattle.ev_generations.specs.Tables.{IsTable, numbers_of}
+use Rattle.ev_indexes.specs.Addresses.{numbers_at, listens_at}
 use Rattle.ev_indexes.specs.Due.{is_among}
 use Rattle.ev_indexes.specs.Standings.{standing_in}
 use Rattle.ev_indexes.specs.Watched.{WatchesKept, watch_in}
@@ -36,6 +37,10 @@ serves name row = is_active row.status && bytes_eq row.name name
 -- the row warms under the name
 abbrev pub warms : List ℕ → GenRow → Bool
 warms name row = is_warming row.status && bytes_eq row.name name
+
+-- the row holds the address: it is live and listens there
+abbrev pub holds : Host → GenRow → Bool
+holds address row = is_live row.status && listens_at address row.content
 
 -- the numbers of the rows that pass the test, in order
 abbrev pub numbers_where : (GenRow → Bool) → List GenRow → List ℕ
@@ -64,5 +69,6 @@ pub record IsIndexed (s : State) : Type 0 where
   pub warming : (name : List ℕ) → option_to_list (standing_in s.names name).warming ≡ numbers_where (warms name) s.table.rows
   pub watchers : (name : List ℕ) → (watch_in s.watches name).rows ≡ numbers_where (depends_on name) s.table.rows
   pub limited : (name : List ℕ) → (watch_in s.watches name).limited ≡ numbers_where (waits_limited name) s.table.rows
+  pub holders : (address : Host) → numbers_at s.addresses address ≡ numbers_where (holds address) s.table.rows
   pub due : (number : ℕ) → is_among s.due number ≡ is_due_at s.watches s.results number s.table.rows
   pub drawn : (number : ℕ) (host : Host) → s.table.made < number → result_in s.results number host ≡ None

@@ -3,6 +3,7 @@ pub mod Standings
 pub mod Watched
 pub mod Numbers
 pub mod Due
+pub mod Addresses
 pub mod Ready
 pub mod Indexes
 pub mod Worlds

@@ -36,7 +36,7 @@ need_lost made rows number = if nat_le number made then need_found made rows (ro
 abbrev pub need_gained : ℕ → List GenRow → ℕ → List (List ℕ)
 need_gained made rows number = live_need_found made rows (row_in number rows)
 
--- so many numbers behind this one
+-- so many numbers after this one
 abbrev pub numbers_behind : ℕ → ℕ → List ℕ
 numbers_behind made zero = []
 numbers_behind made (suc count) = numbers_behind made count ++ (made + suc count) ∷ []
@@ -46,6 +46,6 @@ numbers_behind made (suc count) = numbers_behind made count ++ (made + suc count
 abbrev pub names_lost : ℕ → List GenRow → List ℕ → List (List ℕ)
 names_lost made rows numbers = sorted_names (flat_map (need_lost made rows) numbers)
 
--- the names that live rows behind `made`, up to `drawn`, depend on, and that aren't held; in the order of their bytes, each once
+-- the names that live rows after `made`, up to `drawn`, depend on, and that aren't held; in the order of their bytes, each once
 abbrev pub names_gained : ℕ → ℕ → List GenRow → List (List ℕ)
 names_gained made drawn rows = sorted_names (flat_map (need_gained made rows) (numbers_behind made (drawn - made)))

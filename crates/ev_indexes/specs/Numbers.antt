@@ -8,9 +8,9 @@ abbrev pub Rise : List ℕ → Type 0
 Rise numbers = IsStrictlySortedBy nat_cmp numbers
 
 -- the number is above the other, where there is one
-abbrev pub is_above : ℕ → Option ℕ → Bool
-is_above number None = true
-is_above number (Some other) = nat_lt other number
+abbrev pub is_above_other : ℕ → Option ℕ → Bool
+is_above_other number None = true
+is_above_other number (Some other) = nat_lt other number
 
 -- the first of these is at most this number
 abbrev pub is_first_up_to : ℕ → List ℕ → Bool

@@ -15,16 +15,18 @@ use Rattle.ev_model.specs.declared.pictures.Routing.{Routing}
 use Rattle.ev_model.specs.declared.pictures.Routing.TheVariants.{Table, Tcp}
 use Rattle.ev_model.specs.declared.pictures.ServedCluster.{ServedCluster}
 use Rattle.ev_model.specs.declared.pictures.ServedListener.{ServedListener}
-use Rattle.ev_model.specs.Live.{lives_of}
+use Rattle.ev_types.specs.declared.hosts.Host.{Host}
+use Rattle.ev_model.specs.Live.{live_of, lives_of}
 use Rattle.ev_model.specs.Picture.{by_name, table_in}
 use Rattle.ev_model.specs.Signals.{is_awaited}
 use Rattle.ev_model.specs.Warming.{is_checked}
 use Rattle.ev_model.specs.Watching.{sorted_names}
 use Rattle.ev_model.specs.World.{World}
 use Rattle.ev_endpoints.specs.Results.{ResultsKept, result_in}
+use Rattle.ev_mentions.specs.Lives.{is_at}
 use Rattle.ev_indexes.specs.Watched.{WatchesKept, watch_in}
 use Rattle.ev_indexes.specs.Ready.{name_needed, assignment_in}
-use Rattle.ev_indexes.specs.Indexes.{waits_limited, serves, warms}
+use Rattle.ev_indexes.specs.Indexes.{waits_limited, serves, warms, holds}
 
 -- the live ones of these rows
 abbrev pub live_rows : List GenRow → List GenRow
@@ -47,12 +49,12 @@ abbrev pub has_come_in : List GenRow → List ℕ → Bool
 has_come_in rows name = list_any (serves name) rows || not (list_any (warms name) rows)
 
 -- the active ones of these rows
-abbrev pub active_rows : List GenRow → List GenRow
-active_rows rows = filter (λ (row : GenRow). is_active row.status) rows
+abbrev pub serving_rows : List GenRow → List GenRow
+serving_rows rows = filter (λ (row : GenRow). is_active row.status) rows
 
 -- the active rows, in the order of their names
 abbrev pub active_by_name : List GenRow → List GenRow
-active_by_name rows = by_name (active_rows rows)
+active_by_name rows = by_name (serving_rows rows)
 
 -- the host may be chosen for the row
 abbrev pub is_eligible_in : ResultsKept → GenRow → HostRowParts → Bool
@@ -68,7 +70,7 @@ cluster_in watches results row = record { number = row.number; name = row.name; 
 
 -- the active clusters, in the order of the rows
 abbrev pub clusters_found : WatchesKept → ResultsKept → List GenRow → List ServedCluster
-clusters_found watches results rows = map (cluster_in watches results) (active_rows rows)
+clusters_found watches results rows = map (cluster_in watches results) (serving_rows rows)
 
 -- a row's cluster, where the row is active
 abbrev pub cluster_found : WatchesKept → ResultsKept → GenRow → List ServedCluster
@@ -94,7 +96,7 @@ listener_in watches row (routes table) = []
 
 -- the active listeners, in the order of the rows
 abbrev pub listeners_found : WatchesKept → List GenRow → List ServedListener
-listeners_found watches rows = flat_map (λ (row : GenRow). listener_in watches row row.content) (active_rows rows)
+listeners_found watches rows = flat_map (λ (row : GenRow). listener_in watches row row.content) (serving_rows rows)
 
 -- the active listeners, in the order of their names
 abbrev pub listeners_in : WatchesKept → List GenRow → List ServedListener
@@ -107,3 +109,11 @@ is_awaited_at world kind name = is_awaited world.arrivals world.rows kind name
 -- what is seen of a world's live rows of this kind
 abbrev pub seen_at : World → Kind → List Live
 seen_at world kind = filter (λ (live : Live). kind_same live.kind kind) (lives_of world)
+
+-- what is seen of the rows that hold the address, in order
+abbrev pub holders_in : List GenRow → Host → List Live
+holders_in rows address = map live_of (filter (holds address) rows)
+
+-- what is seen in a world of the live generations that listen at the address
+abbrev pub holders_of : World → Host → List Live
+holders_of world address = filter (is_at address) (lives_of world)

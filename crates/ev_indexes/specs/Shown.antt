@@ -63,17 +63,17 @@ listener_shown_in watches None = None
 listener_shown_in watches (Some row) = if is_active row.status then first_of (listener_in watches row row.content) else None
 
 -- a state's active clusters with what is known of them, in the order of their names
-abbrev pub clusters_of : State → List ServedCluster
-clusters_of s = clusters_in s.watches s.results s.table.rows
+abbrev pub clusters_by : State → List ServedCluster
+clusters_by s = clusters_in s.watches s.results s.table.rows
 
 -- the same of the cluster of this number
-abbrev pub cluster_of : State → ℕ → Option ServedCluster
-cluster_of s number = cluster_shown_in s.watches s.results (row_in number s.table.rows)
+abbrev pub cluster_by : State → ℕ → Option ServedCluster
+cluster_by s number = cluster_shown_in s.watches s.results (row_in number s.table.rows)
 
 -- a state's active listeners with what is known of them, in the order of their names
-abbrev pub listeners_of : State → List ServedListener
-listeners_of s = listeners_in s.watches s.table.rows
+abbrev pub listeners_by : State → List ServedListener
+listeners_by s = listeners_in s.watches s.table.rows
 
 -- the same of the listener of this number
-abbrev pub listener_of : State → ℕ → Option ServedListener
-listener_of s number = listener_shown_in s.watches (row_in number s.table.rows)
+abbrev pub listener_by : State → ℕ → Option ServedListener
+listener_by s number = listener_shown_in s.watches (row_in number s.table.rows)

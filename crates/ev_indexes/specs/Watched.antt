@@ -30,12 +30,12 @@ watched_too number limited watch = record watch {
 }
 
 -- these numbers without this one
-abbrev pub without_number : ℕ → List ℕ → List ℕ
-without_number number numbers = filter (λ n. not (nat_eq number n)) numbers
+abbrev pub numbers_without : ℕ → List ℕ → List ℕ
+numbers_without number numbers = filter (λ n. not (nat_eq number n)) numbers
 
 -- a generation no longer depends on the name
 abbrev pub watched_less : ℕ → Watch → Watch
-watched_less number watch = record watch { rows = without_number number watch.rows; limited = without_number number watch.limited }
+watched_less number watch = record watch { rows = numbers_without number watch.rows; limited = numbers_without number watch.limited }
 
 -- something came for the name
 abbrev pub with_arrival : Arrival → Watch → Watch

@@ -35,12 +35,11 @@ pub record IsSound (world : World) : Type 0 where
   pub named : AllByRecursion (λ (row : GenRow). IsName row.name) world.rows
   pub heard : (number : ℕ) (host : Host) → world.made < number → has_result world.results number host ≡ false
 
--- the state has what the world has of its kind: the rows, how many numbers were drawn, what came for each name, and the results of
--- each of its rows
+-- the state has what the world has of its kind: the rows, what came for each name, and the results of each of its rows; how many numbers
+-- were drawn is not of one kind, and the state's table says only that no row has a greater number than the last that it knows of
 pub record StandsFor (s : State) (world : World) : Type 0 where
   pub sound : IsSound world
   pub rows : s.table.rows ≡ rows_of_kind s.kind world.rows
-  pub made : s.table.made ≡ world.made
   pub told : (name : List ℕ) → (watch_in s.watches name).told ≡ is_told_by world.arrivals (needs_of s.kind) name
   pub timed : (name : List ℕ) → (watch_in s.watches name).timed ≡ is_timed_by world.arrivals (needs_of s.kind) name
   pub value : (name : List ℕ) → (watch_in s.watches name).value ≡ value_by world.arrivals (needs_of s.kind) name

@@ -1,18 +1,16 @@
-//! The generations of one kind with their indexes: which stand of a name, which wait for which name, and which are due to serve; and
-//! what is read of them. The kind of the rows is a value, so that clusters and listeners share it.
+//! The generations of one kind with their indexes: which stand of a name, which wait for which name, which hold an address, and
+//! which are due to serve; and what is read of them. The kind of the rows is a value, so that clusters and listeners share it:
+//! of clusters the index of addresses is empty by itself.
 //!
-//! # Choices
-//!
-//! - The numbers of the generations that depend on a name are lent as a slice, so they stand one behind another and not in a
-//!   tree (`Numbers`). One is found by halves. The first leaves its place empty, so that generations that retire in the order in
-//!   which they came cost no move; behind another the rest moves up at once.
-//! - That numbers come in rising order is no condition of `watch`, so that each clause holds of every list. Each list keeps
-//!   whether it is known to rise, and is walked where it isn't, which never comes of numbers in the order in which they are
-//!   drawn.
+//! Each index equals a search of the rows (`IsIndexed`), and a question costs look-ups in place of the search. What shows or
+//! lists all goes over the table once and sorts by name. What is said of a world is said of every one that the state stands
+//! for (`StandsFor`).
 #![tactic(auto)]
 
+mod addresses;
 mod copies;
 mod due;
+mod holders;
 mod hosts;
 mod moved;
 mod names;
@@ -26,6 +24,7 @@ mod state;
 mod watched;
 mod watches;
 
+pub use addresses::Addresses;
 pub use due::Due;
 pub use hosts::takes_result;
 pub use names::{Names, Standing};

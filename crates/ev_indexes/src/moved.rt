@@ -1,3 +1,5 @@
+//! Which names generations ceased or began to depend on, by the generations that changed alone.
+
 ghost use Rattle.std.specs.Prelude.{◌≡◌, ◌++◌, IfOk, OnOk};
 ghost use Rattle.ev_indexes.specs.Indexes.{IsIndexed};
 ghost use Rattle.ev_indexes.specs.Moved.{is_held, free_need, need_lost, need_gained, names_lost, names_gained};
@@ -9,7 +11,7 @@ use std::alloc::{AllocError, Global};
 
 impl State {
     /// The names that these retired generations depended on and no live generation up to the number `made` does, in the order of
-    /// their bytes, each once; of generations behind that number nothing is told. It looks at these generations alone.
+    /// their bytes, each once; of generations after that number nothing is told. It looks at these generations alone.
     pub fn names_lost(
         &self,
         alloc: Global,
@@ -27,8 +29,8 @@ impl State {
         Ok(Seq::from_vec(names))
     }
 
-    /// The names that live generations behind the number `made` depend on and no live one up to it does, in the order of their bytes,
-    /// each once. It looks at the generations behind that number alone.
+    /// The names that live generations after the number `made` depend on and no live one up to it does, in the order of their bytes,
+    /// each once. It looks at the generations after that number alone.
     pub fn names_gained(&self, alloc: Global, made: u32) -> Result<Seq<Name>, AllocError>
         requires indexed { IsIndexed self.now }
         ensures { IfOk result (λ names. names ≡ names_gained made self.now.table.made self.now.table.rows) }

@@ -1,3 +1,6 @@
+//! What verdicts ask of a name. They ask by texts, of which not each is a name, so the maps by name are asked by a key that borrows
+//! the text (`NameKey`).
+
 ghost use Rattle.std.specs.Prelude.{◌≡◌, ◌||◌, not, is_some};
 ghost use Rattle.ev_model.specs.Live.{lives_of, newest_of};
 ghost use Rattle.ev_model.specs.Phase.{has_come};

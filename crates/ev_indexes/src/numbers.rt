@@ -1,7 +1,13 @@
+//! Numbers of the generations that depend on a name. They are lent as a slice, so they stand one after another and not in a tree, and
+//! one is found by halves. The first leaves its place empty, so that generations that retire in the order in which they came cost
+//! no move; the rest moves up after another. That numbers come in rising order is no condition of `push`, so that each clause
+//! holds of every list: each list keeps whether it is known to rise, and is walked where it isn't, which never comes of numbers
+//! in the order in which they are drawn.
+
 ghost use Rattle.std.specs.Prelude.{◌≡◌, ◌++◌, [], ◌∷◌, ◌+◌, ◌-◌, ◌<◌, ◌≤◌, drop, IsTrue, ◌↔◌, length, nat_le, slice_get, OnOk, OnErr};
 ghost use Rattle.std.specs.List.{list_any};
-ghost use Rattle.ev_indexes.specs.Numbers.{is_above, is_first_up_to};
-ghost use Rattle.ev_indexes.specs.Watched.{without_number};
+ghost use Rattle.ev_indexes.specs.Numbers.{is_above_other, is_first_up_to};
+ghost use Rattle.ev_indexes.specs.Watched.{numbers_without};
 
 use ev_types::{Gen, TryCopy};
 use std::alloc::{AllocError, Global};
@@ -62,7 +68,7 @@ impl Numbers {
         self.len() == 0
     }
 
-    /// Puts a number behind the others. Without memory they stay as they were.
+    /// Puts a number after the others. Without memory they stay as they were.
     pub fn push(&mut self, number: Gen) -> Result<(), AllocError>
         ensures ok { OnOk result (self.new ≡ self.old ++ number ∷ []) }
         ensures err { OnErr result (self.new ≡ self.old) }
@@ -73,10 +79,10 @@ impl Numbers {
         Ok(())
     }
 
-    /// Leaves a number out. Where they rise, it is found by halves; the first leaves its place empty, and behind another the
+    /// Leaves a number out. Where they rise, it is found by halves; the first leaves its place empty, and after another the
     /// rest moves up at once.
     pub fn leave_out(&mut self, number: Gen)
-        ensures { self.new ≡ without_number number self.old }
+        ensures { self.new ≡ numbers_without number self.old }
     {
         if !self.rise {
             cut(&mut self.numbers, &mut self.gone);
@@ -117,7 +123,7 @@ impl TryCopy for Numbers {
 
 // Whether a number is above the last of these, where there is one.
 fn is_above_last(number: Gen, numbers: &[Gen]) -> bool
-    ensures { result ≡ is_above number (slice_get numbers.now (length numbers.now - 1)) }
+    ensures { result ≡ is_above_other number (slice_get numbers.now (length numbers.now - 1)) }
 {
     match numbers.last() {
         Some(last) => *last < number,

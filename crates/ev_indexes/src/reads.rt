@@ -1,8 +1,10 @@
+//! What is asked of names that generations depend on, and of the live generations.
+
 ghost use Rattle.std.specs.Prelude.{◌≡◌, ◌++◌, [], ◌∷◌, ◌&&◌, ◌||◌, not, map, IfOk, OnOk};
 ghost use Rattle.std.specs.List.{list_any};
 ghost use Rattle.ev_model.specs.Live.{live_of, lives_of};
 ghost use Rattle.ev_model.specs.Watching.{is_watched};
-ghost use Rattle.ev_indexes.specs.Due.{is_filled};
+ghost use Rattle.ev_indexes.specs.Due.{has_number};
 ghost use Rattle.ev_generations.specs.Tables.{numbers_of};
 ghost use Rattle.ev_indexes.specs.Indexes.{IsIndexed, depends_on, numbers_where};
 ghost use Rattle.ev_indexes.specs.Reads.{live_rows, is_timeout_due, is_awaited_at, seen_at};
@@ -22,7 +24,7 @@ impl State {
         ensures world { InWorldsWatching self.now (λ world kind. result ≡ is_watched (lives_of world) kind name.now) }
     {
         match self.watches.get_text(name) {
-            Some(watch) => is_filled(&watch.rows),
+            Some(watch) => has_number(&watch.rows),
             None => false,
         }
     }
@@ -89,17 +91,17 @@ fn push_number(row: &GenRow, numbers: &mut Vec<Gen>) -> Result<(), AllocError>
 }
 
 // Whether there is a number.
-fn is_filled(numbers: &Numbers) -> bool
-    ensures { result ≡ is_filled numbers.now }
+fn has_number(numbers: &Numbers) -> bool
+    ensures { result ≡ has_number numbers.now }
 {
     !numbers.is_empty()
 }
 
 // Whether a row waits within a limit for a name, which was neither told of nor timed out.
 fn is_awaited(watch: &Watch) -> bool
-    ensures { result ≡ (is_filled watch.now.limited && not (watch.now.told || watch.now.timed)) }
+    ensures { result ≡ (has_number watch.now.limited && not (watch.now.told || watch.now.timed)) }
 {
-    is_filled(&watch.limited) && !(watch.told || watch.timed)
+    has_number(&watch.limited) && !(watch.told || watch.timed)
 }
 
 // The live rows of a table.

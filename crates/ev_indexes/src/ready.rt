@@ -1,3 +1,5 @@
+//! Whether generations are ready, and which are due by that.
+
 ghost use Rattle.std.specs.Prelude.{◌≡◌, ◌+◌, Some, length, OnOk};
 ghost use Rattle.std.specs.Option.{option_copied};
 ghost use Rattle.ev_types.specs.Texts.{IsName};

@@ -1,3 +1,5 @@
+//! What a picture shows of listeners.
+
 ghost use Rattle.std.specs.Prelude.{◌≡◌, ◌++◌, [], ◌∷◌, Some, map, option_to_list, IfOk, OnOk};
 ghost use Rattle.std.specs.Str.{bytes_eq};
 ghost use Rattle.std.specs.List.{IsDistinct};
@@ -8,7 +10,7 @@ ghost use Rattle.ev_model.specs.Versions.{is_before};
 ghost use Rattle.ev_model.specs.Picture.{table_in};
 ghost use Rattle.ev_indexes.specs.Indexes.{IsIndexed};
 ghost use Rattle.ev_indexes.specs.Reads.{listener_in, routing_in, listeners_found};
-ghost use Rattle.ev_indexes.specs.Shown.{first_of, listener_shown_in, listener_of, listeners_of, routed_at, all_routed_at};
+ghost use Rattle.ev_indexes.specs.Shown.{first_of, listener_shown_in, listener_by, listeners_by, routed_at, all_routed_at};
 ghost use Rattle.ev_indexes.specs.Watched.{watch_in};
 ghost use Rattle.ev_indexes.specs.Worlds.{InWorldsOf};
 
@@ -23,7 +25,7 @@ impl State {
     /// names; where no routes came there are none. It goes over the whole table.
     pub fn listeners(&self, alloc: Global) -> Result<Seq<ServedListener>, AllocError>
         requires indexed { IsIndexed self.now }
-        ensures rows { IfOk result (λ served. served ≡ listeners_of self.now) }
+        ensures rows { IfOk result (λ served. served ≡ listeners_by self.now) }
         ensures world { IfOk result (λ served. InWorldsOf Lds self.now (λ world. served ≡ all_routed_at world)) }
     {
         let mut served = listeners(alloc, &self.watches, &self.table)?;
@@ -35,7 +37,7 @@ impl State {
     /// costs a look-up of the number, and one of the name that the listener depends on.
     pub fn listener(&self, alloc: Global, number: Gen) -> Result<Option<ServedListener>, AllocError>
         requires indexed { IsIndexed self.now }
-        ensures rows { IfOk result (λ served. served ≡ listener_of self.now number) }
+        ensures rows { IfOk result (λ served. served ≡ listener_by self.now number) }
         ensures world { IfOk result (λ served. InWorldsOf Lds self.now (λ world. served ≡ routed_at world number)) }
     {
         match self.table.get(number) {

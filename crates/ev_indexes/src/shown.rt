@@ -1,3 +1,5 @@
+//! What a picture shows of clusters.
+
 ghost use Rattle.std.specs.Prelude.{◌≡◌, ◌<◌, ◌++◌, [], ◌∷◌, Some, map, filter, length, IfOk, OnOk};
 ghost use Rattle.std.specs.Str.{bytes_eq};
 ghost use Rattle.std.specs.List.{IsDistinct};
@@ -8,7 +10,7 @@ ghost use Rattle.ev_model.specs.Sorted.{sorted_by};
 ghost use Rattle.ev_model.specs.Versions.{is_before};
 ghost use Rattle.ev_indexes.specs.Indexes.{IsIndexed};
 ghost use Rattle.ev_indexes.specs.Reads.{is_eligible_in, cluster_in, cluster_found, clusters_found, eligible_in};
-ghost use Rattle.ev_indexes.specs.Shown.{cluster_at, cluster_shown_in, clusters_at, clusters_of, cluster_of};
+ghost use Rattle.ev_indexes.specs.Shown.{cluster_at, cluster_shown_in, clusters_at, clusters_by, cluster_by};
 ghost use Rattle.ev_indexes.specs.Worlds.{InWorldsOf};
 
 use crate::hosts::{assignment, is_checked};
@@ -24,7 +26,7 @@ impl State {
     /// goes over the whole table.
     pub fn clusters(&self, alloc: Global) -> Result<Seq<ServedCluster>, AllocError>
         requires indexed { IsIndexed self.now }
-        ensures rows { IfOk result (λ served. served ≡ clusters_of self.now) }
+        ensures rows { IfOk result (λ served. served ≡ clusters_by self.now) }
         ensures world { IfOk result (λ served. InWorldsOf Cds self.now (λ world. served ≡ clusters_at world)) }
     {
         let mut served = clusters(alloc, &self.watches, &self.results, &self.table)?;
@@ -36,7 +38,7 @@ impl State {
     /// look-up of the number and of the name that the cluster depends on, and one of each of its hosts.
     pub fn cluster(&self, alloc: Global, number: Gen) -> Result<Option<ServedCluster>, AllocError>
         requires indexed { IsIndexed self.now }
-        ensures rows { IfOk result (λ served. served ≡ cluster_of self.now number) }
+        ensures rows { IfOk result (λ served. served ≡ cluster_by self.now number) }
         ensures world { IfOk result (λ served. InWorldsOf Cds self.now (λ world. served ≡ cluster_at world number)) }
     {
         match self.table.get(number) {

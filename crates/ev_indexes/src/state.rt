@@ -3,7 +3,7 @@ ghost use Rattle.ev_model.specs.World.{opening};
 ghost use Rattle.ev_indexes.specs.Worlds.{StandsFor};
 ghost use Rattle.ev_indexes.specs.Indexes.{IsIndexed};
 
-use crate::{Due, Names, Watches};
+use crate::{Addresses, Due, Names, Watches};
 use ev_endpoints::Endpoints;
 use ev_generations::Generations;
 use ev_types::{Kind, TryCopy};
@@ -16,6 +16,7 @@ pub struct State {
     pub table: Generations,
     pub names: Names,
     pub watches: Watches,
+    pub addresses: Addresses,
     pub results: Endpoints,
     pub due: Due,
 }
@@ -25,6 +26,7 @@ impl State {
     pub fn new(alloc: Global, kind: Kind) -> State
         ensures kind { result.kind ≡ kind }
         ensures indexed { IsIndexed result }
+        ensures made { result.table.made ≡ 0 }
         ensures stands { (workers : ℕ) (node : List ℕ) → StandsFor result (opening workers node) }
     {
         State {
@@ -32,6 +34,7 @@ impl State {
             table: Generations::new(alloc),
             names: Names::new(alloc),
             watches: Watches::new(alloc),
+            addresses: Addresses::new(alloc),
             results: Endpoints::new(alloc),
             due: Due::new(alloc),
         }
@@ -45,6 +48,7 @@ impl TryCopy for State {
             table: self.table.copy(alloc)?,
             names: self.names.copy(alloc)?,
             watches: self.watches.copy(alloc)?,
+            addresses: self.addresses.copy(alloc)?,
             results: self.results.copy(alloc)?,
             due: self.due.copy(alloc)?,
         })

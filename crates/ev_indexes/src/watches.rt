@@ -1,3 +1,6 @@
+//! What is known of names that generations depend on. Values stand beside the marks of their names, for endpoints and for routes
+//! alike: a content is shared, so there is one place for both.
+
 ghost use Rattle.std.specs.Prelude.{◌≡◌, ◌≢◌, [], Decides, IsSome, OnOk, OnErr};
 ghost use Rattle.std.specs.Map.{lookup};
 ghost use Rattle.std.specs.Option.{option_copied};

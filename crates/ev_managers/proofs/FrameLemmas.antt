@@ -1,5 +1,5 @@
 -- What an event of one kind leaves as it was for the manager of the other kind.
-use Rattle.std.proofs.Common.{◌≡◌, ℕ, Bool, true, false, ◌&&◌, ◌||◌, cond, List, [], ◌∷◌, ◌++◌, map, filter, None, refl, sym, ap, ◌∙◌, subst}
+use Rattle.std.proofs.Common.{◌≡◌, ◌≤◌, arith, ℕ, Bool, true, false, ◌&&◌, ◌||◌, cond, List, [], ◌∷◌, ◌++◌, map, filter, None, refl, sym, ap, ◌∙◌, subst}
 use Rattle.std.specs.Prelude.{IsSome, filter_map, nat_eq, Option, Some, unwrap_or}
 use Rattle.std.proofs.lemmas.List.Folds.{list_any-append}
 use Rattle.std.specs.List.{list_any, fold, zip, AllByRecursion as ByRecursion, last_or}
@@ -29,20 +29,24 @@ use Rattle.ev_model.specs.World.{World, Arrived, HealthResult}
 use Rattle.ev_model.specs.Live.{lives_of}
 use Rattle.ev_model.specs.Verdicts.{is_removed}
 use Rattle.ev_model.specs.Warming.{came_for, content_in, is_word, is_timeout, has_result, is_healthy, is_result_of, is_checked, assignment_by}
-use Rattle.ev_model.specs.Watching.{is_watched}
+use Rattle.ev_model.specs.Watching.{is_by_name, is_watched}
 use Rattle.ev_model.specs.Rows.{removed_status, with_statuses, status_left, arrived, absent_names, with_removals, replaced_status, new_row, add_row, keep_version, keep_value, with_content, refuse, add_item, add_items}
-use Rattle.ev_model.specs.Signals.{ended_status, rows_ended, is_meant, rows_meant, result_for, with_results}
+use Rattle.ev_model.specs.Signals.{ended_status, rows_ended, with_end, is_meant, rows_meant, result_for, with_results}
 use Rattle.ev_generations.specs.Tables.{row_in, numbers_of}
 use Rattle.ev_indexes.specs.declared.state.State.{State}
 use Rattle.ev_indexes.specs.Due.{is_among}
+use Rattle.ev_indexes.specs.Indexes.{depends_on}
 use Rattle.ev_warming.specs.Health.{passes}
 use Rattle.ev_warming.proofs.HealthLemmas.{among-row}
 use Rattle.ev_indexes.proofs.WhereLemmas.{flipped}
-use Rattle.ev_indexes.specs.Worlds.{StandsFor as HasRows, IsSound, needs_of, rows_of_kind}
+use Rattle.ev_indexes.specs.Worlds.{StandsFor, IsSound, needs_of, rows_of_kind}
 use Rattle.ev_indexes.proofs.SeenLemmas.{SameSeen, seen-stands}
-use Rattle.ev_listeners.specs.Listeners.{ListenersKept, StandsFor as HasListeners}
+use Rattle.ev_warming.specs.Arrivals.{AreOnValues, IsOnValue, with_arrived}
+use Rattle.ev_warming.specs.Worlds.{Follows, FollowsDrawing, with_response, with_rows_ended}
+use Rattle.ev_warming.specs.Managers.{IsKept}
+use Rattle.ev_warming.specs.declared.manager.Manager.{Manager}
 use Rattle.ev_managers.specs.declared.managers.Managers.{Managers}
-use Rattle.ev_managers.specs.Managers.{StandFor}
+use Rattle.ev_managers.specs.Managers.{AreForgotten, AreKept, HaveSameRows, IsManager, StandFor, Follow, rows_of, others_of, manager_of, no_value, with_manager}
 
 -- what a manager of this kind sees is the same in both worlds, but for health results
 pub record Leaves (kind : Kind) (before after : World) : Type 0 where
@@ -61,12 +65,11 @@ same_results s before after same = record {
 }
 
 -- so a manager that stood for the one stands for the other
-pub stays : (s : State) (before after : World) → HasRows s before → IsSound after → after.made ≡ before.made → Leaves s.kind before after → LeavesResults s before after
-    → HasRows s after
-stays s before after has sound made leaves results = record {
+pub stays : (s : State) (before after : World) → StandsFor s before → IsSound after → Leaves s.kind before after → LeavesResults s before after
+    → StandsFor s after
+stays s before after has sound leaves results = record {
   sound = sound;
   rows = has.rows ∙ sym leaves.rows;
-  made = has.made ∙ sym made;
   told = λ name. has.told name ∙ sym (ap (list_any is_word) (leaves.came name));
   timed = λ name. has.timed name ∙ sym (ap (list_any is_timeout) (leaves.came name));
   value = λ name. has.value name ∙ sym (ap (λ (came : List Arrival). last_or None (filter_map content_in came)) (leaves.came name));
@@ -281,7 +284,7 @@ any_none p (x ∷ xs) none = by (p x) none (any_none p xs)
     by false none rest = rest none
 
 -- health results are of clusters
-pub health_leaves : (s : State) (world : World) (name : List ℕ) (host : Host) (healthy : Bool) → HasRows s world → kind_same Cds s.kind ≡ false
+pub health_leaves : (s : State) (world : World) (name : List ℕ) (host : Host) (healthy : Bool) → StandsFor s world → kind_same Cds s.kind ≡ false
     → LeavesResults s world (with_results host healthy (rows_meant world.arrivals name host world.rows) world)
 health_leaves s world name host healthy has apart = record {
   resulted = λ number h there.
@@ -315,23 +318,12 @@ health_leaves s world name host healthy has apart = record {
         among-row (is_meant world.arrivals name host) number world.rows has.sound.table.apart
         ∙ other_test (row_in number world.rows) (its_kind number there)
 
--- the same of the listener manager
-pub listeners_stay : (l : ListenersKept) (before after : World) → HasListeners l before → IsSound after → after.made ≡ before.made
-    → Leaves l.state.kind before after → LeavesResults l.state before after → HasListeners l after
-listeners_stay l before after has sound made leaves results = record { part = stays l.state before after has.part sound made leaves results; addresses = has.addresses }
-
--- kinds apart
-pub listeners_apart : IsApart Lds Cds
-listeners_apart = record { rows = refl; needs = refl }
-
-pub clusters_apart : IsApart Cds Lds
-clusters_apart = record { rows = refl; needs = refl }
-
-pub routes_apart : IsApart Rds Cds
-routes_apart = record { rows = refl; needs = refl }
-
-pub endpoints_apart : IsApart Eds Lds
-endpoints_apart = record { rows = refl; needs = refl }
+-- the manager of the other kind sees nothing of a kind
+pub kinds-apart : (kind : Kind) → IsApart kind (others_of kind)
+kinds-apart Cds = record { rows = refl; needs = refl }
+kinds-apart Eds = record { rows = refl; needs = refl }
+kinds-apart Lds = record { rows = refl; needs = refl }
+kinds-apart Rds = record { rows = refl; needs = refl }
 
 -- a response brings no health result
 content_results : (change : Content → World → World) → ((content : Content) (world : World) → (change content world).results ≡ world.results)
@@ -374,47 +366,197 @@ pub response_results : (kind : Kind) (response : ResponseParts) (verdicts : List
 response_results kind response verdicts world =
     items_results kind (zip verdicts response.items) (with_removals kind response world) ∙ removals_results kind response world
 
--- the manager of the other kind stands for the world behind a response, once the numbers go on
-module _ (other : Kind) (response : ResponseParts) (verdicts : List Verdict) (before world : World)
-    (sound : IsSound (add_items other verdicts response.items (with_removals other response world)))
-    (made : (add_items other verdicts response.items (with_removals other response world)).made ≡ before.made)
-    (same : record world { made = before.made } ≡ before) where
-  leaves : (kind : Kind) → IsApart other kind → Leaves kind before (add_items other verdicts response.items (with_removals other response world))
-  leaves kind apart =
-      subst (λ (w : World). Leaves kind w (add_items other verdicts response.items (with_removals other response world))) same
-      (let l = response_leaves other kind apart response verdicts world in record { rows = l.rows; came = l.came })
+-- a response of what generations depend on draws no number
+content_made : (change : Content → World → World) → ((content : Content) (world : World) → (change content world).made ≡ world.made)
+    → (body : Body) (world : World) → (with_content change body world).made ≡ world.made
+content_made change same (Good content) world = same content world
+content_made change same (Bad rule) world = refl
+content_made change same Beat world = refl
 
-  pub clusters_follow : (s : State) → s.kind ≡ Cds → IsApart other Cds → HasRows s before
-      → HasRows s (add_items other verdicts response.items (with_removals other response world))
-  clusters_follow s of apart has =
-      stays s before (add_items other verdicts response.items (with_removals other response world)) has sound made
-      (leaves s.kind (subst (IsApart other) (sym of) apart))
-      (same_results s before (add_items other verdicts response.items (with_removals other response world))
-      (response_results other response verdicts world ∙ ap (λ (w : World). w.results) same))
+told_made : (watched : Bool) (more world : World) → more.made ≡ world.made → (cond watched more world).made ≡ world.made
+told_made true more world same = same
+told_made false more world same = refl
 
-  pub listeners_follow : (l : ListenersKept) → l.state.kind ≡ Lds → IsApart other Lds → HasListeners l before
-      → HasListeners l (add_items other verdicts response.items (with_removals other response world))
-  listeners_follow l of apart has =
-      listeners_stay l before (add_items other verdicts response.items (with_removals other response world)) has sound made
-      (leaves l.state.kind (subst (IsApart other) (sym of) apart))
-      (same_results l.state before (add_items other verdicts response.items (with_removals other response world))
-      (response_results other response verdicts world ∙ ap (λ (w : World). w.results) same))
+refused_made : (kind : Kind) (name : List ℕ) (world : World) → (refuse kind name world).made ≡ world.made
+refused_made Cds name world = refl
+refused_made Eds name world = told_made (is_watched (lives_of world) Eds name) _ world refl
+refused_made Lds name world = refl
+refused_made Rds name world = told_made (is_watched (lives_of world) Rds name) _ world refl
 
--- the listener manager, where nothing of it changed
-pub listeners_keep : (l : ListenersKept) (before after : World) → l.state.kind ≡ Lds → HasListeners l before → IsSound after → after.made ≡ before.made
-    → Leaves Lds before after → after.results ≡ before.results → HasListeners l after
-listeners_keep l before after of has sound made leaves same =
-    listeners_stay l before after has sound made (subst (λ (k : Kind). Leaves k before after) (sym of) leaves) (same_results l.state before after same)
+item_made : (kind : Kind) (verdict : Verdict) (watched : Bool) (item : ItemParts) (world : World) → IsOnValue verdict watched → (add_item kind verdict item world).made ≡ world.made
+item_made kind New watched item world on = absurd on
+item_made kind Same watched item world on = content_made (λ content. keep_version kind item) (λ content world. refl) item.body world
+item_made kind Kept watched item world on = content_made (keep_value kind item) (λ content world. refl) item.body world
+item_made kind Unasked watched item world on = refl
+item_made kind Renewed watched item world on = refl
+item_made kind (Refused rule) watched item world on = refused_made kind item.name world
 
--- the cluster manager, where nothing of it changed
-pub clusters_keep : (s : State) (before after : World) → s.kind ≡ Cds → HasRows s before → IsSound after → after.made ≡ before.made
-    → Leaves Cds before after → after.results ≡ before.results → HasRows s after
-clusters_keep s before after of has sound made leaves same =
-    stays s before after has sound made (subst (λ (k : Kind). Leaves k before after) (sym of) leaves) (same_results s before after same)
+items_made : (kind : Kind) (rows : List GenRow) (verdicts : List Verdict) (items : List ItemParts) (world : World) → AreOnValues rows verdicts items
+    → (fold (λ (w : World) (one : Verdict × ItemParts). add_item kind one.0 one.1 w) world (zip verdicts items)).made ≡ world.made
+items_made kind rows [] items world on = refl
+items_made kind rows (verdict ∷ verdicts) [] world on = refl
+items_made kind rows (verdict ∷ verdicts) (item ∷ items) world on =
+    items_made kind rows verdicts items (add_item kind verdict item world) on.1
+    ∙ item_made kind verdict (list_any (depends_on item.name) rows) item world on.0
+
+removals_made : (kind : Kind) (response : ResponseParts) (world : World) → (with_removals kind response world).made ≡ world.made
+removals_made Cds response world = refl
+removals_made Eds response world = refl
+removals_made Lds response world = refl
+removals_made Rds response world = refl
+
+pub value-made : (kind : Kind) (rows : List GenRow) (response : ResponseParts) (verdicts : List Verdict) (world : World) → AreOnValues rows verdicts response.items
+    → (with_response kind verdicts response world).made ≡ world.made
+value-made kind rows response verdicts world on =
+    items_made kind rows verdicts response.items (with_removals kind response world) on ∙ removals_made kind response world
+
+-- what each of both is
+pub kept-of : (m : Managers) (kind : Kind) → AreKept m → IsManager (rows_of kind) m.made (manager_of m kind)
+kept-of m Cds kept = kept.clusters
+kept-of m Eds kept = kept.clusters
+kept-of m Lds kept = kept.listeners
+kept-of m Rds kept = kept.listeners
+
+pub stand-of : (m : Managers) (kind : Kind) (world : World) → StandFor m world → StandsFor (manager_of m kind).state world
+stand-of m Cds world stand = stand.clusters
+stand-of m Eds world stand = stand.clusters
+stand-of m Lds world stand = stand.listeners
+stand-of m Rds world stand = stand.listeners
+
+-- what generations of its manager depend on is of the kind, or they are
+pub needs-back : (m : Managers) (kind : Kind) → AreKept m → is_by_name kind ≡ true → needs_of (manager_of m kind).state.kind ≡ kind
+needs-back m Cds kept by_name = absurd (false≢true by_name)
+needs-back m Eds kept by_name = ap needs_of kept.clusters.rows
+needs-back m Lds kept by_name = absurd (false≢true by_name)
+needs-back m Rds kept by_name = ap needs_of kept.listeners.rows
+
+pub rows-back : (m : Managers) (kind : Kind) → AreKept m → is_by_name kind ≡ false → (manager_of m kind).state.kind ≡ kind
+rows-back m Cds kept whole = kept.clusters.rows
+rows-back m Eds kept whole = absurd (false≢true (sym whole))
+rows-back m Lds kept whole = kept.listeners.rows
+rows-back m Rds kept whole = absurd (false≢true (sym whole))
+
+-- both are kept, and all is forgotten, where it is so of the one that changed
+pub kept-with : (m : Managers) (kind : Kind) (own : Manager) → AreKept m → own.state.kind ≡ (manager_of m kind).state.kind → IsKept own
+    → own.state.table.made ≤ m.made → AreKept (with_manager m kind own)
+kept-with m Cds own kept same is drawn = record { clusters = record { rows = same ∙ kept.clusters.rows; kept = is; drawn = drawn }; listeners = kept.listeners }
+kept-with m Eds own kept same is drawn = record { clusters = record { rows = same ∙ kept.clusters.rows; kept = is; drawn = drawn }; listeners = kept.listeners }
+kept-with m Lds own kept same is drawn = record { clusters = kept.clusters; listeners = record { rows = same ∙ kept.listeners.rows; kept = is; drawn = drawn } }
+kept-with m Rds own kept same is drawn = record { clusters = kept.clusters; listeners = record { rows = same ∙ kept.listeners.rows; kept = is; drawn = drawn } }
+
+later-manager : (kind : Kind) (made later : ℕ) (m : Manager) → IsManager kind made m → made ≤ later → IsManager kind later m
+later-manager kind made later m is above = record { rows = is.rows; kept = is.kept; drawn = omega (arith, is.drawn, above) }
+
+pub kept-drawn : (m : Managers) (kind : Kind) (own : Manager) (made : ℕ) → AreKept m → own.state.kind ≡ (manager_of m kind).state.kind → IsKept own
+    → own.state.table.made ≤ made → m.made ≤ made → AreKept (record (with_manager m kind own) { made = made })
+kept-drawn m Cds own made kept same is drawn later =
+    record { clusters = record { rows = same ∙ kept.clusters.rows; kept = is; drawn = drawn }; listeners = later-manager Lds m.made made m.listeners kept.listeners later }
+kept-drawn m Eds own made kept same is drawn later =
+    record { clusters = record { rows = same ∙ kept.clusters.rows; kept = is; drawn = drawn }; listeners = later-manager Lds m.made made m.listeners kept.listeners later }
+kept-drawn m Lds own made kept same is drawn later =
+    record { clusters = later-manager Cds m.made made m.clusters kept.clusters later; listeners = record { rows = same ∙ kept.listeners.rows; kept = is; drawn = drawn } }
+kept-drawn m Rds own made kept same is drawn later =
+    record { clusters = later-manager Cds m.made made m.clusters kept.clusters later; listeners = record { rows = same ∙ kept.listeners.rows; kept = is; drawn = drawn } }
+
+pub forgotten-with : (m : Managers) (kind : Kind) (own : Manager) → AreForgotten m → own.stale ≡ [] → AreForgotten (with_manager m kind own)
+forgotten-with m Cds own done none = record { clusters = none; listeners = done.listeners }
+forgotten-with m Eds own done none = record { clusters = none; listeners = done.listeners }
+forgotten-with m Lds own done none = record { clusters = done.clusters; listeners = none }
+forgotten-with m Rds own done none = record { clusters = done.clusters; listeners = none }
+
+-- the rows of both stay where those of the one that changed do
+pub same-rows-with : (m : Managers) (kind : Kind) (own : Manager) → own.state.table.rows ≡ (manager_of m kind).state.table.rows → HaveSameRows m (with_manager m kind own)
+same-rows-with m Cds own same = record { clusters = same; listeners = refl }
+same-rows-with m Eds own same = record { clusters = same; listeners = refl }
+same-rows-with m Lds own same = record { clusters = refl; listeners = same }
+same-rows-with m Rds own same = record { clusters = refl; listeners = same }
+
+-- one of both, where nothing of it changed
+keeps : (kind : Kind) (made : ℕ) (m : Manager) (before after : World) → IsManager kind made m → StandsFor m.state before → IsSound after
+    → Leaves kind before after → after.results ≡ before.results → StandsFor m.state after
+keeps kind made m before after is has sound leaves same =
+    stays m.state before after has sound (subst (λ (k : Kind). Leaves k before after) (sym is.rows) leaves) (same_results m.state before after same)
+
+-- both stand for a world that one of them followed to, where the other sees nothing of it, and no number was drawn, or so many were
+pub stand-with : (m : Managers) (kind : Kind) (own : Manager) (before after : World) → AreKept m → StandFor m before → StandsFor own.state after
+    → after.made ≡ before.made → Leaves (others_of kind) before after → after.results ≡ before.results → StandFor (with_manager m kind own) after
+stand-with m Cds own before after kept stand has made leaves same =
+    record { made = stand.made ∙ sym made; clusters = has; listeners = keeps Lds m.made m.listeners before after kept.listeners stand.listeners has.sound leaves same }
+stand-with m Eds own before after kept stand has made leaves same =
+    record { made = stand.made ∙ sym made; clusters = has; listeners = keeps Lds m.made m.listeners before after kept.listeners stand.listeners has.sound leaves same }
+stand-with m Lds own before after kept stand has made leaves same =
+    record { made = stand.made ∙ sym made; clusters = keeps Cds m.made m.clusters before after kept.clusters stand.clusters has.sound leaves same; listeners = has }
+stand-with m Rds own before after kept stand has made leaves same =
+    record { made = stand.made ∙ sym made; clusters = keeps Cds m.made m.clusters before after kept.clusters stand.clusters has.sound leaves same; listeners = has }
+
+pub stand-drawn : (m : Managers) (kind : Kind) (own : Manager) (made : ℕ) (before after : World) → AreKept m → StandFor m before → StandsFor own.state after
+    → made ≡ after.made → Leaves (others_of kind) before after → after.results ≡ before.results → StandFor (record (with_manager m kind own) { made = made }) after
+stand-drawn m Cds own made before after kept stand has drawn leaves same =
+    record { made = drawn; clusters = has; listeners = keeps Lds m.made m.listeners before after kept.listeners stand.listeners has.sound leaves same }
+stand-drawn m Eds own made before after kept stand has drawn leaves same =
+    record { made = drawn; clusters = has; listeners = keeps Lds m.made m.listeners before after kept.listeners stand.listeners has.sound leaves same }
+stand-drawn m Lds own made before after kept stand has drawn leaves same =
+    record { made = drawn; clusters = keeps Cds m.made m.clusters before after kept.clusters stand.clusters has.sound leaves same; listeners = has }
+stand-drawn m Rds own made before after kept stand has drawn leaves same =
+    record { made = drawn; clusters = keeps Cds m.made m.clusters before after kept.clusters stand.clusters has.sound leaves same; listeners = has }
+
+-- something came for a name, a response came, and a name came to its end: of the kind that one of both followed
+pub arrival-stands : (m : Managers) (kind : Kind) (own : Manager) (arrival : Arrival) (name : List ℕ) → AreKept m → is_by_name kind ≡ true
+    → Follows (manager_of m kind).state own.state (with_arrived (needs_of (manager_of m kind).state.kind) arrival name)
+    → Follow m (with_manager m kind own) (with_arrived kind arrival name)
+arrival-stands m kind own arrival name kept by_name follows world stand =
+    stand-with m kind own world (with_arrived kind arrival name world) kept stand
+    (subst (λ (k : Kind). StandsFor own.state (with_arrived k arrival name world)) (needs-back m kind kept by_name) (follows world (stand-of m kind world stand)))
+    refl (arrival_leaves kind (others_of kind) (kinds-apart kind) (arrived kind arrival name ∷ []) world (refl, tt)) refl
+
+pub values-stand : (m : Managers) (kind : Kind) (own : Manager) (response : ResponseParts) (verdicts : List Verdict) → AreKept m → is_by_name kind ≡ true
+    → AreOnValues (manager_of m kind).state.table.rows verdicts response.items
+    → Follows (manager_of m kind).state own.state (with_response (needs_of (manager_of m kind).state.kind) verdicts response)
+    → Follow m (with_manager m kind own) (with_response kind verdicts response)
+values-stand m kind own response verdicts kept by_name on follows world stand =
+    stand-with m kind own world (with_response kind verdicts response world) kept stand
+    (subst (λ (k : Kind). StandsFor own.state (with_response k verdicts response world)) (needs-back m kind kept by_name) (follows world (stand-of m kind world stand)))
+    (value-made kind (manager_of m kind).state.table.rows response verdicts world on)
+    (response_leaves kind (others_of kind) (kinds-apart kind) response verdicts world) (response_results kind response verdicts world)
+
+pub rows-stand : (m : Managers) (kind : Kind) (own : Manager) (made : ℕ) (response : ResponseParts) (verdicts : List Verdict) → AreKept m → is_by_name kind ≡ false
+    → made ≡ own.state.table.made
+    → FollowsDrawing m.made (manager_of m kind).state own.state (with_response (manager_of m kind).state.kind verdicts response)
+    → Follow m (record (with_manager m kind own) { made = made }) (with_response kind verdicts response)
+rows-stand m kind own made response verdicts kept whole drawn follows world stand =
+    let led = follows world (stand-of m kind world stand) stand.made in
+    let of_kind = rows-back m kind kept whole in
+    stand-drawn m kind own made world (with_response kind verdicts response world) kept stand
+    (subst (λ (k : Kind). StandsFor own.state (with_response k verdicts response world)) of_kind led.0)
+    (drawn ∙ led.1 ∙ (λ i. (with_response (of_kind i) verdicts response world).made))
+    (response_leaves kind (others_of kind) (kinds-apart kind) response verdicts world) (response_results kind response verdicts world)
+
+-- endpoints and routes come to their end by an arrival of none
+pub value-end : (kind : Kind) (name : List ℕ) (world : World) → is_by_name kind ≡ true → with_arrived kind (Value (no_value kind)) name world ≡ with_end kind name world
+value-end Cds name world by_name = absurd (false≢true by_name)
+value-end Eds name world by_name = refl
+value-end Lds name world by_name = absurd (false≢true by_name)
+value-end Rds name world by_name = refl
+
+end_is : (kind : Kind) (name : List ℕ) (world : World) → is_by_name kind ≡ false → with_rows_ended kind name world ≡ with_end kind name world
+end_is Cds name world whole = refl
+end_is Eds name world whole = absurd (false≢true (sym whole))
+end_is Lds name world whole = refl
+end_is Rds name world whole = absurd (false≢true (sym whole))
+
+pub end-stands : (m : Managers) (kind : Kind) (own : Manager) (name : List ℕ) → AreKept m → is_by_name kind ≡ false
+    → Follows (manager_of m kind).state own.state (with_rows_ended (manager_of m kind).state.kind name)
+    → Follow m (with_manager m kind own) (with_end kind name)
+end-stands m kind own name kept whole follows world stand =
+    subst (λ (w : World). StandFor (with_manager m kind own) w) (end_is kind name world whole)
+    (stand-with m kind own world (with_rows_ended kind name world) kept stand
+    (subst (λ (k : Kind). StandsFor own.state (with_rows_ended k name world)) (rows-back m kind kept whole) (follows world (stand-of m kind world stand)))
+    refl (end_leaves kind (others_of kind) (kinds-apart kind) name world) refl)
 
 -- both managers stand for a world that has the same generations, numbers, arrivals and results
 pub see_the_same : (m : Managers) (before after : World) → SameSeen before after → StandFor m before → StandFor m after
 see_the_same m before after same stand = record {
+  made = stand.made ∙ sym same.made;
   clusters = seen-stands m.clusters.state before after same stand.clusters;
-  listeners = record { part = seen-stands m.listeners.state before after same stand.listeners.part; addresses = stand.listeners.addresses };
+  listeners = seen-stands m.listeners.state before after same stand.listeners;
 }

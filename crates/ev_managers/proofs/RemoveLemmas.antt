@@ -10,6 +10,11 @@ use Rattle.ev_generations.specs.Tables.{row_in, is_number, numbers_of, without_r
 use Rattle.ev_generations.proofs.TableLemmas.{without_row-absent}
 use Rattle.ev_warming.specs.Changes.{is_over}
 use Rattle.ev_indexes.specs.Worlds.{rows_of_kind}
+use Rattle.ev_warming.specs.Worlds.{Follows, without_generation}
+use Rattle.ev_warming.specs.declared.manager.Manager.{Manager}
+use Rattle.ev_managers.specs.declared.managers.Managers.{Managers}
+use Rattle.ev_managers.specs.Managers.{AreKept, Follow, rows_of, others_of, manager_of, with_manager}
+use Rattle.ev_managers.proofs.FrameLemmas.{kept-of, stand-of, stand-with}
 use Rattle.ev_indexes.proofs.RowLemmas.{found-of_kind}
 
 -- two tests may be made in either order
@@ -49,7 +54,7 @@ kind_found kind number (first ∷ rows) row at = by (kind_same first.kind kind) 
 same_rows : {a b : GenRow} → Some a ≡ Some b → a ≡ b
 same_rows h = cc
 
-other_absent : (kind other : Kind) (number : ℕ) (rows : List GenRow) (row : GenRow) → IsDistinct nat_eq (numbers_of rows)
+pub other_absent : (kind other : Kind) (number : ℕ) (rows : List GenRow) (row : GenRow) → IsDistinct nat_eq (numbers_of rows)
     → ((k : Kind) → kind_same k kind ≡ true → kind_same k other ≡ true → ⊥)
     → row_in number (rows_of_kind kind rows) ≡ Some row → row_in number (rows_of_kind other rows) ≡ None
 other_absent kind other number rows row apart never at = by (row_in number (rows_of_kind other rows)) refl
@@ -74,11 +79,30 @@ others_stay kind other number rows own apart never are over =
     ∙ without_row-absent number (rows_of_kind other rows)
     (other_absent kind other number rows there.0 apart never (ap (row_in number) (sym are) ∙ there.1))
 
-pub no_listener : (k : Kind) → kind_same k Cds ≡ true → kind_same k Lds ≡ true → ⊥
-no_listener Cds is also = false≢true also
-no_listener Eds is also = false≢true is
-no_listener Lds is also = false≢true is
-no_listener Rds is also = false≢true is
+-- no row is of both kinds
+pub rows-apart : (kind k : Kind) → kind_same k (rows_of kind) ≡ true → kind_same k (others_of kind) ≡ true → ⊥
+rows-apart kind k is also = by kind k is also
+  where
+    never : (k : Kind) → kind_same k Cds ≡ true → kind_same k Lds ≡ true → ⊥
+    never Cds is also = false≢true also
+    never Eds is also = false≢true is
+    never Lds is also = false≢true is
+    never Rds is also = false≢true is
 
-pub no_cluster : (k : Kind) → kind_same k Lds ≡ true → kind_same k Cds ≡ true → ⊥
-no_cluster k is also = no_listener k also is
+    by : (kind k : Kind) → kind_same k (rows_of kind) ≡ true → kind_same k (others_of kind) ≡ true → ⊥
+    by Cds k is also = never k is also
+    by Eds k is also = never k is also
+    by Lds k is also = never k also is
+    by Rds k is also = never k also is
+
+-- both stand for the world without the generation
+pub removal-stands : (m : Managers) (kind : Kind) (own : Manager) (number : ℕ) → AreKept m → is_over (row_in number (manager_of m kind).state.table.rows) ≡ true
+    → Follows (manager_of m kind).state own.state (without_generation number) → Follow m (with_manager m kind own) (without_generation number)
+removal-stands m kind own number kept over follows world stand =
+    let has = stand-of m kind world stand in
+    stand-with m kind own world (without_generation number world) kept stand (follows world has) refl
+    (record {
+      rows = others_stay (rows_of kind) (others_of kind) number world.rows (manager_of m kind).state.table.rows has.sound.table.apart (rows-apart kind)
+          (has.rows ∙ ap (λ k. rows_of_kind k world.rows) (kept-of m kind kept).rows) over;
+      came = λ name. refl;
+    }) refl

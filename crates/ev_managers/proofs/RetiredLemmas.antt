@@ -1,19 +1,27 @@
 -- Which generations of both managers retired, and which changed.
-use Rattle.std.proofs.Common.{◌≡◌, ◌∙◌, ℕ, Bool, true, false, not, ◌&&◌, ◌||◌, nat_eq, List, [], ◌++◌, Option, option_to_list, refl, sym, ap}
-use Rattle.std.proofs.Math.Bool.{or_assoc}
+use Rattle.std.proofs.Common.{◌≡◌, ◌∙◌, ℕ, Bool, true, false, not, ◌&&◌, ◌||◌, nat_eq, List, [], ◌++◌, Option, None, Some, option_map, option_to_list, refl, sym, ap}
+use Rattle.std.proofs.Math.Bool.{or_assoc, or-false}
 use Rattle.std.proofs.lemmas.List.Folds.{list_any-append}
 use Rattle.ev_types.specs.declared.contents.Kind.{Kind}
+use Rattle.ev_types.specs.declared.contents.Kind.TheVariants.{Cds, Eds, Lds, Rds}
+use Rattle.ev_types.specs.Statuses.{is_live, is_active}
+use Rattle.ev_types.specs.declared.rows.RowStatus.{RowStatus}
+use Rattle.ev_types.specs.declared.rows.RowStatus.TheVariants.{Warming, Active, Draining, Dropped}
 use Rattle.ev_types.specs.declared.rows.GenRow.{GenRow}
-use Rattle.ev_model.specs.Signals.{rows_ended}
+use Rattle.ev_model.specs.Rows.{with_statuses}
+use Rattle.ev_model.specs.Signals.{is_draining, rows_ended}
+use Rattle.ev_model.specs.Tidy.{status_by}
 use Rattle.ev_generations.specs.Tables.{row_in}
+use Rattle.ev_generations.proofs.TableLemmas.{row_in-with_statuses}
 use Rattle.ev_indexes.specs.declared.state.State.{State}
 use Rattle.ev_indexes.specs.Due.{is_among}
+use Rattle.ev_indexes.specs.Indexes.{IsIndexed, numbers_where, serves, status_in, warms}
 use Rattle.ev_warming.specs.Changes.{is_over, has_retired, began_to_serve, began_to_drain}
-use Rattle.ev_indexes.specs.Indexes.{IsIndexed, numbers_where, serves, warms}
+use Rattle.ev_warming.specs.declared.manager.Manager.{Manager}
 use Rattle.ev_warming.proofs.RetiredLemmas.{tells-ended}
 use Rattle.ev_managers.specs.declared.managers.Managers.{Managers}
-use Rattle.ev_managers.specs.declared.retired.Retired.{Retired}
-use Rattle.ev_managers.specs.Retired.{AreRetired, is_moved}
+use Rattle.ev_managers.specs.Managers.{HaveSameRows, manager_of, with_manager}
+use Rattle.ev_managers.specs.Moved.{AreRetired, Grows, is_moved}
 
 -- where the rows are the same, none retired
 pub none-retired : (before after : List GenRow) → after ≡ before → (number : ℕ) → false ≡ has_retired number before after
@@ -24,27 +32,37 @@ none-retired before after same number = by (is_over (row_in number before)) ∙ 
     by false = refl
 
 -- of neither manager
-pub none-are : (retired : Retired) (before after : Managers) → retired ≡ record { clusters = []; listeners = [] }
-    → after.clusters.state.table.rows ≡ before.clusters.state.table.rows → after.listeners.state.table.rows ≡ before.listeners.state.table.rows
-    → AreRetired retired before after
-none-are retired before after none clusters listeners = record {
-  clusters = λ n. ap (λ (r : Retired). is_among r.clusters n) none ∙ none-retired before.clusters.state.table.rows after.clusters.state.table.rows clusters n;
-  listeners = λ n. ap (λ (r : Retired). is_among r.listeners n) none ∙ none-retired before.listeners.state.table.rows after.listeners.state.table.rows listeners n;
-}
+pub none-are : (before after : Managers) → HaveSameRows before after → AreRetired [] before after
+none-are before after same n =
+    λ i. none-retired before.clusters.state.table.rows after.clusters.state.table.rows same.clusters n i
+    || none-retired before.listeners.state.table.rows after.listeners.state.table.rows same.listeners n i
+
+-- those of the manager that alone changed
+pub retired-with : (m : Managers) (kind : Kind) (own : Manager) (numbers : List ℕ)
+    → ((n : ℕ) → is_among numbers n ≡ has_retired n (manager_of m kind).state.table.rows own.state.table.rows) → AreRetired numbers m (with_manager m kind own)
+retired-with m Cds own numbers told n =
+    told n ∙ sym (or-false (has_retired n m.clusters.state.table.rows own.state.table.rows))
+    ∙ (λ i. has_retired n m.clusters.state.table.rows own.state.table.rows || none-retired m.listeners.state.table.rows m.listeners.state.table.rows refl n i)
+retired-with m Eds own numbers told n =
+    told n ∙ sym (or-false (has_retired n m.clusters.state.table.rows own.state.table.rows))
+    ∙ (λ i. has_retired n m.clusters.state.table.rows own.state.table.rows || none-retired m.listeners.state.table.rows m.listeners.state.table.rows refl n i)
+retired-with m Lds own numbers told n =
+    told n ∙ (λ i. none-retired m.clusters.state.table.rows m.clusters.state.table.rows refl n i || has_retired n m.listeners.state.table.rows own.state.table.rows)
+retired-with m Rds own numbers told n =
+    told n ∙ (λ i. none-retired m.clusters.state.table.rows m.clusters.state.table.rows refl n i || has_retired n m.listeners.state.table.rows own.state.table.rows)
 
 -- those that stood under a name that has come to its end
-pub ended-are : (s : State) (kind : Kind) (name numbers : List ℕ) (warming active : Option ℕ) (after : List GenRow) → IsIndexed s → s.kind ≡ kind
+pub ended-are : (s : State) (name numbers : List ℕ) (warming active : Option ℕ) (after : List GenRow) → IsIndexed s
     → option_to_list warming ≡ numbers_where (warms name) s.table.rows → option_to_list active ≡ numbers_where (serves name) s.table.rows
-    → after ≡ rows_ended kind name s.table.rows → numbers ≡ option_to_list warming ++ option_to_list active
+    → after ≡ rows_ended s.kind name s.table.rows → numbers ≡ option_to_list warming ++ option_to_list active
     → (number : ℕ) → is_among numbers number ≡ has_retired number s.table.rows after
-ended-are s kind name numbers warming active after x of w a ended are number =
+ended-are s name numbers warming active after x w a ended are number =
     ap (λ ns. is_among ns number) are
-    ∙ (tells-ended s.kind name s.table.rows x.table.apart x.kinds warming active after [] w a (ended ∙ (λ i. rows_ended (sym of i) name s.table.rows))).told number
+    ∙ (tells-ended s.kind name s.table.rows x.table.apart x.kinds warming active after [] w a ended).told number
 
 -- numbers with more of them
 pub put-are : (before after : List GenRow) (numbers put drained : List ℕ) → put ≡ numbers ++ drained
-    → ((number : ℕ) → is_among drained number ≡ began_to_drain number before after)
-    → (number : ℕ) → is_among put number ≡ (is_among numbers number || began_to_drain number before after)
+    → ((number : ℕ) → is_among drained number ≡ began_to_drain number before after) → Grows numbers put (λ number. began_to_drain number before after)
 put-are before after numbers put drained are told number =
     ap (λ ns. is_among ns number) are ∙ list_any-append (nat_eq number) numbers drained ∙ (λ i. is_among numbers number || told number i)
 
@@ -52,7 +70,7 @@ put-are before after numbers put drained are told number =
 pub put-moved : (before after : List GenRow) (numbers put served drained : List ℕ) → put ≡ (numbers ++ served) ++ drained
     → ((number : ℕ) → is_among served number ≡ began_to_serve number before after)
     → ((number : ℕ) → is_among drained number ≡ began_to_drain number before after)
-    → (number : ℕ) → is_among put number ≡ (is_among numbers number || is_moved number before after)
+    → Grows numbers put (λ number. is_moved number before after)
 put-moved before after numbers put served drained are serve drain number =
     ap (λ ns. is_among ns number) are
     ∙ list_any-append (nat_eq number) (numbers ++ served) drained
@@ -61,9 +79,37 @@ put-moved before after numbers put served drained are serve drain number =
     ∙ or_assoc (is_among numbers number) (began_to_serve number before after) (began_to_drain number before after)
 
 -- of one manager, then of the other
-pub put-both : (numbers first both : List ℕ) (one other : ℕ → Bool)
-    → ((number : ℕ) → is_among first number ≡ (is_among numbers number || one number))
-    → ((number : ℕ) → is_among both number ≡ (is_among first number || other number))
-    → (number : ℕ) → is_among both number ≡ (is_among numbers number || (one number || other number))
+pub put-both : (numbers first both : List ℕ) (one other : ℕ → Bool) → Grows numbers first one → Grows first both other
+    → Grows numbers both (λ number. one number || other number)
 put-both numbers first both one other here there number =
     there number ∙ (λ i. here number i || other number) ∙ or_assoc (is_among numbers number) (one number) (other number)
+
+drained_by : (succeeded ready : Bool) (status : RowStatus)
+    → (is_active status && is_draining (status_by succeeded ready status)) ≡ (not (is_live (status_by succeeded ready status)) && not (not (is_live status)))
+drained_by succeeded true Warming = refl
+drained_by succeeded false Warming = refl
+drained_by true ready Active = refl
+drained_by false ready Active = refl
+drained_by succeeded ready Draining = refl
+drained_by succeeded ready Dropped = refl
+
+-- what retires in a promotion is what began to drain
+pub drained-retired : (number : ℕ) (succeeded ready : GenRow → Bool) (before after : List GenRow)
+    → after ≡ with_statuses (λ (row : GenRow). status_by (succeeded row) (ready row) row.status) before
+    → began_to_drain number before after ≡ has_retired number before after
+drained-retired number succeeded ready before after is =
+    (λ i. is_active (status_in (row_in number before)) && is_draining (status_in (here i)))
+    ∙ by (row_in number before)
+    ∙ sym (λ i. is_over (here i) && not (is_over (row_in number before)))
+  where
+    new : GenRow → GenRow
+    new row = record row { status = status_by (succeeded row) (ready row) row.status }
+
+    here : row_in number after ≡ option_map (λ (row : GenRow). record row { status = status_by (succeeded row) (ready row) row.status }) (row_in number before)
+    here = ap (row_in number) is ∙ row_in-with_statuses number (λ (row : GenRow). status_by (succeeded row) (ready row) row.status) before
+
+    by : (o : Option GenRow)
+        → (is_active (status_in o) && is_draining (status_in (option_map (λ (row : GenRow). record row { status = status_by (succeeded row) (ready row) row.status }) o)))
+        ≡ (is_over (option_map (λ (row : GenRow). record row { status = status_by (succeeded row) (ready row) row.status }) o) && not (is_over o))
+    by None = refl
+    by (Some row) = drained_by (succeeded row) (ready row) row.status

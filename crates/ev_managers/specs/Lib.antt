@@ -1,2 +1,3 @@
 pub mod Managers
-pub mod Retired
+pub mod Lending
+pub mod Moved

@@ -1,11 +1,13 @@
-//! Both managers together: what clusters and listeners stand, which wait for endpoints or routes, and what is due. An event of
-//! one kind leaves the other manager as the machine does.
+//! Both managers together: what clusters and listeners stand, which wait for endpoints or routes, and what is due. A kind is a value:
+//! each change is one function, over a kind, which finds the manager of the generations that the kind leads to, endpoints to
+//! clusters and routes to listeners, and leaves the other one as the machine does. Both draw their numbers from one counter.
 #![tactic(auto)]
 
+mod health;
 mod managers;
+mod moved;
 mod response;
-mod retired;
 mod signals;
 
 pub use managers::Managers;
-pub use retired::Retired;
+pub use moved::Moved;

@@ -1,30 +1,32 @@
 ghost use Rattle.std.specs.Prelude.{true, Some, ◌≡◌, ℕ, List, OnOk};
+ghost use Rattle.std.specs.Borrow.{sem};
 ghost use Rattle.ev_model.specs.World.{opening};
 ghost use Rattle.ev_model.specs.Tidy.{promoted};
+ghost use Rattle.ev_model.specs.Watching.{is_by_name};
 ghost use Rattle.ev_generations.specs.Tables.{row_in};
 ghost use Rattle.ev_warming.specs.Changes.{is_over};
 ghost use Rattle.ev_warming.specs.Worlds.{without_generation, without_unneeded};
+ghost use Rattle.ev_managers.specs.Lending.{LendsManager};
+ghost use Rattle.ev_managers.specs.Managers.{AreForgotten, AreKept, StandFor, Follow, is_watched_in, manager_of};
+ghost use Rattle.ev_managers.specs.Moved.{AreTold};
 
-use crate::retired::{Retired, put_all, put_moved};
-use ev_clusters::Clusters;
+use crate::moved::{Moved, promote};
 use ev_generations::Steps;
-use ev_listeners::Listeners;
-use ev_types::{Gen, GenRow, Seq};
+use ev_types::{Gen, GenRow, Kind};
+use ev_warming::Manager;
 use std::alloc::{AllocError, Global};
 use std::sync::ledger::Ledger;
 
-/// The cluster manager and the listener manager. They draw their numbers from one counter. After want of memory nothing is promised
-/// of them.
+/// The cluster manager and the listener manager, and how many numbers were drawn for generations of both. After want of memory
+/// nothing is promised of them: their holder makes them anew, out of the journal.
 #[derive(Drop)]
 pub struct Managers {
-    pub clusters: Clusters,
-    pub listeners: Listeners,
+    pub made: u32,
+    pub clusters: Manager,
+    pub listeners: Manager,
 }
 
 impl Managers {
-    ghost use Rattle.ev_managers.specs.Managers.{AreForgotten, AreKept, StandFor, Follow};
-    ghost use Rattle.ev_managers.specs.Retired.{AreDrained, AreChanged};
-
     /// No generation, and nothing known. It takes no memory.
     pub fn new(alloc: Global) -> Managers
         ensures kept { AreKept result }
@@ -32,32 +34,56 @@ impl Managers {
         ensures stands { (workers : ℕ) (node : List ℕ) → StandFor result (opening workers node) }
     {
         Managers {
-            clusters: Clusters::new(alloc),
-            listeners: Listeners::new(alloc),
+            made: 0,
+            clusters: Manager::new(alloc, Kind::Cds),
+            listeners: Manager::new(alloc, Kind::Lds),
         }
     }
 
-    /// Each generation that is due serves, and the one that served its name before it drains, and is put to those that retired.
-    /// The numbers of both are put to those that changed. Without memory nothing is promised.
+    /// The manager of the generations that a kind leads to.
+    pub fn of(&self, kind: Kind) -> &Manager
+        ensures { result.now ≡ manager_of self.now kind }
+    {
+        match kind {
+            Kind::Cds | Kind::Eds => &self.clusters,
+            Kind::Lds | Kind::Rds => &self.listeners,
+        }
+    }
+
+    /// The same, to be changed.
+    pub(crate) fn of_mut(&mut self, kind: Kind) -> &mut Manager
+        ensures* writes_back { sem 𝓛 (LendsManager self.entry kind result) }
+        ensures value { result.now ≡ manager_of self.old kind }
+    {
+        match kind {
+            Kind::Cds | Kind::Eds => &mut self.clusters,
+            Kind::Lds | Kind::Rds => &mut self.listeners,
+        }
+    }
+
+    /// Whether a live generation depends on this name of endpoints or of routes.
+    pub fn is_watched(&self, kind: Kind, name: &str) -> bool
+        requires kept { AreKept self.now }
+        ensures rows { result ≡ is_watched_in self.now kind name.now }
+    {
+        is_by_name(kind) && self.of(kind).state.is_watched(name)
+    }
+
+    /// Each generation that is due serves, and the one that served its name before it drains. The ones that drain are put to those
+    /// that retired, and both to those that changed. Without memory nothing is promised.
     pub fn promote<L: Ledger>(
         &mut self,
         alloc: Global,
-        retired: &mut Retired,
-        changed: &mut Seq<Gen>,
+        moved: &mut Moved,
         steps: &mut Steps<L>,
     ) -> Result<(), AllocError>
         requires kept { AreKept self.old }
         ensures kept { OnOk result (AreKept self.new) }
-        ensures drained { OnOk result (AreDrained retired.old retired.new self.old self.new) }
-        ensures changed { OnOk result (AreChanged changed.old changed.new self.old self.new) }
+        ensures told { OnOk result (AreTold moved.old moved.new self.old self.new) }
         ensures stands { OnOk result (Follow self.old self.new promoted) }
     {
-        let clusters = self.clusters.promote(alloc, steps)?;
-        put_all(&mut retired.clusters, clusters.drained.as_slice())?;
-        put_moved(changed, &clusters)?;
-        let listeners = self.listeners.promote(alloc, steps)?;
-        put_all(&mut retired.listeners, listeners.drained.as_slice())?;
-        put_moved(changed, &listeners)?;
+        promote(&mut self.clusters, alloc, moved, steps)?;
+        promote(&mut self.listeners, alloc, moved, steps)?;
         Ok(())
     }
 
@@ -73,32 +99,28 @@ impl Managers {
         ensures stands { OnOk result (Follow self.old self.new without_unneeded) }
     {
         self.clusters.forget(alloc, steps)?;
-        self.listeners.forget(alloc, steps)
+        self.listeners.forget(alloc, steps)?;
+        Ok(())
     }
 
-    /// Takes out and answers a cluster that drains or was dropped, once all is forgotten that nobody needs. It takes no memory.
-    pub fn remove_cluster(&mut self, number: Gen) -> GenRow
+    /// Takes out and answers a generation that drains or was dropped, once all is forgotten that nobody needs. It takes no memory.
+    pub fn remove(&mut self, kind: Kind, number: Gen) -> GenRow
         requires kept { AreKept self.old }
         requires forgotten { AreForgotten self.old }
-        requires over { is_over (row_in number self.old.clusters.state.table.rows) ≡ true }
-        ensures row { row_in number self.old.clusters.state.table.rows ≡ Some result }
+        requires over { is_over (row_in number (manager_of self.old kind).state.table.rows) ≡ true }
+        ensures row { row_in number (manager_of self.old kind).state.table.rows ≡ Some result }
         ensures kept { AreKept self.new }
         ensures forgotten { AreForgotten self.new }
         ensures stands { Follow self.old self.new (without_generation number) }
     {
-        self.clusters.remove(number)
+        let own = self.of_mut(kind);
+        own.remove(number)
     }
+}
 
-    /// Takes out and answers a listener that drains or was dropped, once all is forgotten that nobody needs. It takes no memory.
-    pub fn remove_listener(&mut self, number: Gen) -> GenRow
-        requires kept { AreKept self.old }
-        requires forgotten { AreForgotten self.old }
-        requires over { is_over (row_in number self.old.listeners.state.table.rows) ≡ true }
-        ensures row { row_in number self.old.listeners.state.table.rows ≡ Some result }
-        ensures kept { AreKept self.new }
-        ensures forgotten { AreForgotten self.new }
-        ensures stands { Follow self.old self.new (without_generation number) }
-    {
-        self.listeners.remove(number)
-    }
+// Whether generations depend on names of this kind: it is endpoints or routes.
+pub(crate) fn is_by_name(kind: Kind) -> bool
+    ensures { result ≡ is_by_name kind }
+{
+    matches!(kind, Kind::Eds | Kind::Rds)
 }

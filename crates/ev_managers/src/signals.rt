@@ -1,153 +1,37 @@
-ghost use Rattle.std.specs.Prelude.{◌≡◌, true, IfOk, OnOk};
-ghost use Rattle.std.specs.List.{list_any};
-ghost use Rattle.ev_types.specs.declared.contents.Kind.TheVariants.{Cds, Eds, Lds, Rds};
+ghost use Rattle.std.specs.Prelude.{◌≡◌, ◌++◌, false, true, IfOk, OnOk, option_to_list};
 ghost use Rattle.ev_model.specs.Signals.{with_end};
-ghost use Rattle.ev_indexes.specs.Indexes.{depends_on};
+ghost use Rattle.ev_model.specs.Watching.{is_by_name};
+ghost use Rattle.ev_types.specs.declared.rows.Arrival.TheVariants.{Value};
 ghost use Rattle.ev_warming.specs.Arrivals.{with_arrived};
-ghost use Rattle.ev_warming.specs.Worlds.{means_something, with_result, with_rows_ended};
+ghost use Rattle.ev_managers.specs.Managers.{AreKept, HaveSameRows, is_watched_in, no_value, Follow, FollowEnd};
+ghost use Rattle.ev_managers.specs.Moved.{AreRetired};
 
-use crate::retired::stood;
-use crate::{Managers, Retired};
+use crate::Managers;
+use crate::managers::is_by_name;
 use ev_generations::Steps;
-use ev_types::{Arrival, Assignment, Content, Host, Kind, Name, RouteTable, Seq, Shared};
+use ev_indexes::Standing;
+use ev_types::{Arrival, Assignment, Content, Gen, Kind, Name, RouteTable, Seq, Shared};
 use std::alloc::{AllocError, Global};
 use std::sync::ledger::Ledger;
 
 impl Managers {
-    ghost use Rattle.ev_managers.specs.Managers.{AreForgotten, AreKept, is_watched_in, AnswerFor, Follow, FollowEnd};
-    ghost use Rattle.ev_managers.specs.Retired.{AreRetired};
-
-    /// Whether a live generation depends on this name of endpoints or of routes.
-    pub fn is_watched(&self, kind: Kind, name: &str) -> bool
-        requires kept { AreKept self.now }
-        ensures rows { result ≡ is_watched_in self.now kind name.now }
-    {
-        match kind {
-            Kind::Eds => self.clusters.is_watched(name),
-            Kind::Rds => self.listeners.is_watched(name),
-            Kind::Cds | Kind::Lds => false,
-        }
-    }
-
-    /// Something came for a name of endpoints that a live cluster depends on. Without memory nothing is promised.
-    pub fn arrive_endpoints<L: Ledger>(
+    /// Something came for a name of endpoints or of routes that a live generation depends on. Without memory nothing is promised.
+    pub fn arrive<L: Ledger>(
         &mut self,
         alloc: Global,
+        kind: Kind,
         name: &Name,
         arrival: &Arrival,
         steps: &mut Steps<L>,
     ) -> Result<(), AllocError>
         requires kept { AreKept self.old }
-        requires watched { list_any (depends_on name.now) self.old.clusters.state.table.rows ≡ true }
+        requires watched { is_watched_in self.old kind name.now ≡ true }
         ensures kept { OnOk result (AreKept self.new) }
-        ensures clusters { OnOk result (self.new.clusters.state.table.rows ≡ self.old.clusters.state.table.rows) }
-        ensures listeners { OnOk result (self.new.listeners.state.table.rows ≡ self.old.listeners.state.table.rows) }
-        ensures stands { OnOk result (Follow self.old self.new (with_arrived Eds arrival.now name.now)) }
+        ensures rows { OnOk result (HaveSameRows self.old self.new) }
+        ensures stands { OnOk result (Follow self.old self.new (with_arrived kind arrival.now name.now)) }
     {
-        self.clusters.arrival(alloc, name, arrival, steps)?;
-        Ok(())
-    }
-
-    /// Something came for a name of routes that a live listener depends on. Without memory nothing is promised.
-    pub fn arrive_routes<L: Ledger>(
-        &mut self,
-        alloc: Global,
-        name: &Name,
-        arrival: &Arrival,
-        steps: &mut Steps<L>,
-    ) -> Result<(), AllocError>
-        requires kept { AreKept self.old }
-        requires watched { list_any (depends_on name.now) self.old.listeners.state.table.rows ≡ true }
-        ensures kept { OnOk result (AreKept self.new) }
-        ensures clusters { OnOk result (self.new.clusters.state.table.rows ≡ self.old.clusters.state.table.rows) }
-        ensures listeners { OnOk result (self.new.listeners.state.table.rows ≡ self.old.listeners.state.table.rows) }
-        ensures stands { OnOk result (Follow self.old self.new (with_arrived Rds arrival.now name.now)) }
-    {
-        self.listeners.arrival(alloc, name, arrival, steps)?;
-        Ok(())
-    }
-
-    /// What a cluster's name stands for has come to its end: one that warms is dropped, and one that serves drains. Answers both.
-    /// Without memory nothing is promised.
-    pub fn end_cluster<L: Ledger>(
-        &mut self,
-        alloc: Global,
-        name: &Name,
-        steps: &mut Steps<L>,
-    ) -> Result<Retired, AllocError>
-        requires kept { AreKept self.old }
-        ensures kept { OnOk result (AreKept self.new) }
-        ensures retired { IfOk result (λ retired. AreRetired retired self.old self.new) }
-        ensures stands { OnOk result (Follow self.old self.new (with_rows_ended Cds name.now)) }
-    {
-        let ended = self.clusters.expire(name, steps)?;
-        let clusters = stood(alloc, ended)?;
-        Ok(Retired {
-            clusters,
-            listeners: Seq::new(alloc),
-        })
-    }
-
-    /// What a listener's name stands for has come to its end: one that warms is dropped, and one that serves drains. Answers
-    /// both. Without memory nothing is promised.
-    pub fn end_listener<L: Ledger>(
-        &mut self,
-        alloc: Global,
-        name: &Name,
-        steps: &mut Steps<L>,
-    ) -> Result<Retired, AllocError>
-        requires kept { AreKept self.old }
-        ensures kept { OnOk result (AreKept self.new) }
-        ensures retired { IfOk result (λ retired. AreRetired retired self.old self.new) }
-        ensures stands { OnOk result (Follow self.old self.new (with_rows_ended Lds name.now)) }
-    {
-        let ended = self.listeners.expire(name, steps)?;
-        let listeners = stood(alloc, ended)?;
-        Ok(Retired {
-            clusters: Seq::new(alloc),
-            listeners,
-        })
-    }
-
-    // The endpoints of a name, which is watched, have come to their end: they become none.
-    fn end_endpoints<L: Ledger>(
-        &mut self,
-        alloc: Global,
-        name: &Name,
-        steps: &mut Steps<L>,
-    ) -> Result<(), AllocError>
-        requires kept { AreKept self.old }
-        requires watched { list_any (depends_on name.now) self.old.clusters.state.table.rows ≡ true }
-        ensures kept { OnOk result (AreKept self.new) }
-        ensures clusters { OnOk result (self.new.clusters.state.table.rows ≡ self.old.clusters.state.table.rows) }
-        ensures listeners { OnOk result (self.new.listeners.state.table.rows ≡ self.old.listeners.state.table.rows) }
-        ensures stands { OnOk result (Follow self.old self.new (with_end Eds name.now)) }
-    {
-        let none = Assignment::new(Seq::new(alloc));
-        let value = Arrival::Value(Content::Assignment(Shared::new(alloc, none)?));
-        self.arrive_endpoints(alloc, name, &value, steps)?;
-        Ok(())
-    }
-
-    // The routes of a name, which is watched, have come to their end: they become none.
-    fn end_routes<L: Ledger>(
-        &mut self,
-        alloc: Global,
-        name: &Name,
-        steps: &mut Steps<L>,
-    ) -> Result<(), AllocError>
-        requires kept { AreKept self.old }
-        requires watched { list_any (depends_on name.now) self.old.listeners.state.table.rows ≡ true }
-        ensures kept { OnOk result (AreKept self.new) }
-        ensures clusters { OnOk result (self.new.clusters.state.table.rows ≡ self.old.clusters.state.table.rows) }
-        ensures listeners { OnOk result (self.new.listeners.state.table.rows ≡ self.old.listeners.state.table.rows) }
-        ensures stands { OnOk result (Follow self.old self.new (with_end Rds name.now)) }
-    {
-        let none = RouteTable {
-            hosts: Seq::new(alloc),
-        };
-        let value = Arrival::Value(Content::Routes(Shared::new(alloc, none)?));
-        self.arrive_routes(alloc, name, &value, steps)?;
+        let own = self.of_mut(kind);
+        own.arrive(alloc, name, arrival, steps)?;
         Ok(())
     }
 
@@ -159,7 +43,7 @@ impl Managers {
         kind: Kind,
         name: &Name,
         steps: &mut Steps<L>,
-    ) -> Result<Retired, AllocError>
+    ) -> Result<Seq<Gen>, AllocError>
         requires kept { AreKept self.old }
         ensures kept { OnOk result (AreKept self.new) }
         ensures retired { IfOk result (λ retired. AreRetired retired self.old self.new) }
@@ -167,44 +51,91 @@ impl Managers {
         // is to be watched.
         ensures stands { OnOk result (FollowEnd self.old self.new kind name.now) }
     {
-        match kind {
-            Kind::Cds => self.end_cluster(alloc, name, steps),
-            Kind::Lds => self.end_listener(alloc, name, steps),
-            Kind::Eds => {
-                if !self.clusters.is_watched(name.as_str()) {
-                    return Ok(Retired::none(alloc));
-                }
-                self.end_endpoints(alloc, name, steps)?;
-                Ok(Retired::none(alloc))
-            }
-            Kind::Rds => {
-                if !self.listeners.is_watched(name.as_str()) {
-                    return Ok(Retired::none(alloc));
-                }
-                self.end_routes(alloc, name, steps)?;
-                Ok(Retired::none(alloc))
-            }
+        if is_by_name(kind) {
+            self.end_value(alloc, kind, name, steps)?;
+            return Ok(Seq::new(alloc));
         }
+        let retired = self.end_rows(alloc, kind, name, steps)?;
+        Ok(retired)
     }
 
-    /// A health result of a host of a cluster. Answers whether it is for a generation; where it is for none, all stays as it was.
-    /// Without memory nothing is promised.
-    pub fn health<L: Ledger>(
+    // A name of generations has come to its end: one that warms is dropped, and one that serves drains. Answers both.
+    fn end_rows<L: Ledger>(
         &mut self,
         alloc: Global,
-        cluster: &Name,
-        host: &Host,
-        healthy: bool,
+        kind: Kind,
+        name: &Name,
         steps: &mut Steps<L>,
-    ) -> Result<bool, AllocError>
+    ) -> Result<Seq<Gen>, AllocError>
         requires kept { AreKept self.old }
+        requires rows { is_by_name kind ≡ false }
         ensures kept { OnOk result (AreKept self.new) }
-        // Nothing becomes such that nobody needs it.
-        ensures forgotten { OnOk result (AreForgotten self.old → AreForgotten self.new) }
-        ensures stands { OnOk result (Follow self.old self.new (with_result cluster.now host.now healthy)) }
-        ensures ignored { IfOk result (λ meant. AnswerFor self.old meant (means_something cluster.now host.now)) }
+        ensures retired { IfOk result (λ retired. AreRetired retired self.old self.new) }
+        ensures stands { OnOk result (Follow self.old self.new (with_end kind name.now)) }
     {
-        let meant = self.clusters.health(alloc, cluster, host, healthy, steps)?;
-        Ok(meant)
+        let own = self.of_mut(kind);
+        let ended = own.end(name, steps)?;
+        let retired = stood(alloc, ended)?;
+        Ok(retired)
     }
+
+    // A name of what generations depend on has come to its end: where it is watched, its value is none from now on.
+    fn end_value<L: Ledger>(
+        &mut self,
+        alloc: Global,
+        kind: Kind,
+        name: &Name,
+        steps: &mut Steps<L>,
+    ) -> Result<(), AllocError>
+        requires kept { AreKept self.old }
+        requires by_name { is_by_name kind ≡ true }
+        ensures kept { OnOk result (AreKept self.new) }
+        ensures rows { OnOk result (HaveSameRows self.old self.new) }
+        ensures stands { OnOk result (FollowEnd self.old self.new kind name.now) }
+    {
+        if !self.is_watched(kind, name.as_str()) {
+            return Ok(());
+        }
+        let none = none_of(alloc, kind)?;
+        self.arrive(alloc, kind, name, &none, steps)?;
+        Ok(())
+    }
+}
+
+// The arrival of no endpoints, or of no routes.
+fn none_of(alloc: Global, kind: Kind) -> Result<Arrival, AllocError>
+    ensures { IfOk result (λ arrival. arrival ≡ Value (no_value kind)) }
+{
+    match kind {
+        Kind::Cds | Kind::Eds => {
+            let none = Assignment::new(Seq::new(alloc));
+            Ok(Arrival::Value(Content::Assignment(Shared::new(alloc, none)?)))
+        }
+        Kind::Lds | Kind::Rds => {
+            let none = RouteTable {
+                hosts: Seq::new(alloc),
+            };
+            Ok(Arrival::Value(Content::Routes(Shared::new(alloc, none)?)))
+        }
+    }
+}
+
+// The numbers of the generations that stood under a name.
+fn stood(alloc: Global, standing: Standing) -> Result<Seq<Gen>, AllocError>
+    ensures { IfOk result (λ numbers. numbers ≡ option_to_list standing.warming ++ option_to_list standing.active) }
+{
+    let mut numbers = Seq::new(alloc);
+    put_one(&mut numbers, standing.warming)?;
+    put_one(&mut numbers, standing.active)?;
+    Ok(numbers)
+}
+
+// Puts a number to the others, where there is one.
+fn put_one(numbers: &mut Seq<Gen>, number: Option<Gen>) -> Result<(), AllocError>
+    ensures { OnOk result (numbers.new ≡ numbers.old ++ option_to_list number) }
+{
+    if let Some(number) = number {
+        numbers.push(number)?;
+    }
+    Ok(())
 }

@@ -14,8 +14,7 @@ use Rattle.ev_generations.specs.Tables.{numbers_of, row_in}
 use Rattle.ev_indexes.specs.Due.{is_among}
 use Rattle.ev_warming.specs.Changes.{is_over}
 use Rattle.ev_drain.specs.Retired.{Retired as Row}
-use Rattle.ev_managers.specs.declared.retired.Retired.{Retired}
-use Rattle.ev_state.specs.States.{IsAt as ManagesAt}
+use Rattle.ev_state.specs.States.{ManagesAt}
 use Rattle.ev_state.specs.Retirements.{HaveCeased}
 use Rattle.ev_retirement.specs.Holders.{AreNumbered, HoldersParts, StandsFor as HoldsFor}
 use Rattle.ev_retirement.specs.Retiring.{HaveCeased as CeaseBetween, HoldTheSame, is_over as over_there, noted, noted_all, noted_where}
@@ -52,13 +51,11 @@ over_same : (found : Option GenRow) → is_over found ≡ over_there found
 over_same None = refl
 over_same (Some row) = refl
 
--- what is told of both kinds, as numbers
-pub ceased_all : (retired : Retired) (before after : World) → HaveCeased retired before after
-    → CeaseBetween (retired.clusters ++ retired.listeners) before.rows after.rows
+-- what is told, as what holds generations takes it
+pub ceased_all : (retired : List ℕ) (before after : World) → HaveCeased retired before after → CeaseBetween retired before.rows after.rows
 ceased_all retired before after ceased = record {
   told = λ number.
-      list_any-append (λ n. n == number) retired.clusters retired.listeners
-      ∙ (λ i. among retired.clusters number i || among retired.listeners number i)
+      among retired number
       ∙ ceased.told number
       ∙ (λ i. over_same (row_in number after.rows) i && not (over_same (row_in number before.rows) i));
   stays = ceased.stays;
@@ -87,11 +84,6 @@ pub each_more : (rows : List GenRow) (numbers : List ℕ) (number : ℕ) (drain 
 each_more rows [] number drain = refl
 each_more rows (n ∷ numbers) number drain = each_more rows numbers number (noted_over drain (row_in n rows))
 
-each_then : (rows : List GenRow) (numbers others : List ℕ) (drain : List Row)
-    → noted_each rows others (noted_each rows numbers drain) ≡ noted_each rows (numbers ++ others) drain
-each_then rows [] others drain = refl
-each_then rows (n ∷ numbers) others drain = each_then rows numbers others (noted_over drain (row_in n rows))
-
 -- what is so of each number among these
 all_among : (P : ℕ → Type 0) (numbers : List ℕ) → ((n : ℕ) → has_number n numbers ≡ true → P n) → AllByRecursion P numbers
 all_among P [] so = tt
@@ -104,31 +96,16 @@ all_among P (n ∷ numbers) so = (
     or_later true is = refl
     or_later false is = is
 
--- what holds generations, once both kinds are noted, stands for the world behind the event
-pub noted_stand : (holders : HoldersParts) (drain : List Row) (retired : Retired) (before after : World)
-    → HoldsFor holders before → AreNumbered before.rows → AreNumbered after.rows → HoldTheSame before after → HaveCeased retired before after
-    → drain ≡ noted_each after.rows retired.listeners (noted_each after.rows retired.clusters holders.drain)
-    → HoldsFor (record holders { drain = drain }) after
-noted_stand holders drain retired before after stands apart also same ceased is =
-    let numbers : List ℕ = retired.clusters ++ retired.listeners in
-    let all = ceased_all retired before after ceased in
-    let over : AreOver after.rows numbers =
-    all_among (λ n. over_there (row_in n after.rows) ≡ true) numbers
-    (λ n there. first_so (over_there (row_in n after.rows)) (not (over_there (row_in n before.rows))) (sym (all.told n) ∙ there)) in
-    subst (λ (d : List Row). HoldsFor (record holders { drain = d }) after)
-    (sym (is ∙ each_then after.rows retired.clusters retired.listeners holders.drain ∙ each_noted after.rows numbers holders.drain over))
-    (retirements_stand holders numbers before after stands apart also same all)
-
--- the same, by what each noting leaves
-pub both_noted : (first second third : HoldersParts) (retired : Retired) (clusters listeners : List ℕ) (before after : World)
-    → clusters ≡ retired.clusters → listeners ≡ retired.listeners
-    → second ≡ record first { drain = noted_each after.rows clusters first.drain }
-    → third ≡ record second { drain = noted_each after.rows listeners second.drain }
+-- what holds generations, once those that retired are noted, stands for the world behind the event
+pub noted_stand : (first second : HoldersParts) (retired : List ℕ) (before after : World)
+    → second ≡ record first { drain = noted_each after.rows retired first.drain }
     → HoldsFor first before → AreNumbered before.rows → AreNumbered after.rows → HoldTheSame before after → HaveCeased retired before after
-    → HoldsFor third after
-both_noted first second third retired clusters listeners before after cs ls then last stands apart also same ceased =
+    → HoldsFor second after
+noted_stand first second retired before after then stands apart also same ceased =
+    let all = ceased_all retired before after ceased in
+    let over : AreOver after.rows retired =
+    all_among (λ n. over_there (row_in n after.rows) ≡ true) retired
+    (λ n there. first_so (over_there (row_in n after.rows)) (not (over_there (row_in n before.rows))) (sym (all.told n) ∙ there)) in
     subst (λ (h : HoldersParts). HoldsFor h after)
-    (sym (last
-    ∙ (λ i. record (then i) { drain = noted_each after.rows listeners (then i).drain })
-    ∙ (λ i. record first { drain = noted_each after.rows (ls i) (noted_each after.rows (cs i) first.drain) })))
-    (noted_stand first _ retired before after stands apart also same ceased refl)
+    (sym (then ∙ (λ i. record first { drain = each_noted after.rows retired first.drain over i })))
+    (retirements_stand first retired before after stands apart also same all)

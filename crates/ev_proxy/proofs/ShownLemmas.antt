@@ -36,7 +36,7 @@ use Rattle.ev_indexes.specs.Indexes.{IsIndexed}
 use Rattle.ev_indexes.specs.Shown.{cluster_shown, listener_shown}
 use Rattle.ev_indexes.specs.Worlds.{StandsFor as HasPart}
 use Rattle.ev_state.specs.Changed.{HaveChanged}
-use Rattle.ev_state.specs.States.{IsAt as ManagesAt, SameManaged}
+use Rattle.ev_state.specs.States.{ManagesAt, SameManaged}
 use Rattle.ev_state.specs.declared.state.State.{State}
 use Rattle.ev_pictures.specs.Pictures.{PicturesParts, StandsFor as HasPictures, shown_after}
 use Rattle.ev_retirement.specs.Holders.{AreNumbered}

@@ -25,9 +25,6 @@ use Rattle.ev_worker.specs.Batches.{entries_of}
 use Rattle.ev_worker.specs.Workers.{AreAnswered, IsAnswer}
 use Rattle.ev_worker.specs.declared.lines.Outcome.{Outcome}
 use Rattle.ev_worker.specs.declared.lines.BatchLine.{BatchLine}
-use Rattle.ev_state.specs.Managed.{event_of}
-use Rattle.ev_state.specs.declared.managed.Managed.{Managed}
-use Rattle.ev_state.specs.declared.managed.Managed.TheVariants.{Connect as connects, Disconnect as disconnects, Response as responds, Health as results, FetchTimeout as times_out, TtlExpired as expires}
 use Rattle.ev_state.specs.States.{SameManaged}
 use Rattle.ev_retirement.specs.Holders.{HoldersParts, StandsFor as HoldsFor, with_expired}
 use Rattle.ev_state.proofs.FrameLemmas.{at-frame}
@@ -157,30 +154,15 @@ pub no_timeout : (name : List ℕ) (world : World) → (drain_timeout name world
 no_timeout name world is = left_alone (unexpired world.expired name world.rows) world is
 
 -- an event of the managers
-managed_moving : (event : Managed) → is_moving (event_of event) ≡ true
-managed_moving connects = refl
-managed_moving disconnects = refl
-managed_moving (responds response) = refl
-managed_moving (results cluster host healthy) = refl
-managed_moving (times_out timeout) = refl
-managed_moving (expires kind name) = refl
-
-managed_for : (event : Managed) → is_for_managers (event_of event) ≡ true
-managed_for connects = refl
-managed_for disconnects = refl
-managed_for (responds response) = refl
-managed_for (results cluster host healthy) = refl
-managed_for (times_out timeout) = refl
-managed_for (expires kind name) = refl
-
-pub managed_same : (format : Format) (world : World) (actor : Actor) (event : Managed) → HoldTheSame world (step format world actor (event_of event)).0
-managed_same format world actor event =
-    let seen = same_seen format world actor (event_of event) (managed_for event) in
+pub managed_same : (format : Format) (world : World) (actor : Actor) (event : Event) → is_moving event ≡ true → is_for_managers event ≡ true
+    → HoldTheSame world (step format world actor event).0
+managed_same format world actor event moving theirs =
+    let seen = same_seen format world actor event theirs in
     record {
       pictures = seen.pictures;
       held = seen.held;
       opened = seen.opened;
-      expired = same_expired format world actor (event_of event) (managed_moving event);
+      expired = same_expired format world actor event moving;
     }
 
 -- tidying

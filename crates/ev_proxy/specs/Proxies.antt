@@ -1,5 +1,5 @@
 -- What the managers know and what holds generations, together, and at which worlds they are.
-use Rattle.std.specs.Prelude.{◌≡◌, ℕ, ◌<◌, ⊤, if◌then◌else◌, length, List, [], ◌∷◌, ◌++◌, map, Option, None, Some, option_to_list}
+use Rattle.std.specs.Prelude.{◌≡◌, ◌||◌, ℕ, ◌<◌, ⊤, if◌then◌else◌, length, List, [], ◌∷◌, ◌++◌, map, Option, None, Some, option_to_list}
 use Rattle.ev_types.specs.Statuses.{is_live}
 use Rattle.ev_types.specs.declared.events.Actor.{Actor}
 use Rattle.ev_types.specs.declared.events.Actor.TheVariants.{Stream, Health as health_checker, Timer, Main, Worker}
@@ -10,8 +10,10 @@ use Rattle.ev_types.specs.declared.rows.GenRow.{GenRow}
 use Rattle.ev_model.specs.World.{World}
 use Rattle.ev_model.specs.Publishing.{dead_numbers}
 use Rattle.ev_generations.specs.Tables.{row_in}
+use Rattle.ev_indexes.specs.Due.{is_among}
+use Rattle.ev_managers.specs.declared.moved.Moved.{Moved}
 use Rattle.ev_drain.specs.Retired.{Retired}
-use Rattle.ev_state.specs.States.{IsAt as ManagesAt, over_in, without_over}
+use Rattle.ev_state.specs.States.{ManagesAt, over_in, without_over}
 use Rattle.ev_retirement.specs.Holders.{StandsFor as HoldsFor}
 use Rattle.ev_retirement.specs.Retiring.{noted}
 use Rattle.ev_proxy.specs.declared.proxy.Proxy.{Proxy}
@@ -41,6 +43,15 @@ noted_over drain (Some row) = if is_live row.status then drain else noted drain 
 abbrev pub noted_each : List GenRow → List ℕ → List Retired → List Retired
 noted_each rows [] drain = drain
 noted_each rows (number ∷ numbers) drain = noted_each rows numbers (noted_over drain (row_in number rows))
+
+-- what a step of the managers moved is noted: the managers and the deferred rows are as they were, what retired is noted among what
+-- drains, whatever world the managers are at, and these too have changed
+pub record Notes (old new : Proxy) (moved : Moved) : Type 0 where
+  pub state : new.state ≡ old.state
+  pub deferred : new.deferred ≡ old.deferred
+  pub holders : (world : World) → ManagesAt old.state world
+      → new.holders ≡ record old.holders { drain = noted_each world.rows moved.retired old.holders.drain }
+  pub changed : (number : ℕ) → is_among new.changed number ≡ (is_among old.changed number || is_among moved.changed number)
 
 -- these rows without those of these numbers that drain or were dropped
 abbrev pub without_each : List ℕ → List GenRow → List GenRow

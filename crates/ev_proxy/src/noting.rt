@@ -1,7 +1,7 @@
 ghost use Rattle.std.specs.Prelude.{◌≡◌, ◌≤◌, ◌<◌, ◌+◌, ◌++◌, length, option_copied, option_to_list, OnOk};
 ghost use Rattle.ev_model.specs.World.{World};
 ghost use Rattle.ev_managers.specs.Managers.{AreForgotten, AreKept};
-ghost use Rattle.ev_state.specs.States.{IsAt as ManagesAt};
+ghost use Rattle.ev_state.specs.States.{ManagesAt};
 ghost use Rattle.ev_proxy.specs.Proxies.{noted_each, noted_over, rows_gone, without_each};
 
 use ev_drain::Deferred;

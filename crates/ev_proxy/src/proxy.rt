@@ -17,13 +17,16 @@ ghost use Rattle.ev_proxy.specs.Proxies.{AreRowsOf, IsAt, IsKnown, numbers_reape
 
 use crate::changed::Changed;
 use ev_drain::Deferred;
+use ev_generations::Steps;
 use ev_retirement::Holders;
 use ev_snapshot::Snapshot;
-use ev_state::{Managed, State};
+use ev_state::State;
 use ev_types::{Actor, Answer, Event, Format, Gen, GenRow, Phase, Text};
 use ev_worker::{Batch, Settled};
 use std::alloc::{AllocError, Global};
+use std::marker::Brand;
 use std::sync::Arc;
+use std::sync::ledger::{Blank, Ledger};
 
 /// What the managers know, and what holds generations: the pictures that workers serve from, their open connections, and what drains.
 /// After want of memory nothing is promised of it.
@@ -73,30 +76,65 @@ impl Proxy {
             (numbers_reaped format here event.now) here.rows self.new.deferred.0) }
     {
         self.deferred = Deferred::new(alloc);
+        let answer = self.led::<Brand>(Blank::new(1), alloc, format, actor, event)?;
+        Ok(answer)
+    }
+
+    // The same, where no row is deferred yet, with a ledger by which look-ups are counted.
+    fn led<L: Ledger>(
+        &mut self,
+        blank: Blank,
+        alloc: Global,
+        format: Format,
+        actor: Actor,
+        event: &Event,
+    ) -> Result<Answer, AllocError>
+        ghost here: { World }
+        requires name { blank.name ≡ L.name }
+        requires parts { blank.parts ≡ L.parts }
+        requires one { L.parts ≡ 1 }
+        requires at { IsAt self.old here }
+        requires known { IsKnown actor here }
+        requires room { NumbersSuffice here event.now }
+        requires none { self.old.deferred.0 ≡ [] }
+        ensures at { OnOk result (IsAt self.new (machine_step format here actor event.now).0) }
+        ensures answer { IfOk result (λ answer. answer ≡ (machine_step format here actor event.now).1) }
+        ensures deferred { OnOk result (AreRowsOf
+            (numbers_reaped format here event.now) here.rows self.new.deferred.0) }
+    {
+        let mut steps = Steps::<L>::new(blank);
         match event {
-            Event::Connect => self.manage(alloc, Managed::Connect),
-            Event::Disconnect => self.manage(alloc, Managed::Disconnect),
-            Event::Response(response) => self.manage(alloc, Managed::Response(response)),
+            Event::Connect => {
+                let told = self.state.connect(alloc, &mut steps)?;
+                self.note(alloc, told)
+            }
+            Event::Disconnect => {
+                let told = self.state.disconnect(alloc, &mut steps)?;
+                self.note(alloc, told)
+            }
+            Event::Response(response) => {
+                let told = self.state.respond(alloc, response, &mut steps)?;
+                self.note(alloc, told)
+            }
             Event::Health {
                 cluster,
                 host,
                 healthy,
             } => {
-                let healthy = *healthy;
-                self.manage(
-                    alloc,
-                    Managed::Health {
-                        cluster,
-                        host,
-                        healthy,
-                    },
-                )
+                let told = self
+                    .state
+                    .health(alloc, cluster, host, *healthy, &mut steps)?;
+                self.note(alloc, told)
             }
-            Event::FetchTimeout(timeout) => self.manage(alloc, Managed::FetchTimeout(timeout)),
+            Event::FetchTimeout(timeout) => {
+                let told = self.state.fetch_timeout(alloc, timeout, &mut steps)?;
+                self.note(alloc, told)
+            }
             Event::TtlExpired { kind, name } => {
-                self.manage(alloc, Managed::TtlExpired { kind: *kind, name })
+                let told = self.state.ttl_expired(alloc, *kind, name, &mut steps)?;
+                self.note(alloc, told)
             }
-            Event::DrainTimeout(listener) => self.drain_timeout(alloc, listener),
+            Event::DrainTimeout(listener) => self.drain_timeout(alloc, listener, &mut steps),
             Event::Publish => self.publish(alloc),
             Event::Reap => self.reap(alloc, format),
             Event::Accept(ask) => self.accept(alloc, actor, ask),

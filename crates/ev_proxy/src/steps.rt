@@ -1,51 +1,50 @@
 ghost use Rattle.std.specs.Prelude.{◌≡◌, [], IfOk, OnOk};
-ghost use Rattle.ev_types.specs.declared.events.Actor.{Actor};
-ghost use Rattle.ev_types.specs.declared.journals.Format.{Format};
 ghost use Rattle.ev_model.specs.World.{World};
 ghost use Rattle.ev_model.specs.Publishing.{dead_numbers, publish, reap};
 ghost use Rattle.ev_model.specs.Signals.{drain_timeout};
 ghost use Rattle.ev_model.specs.Connections.{accept, close, settle};
-ghost use Rattle.ev_model.specs.Step.{of_worker, step as machine_step};
-ghost use Rattle.ev_run_laws.specs.Drawing.{NumbersSuffice};
+ghost use Rattle.ev_model.specs.Step.{of_worker};
 ghost use Rattle.ev_pictures.specs.Pictures.{published_answer};
-ghost use Rattle.ev_state.specs.Managed.{event_of};
-ghost use Rattle.ev_proxy.specs.Proxies.{AreRowsOf, IsAt, IsKnown};
+ghost use Rattle.ev_proxy.specs.Proxies.{AreRowsOf, IsAt, IsKnown, Notes};
 
 use crate::Proxy;
 use crate::changed::Changed;
 use crate::changing::changes;
 use crate::noting::{note_each, remove_each};
-use ev_state::Managed;
+use ev_generations::Steps;
+use ev_managers::Moved;
 use ev_types::{Actor, Answer, Ask, Format, Name, Seq};
 use std::alloc::{AllocError, Global};
+use std::sync::ledger::Ledger;
 
 impl Proxy {
-    /// What an event of the stream, the health checker or a timer does, but a drain timeout. The generations that it retired are noted
-    /// among those that drain, and those of which it changed what is to be shown among those that changed.
-    pub(crate) fn manage(&mut self, alloc: Global, event: Managed<'_>) -> Result<Answer, AllocError>
-        ghost here: { World }
-        requires at { IsAt self.old here }
-        requires room { NumbersSuffice here (event_of event) }
-        ensures at { OnOk result ((format : Format) (actor : Actor)
-            → IsAt self.new (machine_step format here actor (event_of event.entry)).0) }
-        ensures answer { IfOk result (λ answer. (format : Format) (actor : Actor)
-            → answer ≡ (machine_step format here actor (event_of event.entry)).1) }
-        ensures deferred { OnOk result (self.new.deferred ≡ self.old.deferred) }
+    /// Notes what a step of the managers moved: the generations that it retired among those that drain, and those of which it changed
+    /// what is to be shown among those that changed. Answers what the step answered.
+    pub(crate) fn note(
+        &mut self,
+        alloc: Global,
+        told: (Answer, Moved),
+    ) -> Result<Answer, AllocError>
+        ensures answer { IfOk result (λ answer. answer ≡ told.0) }
+        ensures noted { OnOk result (Notes self.old self.new told.1) }
     {
-        let stepped = self.state.step(alloc, event)?;
-        self.changed.put_all(stepped.changed.as_slice())?;
-        let clusters = stepped.retired.clusters.as_slice();
-        note_each(alloc, &mut self.holders, &self.state, clusters)?;
-        let listeners = stepped.retired.listeners.as_slice();
-        note_each(alloc, &mut self.holders, &self.state, listeners)?;
-        Ok(stepped.answer)
+        let (answer, moved) = told;
+        self.changed.put_all(moved.changed.as_slice())?;
+        note_each(
+            alloc,
+            &mut self.holders,
+            &self.state,
+            moved.retired.as_slice(),
+        )?;
+        Ok(answer)
     }
 
     /// The drain timeout of a listener's old generations; where there is none for which it hadn't come, nothing is done.
-    pub(crate) fn drain_timeout(
+    pub(crate) fn drain_timeout<L: Ledger>(
         &mut self,
         alloc: Global,
         listener: &Name,
+        steps: &mut Steps<L>,
     ) -> Result<Answer, AllocError>
         ghost here: { World }
         requires at { IsAt self.old here }
@@ -57,13 +56,9 @@ impl Proxy {
         if !meant {
             return Ok(Answer::Ignored);
         }
-        let altered = self.state.tidy_up(alloc)?;
-        self.changed.put_all(altered.changed.as_slice())?;
-        let clusters = altered.retired.clusters.as_slice();
-        note_each(alloc, &mut self.holders, &self.state, clusters)?;
-        let listeners = altered.retired.listeners.as_slice();
-        note_each(alloc, &mut self.holders, &self.state, listeners)?;
-        Ok(Answer::Done)
+        let moved = self.state.tidy_up(alloc, steps)?;
+        let answer = self.note(alloc, (Answer::Done, moved))?;
+        Ok(answer)
     }
 
     /// What workers may serve now is published, where it isn't what the last picture shows. Only the generations are looked at of

@@ -11,7 +11,6 @@ use Rattle.ev_model.specs.Watching.{is_by_name}
 use Rattle.ev_generations.specs.Tables.{row_in}
 use Rattle.ev_warming.specs.Changes.{is_over, has_retired}
 use Rattle.ev_indexes.specs.Worlds.{IsSound}
-use Rattle.ev_managers.specs.declared.retired.Retired.{Retired}
 use Rattle.ev_state.specs.Ages.{AreLater}
 use Rattle.ev_state.specs.Retirements.{HaveRetired, HaveCeased}
 use Rattle.ev_state.proofs.AgeLemmas.{found-later}
@@ -70,11 +69,11 @@ either_kind made n first rows later whole = by (row_in n first) refl (row_in n r
         old_one old row (sym (ap (λ (r : GenRow). r.kind) there.so.same) ∙ ap (λ (r : GenRow). r.kind) same) (whole-found n rows whole row is)
 
 -- what retired by kind is what ceased to be live
-pub have-ceased : (retired : Retired) (before world : World) → IsSound before → IsSound world → AreLater before.made before.rows world.rows → AreWhole world.rows
+pub have-ceased : (retired : List ℕ) (before world : World) → IsSound before → IsSound world → AreLater before.made before.rows world.rows → AreWhole world.rows
     → HaveRetired retired before world → HaveCeased retired before world
 have-ceased retired before world sound sound_after later whole have = record {
   told = λ n.
-      (λ i. have.clusters n i || have.listeners n i)
+      have n
       ∙ (λ i. ended (found-only Cds n before.rows sound.table.apart i) (found-only Cds n world.rows sound_after.table.apart i)
       || ended (found-only Lds n before.rows sound.table.apart i) (found-only Lds n world.rows sound_after.table.apart i))
       ∙ either_kind before.made n before.rows world.rows later whole;

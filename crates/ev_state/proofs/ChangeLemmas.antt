@@ -112,7 +112,8 @@ abbrev IsAt : List GenRow → GenRow → Type 0
 IsAt rows row = row_in row.number rows ≡ Some row
 
 module _ (before after : List GenRow) (made drawn : ℕ) (first : IsTable (record { rows = before; made = made })) (second : IsTable (record { rows = after; made = drawn }))
-    (later : AreLater made before after) (retired : List ℕ) (told : (number : ℕ) → is_among retired number ≡ has_retired number before after) where
+    (later : AreLater made before after) (retired : List ℕ) (told : (number : ℕ) → has_retired number before after ≡ true → is_among retired number ≡ true)
+    (back : (number : ℕ) (row : GenRow) → row_in number after ≡ Some row → is_among retired number ≡ true → has_retired number before after ≡ true) where
   abbrev first_watcher : List ℕ → GenRow → Bool
   first_watcher name row = nat_le row.number made && depends_on name row
 
@@ -178,8 +179,9 @@ module _ (before after : List GenRow) (made drawn : ℕ) (first : IsTable (recor
         by row other at there is live needs low false over =
             or_right (is_held made after name) (list_any (leaves name) retired)
             (any_number (leaves name) row.number retired
-            (told row.number ∙ (λ i. is_over (there i) && not (is_over (at i)))
-            ∙ both_true (not (is_live other.status)) (not (not (is_live row.status))) (ap not over) (λ i. not (not (live i))))
+            (told row.number
+            ((λ i. is_over (there i) && not (is_over (at i)))
+            ∙ both_true (not (is_live other.status)) (not (not (is_live row.status))) (ap not over) (λ i. not (not (live i)))))
             (both_true (nat_le row.number made) (needs_it name (row_in row.number after)) (le-leb row.number made low)
             ((λ i. needs_it name (there i)) ∙ ap (λ (r : GenRow). is_needed name (name_needed r.content)) is.same ∙ needs)))
 
@@ -207,19 +209,19 @@ module _ (before after : List GenRow) (made drawn : ℕ) (first : IsTable (recor
             let e = found-earlier made other.number other before after later (leb-true other.number made parts.0) at in
             found other.number e.row other e.at e.so (was_live e.row other e.so needs.0 (is_live e.row.status) refl) needs.1
 
-        gone : (n : ℕ) (o : Option GenRow) → row_in n after ≡ o → n ≤ made → needs_it name o ≡ true → not (is_over (row_in n before)) ≡ true
+        gone : (n : ℕ) (o : Option GenRow) → row_in n after ≡ o → n ≤ made → needs_it name o ≡ true → is_among retired n ≡ true
             → list_any (depends_on name) before ≡ true
-        gone n None at low needs live = absurd (false≢true needs)
-        gone n (Some other) at low needs live =
+        gone n None at low needs there = absurd (false≢true needs)
+        gone n (Some other) at low needs there =
             let e = found-earlier made n other before after later low at in
+            let lived = (and_parts (is_over (row_in n after)) (not (is_over (row_in n before))) (back n other at there)).1 in
             found n e.row other e.at e.so
-            (not_false (is_live e.row.status) ((λ i. is_over (sym e.at i)) ∙ not_true (is_over (row_in n before)) live)) needs
+            (not_false (is_live e.row.status) ((λ i. is_over (sym e.at i)) ∙ not_true (is_over (row_in n before)) lived)) needs
 
         left_by : (n : ℕ) → is_among retired n ≡ true → leaves name n ≡ true → list_any (depends_on name) before ≡ true
         left_by n there passes =
             let parts = and_parts (nat_le n made) (needs_it name (row_in n after)) passes in
-            gone n (row_in n after) refl (leb-true n made parts.0) parts.1
-            (and_parts (is_over (row_in n after)) (not (is_over (row_in n before))) (sym (told n) ∙ there)).1
+            gone n (row_in n after) refl (leb-true n made parts.0) parts.1 there
 
     was : list_any (depends_on name) before ≡ (is_held made after name || list_any (leaves name) retired)
     was = both_ways (list_any (depends_on name) before) (is_held made after name || list_any (leaves name) retired) then_there then_back

@@ -10,13 +10,13 @@ use Rattle.ev_indexes.proofs.SeenLemmas.{SameSeen, seen-sound}
 use Rattle.ev_managers.proofs.FrameLemmas.{see_the_same}
 use Rattle.ev_subscription.specs.Subscriptions.{kept_of}
 use Rattle.ev_state.specs.declared.state.State.{State}
-use Rattle.ev_state.specs.States.{IsAt, SameManaged}
+use Rattle.ev_state.specs.States.{ManagesAt, SameManaged}
 use Rattle.ev_state.proofs.AgeLemmas.{later-same}
 use Rattle.ev_state.proofs.HeardLemmas.{IsDue}
 use Rattle.ev_state.proofs.RestLemmas.{rest_boots}
 use Rattle.ev_state.proofs.WholeLemmas.{AreWhole}
 
-pub at-frame : (s : State) (world after : World) → SameManaged world after → IsAt s world → IsAt s after
+pub at-frame : (s : State) (world after : World) → SameManaged world after → ManagesAt s world → ManagesAt s after
 at-frame s world after same at =
     let had = at.follows.stands.subscription in
     let seen : SameSeen world after = record { rows = same.rows; made = same.made; arrivals = same.arrivals; results = same.results } in

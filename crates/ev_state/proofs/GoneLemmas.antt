@@ -16,13 +16,13 @@ use Rattle.ev_warming.specs.Changes.{is_over}
 use Rattle.ev_indexes.specs.Worlds.{rows_of_kind}
 use Rattle.ev_indexes.proofs.RowLemmas.{found-of_kind}
 use Rattle.ev_managers.specs.declared.managers.Managers.{Managers}
-use Rattle.ev_managers.specs.Managers.{AreForgotten, AreKept, StandFor}
+use Rattle.ev_managers.specs.Managers.{AreForgotten, AreKept, StandFor, manager_of, rows_of}
 use Rattle.ev_state.specs.declared.state.State.{State}
-use Rattle.ev_state.specs.States.{IsAt, over_in, where_over, without_over}
+use Rattle.ev_state.specs.States.{ManagesAt, over_in, where_over, without_over}
 use Rattle.ev_state.proofs.AgeLemmas.{later-same}
 use Rattle.ev_state.proofs.FindLemmas.{none-behind, found-only, whole-found, over-found, live-found, listener-found}
 use Rattle.ev_state.proofs.HeardLemmas.{IsDue}
-use Rattle.ev_state.proofs.MoveLemmas.{clusters-are, listeners-are}
+use Rattle.ev_state.proofs.MoveLemmas.{rows-are}
 use Rattle.ev_state.proofs.RestLemmas.{rest_boots}
 use Rattle.ev_state.proofs.WholeLemmas.{AreWhole, left-whole}
 
@@ -76,8 +76,8 @@ live_stay n (row ∷ rows) = by (nat_eq n row.number) (is_live row.status) refl 
     by false false isnt rest = (λ i. cond (isnt i) (row ∷ lives (without_over n rows)) (lives (without_over n rows))) ∙ rest
 
 -- behind a removal
-pub at-removed : (s : State) (m : Managers) (n : ℕ) (world : World) → IsAt s world → AreKept m → AreForgotten m
-    → StandFor m (record world { rows = without_over n world.rows }) → IsAt (record s { managers = m }) (record world { rows = without_over n world.rows })
+pub at-removed : (s : State) (m : Managers) (n : ℕ) (world : World) → ManagesAt s world → AreKept m → AreForgotten m
+    → StandFor m (record world { rows = without_over n world.rows }) → ManagesAt (record s { managers = m }) (record world { rows = without_over n world.rows })
 at-removed s m n world at kept forgotten stand =
     let after : World = record world { rows = without_over n world.rows } in
     let had = at.follows.stands.subscription in
@@ -99,60 +99,49 @@ at-removed s m n world at kept forgotten stand =
     }
 
 -- one that is over among those of its kind goes
-one_goes : (s : State) (m : Managers) (kind : Kind) (n : ℕ) (world : World) (rows : List GenRow) → IsAt s world → rows ≡ rows_of_kind kind world.rows
-    → is_over (row_in n rows) ≡ true → AreKept m → AreForgotten m → StandFor m (record world { rows = without_row n world.rows })
-    → IsAt (record s { managers = m }) (record world { rows = without_over n world.rows })
-one_goes s m kind n world rows at are over kept forgotten stand =
+pub one-goes : (s : State) (m : Managers) (kind : Kind) (n : ℕ) (world : World) → ManagesAt s world
+    → is_over (row_in n (manager_of s.managers kind).state.table.rows) ≡ true → AreKept m → AreForgotten m → StandFor m (record world { rows = without_row n world.rows })
+    → ManagesAt (record s { managers = m }) (record world { rows = without_over n world.rows })
+one-goes s m kind n world at over kept forgotten stand =
     let apart = at.follows.sound.table.apart in
+    let are = rows-are s.managers kind world at.kept at.follows.stands.managers in
     let ended : is_over (row_in n world.rows) ≡ true =
-    over-found kind (row_in n world.rows) (ap is_over (sym (found-only kind n world.rows apart)) ∙ (λ i. is_over (row_in n (sym are i))) ∙ over) in
+    over-found (rows_of kind) (row_in n world.rows) (ap is_over (sym (found-only (rows_of kind) n world.rows apart)) ∙ (λ i. is_over (row_in n (sym are i))) ∙ over) in
     at-removed s m n world at kept forgotten
     (subst (λ (left : List GenRow). StandFor m (record world { rows = left })) (sym (over-goes n world.rows apart ended)) stand)
 
-pub cluster-goes : (s : State) (m : Managers) (n : ℕ) (world : World) → IsAt s world → is_over (row_in n s.managers.clusters.state.table.rows) ≡ true
-    → AreKept m → AreForgotten m → StandFor m (record world { rows = without_row n world.rows })
-    → IsAt (record s { managers = m }) (record world { rows = without_over n world.rows })
-cluster-goes s m n world at over =
-    one_goes s m Cds n world s.managers.clusters.state.table.rows at (clusters-are s.managers world at.kept at.follows.stands.managers) over
-
-pub listener-goes : (s : State) (m : Managers) (n : ℕ) (world : World) → IsAt s world → is_over (row_in n s.managers.listeners.state.table.rows) ≡ true
-    → AreKept m → AreForgotten m → StandFor m (record world { rows = without_row n world.rows })
-    → IsAt (record s { managers = m }) (record world { rows = without_over n world.rows })
-listener-goes s m n world at over =
-    one_goes s m Lds n world s.managers.listeners.state.table.rows at (listeners-are s.managers world at.kept at.follows.stands.managers) over
-
 -- where it is over in neither kind, it is over in none
-nothing-over : (s : State) (n : ℕ) (world : World) → IsAt s world → is_over (row_in n s.managers.clusters.state.table.rows) ≡ false
+nothing-over : (s : State) (n : ℕ) (world : World) → ManagesAt s world → is_over (row_in n s.managers.clusters.state.table.rows) ≡ false
     → is_over (row_in n s.managers.listeners.state.table.rows) ≡ false → is_over (row_in n world.rows) ≡ false
 nothing-over s n world at clusters listeners =
     let apart = at.follows.sound.table.apart in
-    let of_clusters = clusters-are s.managers world at.kept at.follows.stands.managers in
-    let of_listeners = listeners-are s.managers world at.kept at.follows.stands.managers in
+    let of_clusters = rows-are s.managers Cds world at.kept at.follows.stands.managers in
+    let of_listeners = rows-are s.managers Lds world at.kept at.follows.stands.managers in
     live-found (row_in n world.rows) (whole-found n world.rows at.whole)
     (ap is_over (sym (found-only Cds n world.rows apart)) ∙ (λ i. is_over (row_in n (sym of_clusters i))) ∙ clusters)
     (ap is_over (sym (found-only Lds n world.rows apart)) ∙ (λ i. is_over (row_in n (sym of_listeners i))) ∙ listeners)
 
 -- and nothing goes
-pub nothing-goes : (s : State) (n : ℕ) (world : World) → IsAt s world → is_over (row_in n s.managers.clusters.state.table.rows) ≡ false
-    → is_over (row_in n s.managers.listeners.state.table.rows) ≡ false → IsAt s (record world { rows = without_over n world.rows })
+pub nothing-goes : (s : State) (n : ℕ) (world : World) → ManagesAt s world → is_over (row_in n s.managers.clusters.state.table.rows) ≡ false
+    → is_over (row_in n s.managers.listeners.state.table.rows) ≡ false → ManagesAt s (record world { rows = without_over n world.rows })
 nothing-goes s n world at clusters listeners =
-    subst (λ (left : List GenRow). IsAt s (record world { rows = left }))
+    subst (λ (left : List GenRow). ManagesAt s (record world { rows = left }))
     (sym (over-stays n world.rows at.follows.sound.table.apart (nothing-over s n world at clusters listeners))) at
 
 -- a cluster that is found is the world's generation of its number
 pub cluster-row : (m : Managers) (n : ℕ) (row : GenRow) (world : World) → AreKept m → StandFor m world → row_in n m.clusters.state.table.rows ≡ Some row
     → row_in n world.rows ≡ Some row
 cluster-row m n row world kept stand at =
-    found-of_kind Cds n row world.rows stand.clusters.sound.table.apart ((λ i. row_in n (sym (clusters-are m world kept stand) i)) ∙ at)
+    found-of_kind Cds n row world.rows stand.clusters.sound.table.apart ((λ i. row_in n (sym (rows-are m Cds world kept stand) i)) ∙ at)
 
 -- and where none is found, it is a listener
 pub listener-row : (m : Managers) (n : ℕ) (world : World) → AreKept m → StandFor m world → AreWhole world.rows → row_in n m.clusters.state.table.rows ≡ None
     → row_in n m.listeners.state.table.rows ≡ row_in n world.rows
 listener-row m n world kept stand whole none =
     let apart = stand.clusters.sound.table.apart in
-    (λ i. row_in n (listeners-are m world kept stand i)) ∙ found-only Lds n world.rows apart
+    (λ i. row_in n (rows-are m Lds world kept stand i)) ∙ found-only Lds n world.rows apart
     ∙ listener-found (row_in n world.rows) (whole-found n world.rows whole)
-    (sym (found-only Cds n world.rows apart) ∙ (λ i. row_in n (sym (clusters-are m world kept stand) i)) ∙ none)
+    (sym (found-only Cds n world.rows apart) ∙ (λ i. row_in n (sym (rows-are m Cds world kept stand) i)) ∙ none)
 
 -- what goes is the world's generation of its number
 gone-over : (n : ℕ) (row : GenRow) (rows : List GenRow) → row_in n rows ≡ Some row → is_over (Some row) ≡ true → Some row ≡ over_in n rows
@@ -162,16 +151,11 @@ gone-over n row rows at over = sym ((λ i. where_over (at i)) ∙ by (is_live ro
     by true isnt = absurd (false≢true isnt)
     by false is = refl
 
-pub cluster-gone : (s : State) (n : ℕ) (row : GenRow) (world : World) → IsAt s world → row_in n s.managers.clusters.state.table.rows ≡ Some row
-    → is_over (row_in n s.managers.clusters.state.table.rows) ≡ true → Some row ≡ over_in n world.rows
-cluster-gone s n row world at found over =
-    gone-over n row world.rows (cluster-row s.managers n row world at.kept at.follows.stands.managers found) (ap is_over (sym found) ∙ over)
-
-pub listener-gone : (s : State) (n : ℕ) (row : GenRow) (world : World) → IsAt s world → row_in n s.managers.listeners.state.table.rows ≡ Some row
-    → is_over (row_in n s.managers.listeners.state.table.rows) ≡ true → Some row ≡ over_in n world.rows
-listener-gone s n row world at found over =
+pub one-gone : (s : State) (kind : Kind) (n : ℕ) (row : GenRow) (world : World) → ManagesAt s world → row_in n (manager_of s.managers kind).state.table.rows ≡ Some row
+    → is_over (row_in n (manager_of s.managers kind).state.table.rows) ≡ true → Some row ≡ over_in n world.rows
+one-gone s kind n row world at found over =
     gone-over n row world.rows
-    (found-of_kind Lds n row world.rows at.follows.sound.table.apart ((λ i. row_in n (sym (listeners-are s.managers world at.kept at.follows.stands.managers) i)) ∙ found))
+    (found-of_kind (rows_of kind) n row world.rows at.follows.sound.table.apart ((λ i. row_in n (sym (rows-are s.managers kind world at.kept at.follows.stands.managers) i)) ∙ found))
     (ap is_over (sym found) ∙ over)
 
 none-over : (found : Option GenRow) → is_over found ≡ false → None ≡ where_over found
@@ -182,6 +166,6 @@ none-over (Some row) isnt = by (is_live row.status) isnt
     by true is = refl
     by false isnt = absurd (true≢false isnt)
 
-pub nothing-gone : (s : State) (n : ℕ) (world : World) → IsAt s world → is_over (row_in n s.managers.clusters.state.table.rows) ≡ false
+pub nothing-gone : (s : State) (n : ℕ) (world : World) → ManagesAt s world → is_over (row_in n s.managers.clusters.state.table.rows) ≡ false
     → is_over (row_in n s.managers.listeners.state.table.rows) ≡ false → None ≡ over_in n world.rows
 nothing-gone s n world at clusters listeners = none-over (row_in n world.rows) (nothing-over s n world at clusters listeners)

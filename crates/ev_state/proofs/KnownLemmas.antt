@@ -19,12 +19,12 @@ use Rattle.ev_model.specs.World.{World}
 use Rattle.ev_model.specs.Live.{live_of, lives_of, is_named, latest, newest_of}
 use Rattle.ev_model.specs.Watching.{is_by_name, is_watched, is_dependency, dependency_of, discovery_dependency, serve_dependency}
 use Rattle.ev_indexes.specs.declared.state.State.{State}
+use Rattle.ev_indexes.specs.Indexes.{IsIndexed}
 use Rattle.ev_indexes.specs.Reads.{live_rows}
 use Rattle.ev_indexes.specs.Worlds.{StandsFor as HasRows, needs_of}
+use Rattle.ev_indexes.proofs.HolderLemmas.{holders-world}
 use Rattle.ev_indexes.proofs.NewestLemmas.{newest-world}
 use Rattle.ev_indexes.proofs.ReadLemmas.{watched-world}
-use Rattle.ev_listeners.specs.Listeners.{ListenersKept, AreKept as AreListeners, StandsFor as HasListeners}
-use Rattle.ev_listeners.proofs.StandLemmas.{holders-world}
 use Rattle.ev_verdicts.specs.Known.{Tells}
 use Rattle.ev_subscription.specs.Subscriptions.{SubscriptionParts, StandsFor as HasVersions}
 use Rattle.ev_subscription.proofs.KindLemmas.{kept_is}
@@ -94,27 +94,27 @@ unwatched kind name (live ∷ lives) whole =
     unwatched kind name lives whole ∙ sym (ap (λ b. b || is_watched lives kind name) (no_dependency kind name live.content whole))
 
 -- the answers are those of the world that the managers stand for
-pub tells : (clusters : State) (listeners : ListenersKept) (subscription : SubscriptionParts) (kind : Kind) (world : World)
-    → clusters.kind ≡ Cds → AreListeners listeners → HasRows clusters world → HasListeners listeners world → HasVersions subscription world → AreWhole world.rows
+pub tells : (clusters : State) (listeners : State) (subscription : SubscriptionParts) (kind : Kind) (world : World)
+    → clusters.kind ≡ Cds → listeners.kind ≡ Lds → IsIndexed listeners → HasRows clusters world → HasRows listeners world → HasVersions subscription world → AreWhole world.rows
     → Tells (answers_by clusters listeners subscription) kind (lives_of world) world.versions
-tells clusters listeners subscription kind world of_clusters of_listeners has listens versions whole = record {
+tells clusters listeners subscription kind world of_clusters of_listeners indexed has listens versions whole = record {
   newest = newest;
-  holders = λ address. holders-world listeners world address of_listeners listens;
+  holders = λ address. holders-world listeners indexed address world of_listeners listens;
   watched = watched;
   kept = λ k name version. kept_is subscription world k name version versions;
   apart = apart_all kind world whole;
 }
   where
-    newest : (k : Kind) (name : List ℕ) → newest_by clusters listeners.state k name ≡ newest_of (lives_of world) k name
+    newest : (k : Kind) (name : List ℕ) → newest_by clusters listeners k name ≡ newest_of (lives_of world) k name
     newest Cds name = newest-world clusters world name has ∙ ap (λ (c : Kind). newest_of (lives_of world) c name) of_clusters
     newest Eds name = sym (newest_none Eds world whole refl name)
-    newest Lds name = newest-world listeners.state world name listens.part ∙ ap (λ (c : Kind). newest_of (lives_of world) c name) of_listeners.listeners
+    newest Lds name = newest-world listeners world name listens ∙ ap (λ (c : Kind). newest_of (lives_of world) c name) of_listeners
     newest Rds name = sym (newest_none Rds world whole refl name)
 
-    watched : (k : Kind) (name : List ℕ) → watched_by clusters listeners.state k name ≡ is_watched (lives_of world) k name
+    watched : (k : Kind) (name : List ℕ) → watched_by clusters listeners k name ≡ is_watched (lives_of world) k name
     watched Cds name = unwatched Cds name (lives_of world) refl
     watched Eds name =
         watched-world clusters world has (ap is_by_name of_clusters) name ∙ ap (λ (c : Kind). is_watched (lives_of world) (needs_of c) name) of_clusters
     watched Lds name = unwatched Lds name (lives_of world) refl
     watched Rds name =
-        watched-world listeners.state world listens.part (ap is_by_name of_listeners.listeners) name ∙ ap (λ (c : Kind). is_watched (lives_of world) (needs_of c) name) of_listeners.listeners
+        watched-world listeners world listens (ap is_by_name of_listeners) name ∙ ap (λ (c : Kind). is_watched (lives_of world) (needs_of c) name) of_listeners

@@ -1,9 +1,10 @@
 -- What an event changed: the generations that retired, and the names that began and ceased to be watched.
 use Rattle.std.proofs.Common.{◌≡◌, ◌∙◌, ℕ, ◌<◌, Bool, true, false, not, ◌&&◌, ◌||◌, List, [], Option, None, Some, refl, sym, ap, subst}
+use Rattle.std.proofs.Math.Bool.{or-false}
 use Rattle.std.proofs.lemmas.Bool.{false≢true}
 use Rattle.ev_types.specs.Statuses.{is_live}
 use Rattle.ev_types.specs.declared.contents.Kind.{Kind}
-use Rattle.ev_types.specs.declared.contents.Kind.TheVariants.{Cds, Lds}
+use Rattle.ev_types.specs.declared.contents.Kind.TheVariants.{Cds, Eds, Lds, Rds}
 use Rattle.ev_types.specs.declared.rows.GenRow.{GenRow}
 use Rattle.ev_model.specs.World.{World}
 use Rattle.ev_model.specs.Requests.{other_than}
@@ -24,40 +25,45 @@ use Rattle.ev_indexes.proofs.ReadLemmas.{names-world, needs-world}
 use Rattle.ev_warming.proofs.RemovalLemmas.{apart-filter}
 use Rattle.ev_indexes.proofs.WorldLemmas.{rows_of_kind-with_statuses}
 use Rattle.ev_types.specs.Kinds.{kind_same}
-use Rattle.ev_listeners.proofs.ChangeLemmas.{drained-retired}
+use Rattle.ev_managers.proofs.RetiredLemmas.{drained-retired, none-retired}
 use Rattle.ev_managers.specs.declared.managers.Managers.{Managers}
-use Rattle.ev_managers.specs.declared.retired.Retired.{Retired}
-use Rattle.ev_managers.specs.Managers.{AreKept, StandFor}
-use Rattle.ev_managers.specs.Retired.{AreRetired, AreDrained}
-use Rattle.ev_managers.proofs.RetiredLemmas.{none-retired}
+use Rattle.ev_managers.specs.Managers.{AreKept, StandFor, manager_of, rows_of, others_of}
+use Rattle.ev_managers.specs.Moved.{AreRetired, Grows, of_either}
+use Rattle.ev_managers.specs.declared.moved.Moved.{Moved}
+use Rattle.ev_managers.proofs.FrameLemmas.{kept-of, needs-back, stand-of}
+use Rattle.ev_managers.proofs.RemoveLemmas.{other_absent, rows-apart}
 use Rattle.ev_subscription.specs.declared.changes.NameChange.{NameChange}
 use Rattle.ev_state.specs.Ages.{AreLater}
-use Rattle.ev_state.specs.Moves.{IsChange}
-use Rattle.ev_state.specs.Retirements.{HaveRetired}
+use Rattle.ev_state.specs.Moves.{ChangesNames}
+use Rattle.ev_state.specs.Changed.{HaveChanged}
+use Rattle.ev_state.specs.Retirements.{HaveMoved, HaveRetired, retired_of}
 use Rattle.ev_state.proofs.AgeLemmas.{later-kind, later-promoted, found-later}
 use Rattle.ev_state.proofs.ChangeLemmas.{names-begun, names-ended}
 
 -- the managers' rows are the world's
-pub clusters-are : (m : Managers) (world : World) → AreKept m → StandFor m world → m.clusters.state.table.rows ≡ rows_of_kind Cds world.rows
-clusters-are m world kept stand = stand.clusters.rows ∙ ap (λ k. rows_of_kind k world.rows) kept.clusters.clusters
-
-pub listeners-are : (m : Managers) (world : World) → AreKept m → StandFor m world → m.listeners.state.table.rows ≡ rows_of_kind Lds world.rows
-listeners-are m world kept stand = stand.listeners.part.rows ∙ ap (λ k. rows_of_kind k world.rows) kept.listeners.listeners
+pub rows-are : (m : Managers) (kind : Kind) (world : World) → AreKept m → StandFor m world → (manager_of m kind).state.table.rows ≡ rows_of_kind (rows_of kind) world.rows
+rows-are m kind world kept stand = (stand-of m kind world stand).rows ∙ ap (λ k. rows_of_kind k world.rows) (kept-of m kind kept).rows
 
 -- none retired where the rows are the same
-pub none-have : (retired : Retired) (before world : World) → retired ≡ record { clusters = []; listeners = [] } → world.rows ≡ before.rows → HaveRetired retired before world
-none-have retired before world none same = record {
-  clusters = λ n. ap (λ (r : Retired). is_among r.clusters n) none ∙ none-retired (rows_of_kind Cds before.rows) (rows_of_kind Cds world.rows) (ap (rows_of_kind Cds) same) n;
-  listeners = λ n. ap (λ (r : Retired). is_among r.listeners n) none ∙ none-retired (rows_of_kind Lds before.rows) (rows_of_kind Lds world.rows) (ap (rows_of_kind Lds) same) n;
-}
+pub none-have : (numbers : List ℕ) (before world : World) → numbers ≡ [] → world.rows ≡ before.rows → HaveRetired numbers before world
+none-have numbers before world none same n =
+    ap (λ ns. is_among ns n) none
+    ∙ (λ i. none-retired (rows_of_kind Cds before.rows) (rows_of_kind Cds world.rows) (ap (rows_of_kind Cds) same) n i
+    || none-retired (rows_of_kind Lds before.rows) (rows_of_kind Lds world.rows) (ap (rows_of_kind Lds) same) n i)
+
+-- nothing moved
+pub none-moved : (these : Moved) (before world : World) → these ≡ record { retired = []; changed = [] } → world.rows ≡ before.rows
+    → HaveChanged these.changed before world → HaveMoved these before world
+none-moved these before world none same changed =
+    record { retired = none-have these.retired before world (ap (λ (m : Moved). m.retired) none) same; changed = changed }
 
 -- what the managers tell is so of the worlds
-pub told-have : (retired : Retired) (m after : Managers) (before world : World) → AreKept m → AreKept after → StandFor m before → StandFor after world
-    → AreRetired retired m after → HaveRetired retired before world
-told-have retired m after before world kept kept_after stand stand_after are = record {
-  clusters = λ n. are.clusters n ∙ (λ i. has_retired n (clusters-are m before kept stand i) (clusters-are after world kept_after stand_after i));
-  listeners = λ n. are.listeners n ∙ (λ i. has_retired n (listeners-are m before kept stand i) (listeners-are after world kept_after stand_after i));
-}
+pub told-have : (numbers : List ℕ) (m after : Managers) (before world : World) → AreKept m → AreKept after → StandFor m before → StandFor after world
+    → AreRetired numbers m after → HaveRetired numbers before world
+told-have numbers m after before world kept kept_after stand stand_after are n =
+    are n
+    ∙ (λ i. has_retired n (rows-are m Cds before kept stand i) (rows-are after Cds world kept_after stand_after i)
+    || has_retired n (rows-are m Lds before kept stand i) (rows-are after Lds world kept_after stand_after i))
 
 -- a generation that is over stays so
 stays_over : (made : ℕ) (before after : List GenRow) → AreLater made before after → (number : ℕ) → is_over (row_in number before) ≡ true → is_over (row_in number after) ≡ true
@@ -88,15 +94,12 @@ then_retired number a b c first second = by (is_over (row_in number a)) (is_over
     by false false true p q = refl
     by false false false p q = refl
 
--- what a promotion adds, of one kind
-promoted_more : (kind : Kind) (numbers more : List ℕ) (made : ℕ) (rows after : List GenRow) (before world : World) → AreLater made before.rows world.rows
+-- a promotion retires, of one kind, those that begin to drain
+promoted_more : (kind : Kind) (made : ℕ) (rows after : List GenRow) (before world : World) → AreLater made before.rows world.rows
     → rows ≡ rows_of_kind kind world.rows → after ≡ rows_of_kind kind (promoted world).rows
-    → ((n : ℕ) → is_among numbers n ≡ has_retired n (rows_of_kind kind before.rows) (rows_of_kind kind world.rows))
-    → ((n : ℕ) → is_among more n ≡ (is_among numbers n || began_to_drain n rows after))
-    → (n : ℕ) → is_among more n ≡ has_retired n (rows_of_kind kind before.rows) (rows_of_kind kind (promoted world).rows)
-promoted_more kind numbers more made rows after before world later first second told drained n =
-    drained n
-    ∙ (λ i. told n i || began_to_drain n (first i) (second i))
+    → (n : ℕ) → (retired_of kind n before world || began_to_drain n rows after) ≡ retired_of kind n before (promoted world)
+promoted_more kind made rows after before world later first second n =
+    (λ i. has_retired n (rows_of_kind kind before.rows) now || began_to_drain n (first i) (second i))
     ∙ (λ i. has_retired n (rows_of_kind kind before.rows) now || drained-retired n succeeded ready now next statused i)
     ∙ then_retired n (rows_of_kind kind before.rows) now next
     (stays_over made (rows_of_kind kind before.rows) now (later-kind kind made before.rows world.rows later) n)
@@ -117,15 +120,27 @@ promoted_more kind numbers more made rows after before world later first second 
     statused : next ≡ with_statuses (promoted_status world.arrivals world.results world.rows) now
     statused = rows_of_kind-with_statuses kind (promoted_status world.arrivals world.results world.rows) world.rows
 
+two_and_two : (a b c d : Bool) → ((a || b) || (c || d)) ≡ ((a || c) || (b || d))
+two_and_two true b true d = refl
+two_and_two true b false d = refl
+two_and_two false true true d = refl
+two_and_two false true false d = refl
+two_and_two false false true d = refl
+two_and_two false false false d = refl
+
 -- what retired, once all that is due serves
-pub promoted-have : (retired more : Retired) (m after : Managers) (before world : World) → AreKept m → AreKept after → StandFor m world → StandFor after (promoted world)
-    → AreDrained retired more m after → AreLater before.made before.rows world.rows → HaveRetired retired before world → HaveRetired more before (promoted world)
-promoted-have retired more m after before world kept kept_after stand stand_after drained later have = record {
-  clusters = promoted_more Cds retired.clusters more.clusters before.made m.clusters.state.table.rows after.clusters.state.table.rows before world later
-      (clusters-are m world kept stand) (clusters-are after (promoted world) kept_after stand_after) have.clusters drained.clusters;
-  listeners = promoted_more Lds retired.listeners more.listeners before.made m.listeners.state.table.rows after.listeners.state.table.rows before world later
-      (listeners-are m world kept stand) (listeners-are after (promoted world) kept_after stand_after) have.listeners drained.listeners;
-}
+pub promoted-have : (numbers more : List ℕ) (m after : Managers) (before world : World) → AreKept m → AreKept after → StandFor m world → StandFor after (promoted world)
+    → Grows numbers more (λ n. of_either began_to_drain n m after) → AreLater before.made before.rows world.rows → HaveRetired numbers before world
+    → HaveRetired more before (promoted world)
+promoted-have numbers more m after before world kept kept_after stand stand_after drained later have n =
+    drained n
+    ∙ (λ i. have n i || of_either began_to_drain n m after)
+    ∙ two_and_two (retired_of Cds n before world) (retired_of Lds n before world)
+    (began_to_drain n m.clusters.state.table.rows after.clusters.state.table.rows) (began_to_drain n m.listeners.state.table.rows after.listeners.state.table.rows)
+    ∙ (λ i. promoted_more Cds before.made m.clusters.state.table.rows after.clusters.state.table.rows before world later
+    (rows-are m Cds world kept stand) (rows-are after Cds (promoted world) kept_after stand_after) n i
+    || promoted_more Lds before.made m.listeners.state.table.rows after.listeners.state.table.rows before world later
+    (rows-are m Lds world kept stand) (rows-are after Lds (promoted world) kept_after stand_after) n i)
 
 -- the rows of a kind are a table
 kind_table : (kind : Kind) (world : World) → IsSound world → IsTable (record { rows = rows_of_kind kind world.rows; made = world.made })
@@ -141,28 +156,69 @@ kind_table kind world sound = record {
         nothing : {a : GenRow} → None ≡ Some a → ⊥
         nothing h = cc
 
+-- a number of one kind's generation that retired did so among those of the kind
+own_retired : (kind : Kind) (n : ℕ) (row : GenRow) (numbers : List ℕ) (before world : World) → IsSound world → HaveRetired numbers before world
+    → row_in n (rows_of_kind (rows_of kind) world.rows) ≡ Some row → is_among numbers n ≡ true → retired_of (rows_of kind) n before world ≡ true
+own_retired kind n row numbers before world sound have at there = by kind at
+  where
+    other : (k o : Kind) → ((c : Kind) → kind_same c k ≡ true → kind_same c o ≡ true → ⊥) → row_in n (rows_of_kind k world.rows) ≡ Some row → retired_of o n before world ≡ false
+    other k o never at =
+        (λ i. is_over (other_absent k o n world.rows row sound.table.apart never at i) && not (is_over (row_in n (rows_of_kind o before.rows))))
+
+    first : (a b : Bool) → b ≡ false → (a || b) ≡ true → a ≡ true
+    first a b isnt is = sym (or-false a) ∙ (λ i. a || sym isnt i) ∙ is
+
+    second : (a b : Bool) → a ≡ false → (a || b) ≡ true → b ≡ true
+    second a b isnt is = (λ i. sym isnt i || b) ∙ is
+
+    by : (kind : Kind) → row_in n (rows_of_kind (rows_of kind) world.rows) ≡ Some row → retired_of (rows_of kind) n before world ≡ true
+    by Cds at = first (retired_of Cds n before world) (retired_of Lds n before world) (other Cds Lds (rows-apart Cds) at) (sym (have n) ∙ there)
+    by Eds at = first (retired_of Cds n before world) (retired_of Lds n before world) (other Cds Lds (rows-apart Cds) at) (sym (have n) ∙ there)
+    by Lds at = second (retired_of Cds n before world) (retired_of Lds n before world) (other Lds Cds (rows-apart Lds) at) (sym (have n) ∙ there)
+    by Rds at = second (retired_of Cds n before world) (retired_of Lds n before world) (other Lds Cds (rows-apart Lds) at) (sym (have n) ∙ there)
+
+-- and one that retired among those of a kind is told
+own_told : (kind : Kind) (n : ℕ) (numbers : List ℕ) (before world : World) → HaveRetired numbers before world → retired_of (rows_of kind) n before world ≡ true → is_among numbers n ≡ true
+own_told kind n numbers before world have is = have n ∙ by kind is
+  where
+    late : (a b : Bool) → b ≡ true → (a || b) ≡ true
+    late true b is = refl
+    late false b is = is
+
+    by : (kind : Kind) → retired_of (rows_of kind) n before world ≡ true → (retired_of Cds n before world || retired_of Lds n before world) ≡ true
+    by Cds is = (λ i. is i || retired_of Lds n before world)
+    by Eds is = (λ i. is i || retired_of Lds n before world)
+    by Lds is = late (retired_of Cds n before world) (retired_of Lds n before world) is
+    by Rds is = late (retired_of Cds n before world) (retired_of Lds n before world) is
+
 -- the names that a manager's generations left and brought are those that began and ceased to be watched
-pub names-changed : (change : NameChange) (s : Part) (kind : Kind) (before world : World) (made : ℕ) (retired : List ℕ) → s.kind ≡ kind → is_by_name s.kind ≡ false → IsIndexed s
-    → HasRows s world → IsSound before → AreLater before.made before.rows world.rows → made ≡ before.made
-    → ((n : ℕ) → is_among retired n ≡ has_retired n (rows_of_kind kind before.rows) (rows_of_kind kind world.rows))
-    → change.begun ≡ other_than (names_lost made s.table.rows retired) (names_gained made s.table.made s.table.rows)
-    → change.ended ≡ other_than (names_gained made s.table.made s.table.rows) (names_lost made s.table.rows retired)
-    → IsChange change (watched_of before (needs_of kind)) (watched_of world (needs_of kind))
-names-changed change s kind before world made retired of rowed x stands sound later drawn told begun ended =
+pub names-changed : (change : NameChange) (m : Managers) (kind : Kind) (made : ℕ) (retired : List ℕ) → AreKept m → is_by_name kind ≡ true
+    → change.begun ≡ other_than (names_lost made (manager_of m kind).state.table.rows retired) (names_gained made (manager_of m kind).state.table.made (manager_of m kind).state.table.rows)
+    → change.ended ≡ other_than (names_gained made (manager_of m kind).state.table.made (manager_of m kind).state.table.rows) (names_lost made (manager_of m kind).state.table.rows retired)
+    → ChangesNames m kind made retired change
+names-changed change m kind made retired kept by_name begun ended before world stand sound later drawn have =
+    let s : Part = (manager_of m kind).state in
+    let is_own = kept-of m kind kept in
+    let stands : HasRows s world = stand-of m kind world stand in
+    let needs : needs_of s.kind ≡ kind = needs-back m kind kept by_name in
     let rows0 : List GenRow = rows_of_kind s.kind before.rows in
     let table = kind_table s.kind before sound in
     let place : AreLater before.made rows0 s.table.rows =
     subst (AreLater before.made rows0) (sym stands.rows) (later-kind s.kind before.made before.rows world.rows later) in
-    let told_here : (n : ℕ) → is_among retired n ≡ has_retired n rows0 s.table.rows =
-    λ n. told n ∙ (λ i. has_retired n (rows_of_kind (sym of i) before.rows) ((ap (λ k. rows_of_kind k world.rows) (sym of) ∙ sym stands.rows) i)) in
-    let was : names_watched rows0 ≡ watched_of before (needs_of kind) =
-    ap sorted_names (needs-world s.kind rowed before.rows sound.typed) ∙ ap (λ k. watched_of before (needs_of k)) of in
-    let is : names_watched s.table.rows ≡ watched_of world (needs_of kind) = names-world s world stands rowed ∙ ap (λ k. watched_of world (needs_of k)) of in
+    let same : (n : ℕ) → has_retired n rows0 s.table.rows ≡ retired_of (rows_of kind) n before world =
+    λ n i. has_retired n (rows_of_kind (is_own.rows i) before.rows) (rows-are m kind world kept stand i) in
+    let told : (n : ℕ) → has_retired n rows0 s.table.rows ≡ true → is_among retired n ≡ true =
+    λ n is. own_told kind n retired before world have (sym (same n) ∙ is) in
+    let back : (n : ℕ) (row : GenRow) → row_in n s.table.rows ≡ Some row → is_among retired n ≡ true → has_retired n rows0 s.table.rows ≡ true =
+    λ n row at there. same n ∙ own_retired kind n row retired before world stands.sound have ((λ i. row_in n (sym (rows-are m kind world kept stand) i)) ∙ at) there in
+    let was : names_watched rows0 ≡ watched_of before kind =
+    ap sorted_names (needs-world s.kind is_own.kept.rows before.rows sound.typed) ∙ ap (watched_of before) needs in
+    let is : names_watched s.table.rows ≡ watched_of world kind = names-world s world stands is_own.kept.rows ∙ ap (watched_of world) needs in
     record {
       begun = begun ∙ (λ i. other_than (names_lost (drawn i) s.table.rows retired) (names_gained (drawn i) s.table.made s.table.rows))
-          ∙ names-begun rows0 s.table.rows before.made s.table.made table x.table place retired told_here
+          ∙ names-begun rows0 s.table.rows before.made s.table.made table is_own.kept.indexed.table place retired told back
           ∙ (λ i. other_than (was i) (is i));
       ended = ended ∙ (λ i. other_than (names_gained (drawn i) s.table.made s.table.rows) (names_lost (drawn i) s.table.rows retired))
-          ∙ names-ended rows0 s.table.rows before.made s.table.made table x.table place retired told_here
+          ∙ names-ended rows0 s.table.rows before.made s.table.made table is_own.kept.indexed.table place retired told back
           ∙ (λ i. other_than (is i) (was i));
     }

@@ -14,7 +14,7 @@ use Rattle.ev_model.specs.Live.{lives_of}
 use Rattle.ev_model.specs.Watching.{is_watched}
 use Rattle.ev_model.specs.Rows.{with_removals, add_row, keep_version, keep_value, with_content, refuse, add_item, add_items, with_first}
 use Rattle.ev_indexes.proofs.SeenLemmas.{SameSeen}
-use Rattle.ev_targets.specs.Targets.{TargetsParts, StandsFor as HasTargets}
+use Rattle.ev_targets.specs.Targets.{TargetsParts, HaveBooted}
 
 -- the rest of the worlds is the same
 pub record SameRest (before after : World) : Type 0 where
@@ -87,7 +87,7 @@ response_rest kind response verdicts world =
     rest_then world (with_removals kind response world) _ (removals_rest kind response world) (items_rest kind (zip verdicts response.items) (with_removals kind response world))
 
 -- the targets look at the rest alone
-pub rest_boots : (targets : TargetsParts) (before after : World) → SameRest before after → HasTargets targets before → HasTargets targets after
+pub rest_boots : (targets : TargetsParts) (before after : World) → SameRest before after → HaveBooted targets before → HaveBooted targets after
 rest_boots targets before after same booted = record {
   phase = booted.phase ∙ sym same.phase;
   first_clusters = booted.first_clusters ∙ sym same.first_clusters;

@@ -3,36 +3,39 @@ use Rattle.std.proofs.Common.{◌≡◌, ℕ, Bool, true, false, not, ◌||◌, 
 use Rattle.std.specs.List.{All, list_any}
 use Rattle.std.proofs.lemmas.Bool.{false≢true}
 use Rattle.ev_types.specs.declared.hosts.Host.{Host}
+use Rattle.ev_types.specs.declared.events.Answer.{Answer}
 use Rattle.ev_types.specs.declared.events.Answer.TheVariants.{Ignored}
 use Rattle.ev_types.specs.declared.rows.GenRow.{GenRow}
 use Rattle.ev_types.specs.declared.rows.KeptVersion.{KeptVersion}
 use Rattle.ev_model.specs.Live.{lives_of}
 use Rattle.ev_state.proofs.HeardLemmas.{IsDue}
 use Rattle.ev_model.specs.World.{World}
-use Rattle.ev_model.specs.Signals.{health_of, moved, with_results, with_end, forget_version}
+use Rattle.ev_model.specs.Signals.{health_of, is_awaited, moved, with_results, with_end, forget_version}
 use Rattle.ev_model.specs.Versions.{is_version_of, is_bounded}
 use Rattle.ev_model.specs.Watching.{is_by_name, is_watched}
 use Rattle.std.proofs.lemmas.List.Elements.{All-filter, recursion_from_All}
 use Rattle.ev_types.specs.declared.contents.Kind.{Kind}
 use Rattle.ev_types.specs.declared.contents.Kind.TheVariants.{Cds, Eds, Lds, Rds}
-use Rattle.ev_indexes.specs.Worlds.{needs_of}
+use Rattle.ev_indexes.specs.Worlds.{InWorldsWatching, StandsFor as HasRows, needs_of}
 use Rattle.ev_indexes.proofs.ReadLemmas.{watched-world}
 use Rattle.ev_state.proofs.TidyLemmas.{found_watched}
 use Rattle.ev_model_laws.proofs.AnyLemmas.{any_so}
 use Rattle.ev_indexes.specs.Indexes.{depends_on, waits_limited}
 use Rattle.ev_indexes.specs.declared.state.State.{State as Part}
-use Rattle.ev_indexes.specs.Reads.{is_timeout_due}
+use Rattle.ev_indexes.specs.Reads.{is_awaited_at, is_timeout_due}
 use Rattle.ev_managers.specs.declared.managers.Managers.{Managers}
-use Rattle.ev_managers.specs.Managers.{AreForgotten, AreKept, StandFor, is_watched_in}
+use Rattle.ev_managers.specs.declared.moved.Moved.{Moved}
+use Rattle.ev_managers.specs.Managers.{AreForgotten, AreKept, StandFor, is_watched_in, manager_of}
+use Rattle.ev_managers.proofs.FrameLemmas.{kept-of, needs-back, stand-of}
+use Rattle.ev_warming.specs.declared.manager.Manager.{Manager}
 use Rattle.ev_model_laws.specs.VersionsKept.{AreKeptOnce}
 use Rattle.ev_subscription.specs.Subscriptions.{SubscriptionParts, StandsFor as HasVersions, kept_of}
-use Rattle.ev_targets.specs.Targets.{TargetsParts, StandsFor as HasTargets}
+use Rattle.ev_targets.specs.Targets.{TargetsParts, HaveBooted}
 use Rattle.ev_state.specs.declared.state.State.{State}
-use Rattle.ev_state.specs.declared.stepped.Stepped.{Stepped}
 use Rattle.ev_state.specs.Ages.{AreLater}
-use Rattle.ev_state.specs.States.{Follows, Steps}
+use Rattle.ev_state.specs.States.{Follows, IsStep}
 use Rattle.ev_state.proofs.AgeLemmas.{later-same, end-later}
-use Rattle.ev_state.proofs.MoveLemmas.{none-have}
+use Rattle.ev_state.proofs.MoveLemmas.{none-moved}
 use Rattle.ev_state.proofs.RestLemmas.{SameRest, rest_boots}
 use Rattle.ev_state.proofs.SameLemmas.{changed-none}
 
@@ -60,7 +63,7 @@ managers_follow s m world after follows stand node stream versions rest rows =
     }
 
 -- the targets alone have changed
-pub targets_follow : (s : State) (targets : TargetsParts) (world after : World) → Follows s world world → HasTargets targets after
+pub targets_follow : (s : State) (targets : TargetsParts) (world after : World) → Follows s world world → HaveBooted targets after
     → StandFor s.managers after → HasVersions s.subscription after → after.versions ≡ world.versions
     → after.phase ≡ world.phase → after.rows ≡ world.rows → Follows (record s { targets = targets }) world after
 targets_follow s targets world after follows boots stand held versions phase rows = record {
@@ -72,16 +75,15 @@ targets_follow s targets world after follows boots stand held versions phase row
 }
 
 -- nothing is done
-pub ignores : (s : State) (told : Stepped) (world : World) → told ≡ record { answer = Ignored; retired = record { clusters = []; listeners = [] }; changed = [] }
-    → AreKept s.managers → AreForgotten s.managers → Follows s world world → Steps s told world (world, Ignored)
-ignores s told world is kept forgotten follows = record {
+pub ignores : (s : State) (these : Moved) (world : World) → these ≡ record { retired = []; changed = [] }
+    → AreKept s.managers → AreForgotten s.managers → Follows s world world → IsStep s Ignored these world (world, Ignored)
+ignores s these world none kept forgotten follows = record {
   kept = kept;
   forgotten = forgotten;
   follows = follows;
   later = later-same world.made world.rows;
-  answer = ap (λ (t : Stepped). t.answer) is;
-  retired = none-have told.retired world world (ap (λ (t : Stepped). t.retired) is) refl;
-  changed = changed-none told.changed world;
+  answer = refl;
+  moved = none-moved these world world none refl (changed-none these.changed world);
 }
 
 none_by : {X : Type 0} (p : X → Bool) (xs : List X) → list_any p xs ≡ false → filter p xs ≡ []
@@ -100,36 +102,36 @@ some_by p (x ∷ xs) some none = by (p x) some none (some_by p xs)
     by true h none rest = cc
     by false h none rest = rest h none
 
-led_by : (s : State) (a : Stepped) (host : Host) (healthy : Bool) (rows : List GenRow) (world : World) → (rows ≡ [] → ⊥)
-    → Steps s a world (moved world (with_results host healthy rows world)) → Steps s a world (health_of host healthy rows world)
-led_by s a host healthy [] world some steps = absurd (some refl)
-led_by s a host healthy (row ∷ rows) world some steps = steps
+led_by : (s : State) (told : Answer) (these : Moved) (host : Host) (healthy : Bool) (rows : List GenRow) (world : World) → (rows ≡ [] → ⊥)
+    → IsStep s told these world (moved world (with_results host healthy rows world)) → IsStep s told these world (health_of host healthy rows world)
+led_by s told these host healthy [] world some steps = absurd (some refl)
+led_by s told these host healthy (row ∷ rows) world some steps = steps
 
-kept_by : (s : State) (a : Stepped) (host : Host) (healthy : Bool) (rows : List GenRow) (world : World) → rows ≡ []
-    → Steps s a world (world, Ignored) → Steps s a world (health_of host healthy rows world)
-kept_by s a host healthy [] world none steps = steps
-kept_by s a host healthy (row ∷ rows) world none steps = absurd (cc)
+kept_by : (s : State) (told : Answer) (these : Moved) (host : Host) (healthy : Bool) (rows : List GenRow) (world : World) → rows ≡ []
+    → IsStep s told these world (world, Ignored) → IsStep s told these world (health_of host healthy rows world)
+kept_by s told these host healthy [] world none steps = steps
+kept_by s told these host healthy (row ∷ rows) world none steps = absurd (cc)
 
 -- a health result that is for a generation
-pub health_led : (s : State) (a : Stepped) (host : Host) (healthy : Bool) (p : GenRow → Bool) (world : World) → list_any p world.rows ≡ true
-    → Steps s a world (moved world (with_results host healthy (filter p world.rows) world)) → Steps s a world (health_of host healthy (filter p world.rows) world)
-health_led s a host healthy p world some steps = led_by s a host healthy (filter p world.rows) world (some_by p world.rows some) steps
+pub health_led : (s : State) (told : Answer) (these : Moved) (host : Host) (healthy : Bool) (p : GenRow → Bool) (world : World) → list_any p world.rows ≡ true
+    → IsStep s told these world (moved world (with_results host healthy (filter p world.rows) world)) → IsStep s told these world (health_of host healthy (filter p world.rows) world)
+health_led s told these host healthy p world some steps = led_by s told these host healthy (filter p world.rows) world (some_by p world.rows some) steps
 
 append_nil : {X : Type 0} (xs : List X) → xs ++ [] ≡ xs
 append_nil [] = refl
 append_nil (x ∷ xs) = ap (λ ys. x ∷ ys) (append_nil xs)
 
 -- one that is for none
-pub health_ignored : (s : State) (m : Managers) (told : Stepped) (host : Host) (healthy : Bool) (p : GenRow → Bool) (world : World) → AreKept m → AreForgotten m
+pub health_ignored : (s : State) (m : Managers) (these : Moved) (host : Host) (healthy : Bool) (p : GenRow → Bool) (world : World) → AreKept m → AreForgotten m
     → Follows s world world → list_any p world.rows ≡ false → StandFor m (with_results host healthy (filter p world.rows) world)
-    → told ≡ record { answer = Ignored; retired = record { clusters = []; listeners = [] }; changed = [] }
-    → Steps (record s { managers = m }) told world (health_of host healthy (filter p world.rows) world)
-health_ignored s m told host healthy p world kept forgotten follows none stand is =
+    → these ≡ record { retired = []; changed = [] }
+    → IsStep (record s { managers = m }) Ignored these world (health_of host healthy (filter p world.rows) world)
+health_ignored s m these host healthy p world kept forgotten follows none stand are =
     let gone : filter p world.rows ≡ [] = none_by p world.rows none in
     let same : with_results host healthy (filter p world.rows) world ≡ world =
     (λ i. with_results host healthy (gone i) world) ∙ (λ i. record world { results = append_nil world.results i }) in
-    kept_by (record s { managers = m }) told host healthy (filter p world.rows) world gone
-    (ignores (record s { managers = m }) told world is kept forgotten
+    kept_by (record s { managers = m }) Ignored these host healthy (filter p world.rows) world gone
+    (ignores (record s { managers = m }) these world are kept forgotten
     (managers_follow s m world world follows (subst (λ (w : World). StandFor m w) same stand) refl refl refl
     (record { first_clusters = refl; first_listeners = refl; late_clusters = refl; late_listeners = refl; phase = refl }) refl))
 
@@ -211,15 +213,16 @@ end_draws Rds name world = refl
 pub bounded_is_watched : (m : Managers) (kind : Kind) (name : List ℕ) (world : World) → AreKept m → StandFor m world → All (IsDue (lives_of world)) world.versions
     → is_bounded world.versions kind name ≡ true → is_by_name kind ≡ true → is_watched_in m kind name ≡ true
 bounded_is_watched m kind name world kept stand due bounded by_name =
-    by kind by_name (found_watched (lives_of world) kind name world.versions by_name (recursion_from_All (IsDue (lives_of world)) world.versions due)
-    (any_so (λ (v : KeptVersion). is_version_of kind name v && v.bounded) (is_version_of kind name) world.versions (λ v h. both_first (is_version_of kind name v) v.bounded h) bounded))
-  where
-    by : (k : Kind) → is_by_name k ≡ true → is_watched (lives_of world) k name ≡ true → is_watched_in m k name ≡ true
-    by Cds by_name h = absurd (false≢true by_name)
-    by Lds by_name h = absurd (false≢true by_name)
-    by Eds by_name h =
-        watched-world m.clusters.state world stand.clusters (ap is_by_name kept.clusters.clusters) name
-        ∙ ap (λ (c : Kind). is_watched (lives_of world) (needs_of c) name) kept.clusters.clusters ∙ h
-    by Rds by_name h =
-        watched-world m.listeners.state world stand.listeners.part (ap is_by_name kept.listeners.listeners) name
-        ∙ ap (λ (c : Kind). is_watched (lives_of world) (needs_of c) name) kept.listeners.listeners ∙ h
+    (λ i. by_name i && list_any (depends_on name) (manager_of m kind).state.table.rows)
+    ∙ watched-world (manager_of m kind).state world (stand-of m kind world stand) (kept-of m kind kept).kept.rows name
+    ∙ ap (λ (k : Kind). is_watched (lives_of world) k name) (needs-back m kind kept by_name)
+    ∙ found_watched (lives_of world) kind name world.versions by_name (recursion_from_All (IsDue (lives_of world)) world.versions due)
+    (any_so (λ (v : KeptVersion). is_version_of kind name v && v.bounded) (is_version_of kind name) world.versions (λ v h. both_first (is_version_of kind name v) v.bounded h) bounded)
+
+-- whether the fetch timeout of a name is due is what the machine says
+pub due-awaited : (m : Managers) (kind : Kind) (own : Manager) (due : Bool) (name : List ℕ) (world : World) → own ≡ manager_of m kind → AreKept m → is_by_name kind ≡ true
+    → StandFor m world → InWorldsWatching own.state (λ w k. due ≡ is_awaited_at w k name) → due ≡ is_awaited world.arrivals world.rows kind name
+due-awaited m kind own due name world same kept by_name stand told =
+    told world (ap (λ (o : Manager). is_by_name o.state.kind) same ∙ (kept-of m kind kept).kept.rows)
+    (subst (λ (o : Manager). HasRows o.state world) (sym same) (stand-of m kind world stand))
+    ∙ ap (λ k. is_awaited_at world k name) (ap (λ (o : Manager). needs_of o.state.kind) same ∙ needs-back m kind kept by_name)

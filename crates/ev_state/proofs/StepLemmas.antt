@@ -2,17 +2,17 @@
 use Rattle.std.proofs.Common.{◌≡◌, Bool, true, false, cond, refl, sym, subst}
 use Rattle.ev_types.specs.declared.events.Answer.{Answer}
 use Rattle.ev_model.specs.World.{World}
+use Rattle.ev_managers.specs.declared.moved.Moved.{Moved}
 use Rattle.ev_managers.proofs.FrameLemmas.{see_the_same}
 use Rattle.ev_subscription.specs.Subscriptions.{SubscriptionParts, StandsFor as HasVersions}
 use Rattle.ev_state.specs.declared.state.State.{State}
-use Rattle.ev_state.specs.declared.stepped.Stepped.{Stepped}
-use Rattle.ev_state.specs.States.{Follows, Steps}
+use Rattle.ev_state.specs.States.{Follows, IsStep}
 
-pub where_true : (s : State) (a : Stepped) (before : World) (b : Bool) (x y : World × Answer) → b ≡ true → Steps s a before x → Steps s a before (cond b x y)
-where_true s a before b x y is steps = subst (λ (t : Bool). Steps s a before (cond t x y)) (sym is) steps
+pub where_true : (s : State) (told : Answer) (these : Moved) (before : World) (b : Bool) (x y : World × Answer) → b ≡ true → IsStep s told these before x → IsStep s told these before (cond b x y)
+where_true s told these before b x y is steps = subst (λ (t : Bool). IsStep s told these before (cond t x y)) (sym is) steps
 
-pub where_false : (s : State) (a : Stepped) (before : World) (b : Bool) (x y : World × Answer) → b ≡ false → Steps s a before y → Steps s a before (cond b x y)
-where_false s a before b x y isnt steps = subst (λ (t : Bool). Steps s a before (cond t x y)) (sym isnt) steps
+pub where_false : (s : State) (told : Answer) (these : Moved) (before : World) (b : Bool) (x y : World × Answer) → b ≡ false → IsStep s told these before y → IsStep s told these before (cond b x y)
+where_false s told these before b x y isnt steps = subst (λ (t : Bool). IsStep s told these before (cond t x y)) (sym isnt) steps
 
 -- a stream opens or is lost
 pub stream_follows : (s : State) (subscription : SubscriptionParts) (open_now : Bool) (world : World) → Follows s world world

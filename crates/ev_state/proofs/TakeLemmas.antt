@@ -1,5 +1,5 @@
 -- What a response does to the parts together.
-use Rattle.std.proofs.Common.{◌≡◌, List, Some, sym, ap, ◌∙◌, subst}
+use Rattle.std.proofs.Common.{◌≡◌, ◌||◌, ℕ, List, Some, sym, ap, ◌∙◌, subst}
 use Rattle.std.specs.List.{All}
 use Rattle.ev_types.specs.Items.{ResponseParts}
 use Rattle.ev_types.specs.declared.contents.Kind.{Kind}
@@ -15,14 +15,13 @@ use Rattle.ev_warming.specs.Arrivals.{AreOnValues}
 use Rattle.ev_indexes.specs.Worlds.{needs_of, rows_of_kind}
 use Rattle.ev_warming.proofs.JudgedLemmas.{values-judged}
 use Rattle.ev_managers.specs.declared.managers.Managers.{Managers}
-use Rattle.ev_managers.specs.declared.retired.Retired.{Retired}
-use Rattle.ev_managers.specs.Managers.{AreKept, StandFor, MayBeGiven}
-use Rattle.ev_managers.specs.Retired.{AreRetired}
+use Rattle.ev_managers.specs.Managers.{AreKept, StandFor, MayBeGiven, manager_of}
+use Rattle.ev_managers.specs.Moved.{AreRetired}
 use Rattle.ev_warming.specs.Changes.{has_retired}
-use Rattle.ev_managers.proofs.FrameLemmas.{see_the_same}
+use Rattle.ev_managers.proofs.FrameLemmas.{kept-of, needs-back, see_the_same, stand-of}
 use Rattle.ev_model_laws.specs.VersionsKept.{AreKeptOnce}
 use Rattle.ev_subscription.specs.Subscriptions.{SubscriptionParts, StandsFor as HasVersions, kept_of}
-use Rattle.ev_targets.specs.Targets.{TargetsParts, StandsFor as HasTargets}
+use Rattle.ev_targets.specs.Targets.{TargetsParts, HaveBooted}
 use Rattle.ev_state.specs.declared.state.State.{State}
 use Rattle.ev_state.specs.Ages.{AreLater}
 use Rattle.ev_state.specs.Retirements.{HaveRetired}
@@ -36,21 +35,16 @@ use Rattle.ev_state.proofs.RestLemmas.{SameRest, response_rest, rest_boots, Firs
 pub may_be_given : (m : Managers) (kind : Kind) (response : ResponseParts) (verdicts : List Verdict) (world : World)
     → AreKept m → StandFor m world → response.kind ≡ Some kind → verdicts ≡ verdicts_of (lives_of world) world.versions response
     → MayBeGiven m kind verdicts response.items
-may_be_given m Cds response verdicts world kept stand of are = tt
-may_be_given m Lds response verdicts world kept stand of are = tt
-may_be_given m Eds response verdicts world kept stand of are =
-    subst (λ (vs : List Verdict). AreOnValues m.clusters.state.table.rows vs response.items) (sym are)
-    (values-judged m.clusters.state response world (ap is_by_name kept.clusters.clusters) (of ∙ ap (λ (k : Kind). Some (needs_of k)) (sym kept.clusters.clusters)) stand.clusters)
-may_be_given m Rds response verdicts world kept stand of are =
-    subst (λ (vs : List Verdict). AreOnValues m.listeners.state.table.rows vs response.items) (sym are)
-    (values-judged m.listeners.state response world (ap is_by_name kept.listeners.listeners) (of ∙ ap (λ (k : Kind). Some (needs_of k)) (sym kept.listeners.listeners)) stand.listeners.part)
+may_be_given m kind response verdicts world kept stand of are by_name =
+    subst (λ (vs : List Verdict). AreOnValues (manager_of m kind).state.table.rows vs response.items) (sym are)
+    (values-judged (manager_of m kind).state response world (kept-of m kind kept).kept.rows (of ∙ ap (λ (k : Kind). Some k) (sym (needs-back m kind kept by_name))) (stand-of m kind world stand))
 
 -- the parts behind a response stand for the machine's world behind it
 pub taken : (s : State) (m : Managers) (subscription : SubscriptionParts) (targets : TargetsParts) (kind : Kind) (response : ResponseParts) (verdicts : List Verdict) (world : World)
     → Follows s world world → response.kind ≡ Some kind → verdicts ≡ verdicts_of (lives_of world) world.versions response
     → StandFor m (add_items kind verdicts response.items (with_removals kind response world))
     → HasVersions subscription (add_items kind verdicts response.items (with_removals kind response world))
-    → ((w : World) → HasTargets s.targets w → HasTargets targets (with_first kind (made_names verdicts response.items) w))
+    → ((w : World) → HaveBooted s.targets w → HaveBooted targets (with_first kind (made_names verdicts response.items) w))
     → Follows (record s { managers = m; subscription = subscription; targets = targets }) world
     (with_first kind (made_names verdicts response.items) (add_items kind verdicts response.items (with_removals kind response world)))
 taken s m subscription targets kind response verdicts world follows of are stand held boots =
@@ -79,14 +73,11 @@ taken s m subscription targets kind response verdicts world follows of are stand
     }
 
 -- and what retired is told of that world
-pub taken_retired : (retired : Retired) (m after : Managers) (kind : Kind) (response : ResponseParts) (verdicts : List Verdict) (world : World) → AreKept m → AreKept after
+pub taken_retired : (retired : List ℕ) (m after : Managers) (kind : Kind) (response : ResponseParts) (verdicts : List Verdict) (world : World) → AreKept m → AreKept after
     → StandFor m world → StandFor after (add_items kind verdicts response.items (with_removals kind response world)) → AreRetired retired m after
     → HaveRetired retired world (with_first kind (made_names verdicts response.items) (add_items kind verdicts response.items (with_removals kind response world)))
-taken_retired retired m after kind response verdicts world kept kept_after stand stand_after are =
+taken_retired retired m after kind response verdicts world kept kept_after stand stand_after are n =
     let led : World = add_items kind verdicts response.items (with_removals kind response world) in
     let first : FirstLeaves led (with_first kind (made_names verdicts response.items) led) = first_leaves kind (made_names verdicts response.items) led in
-    let have = told-have retired m after world led kept kept_after stand stand_after are in
-    record {
-      clusters = λ n. have.clusters n ∙ (λ i. has_retired n (rows_of_kind Cds world.rows) (rows_of_kind Cds (sym first.seen.rows i)));
-      listeners = λ n. have.listeners n ∙ (λ i. has_retired n (rows_of_kind Lds world.rows) (rows_of_kind Lds (sym first.seen.rows i)));
-    }
+    told-have retired m after world led kept kept_after stand stand_after are n
+    ∙ (λ i. has_retired n (rows_of_kind Cds world.rows) (rows_of_kind Cds (sym first.seen.rows i)) || has_retired n (rows_of_kind Lds world.rows) (rows_of_kind Lds (sym first.seen.rows i)))

@@ -25,14 +25,13 @@ use Rattle.ev_indexes.specs.Indexes.{serves, numbers_where}
 use Rattle.ev_indexes.specs.Worlds.{IsSound, rows_of_kind}
 use Rattle.ev_warming.proofs.RemovalLemmas.{row_in-without}
 use Rattle.ev_managers.specs.declared.managers.Managers.{Managers}
-use Rattle.ev_managers.specs.declared.retired.Retired.{Retired}
 use Rattle.ev_managers.specs.Managers.{AreKept, StandFor}
-use Rattle.ev_managers.specs.Retired.{AreChanged, is_moved}
+use Rattle.ev_managers.specs.Moved.{Grows, is_moved, of_either}
 use Rattle.ev_state.specs.Changed.{HaveChanged, dependents_in, dependents_of, listeners_begun}
-use Rattle.ev_state.specs.Retirements.{HaveRetired}
+use Rattle.ev_state.specs.Retirements.{HaveRetired, retired_of}
 use Rattle.ev_state.specs.States.{without_over}
 use Rattle.ev_state.proofs.GoneLemmas.{over-stays, over-goes}
-use Rattle.ev_state.proofs.MoveLemmas.{clusters-are, listeners-are}
+use Rattle.ev_state.proofs.MoveLemmas.{rows-are}
 use Rattle.ev_state.proofs.SameLemmas.{SameResults, same-changed, changed-more, changed-then}
 use Rattle.ev_state.proofs.ValueLemmas.{value-quiet, mute-quiet}
 use Rattle.ev_state.proofs.StillLemmas.{serving}
@@ -96,13 +95,13 @@ left-changed number world sound = by (is_over (row_in number world.rows)) refl
     })
 
 -- these numbers have those that are put first, and those that retired
-module _ (changed put : List ℕ) (retired : Retired) (m : Managers) (before after : World) (are : changed ≡ (put ++ retired.clusters) ++ retired.listeners)
+module _ (changed put retired : List ℕ) (m : Managers) (before after : World) (are : changed ≡ put ++ retired)
     (kept : AreKept m) (stand : StandFor m before) (sound : IsSound after) (have : HaveRetired retired before after) where
-  parts : (n : ℕ) → is_among changed n ≡ false → (is_among put n ≡ false) × (is_among retired.clusters n ≡ false) × (is_among retired.listeners n ≡ false)
+  parts : (n : ℕ) → is_among changed n ≡ false → (is_among put n ≡ false) × (retired_of Cds n before after ≡ false) × (retired_of Lds n before after ≡ false)
   parts n other =
-      let outer = none-of (put ++ retired.clusters) retired.listeners n ((λ i. is_among (sym are i) n) ∙ other) in
-      let inner = none-of put retired.clusters n outer.0 in
-      (inner.0, inner.1, outer.1)
+      let outer = none-of put retired n ((λ i. is_among (sym are i) n) ∙ other) in
+      let inner = or_none (retired_of Cds n before after) (retired_of Lds n before after) (sym (have n) ∙ outer.1) in
+      (outer.0, inner.0, inner.1)
 
   -- behind a response, the dependents of each of its names
   pub entered-changed : (kind : Kind) (verdicts : List Verdict) (response : ResponseParts) (names : List (List ℕ))
@@ -110,9 +109,9 @@ module _ (changed put : List ℕ) (retired : Retired) (m : Managers) (before aft
       → put ≡ dependents_of m.clusters.state m.listeners.state kind response.items → HaveChanged changed before after
   entered-changed kind verdicts response names leads told =
       same-changed changed before after
-      (entered-same changed m.clusters.state m.listeners.state before after (clusters-are m before kept stand) (listeners-are m before kept stand)
+      (entered-same changed m.clusters.state m.listeners.state before after (rows-are m Cds before kept stand) (rows-are m Lds before kept stand)
       stand.clusters.sound.table.apart sound.table.apart
-      (λ n other. sym (have.clusters n) ∙ (parts n other).1) (λ n other. sym (have.listeners n) ∙ (parts n other).2)
+      (λ n other. (parts n other).1) (λ n other. (parts n other).2)
       kind verdicts response names leads (λ n other. (λ i. is_among (sym told i) n) ∙ (parts n other).0))
 
   -- behind the end of a resource, those of its name
@@ -120,9 +119,9 @@ module _ (changed put : List ℕ) (retired : Retired) (m : Managers) (before aft
       → put ≡ dependents_in m.clusters.state m.listeners.state kind name → HaveChanged changed before after
   ended-changed kind name leads told =
       same-changed changed before after
-      (ended-same changed m.clusters.state m.listeners.state before after (clusters-are m before kept stand) (listeners-are m before kept stand)
+      (ended-same changed m.clusters.state m.listeners.state before after (rows-are m Cds before kept stand) (rows-are m Lds before kept stand)
       stand.clusters.sound.table.apart sound.table.apart
-      (λ n other. sym (have.clusters n) ∙ (parts n other).1) (λ n other. sym (have.listeners n) ∙ (parts n other).2)
+      (λ n other. (parts n other).1) (λ n other. (parts n other).2)
       kind name leads (λ n other. (λ i. is_among (sym told i) n) ∙ (parts n other).0))
 
 -- behind a health result, the cluster that serves the name
@@ -132,13 +131,13 @@ pub resulted-changed : (changed : List ℕ) (m : Managers) (name : List ℕ) (ho
     → HaveChanged changed world (with_results host healthy (rows_meant world.arrivals name host world.rows) world)
 resulted-changed changed m name host healthy world kept stand are =
     same-changed changed world (with_results host healthy (rows_meant world.arrivals name host world.rows) world)
-    (resulted-same changed m.clusters.state name host healthy world (clusters-are m (with_results host healthy (rows_meant world.arrivals name host world.rows) world) kept stand) stand.clusters.sound.table.apart
+    (resulted-same changed m.clusters.state name host healthy world (rows-are m Cds (with_results host healthy (rows_meant world.arrivals name host world.rows) world) kept stand) stand.clusters.sound.table.apart
     (λ n other. (λ i. is_among (sym are i) n) ∙ other))
 
 -- what was told, what came to serve or began to drain, and the listeners that come to serve together
 module _ (old more all : List ℕ) (m after last : Managers) (before world : World) (kept : AreKept m) (kept_after : AreKept after) (kept_last : AreKept last)
     (stand : StandFor m world) (stand_after : StandFor after (promoted world)) (stand_last : StandFor last (without_old_results (without_unwatched (promoted world))))
-    (moved : AreChanged old more m after) where
+    (moved : Grows old more (λ n. of_either is_moved n m after)) where
   abbrev left : World
   left = without_old_results (without_unwatched (promoted world))
 
@@ -148,7 +147,7 @@ module _ (old more all : List ℕ) (m after last : Managers) (before world : Wor
       × (is_moved n m.listeners.state.table.rows after.listeners.state.table.rows ≡ false)
   told n other =
       let outer = or_none (is_among old n) (is_moved n m.clusters.state.table.rows after.clusters.state.table.rows || is_moved n m.listeners.state.table.rows after.listeners.state.table.rows)
-      (sym (moved.told n) ∙ other) in
+      (sym (moved n) ∙ other) in
       let inner = or_none (is_moved n m.clusters.state.table.rows after.clusters.state.table.rows) (is_moved n m.listeners.state.table.rows after.listeners.state.table.rows) outer.1 in
       (outer.0, inner.0, inner.1)
 
@@ -165,13 +164,13 @@ module _ (old more all : List ℕ) (m after last : Managers) (before world : Wor
       → (began_to_serve n (rows_of_kind Cds world.rows) (rows_of_kind Cds (promoted world).rows) ≡ false)
       × (began_to_drain n (rows_of_kind Cds world.rows) (rows_of_kind Cds (promoted world).rows) ≡ false)
   clusters_moved n other =
-      moved_of Cds m.clusters.state.table.rows after.clusters.state.table.rows n (clusters-are m world kept stand) (clusters-are after (promoted world) kept_after stand_after) (told n other).1
+      moved_of Cds m.clusters.state.table.rows after.clusters.state.table.rows n (rows-are m Cds world kept stand) (rows-are after Cds (promoted world) kept_after stand_after) (told n other).1
 
   listeners_moved : (n : ℕ) → is_among more n ≡ false
       → (began_to_serve n (rows_of_kind Lds world.rows) (rows_of_kind Lds (promoted world).rows) ≡ false)
       × (began_to_drain n (rows_of_kind Lds world.rows) (rows_of_kind Lds (promoted world).rows) ≡ false)
   listeners_moved n other =
-      moved_of Lds m.listeners.state.table.rows after.listeners.state.table.rows n (listeners-are m world kept stand) (listeners-are after (promoted world) kept_after stand_after) (told n other).2
+      moved_of Lds m.listeners.state.table.rows after.listeners.state.table.rows n (rows-are m Lds world kept stand) (rows-are after Lds (promoted world) kept_after stand_after) (told n other).2
 
   pub tidied-changed : all ≡ more ++ listeners_begun world.phase (phase_after left) last.listeners.state → HaveChanged old before world → HaveChanged all before (tidy world)
   tidied-changed are have =
@@ -185,7 +184,7 @@ module _ (old more all : List ℕ) (m after last : Managers) (before world : Wor
       (same-changed [] (promoted world) (without_unwatched (promoted world)) (unwatched-same (promoted world))) in
       let fourth = changed-more [] all (without_unwatched (promoted world)) left none
       (same-changed [] (without_unwatched (promoted world)) left (old_results-same (without_unwatched (promoted world)))) in
-      let fifth = begun-changed all last.listeners.state left (listeners-are last left kept_last stand_last) stand_last.clusters.sound.table.apart
+      let fifth = begun-changed all last.listeners.state left (rows-are last Lds left kept_last stand_last) stand_last.clusters.sound.table.apart
       (λ n other. (split n other).1) in
       changed-then all before world (tidy world) first
       (changed-then all world (promoted world) (tidy world) second

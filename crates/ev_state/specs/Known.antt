@@ -8,7 +8,7 @@ use Rattle.ev_model.specs.Versions.{is_kept}
 use Rattle.ev_indexes.specs.declared.state.State.{State}
 use Rattle.ev_indexes.specs.Indexes.{depends_on}
 use Rattle.ev_indexes.specs.Newest.{newest_in}
-use Rattle.ev_listeners.specs.Listeners.{ListenersKept, holders_in}
+use Rattle.ev_indexes.specs.Reads.{holders_in}
 use Rattle.ev_verdicts.specs.Known.{Answers}
 use Rattle.ev_subscription.specs.Subscriptions.{SubscriptionParts, held_of}
 
@@ -27,18 +27,18 @@ watched_by clusters listeners Lds name = false
 watched_by clusters listeners Rds name = list_any (depends_on name) listeners.table.rows
 
 -- the answers of these managers and of this subscription
-abbrev pub answers_by : State → ListenersKept → SubscriptionParts → Answers
+abbrev pub answers_by : State → State → SubscriptionParts → Answers
 answers_by clusters listeners subscription = record {
-  newest = λ kind name. newest_by clusters listeners.state kind name;
-  holders = λ address. holders_in listeners address;
-  watched = λ kind name. watched_by clusters listeners.state kind name;
+  newest = λ kind name. newest_by clusters listeners kind name;
+  holders = λ address. holders_in listeners.table.rows address;
+  watched = λ kind name. watched_by clusters listeners kind name;
   kept = λ kind name version. is_kept (held_of subscription kind) kind name version;
 }
 
 -- the managers' states and the subscription before a response
 pub record BeforeParts : Type 0 where
   pub clusters : State
-  pub listeners : ListenersKept
+  pub listeners : State
   pub subscription : SubscriptionParts
 
 -- what they answer

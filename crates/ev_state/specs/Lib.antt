@@ -1,4 +1,3 @@
-pub mod Managed
 pub mod Ages
 pub mod Known
 pub mod States

@@ -2,60 +2,54 @@
 use Rattle.std.specs.Prelude.{◌≡◌, ℕ, true, false, not, ◌&&◌, if◌then◌else◌, List, All, filter, Option, None, Some}
 use Rattle.std.specs.List.{AllByRecursion}
 use Rattle.ev_types.specs.Statuses.{is_live}
-use Rattle.ev_types.specs.declared.events.Actor.{Actor}
 use Rattle.ev_types.specs.declared.events.Answer.{Answer}
-use Rattle.ev_types.specs.declared.events.Event.{Event}
-use Rattle.ev_types.specs.declared.journals.Format.{Format}
 use Rattle.ev_types.specs.declared.rows.GenRow.{GenRow}
 use Rattle.ev_types.specs.declared.rows.KeptVersion.{KeptVersion}
 use Rattle.ev_model.specs.World.{World}
 use Rattle.ev_model.specs.Live.{lives_of}
-use Rattle.ev_model.specs.Step.{step as machine_step}
 use Rattle.ev_model.specs.Tidy.{is_version_due}
 use Rattle.ev_model.specs.Watching.{is_by_name}
 use Rattle.ev_generations.specs.Tables.{is_number, row_in}
 use Rattle.ev_indexes.specs.Worlds.{IsSound}
+use Rattle.ev_managers.specs.declared.moved.Moved.{Moved}
 use Rattle.ev_managers.specs.Managers.{AreForgotten, AreKept, StandFor}
 use Rattle.ev_subscription.specs.Subscriptions.{StandsFor as HasVersions}
-use Rattle.ev_targets.specs.Targets.{StandsFor as HasTargets}
+use Rattle.ev_targets.specs.Targets.{HaveBooted}
 use Rattle.ev_state.specs.declared.state.State.{State}
-use Rattle.ev_state.specs.declared.stepped.Stepped.{Stepped}
 use Rattle.ev_state.specs.Ages.{AreLater}
-use Rattle.ev_state.specs.Changed.{HaveChanged}
-use Rattle.ev_state.specs.Retirements.{HaveRetired}
+use Rattle.ev_state.specs.Retirements.{HaveMoved}
 
 -- each part has what the world has of it
-pub record StandsFor (s : State) (world : World) : Type 0 where
+pub record HasWorld (s : State) (world : World) : Type 0 where
   pub managers : StandFor s.managers world
   pub subscription : HasVersions s.subscription world
-  pub targets : HasTargets s.targets world
+  pub targets : HaveBooted s.targets world
 
 -- An event leads from one world to another: each part has what the other has of it, and each generation of the first stays in its
 -- place. A version of endpoints or routes is kept only of a name that the first one watches. The phase is still that of the first.
 pub record Follows (s : State) (before world : World) : Type 0 where
-  pub stands : StandsFor s world
+  pub stands : HasWorld s world
   pub sound : IsSound before
   pub later : AreLater before.made before.rows world.rows
   pub heard : All (λ (kept : KeptVersion). is_version_due (lives_of before) kept ≡ true) world.versions
   pub phase : world.phase ≡ before.phase
 
 -- between two events
-pub record IsAt (s : State) (world : World) : Type 0 where
+pub record ManagesAt (s : State) (world : World) : Type 0 where
   pub kept : AreKept s.managers
   pub forgotten : AreForgotten s.managers
   pub follows : Follows s world world
   pub whole : AllByRecursion (λ (row : GenRow). is_by_name row.kind ≡ false) world.rows
 
--- the state is at the world that the machine's step leads to, but for which generations it has; the answer is the machine's, and what
--- is told of retirements and of changes is so
-pub record Steps (s : State) (told : Stepped) (before : World) (stepped : World × Answer) : Type 0 where
+-- the state is at the world that the machine's step leads to, but for which generations it has; the answer is the machine's, and these
+-- are what the step moved
+pub record IsStep (s : State) (told : Answer) (these : Moved) (before : World) (stepped : World × Answer) : Type 0 where
   pub kept : AreKept s.managers
   pub forgotten : AreForgotten s.managers
   pub follows : Follows s stepped.0 stepped.0
   pub later : AreLater before.made before.rows stepped.0.rows
-  pub answer : told.answer ≡ stepped.1
-  pub retired : HaveRetired told.retired before stepped.0
-  pub changed : HaveChanged told.changed before stepped.0
+  pub answer : told ≡ stepped.1
+  pub moved : HaveMoved these before stepped.0
 
 -- the worlds differ at most in what was published, which picture each worker holds, which connections are open, and which drain
 -- timeouts came
@@ -86,10 +80,7 @@ where_over (Some row) = if is_live row.status then None else Some row
 abbrev pub over_in : ℕ → List GenRow → Option GenRow
 over_in number rows = where_over (row_in number rows)
 
--- at every world that the old state follows between two events, the change is a step of the new state, with what is told
-abbrev pub StepBy : (World → World × Answer) → State → State → Stepped → Type 0
-StepBy change old new told = (world : World) → Follows old world world → Steps new told world (change world)
-
--- whatever the format, and whoever brings the event, it is so of the machine's step
-abbrev pub InEachStep : World → Event → (World × Answer → Type 0) → Type 0
-InEachStep here event Said = (format : Format) (actor : Actor) → Said (machine_step format here actor event)
+-- at every world that the old state follows between two events, the change is a step of the new state, with this answer and these
+-- that it moved
+abbrev pub StepBy : (World → World × Answer) → State → State → Answer → Moved → Type 0
+StepBy change old new told these = (world : World) → Follows old world world → IsStep new told these world (change world)

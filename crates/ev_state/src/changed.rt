@@ -4,7 +4,6 @@ ghost use Rattle.ev_managers.specs.Managers.{AreKept};
 ghost use Rattle.ev_state.specs.Changed.{dependents_in, dependents_of, listeners_begun};
 
 use crate::state::State;
-use ev_managers::Retired;
 use ev_types::{Gen, Kind, Name, Phase, Response, Seq};
 use std::alloc::{AllocError, Global};
 
@@ -21,8 +20,8 @@ impl State {
             ++ dependents_in self.now.managers.clusters.state self.now.managers.listeners.state kind name.now) }
     {
         match kind {
-            Kind::Eds => put_all(changed, self.managers.clusters.dependents(name)),
-            Kind::Rds => put_all(changed, self.managers.listeners.dependents(name)),
+            Kind::Eds => put_all(changed, self.managers.clusters.state.dependents(name)),
+            Kind::Rds => put_all(changed, self.managers.listeners.state.dependents(name)),
             Kind::Cds | Kind::Lds => Ok(()),
         }
     }
@@ -50,7 +49,7 @@ impl State {
         ensures { OnOk result (changed.new ≡ changed.old
             ++ numbers_where (serves name.now) self.now.managers.clusters.state.table.rows) }
     {
-        if let Some(number) = self.managers.clusters.of_name(name).active {
+        if let Some(number) = self.managers.clusters.state.names.standing(name).active {
             changed.push(number)?;
         }
         Ok(())
@@ -68,20 +67,12 @@ impl State {
     {
         match (before, self.targets.phase()) {
             (Phase::Clusters | Phase::Listeners, Phase::Serving) => {
-                let numbers = self.managers.listeners.numbers_live(alloc)?;
+                let numbers = self.managers.listeners.state.numbers_live(alloc)?;
                 put_all(changed, numbers.as_slice())
             }
             _ => Ok(()),
         }
     }
-}
-
-/// Puts the numbers of generations that retired to the others.
-pub(crate) fn put_retired(changed: &mut Seq<Gen>, retired: &Retired) -> Result<(), AllocError>
-    ensures { OnOk result (changed.new ≡ (changed.old ++ retired.now.clusters) ++ retired.now.listeners) }
-{
-    put_all(changed, retired.clusters.as_slice())?;
-    put_all(changed, retired.listeners.as_slice())
 }
 
 // Puts numbers to the others.

@@ -23,7 +23,7 @@ impl<'a> Model for Before<'a> {
 
     ghost Value = { BeforeParts };
 
-    ghost view = { λ b. record { clusters = b.managers.now.clusters.state; listeners = b.managers.now.listeners; subscription = b.subscription.now } };
+    ghost view = { λ b. record { clusters = b.managers.now.clusters.state; listeners = b.managers.now.listeners.state; subscription = b.subscription.now } };
 
     ghost invariant = { λ b. AreKept b.managers.now };
 }
@@ -34,7 +34,7 @@ impl<'a> Before<'a> {
         requires kept { AreKept managers.now }
         ensures { result ≡ record {
           clusters = managers.now.clusters.state;
-          listeners = managers.now.listeners;
+          listeners = managers.now.listeners.state;
           subscription = subscription.now;
         } }
     {
@@ -52,14 +52,14 @@ impl<'a> Known for Before<'a> {
 
     fn newest(&self, kind: Kind, name: &str) -> Option<LiveRow<'_>> {
         match kind {
-            Kind::Cds => self.managers.clusters.newest(name),
-            Kind::Lds => self.managers.listeners.newest(name),
+            Kind::Cds => self.managers.clusters.state.newest(name),
+            Kind::Lds => self.managers.listeners.state.newest(name),
             Kind::Eds | Kind::Rds => None,
         }
     }
 
     fn holders(&self, alloc: Global, address: &Host) -> Result<Vec<LiveRow<'_>>, AllocError> {
-        self.managers.listeners.holders(alloc, address)
+        self.managers.listeners.state.holders(alloc, address)
     }
 
     fn is_watched(&self, kind: Kind, name: &str) -> bool {

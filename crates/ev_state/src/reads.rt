@@ -10,29 +10,29 @@ use ev_types::{Gen, GenRow, Phase};
 use std::alloc::{AllocError, Global};
 
 impl State {
-    ghost use Rattle.ev_state.specs.States.{IsAt};
+    ghost use Rattle.ev_state.specs.States.{ManagesAt};
 
     /// How many numbers were drawn for generations.
     pub fn made(&self) -> u32
-        ensures { (world : World) → IsAt self.now world → result ≡ world.made }
+        ensures { (world : World) → ManagesAt self.now world → result ≡ world.made }
     {
-        self.managers.clusters.made()
+        self.managers.made
     }
 
     /// How far the proxy has booted.
     pub fn phase(&self) -> Phase
-        ensures { (world : World) → IsAt self.now world → result ≡ world.phase }
+        ensures { (world : World) → ManagesAt self.now world → result ≡ world.phase }
     {
         self.targets.phase()
     }
 
     /// The generation of this number. It costs a look-up among clusters, and one among listeners where no cluster has the number.
     pub fn row(&self, number: Gen) -> Option<&GenRow>
-        ensures { (world : World) → IsAt self.now world → option_copied result ≡ row_in number world.rows }
+        ensures { (world : World) → ManagesAt self.now world → option_copied result ≡ row_in number world.rows }
     {
-        match self.managers.clusters.get(number) {
+        match self.managers.clusters.state.table.get(number) {
             Some(row) => Some(row),
-            None => self.managers.listeners.get(number),
+            None => self.managers.listeners.state.table.get(number),
         }
     }
 
@@ -40,9 +40,9 @@ impl State {
     /// the number and of the name that the cluster depends on, and one of each of its hosts.
     pub fn cluster(&self, alloc: Global, number: Gen) -> Result<Option<ServedCluster>, AllocError>
         requires kept { AreKept self.now.managers }
-        ensures { IfOk result (λ served. (world : World) → IsAt self.now world → served ≡ cluster_at world number) }
+        ensures { IfOk result (λ served. (world : World) → ManagesAt self.now world → served ≡ cluster_at world number) }
     {
-        let served = self.managers.clusters.served(alloc, number)?;
+        let served = self.managers.clusters.state.cluster(alloc, number)?;
         Ok(served)
     }
 
@@ -50,11 +50,11 @@ impl State {
     /// or its target. It costs a look-up of the number, and one of the name that the listener depends on.
     pub fn listener(&self, alloc: Global, number: Gen) -> Result<Option<ServedListener>, AllocError>
         requires kept { AreKept self.now.managers }
-        ensures { IfOk result (λ served. (world : World) → IsAt self.now world → served ≡ listener_at world number) }
+        ensures { IfOk result (λ served. (world : World) → ManagesAt self.now world → served ≡ listener_at world number) }
     {
         match self.targets.phase() {
             Phase::Serving => {
-                let served = self.managers.listeners.served(alloc, number)?;
+                let served = self.managers.listeners.state.listener(alloc, number)?;
                 Ok(served)
             }
             Phase::Clusters | Phase::Listeners => Ok(None),

@@ -4,60 +4,35 @@ ghost use Rattle.ev_model.specs.Tidy.{tidy};
 ghost use Rattle.ev_warming.specs.Changes.{is_over};
 ghost use Rattle.ev_managers.specs.Managers.{AreForgotten, AreKept};
 ghost use Rattle.ev_state.specs.Changed.{HaveChanged};
-ghost use Rattle.ev_state.specs.Moves.{IsOver};
 ghost use Rattle.ev_state.specs.Retirements.{HaveCeased};
-ghost use Rattle.ev_state.specs.States.{Follows, IsAt, over_in, without_over};
+ghost use Rattle.ev_state.specs.States.{ManagesAt, over_in, without_over};
 
-use crate::moves::Moves;
 use crate::state::State;
-use crate::stepped::Altered;
 use ev_generations::Steps;
-use ev_managers::Retired;
-use ev_types::{Gen, GenRow, Seq};
+use ev_managers::Moved;
+use ev_types::{Gen, GenRow, Kind};
 use std::alloc::{AllocError, Global};
-use std::marker::Brand;
-use std::sync::ledger::{Blank, Ledger};
+use std::sync::ledger::Ledger;
 
 impl State {
     /// What follows an event by itself, where the event was of no manager: what is due serves, what nobody needs is forgotten, and
-    /// the phase moves on. Answers which generations that retired, and of which a picture may show something else. Without memory
-    /// nothing is promised.
-    pub fn tidy_up(&mut self, alloc: Global) -> Result<Altered, AllocError>
+    /// the phase moves on. Answers what that moved. Without memory nothing is promised.
+    pub fn tidy_up<L: Ledger>(
+        &mut self,
+        alloc: Global,
+        steps: &mut Steps<L>,
+    ) -> Result<Moved, AllocError>
         requires kept { AreKept self.old.managers }
-        ensures at { OnOk result ((world : World) → IsAt self.old world → IsAt self.new (tidy world)) }
-        ensures ceased { IfOk result (λ altered. (world : World) → IsAt self.old world
-            → HaveCeased altered.retired world (tidy world)) }
-        ensures changed { IfOk result (λ altered. (world : World) → IsAt self.old world
-            → HaveChanged altered.changed world (tidy world)) }
+        ensures at { OnOk result ((world : World) → ManagesAt self.old world → ManagesAt self.new (tidy world)) }
+        ensures ceased { IfOk result (λ moved. (world : World) → ManagesAt self.old world
+            → HaveCeased moved.retired world (tidy world)) }
+        ensures changed { IfOk result (λ moved. (world : World) → ManagesAt self.old world
+            → HaveChanged moved.changed world (tidy world)) }
     {
-        let moves = self.tidy_counted::<Brand>(Blank::new(1), alloc)?;
-        Ok(Altered {
-            retired: moves.retired,
-            changed: moves.changed,
-        })
-    }
-
-    // The same, with a ledger by which look-ups are counted.
-    fn tidy_counted<L: Ledger>(&mut self, blank: Blank, alloc: Global) -> Result<Moves, AllocError>
-        requires name { blank.name ≡ L.name }
-        requires parts { blank.parts ≡ L.parts }
-        requires one { L.parts ≡ 1 }
-        requires kept { AreKept self.old.managers }
-        ensures kept { OnOk result (AreKept self.new.managers) }
-        ensures forgotten { OnOk result (AreForgotten self.new.managers) }
-        ensures over { IfOk result (λ moves. (world : World) → Follows self.old world world
-            → IsOver self.new moves world (tidy world)) }
-    {
-        let mut steps = Steps::<L>::new(blank);
-        let made = self.managers.clusters.made();
-        let moves = self.tidy(
-            alloc,
-            made,
-            Retired::none(alloc),
-            Seq::new(alloc),
-            &mut steps,
-        )?;
-        Ok(moves)
+        let made = self.managers.made;
+        let mut moved = Moved::none(alloc);
+        self.tidy(alloc, made, &mut moved, steps)?;
+        Ok(moved)
     }
 
     /// Takes out and answers the generation of this number, where it drains or was dropped; where none has the number, or it is live,
@@ -67,18 +42,18 @@ impl State {
         requires forgotten { AreForgotten self.old.managers }
         ensures kept { AreKept self.new.managers }
         ensures forgotten { AreForgotten self.new.managers }
-        ensures at { (world : World) → IsAt self.old world
-            → IsAt self.new (record world { rows = without_over number world.rows }) }
-        ensures row { (world : World) → IsAt self.old world → result ≡ over_in number world.rows }
+        ensures at { (world : World) → ManagesAt self.old world
+            → ManagesAt self.new (record world { rows = without_over number world.rows }) }
+        ensures row { (world : World) → ManagesAt self.old world → result ≡ over_in number world.rows }
         // A picture shows what it showed.
-        ensures shown { (world : World) → IsAt self.old world
+        ensures shown { (world : World) → ManagesAt self.old world
             → HaveChanged [] world (record world { rows = without_over number world.rows }) }
     {
-        if has_ended(self.managers.clusters.get(number)) {
-            return Some(self.managers.remove_cluster(number));
+        if has_ended(self.managers.clusters.state.table.get(number)) {
+            return Some(self.managers.remove(Kind::Cds, number));
         }
-        if has_ended(self.managers.listeners.get(number)) {
-            return Some(self.managers.remove_listener(number));
+        if has_ended(self.managers.listeners.state.table.get(number)) {
+            return Some(self.managers.remove(Kind::Lds, number));
         }
         None
     }

@@ -9,17 +9,15 @@ ghost use Rattle.ev_model.specs.Requests.{Watched, other_than, requests_by, repl
 ghost use Rattle.ev_model.specs.Step.{respond, responded, answered};
 ghost use Rattle.ev_managers.specs.Managers.{AreForgotten, AreKept};
 ghost use Rattle.ev_subscription.specs.Subscriptions.{StandsFor as HasVersions};
-ghost use Rattle.ev_state.specs.States.{Follows, IsAt, Steps as AreSteps};
+ghost use Rattle.ev_state.specs.States.{Follows, IsStep, ManagesAt};
 ghost use Rattle.ev_state.specs.Moves.{IsOver};
-ghost use Rattle.ev_state.specs.Retirements.{HaveRetired};
-ghost use Rattle.ev_state.specs.Changed.{HaveChanged};
+ghost use Rattle.ev_state.specs.Retirements.{HaveMoved};
 
-use crate::changed::put_retired;
+use crate::asked::Asked;
 use crate::known::Before;
-use crate::moves::Moves;
 use crate::state::State;
-use crate::stepped::{Altered, Stepped};
 use ev_generations::Steps;
+use ev_managers::Moved;
 use ev_mentions::Mentions;
 use ev_subscription::reply_of;
 use ev_types::{Answer, Kind, Response, Seq, Verdict};
@@ -29,20 +27,20 @@ use std::sync::ledger::Ledger;
 
 impl State {
     /// A response; where no stream is open, or its type isn't read, nothing is done.
-    pub(crate) fn respond<L: Ledger>(
+    pub fn respond<L: Ledger>(
         &mut self,
         alloc: Global,
         response: &Response,
         steps: &mut Steps<L>,
-    ) -> Result<Stepped, AllocError>
+    ) -> Result<(Answer, Moved), AllocError>
         ghost here: { World }
-        requires at { IsAt self.old here }
+        requires at { ManagesAt self.old here }
         requires room { 0 < length response.now.items → here.made + length response.now.items < 2 ^ 32 }
-        ensures { IfOk result (λ stepped. AreSteps self.new stepped here (respond response.now here)) }
+        ensures { IfOk result (λ told. IsStep self.new told.0 told.1 here (respond response.now here)) }
     {
         match response.kind {
             Some(kind) if self.subscription.is_open() => self.answer(alloc, kind, response, steps),
-            _ => Ok(Stepped::ignored(alloc)),
+            _ => Ok((Answer::Ignored, Moved::none(alloc))),
         }
     }
 
@@ -53,19 +51,19 @@ impl State {
         kind: Kind,
         response: &Response,
         steps: &mut Steps<L>,
-    ) -> Result<Stepped, AllocError>
+    ) -> Result<(Answer, Moved), AllocError>
         ghost here: { World }
-        requires at { IsAt self.old here }
+        requires at { ManagesAt self.old here }
         requires typed { response.now.kind ≡ Some kind }
         requires room { 0 < length response.now.items → here.made + length response.now.items < 2 ^ 32 }
-        ensures { IfOk result (λ stepped. AreSteps self.new stepped here (answered kind response.now
+        ensures { IfOk result (λ told. IsStep self.new told.0 told.1 here (answered kind response.now
             (verdicts_of (lives_of here) here.versions response.now) here)) }
     {
         let mentions = Mentions::of(alloc, response)?;
         let verdicts = self.judge(alloc, &mentions)?;
-        let moves = self.take(alloc, kind, verdicts.as_slice(), &mentions, steps)?;
-        let stepped = self.reply(alloc, kind, response, verdicts, moves)?;
-        Ok(stepped)
+        let (asked, moved) = self.take(alloc, kind, verdicts.as_slice(), &mentions, steps)?;
+        let answer = self.reply(alloc, kind, response, verdicts, asked)?;
+        Ok((answer, moved))
     }
 
     // The verdicts on the resources of a response that wasn't taken yet.
@@ -73,7 +71,7 @@ impl State {
         requires kept { AreKept self.now.managers }
         requires typed { IsSome mentions.now.kind }
         ensures one_each { IfOk result (λ verdicts. length verdicts ≡ length mentions.now.items) }
-        ensures judged { IfOk result (λ verdicts. (kind : Kind) (world : World) → IsAt self.now world
+        ensures judged { IfOk result (λ verdicts. (kind : Kind) (world : World) → ManagesAt self.now world
             → mentions.now.kind ≡ Some kind → verdicts ≡ verdicts_of (lives_of world) world.versions mentions.now) }
     {
         let before = Before::new(&self.managers, &self.subscription);
@@ -81,7 +79,8 @@ impl State {
         Ok(verdicts)
     }
 
-    // What a response does to everything that is known, by the verdicts on its resources, and what it changes of what is asked for.
+    // What a response does to everything that is known, by the verdicts on its resources. Answers what it changes of what is asked for,
+    // and what it moves.
     fn take<L: Ledger>(
         &mut self,
         alloc: Global,
@@ -89,22 +88,22 @@ impl State {
         verdicts: &[Verdict],
         mentions: &Mentions<'_>,
         steps: &mut Steps<L>,
-    ) -> Result<Moves, AllocError>
+    ) -> Result<(Asked, Moved), AllocError>
         ghost here: { World }
-        requires at { IsAt self.old here }
+        requires at { ManagesAt self.old here }
         requires typed { mentions.now.kind ≡ Some kind }
         requires room { 0 < length mentions.now.items → here.made + length mentions.now.items < 2 ^ 32 }
         requires one_each { length verdicts.now ≡ length mentions.now.items }
         requires judged { verdicts.now ≡ verdicts_of (lives_of here) here.versions mentions.now }
         ensures kept { OnOk result (AreKept self.new.managers) }
         ensures forgotten { OnOk result (AreForgotten self.new.managers) }
-        ensures over { IfOk result (λ moves. IsOver self.new moves here
+        ensures over { IfOk result (λ told. IsOver self.new told.0 told.1 here
             (responded kind mentions.now verdicts.now here)) }
     {
-        let made = self.managers.clusters.made();
-        let altered = self.enter(alloc, kind, verdicts, mentions, steps)?;
-        let moves = self.tidy(alloc, made, altered.retired, altered.changed, steps)?;
-        Ok(moves)
+        let made = self.managers.made;
+        let mut moved = self.enter(alloc, kind, verdicts, mentions, steps)?;
+        let asked = self.tidy(alloc, made, &mut moved, steps)?;
+        Ok((asked, moved))
     }
 
     // The answer to a response: its reply and what its changes ask for, and the verdicts.
@@ -114,37 +113,30 @@ impl State {
         kind: Kind,
         response: &Response,
         verdicts: Seq<Verdict>,
-        moves: Moves,
-    ) -> Result<Stepped, AllocError>
+        asked: Asked,
+    ) -> Result<Answer, AllocError>
         requires one_each { length verdicts ≡ length response.now.items }
-        ensures retired { IfOk result (λ stepped. stepped.retired ≡ moves.retired) }
-        ensures changed { IfOk result (λ stepped. stepped.changed ≡ moves.changed) }
-        ensures answer { IfOk result (λ stepped. (world : World) (before after : Watched)
+        ensures { IfOk result (λ answer. (world : World) (before after : Watched)
             → HasVersions self.now.subscription world
-            → moves.endpoints.begun ≡ other_than before.endpoints after.endpoints
-            → moves.endpoints.ended ≡ other_than after.endpoints before.endpoints
-            → moves.routes.begun ≡ other_than before.routes after.routes
-            → moves.routes.ended ≡ other_than after.routes before.routes
-            → stepped.answer ≡ Replied (requests_by world.stream before after moves.left world.versions
+            → asked.endpoints.begun ≡ other_than before.endpoints after.endpoints
+            → asked.endpoints.ended ≡ other_than after.endpoints before.endpoints
+            → asked.routes.begun ≡ other_than before.routes after.routes
+            → asked.routes.ended ≡ other_than after.routes before.routes
+            → answer ≡ Replied (requests_by world.stream before after asked.left world.versions
             (Some (reply_of kind response.now verdicts))) verdicts) }
     {
         let reply = reply_of(alloc, kind, response, verdicts.as_slice())?;
         let requests = self.subscription.requests_after(
             alloc,
             Some(reply),
-            moves.endpoints,
-            moves.routes,
-            moves.left,
+            asked.endpoints,
+            asked.routes,
+            asked.left,
         )?;
-        Ok(Stepped {
-            answer: Answer::Replied { requests, verdicts },
-            retired: moves.retired,
-            changed: moves.changed,
-        })
+        Ok(Answer::Replied { requests, verdicts })
     }
 
-    // What a response does to each part, by the verdicts on its resources. Answers which generations retired, and of which a picture may
-    // show something else.
+    // What a response does to each part, by the verdicts on its resources. Answers what it moves.
     fn enter<L: Ledger>(
         &mut self,
         alloc: Global,
@@ -152,9 +144,9 @@ impl State {
         verdicts: &[Verdict],
         mentions: &Mentions<'_>,
         steps: &mut Steps<L>,
-    ) -> Result<Altered, AllocError>
+    ) -> Result<Moved, AllocError>
         ghost here: { World }
-        requires at { IsAt self.old here }
+        requires at { ManagesAt self.old here }
         requires typed { mentions.now.kind ≡ Some kind }
         requires room { here.made + length mentions.now.items < 2 ^ 32 }
         requires one_each { length verdicts.now ≡ length mentions.now.items }
@@ -163,10 +155,7 @@ impl State {
         ensures follows { OnOk result (Follows self.new here
             (with_first kind (made_names verdicts.now mentions.now.items)
             (add_items kind verdicts.now mentions.now.items (with_removals kind mentions.now here)))) }
-        ensures retired { IfOk result (λ altered. HaveRetired altered.retired here
-            (with_first kind (made_names verdicts.now mentions.now.items)
-            (add_items kind verdicts.now mentions.now.items (with_removals kind mentions.now here)))) }
-        ensures changed { IfOk result (λ altered. HaveChanged altered.changed here
+        ensures moved { IfOk result (λ moved. HaveMoved moved here
             (with_first kind (made_names verdicts.now mentions.now.items)
             (add_items kind verdicts.now mentions.now.items (with_removals kind mentions.now here)))) }
     {
@@ -176,9 +165,9 @@ impl State {
         let retired = self
             .managers
             .respond(alloc, kind, response, verdicts, steps)?;
-        put_retired(&mut changed, &retired)?;
+        let moved = Moved::of(retired, changed)?;
         self.subscription.respond(alloc, kind, verdicts, mentions)?;
         self.targets.note_first(alloc, kind, response, verdicts)?;
-        Ok(Altered { retired, changed })
+        Ok(moved)
     }
 }

@@ -16,11 +16,11 @@ pub struct State {
 }
 
 impl State {
-    ghost use Rattle.ev_state.specs.States.{IsAt};
+    ghost use Rattle.ev_state.specs.States.{ManagesAt};
 
     /// Nothing is known yet, however many workers there are.
     pub fn new(alloc: Global, node: &Text) -> Result<State, AllocError>
-        ensures { IfOk result (λ s. (workers : ℕ) → IsAt s (opening workers node.now)) }
+        ensures { IfOk result (λ s. (workers : ℕ) → ManagesAt s (opening workers node.now)) }
     {
         let node = node.copy(alloc)?;
         Ok(State {

@@ -4,49 +4,45 @@ ghost use Rattle.ev_model.specs.World.{World};
 ghost use Rattle.ev_model.specs.Requests.{connect_requests};
 ghost use Rattle.ev_model.specs.Step.{connect, disconnect};
 ghost use Rattle.ev_managers.specs.Managers.{AreForgotten, AreKept};
-ghost use Rattle.ev_state.specs.States.{StandsFor, StepBy};
+ghost use Rattle.ev_state.specs.States.{HasWorld, StepBy};
 
 use crate::state::State;
-use crate::stepped::Stepped;
 use ev_generations::Steps;
-use ev_managers::Retired;
+use ev_managers::Moved;
 use ev_types::{Answer, Phase, Request, Seq};
 use std::alloc::{AllocError, Global};
 use std::sync::ledger::Ledger;
 
 impl State {
     /// A stream opens; where one is open already, nothing is done.
-    pub(crate) fn connect<L: Ledger>(
+    pub fn connect<L: Ledger>(
         &mut self,
         alloc: Global,
         steps: &mut Steps<L>,
-    ) -> Result<Stepped, AllocError>
+    ) -> Result<(Answer, Moved), AllocError>
         requires kept { AreKept self.old.managers }
         requires forgotten { AreForgotten self.old.managers }
-        ensures { IfOk result (λ stepped. StepBy connect self.old self.new stepped) }
+        ensures { IfOk result (λ told. StepBy connect self.old self.new told.0 told.1) }
     {
         if self.subscription.is_open() {
-            return Ok(Stepped::ignored(alloc));
+            return Ok((Answer::Ignored, Moved::none(alloc)));
         }
         let requests = self.asked_at_first(alloc)?;
         self.subscription.set_stream(true);
-        let made = self.managers.clusters.made();
-        let moves = self.tidy(alloc, made, Retired::none(alloc), Seq::new(alloc), steps)?;
-        Ok(Stepped {
-            answer: Answer::Moved { requests },
-            retired: moves.retired,
-            changed: moves.changed,
-        })
+        let made = self.managers.made;
+        let mut moved = Moved::none(alloc);
+        self.tidy(alloc, made, &mut moved, steps)?;
+        Ok((Answer::Moved { requests }, moved))
     }
 
     // What is asked for as a stream opens. It goes over all generations, for the names that they depend on.
     fn asked_at_first(&self, alloc: Global) -> Result<Seq<Request>, AllocError>
         requires kept { AreKept self.now.managers }
-        ensures { IfOk result (λ requests. (world : World) → StandsFor self.now world
+        ensures { IfOk result (λ requests. (world : World) → HasWorld self.now world
             → requests ≡ connect_requests world) }
     {
-        let endpoints = self.managers.clusters.watched(alloc)?;
-        let routes = self.managers.listeners.watched(alloc)?;
+        let endpoints = self.managers.clusters.state.watched(alloc)?;
+        let routes = self.managers.listeners.state.watched(alloc)?;
         let asked = !self.awaits_clusters();
         let requests = self
             .subscription
@@ -65,25 +61,22 @@ impl State {
     }
 
     /// The stream is lost; where none is open, nothing is done.
-    pub(crate) fn disconnect<L: Ledger>(
+    pub fn disconnect<L: Ledger>(
         &mut self,
         alloc: Global,
         steps: &mut Steps<L>,
-    ) -> Result<Stepped, AllocError>
+    ) -> Result<(Answer, Moved), AllocError>
         requires kept { AreKept self.old.managers }
         requires forgotten { AreForgotten self.old.managers }
-        ensures { IfOk result (λ stepped. StepBy disconnect self.old self.new stepped) }
+        ensures { IfOk result (λ told. StepBy disconnect self.old self.new told.0 told.1) }
     {
         if !self.subscription.is_open() {
-            return Ok(Stepped::ignored(alloc));
+            return Ok((Answer::Ignored, Moved::none(alloc)));
         }
         self.subscription.set_stream(false);
-        let made = self.managers.clusters.made();
-        let moves = self.tidy(alloc, made, Retired::none(alloc), Seq::new(alloc), steps)?;
-        Ok(Stepped {
-            answer: Answer::Done,
-            retired: moves.retired,
-            changed: moves.changed,
-        })
+        let made = self.managers.made;
+        let mut moved = Moved::none(alloc);
+        self.tidy(alloc, made, &mut moved, steps)?;
+        Ok((Answer::Done, moved))
     }
 }

@@ -14,9 +14,10 @@ use Rattle.ev_model.specs.Rows.{is_row_of}
 use Rattle.ev_model.specs.Phase.{has_active, has_live, has_come, have_come, phase_from}
 use Rattle.ev_model.specs.Tidy.{with_phase}
 use Rattle.ev_indexes.specs.Indexes.{serves, warms}
-use Rattle.ev_indexes.specs.Worlds.{rows_of_kind, StandsFor as HasPart}
+use Rattle.ev_indexes.specs.Reads.{has_come_in}
+use Rattle.ev_indexes.specs.Worlds.{rows_of_kind, StandsFor}
 use Rattle.ev_indexes.specs.declared.state.State.{State}
-use Rattle.ev_targets.specs.Targets.{TargetsParts, StandsFor, come_in}
+use Rattle.ev_targets.specs.Targets.{TargetsParts, HaveBooted}
 
 any_same : (p q : GenRow → Bool) → ((row : GenRow) → p row ≡ q row) → (rows : List GenRow) → list_any p rows ≡ list_any q rows
 any_same p q same [] = refl
@@ -87,7 +88,7 @@ living kind name rows =
     ∙ any_either (λ (row : GenRow). is_row_of kind name row && is_active row.status) (λ (row : GenRow). is_row_of kind name row && is_warming row.status) rows
 
 -- a name has come by the manager's tables where it has come in the world
-pub come-world : (kind : Kind) (s : State) (world : World) (name : List ℕ) → s.kind ≡ kind → HasPart s world → come_in s name ≡ has_come world.rows kind name
+pub come-world : (kind : Kind) (s : State) (world : World) (name : List ℕ) → s.kind ≡ kind → StandsFor s world → has_come_in s.table.rows name ≡ has_come world.rows kind name
 unfolding has_come
 come-world kind s world name of_kind stands =
     let are : s.table.rows ≡ rows_of_kind kind world.rows = stands.rows ∙ ap (λ k. rows_of_kind k world.rows) of_kind in
@@ -106,16 +107,16 @@ have_come-same late p q None same = refl
 have_come-same late p q (Some names) same = ap (λ b. late || b) (all_same p q same names)
 
 -- where all three stand for a world, the phase that follows is the world's
-pub phase-stands : (t : TargetsParts) (clusters listeners : State) (world : World) → clusters.kind ≡ Cds → listeners.kind ≡ Lds → StandsFor t world → HasPart clusters world → HasPart listeners world
-    → StandsFor (record t {
-      phase = phase_from (have_come t.late_clusters (come_in clusters) t.first_clusters) (have_come t.late_listeners (come_in listeners) t.first_listeners) t.phase;
+pub phase-stands : (t : TargetsParts) (clusters listeners : State) (world : World) → clusters.kind ≡ Cds → listeners.kind ≡ Lds → HaveBooted t world → StandsFor clusters world → StandsFor listeners world
+    → HaveBooted (record t {
+      phase = phase_from (have_come t.late_clusters (has_come_in clusters.table.rows) t.first_clusters) (have_come t.late_listeners (has_come_in listeners.table.rows) t.first_listeners) t.phase;
     }) (with_phase world)
 phase-stands t clusters listeners world cds lds stands c l = record {
   phase =
-      (λ i. phase_from (have_come (stands.late_clusters i) (come_in clusters) (stands.first_clusters i)) (have_come (stands.late_listeners i) (come_in listeners) (stands.first_listeners i)) (stands.phase i))
+      (λ i. phase_from (have_come (stands.late_clusters i) (has_come_in clusters.table.rows) (stands.first_clusters i)) (have_come (stands.late_listeners i) (has_come_in listeners.table.rows) (stands.first_listeners i)) (stands.phase i))
       ∙ (λ i. phase_from
-      (have_come-same world.late_clusters (come_in clusters) (has_come world.rows Cds) world.first_clusters (λ name. come-world Cds clusters world name cds c) i)
-      (have_come-same world.late_listeners (come_in listeners) (has_come world.rows Lds) world.first_listeners (λ name. come-world Lds listeners world name lds l) i) world.phase);
+      (have_come-same world.late_clusters (has_come_in clusters.table.rows) (has_come world.rows Cds) world.first_clusters (λ name. come-world Cds clusters world name cds c) i)
+      (have_come-same world.late_listeners (has_come_in listeners.table.rows) (has_come world.rows Lds) world.first_listeners (λ name. come-world Lds listeners world name lds l) i) world.phase);
   first_clusters = stands.first_clusters;
   first_listeners = stands.first_listeners;
   late_clusters = stands.late_clusters;

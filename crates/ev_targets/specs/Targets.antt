@@ -1,7 +1,6 @@
 -- How far the proxy has booted, and which worlds that stands for. Source: Envoy's initialization: listeners are asked for once the
 -- first clusters have warmed.
 use Rattle.std.specs.Prelude.{◌≡◌, ℕ, Bool, true, not, ◌||◌, if◌then◌else◌, List, Option, is_some}
-use Rattle.std.specs.List.{list_any}
 use Rattle.ev_types.specs.Items.{ResponseParts}
 use Rattle.ev_types.specs.declared.contents.Kind.{Kind}
 use Rattle.ev_types.specs.declared.events.Verdict.{Verdict}
@@ -10,10 +9,9 @@ use Rattle.ev_model.specs.World.{World}
 use Rattle.ev_model.specs.Rows.{made_names, noted_once, with_first}
 use Rattle.ev_model.specs.Phase.{have_come, is_clusters}
 use Rattle.ev_model.specs.Tidy.{with_phase}
-use Rattle.ev_indexes.specs.Indexes.{serves, warms}
+use Rattle.ev_indexes.specs.Reads.{has_come_in}
+use Rattle.ev_indexes.specs.Worlds.{StandsFor}
 use Rattle.ev_indexes.specs.declared.state.State.{State}
-use Rattle.ev_indexes.specs.Worlds.{StandsFor as ClustersStandFor}
-use Rattle.ev_listeners.specs.Listeners.{ListenersKept, StandsFor as ListenersStandFor}
 
 -- the first names of a kind, where a first response came, and whether they are late
 pub record FirstParts : Type 0 where
@@ -29,16 +27,12 @@ pub record TargetsParts : Type 0 where
   pub late_listeners : Bool
 
 -- the world has booted so far
-pub record StandsFor (targets : TargetsParts) (world : World) : Type 0 where
+pub record HaveBooted (targets : TargetsParts) (world : World) : Type 0 where
   pub phase : targets.phase ≡ world.phase
   pub first_clusters : targets.first_clusters ≡ world.first_clusters
   pub first_listeners : targets.first_listeners ≡ world.first_listeners
   pub late_clusters : targets.late_clusters ≡ world.late_clusters
   pub late_listeners : targets.late_listeners ≡ world.late_listeners
-
--- nothing is waited for under the name: a generation of it serves, or none warms
-abbrev pub come_in : State → List ℕ → Bool
-come_in s name = list_any (serves name) s.table.rows || not (list_any (warms name) s.table.rows)
 
 -- the first names of a kind once a response with these verdicts came
 abbrev pub names_noted : FirstParts → List Verdict → ResponseParts → Option (List (List ℕ))
@@ -46,19 +40,19 @@ names_noted first verdicts response = noted_once first.names (made_names verdict
 
 -- the first clusters have come, or are late
 abbrev pub clusters_come : TargetsParts → State → Bool
-clusters_come targets s = have_come targets.late_clusters (come_in s) targets.first_clusters
+clusters_come targets s = have_come targets.late_clusters (has_come_in s.table.rows) targets.first_clusters
 
 -- the first listeners have come, or are late
 abbrev pub listeners_come : TargetsParts → State → Bool
-listeners_come targets s = have_come targets.late_listeners (come_in s) targets.first_listeners
+listeners_come targets s = have_come targets.late_listeners (has_come_in s.table.rows) targets.first_listeners
 
 -- it is so in every world that the targets stand for
 abbrev pub InWorlds : TargetsParts → (World → Type 0) → Type 0
-InWorlds targets Said = (world : World) → StandsFor targets world → Said world
+InWorlds targets Said = (world : World) → HaveBooted targets world → Said world
 
 -- whatever world the old ones stood for, the new ones stand for what the change makes of it
 abbrev pub StandAfter : (World → World) → TargetsParts → TargetsParts → Type 0
-StandAfter change old new = (world : World) → StandsFor old world → StandsFor new (change world)
+StandAfter change old new = (world : World) → HaveBooted old world → HaveBooted new (change world)
 
 -- the world with the names noted that a response of this kind made generations for, where it is the first one
 abbrev pub with_first_made : Kind → List Verdict → ResponseParts → World → World
@@ -81,6 +75,6 @@ abbrev pub with_late_listeners : Bool → World → World
 with_late_listeners are_late world = if are_late then record world { late_listeners = true } else world
 
 -- whatever world the old ones and both managers stood for, the new ones stand for it in the phase that follows
-abbrev pub MoveOn : State → ListenersKept → TargetsParts → TargetsParts → Type 0
+abbrev pub MoveOn : State → State → TargetsParts → TargetsParts → Type 0
 MoveOn clusters listeners old new =
-    (world : World) → StandsFor old world → ClustersStandFor clusters world → ListenersStandFor listeners world → StandsFor new (with_phase world)
+    (world : World) → HaveBooted old world → StandsFor clusters world → StandsFor listeners world → HaveBooted new (with_phase world)

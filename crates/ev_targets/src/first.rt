@@ -2,9 +2,11 @@ ghost use Rattle.std.specs.Prelude.{◌≡◌, ◌<◌, ◌||◌, ◌++◌, [], 
 ghost use Rattle.std.specs.List.{list_all};
 ghost use Rattle.ev_model.specs.Rows.{made_names};
 ghost use Rattle.ev_model.specs.Phase.{have_come};
+ghost use Rattle.ev_indexes.specs.Indexes.{IsIndexed};
+ghost use Rattle.ev_indexes.specs.Reads.{has_come_in};
 ghost use Rattle.ev_targets.specs.Targets.{names_noted};
 
-use crate::waited::Waited;
+use ev_indexes::State;
 use ev_types::{Item, Response, Seq, Text, TryCopy, Verdict};
 use std::alloc::{AllocError, Global};
 use std::marker::Model;
@@ -72,9 +74,9 @@ impl First {
 
     /// Whether they have come or are late. The name that was seen waiting is asked first, then those behind it, then those before it,
     /// up to the first that waits.
-    pub(crate) fn have_come<W: Waited>(&mut self, known: &W) -> bool
-        requires kept { W.is_kept known.now }
-        ensures value { result ≡ have_come self.old.late (W.comes known.now) self.old.names }
+    pub(crate) fn have_come(&mut self, known: &State) -> bool
+        requires indexed { IsIndexed known.now }
+        ensures value { result ≡ have_come self.old.late (has_come_in known.now.table.rows) self.old.names }
         ensures same { self.new ≡ self.old }
     {
         if self.late {
@@ -94,9 +96,9 @@ impl First {
 }
 
 // The place of a name that waits, looked for from a place on and round the list.
-fn waiting<W: Waited>(known: &W, names: &[Text], from: usize) -> Option<usize>
-    requires kept { W.is_kept known.now }
-    ensures { is_some result ≡ not (list_all (W.comes known.now) names.now) }
+fn waiting(known: &State, names: &[Text], from: usize) -> Option<usize>
+    requires indexed { IsIndexed known.now }
+    ensures { is_some result ≡ not (list_all (has_come_in known.now.table.rows) names.now) }
 {
     let from = from.min(names.len());
     match first_waiting(known, &names[from..]) {
@@ -106,9 +108,9 @@ fn waiting<W: Waited>(known: &W, names: &[Text], from: usize) -> Option<usize>
 }
 
 // The place of the first of these names that waits.
-fn first_waiting<W: Waited>(known: &W, names: &[Text]) -> Option<usize>
-    requires kept { W.is_kept known.now }
-    ensures waits { is_some result ≡ not (list_all (W.comes known.now) names.now) }
+fn first_waiting(known: &State, names: &[Text]) -> Option<usize>
+    requires indexed { IsIndexed known.now }
+    ensures waits { is_some result ≡ not (list_all (has_come_in known.now.table.rows) names.now) }
     ensures within { IfSome result (λ place. place < length names.now) }
 {
     for (place, name) in names.iter().enumerate() {

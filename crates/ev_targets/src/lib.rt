@@ -1,27 +1,19 @@
-//! How far the proxy has booted: which names the first response of clusters, and of listeners, made generations for, whether either
-//! is late, and the phase. No event looks at all first names: a name that was seen waiting is asked first.
-//!
-//! # Choices
-//!
-//! - The first names are kept as the machine keeps them, in order; which of them wait isn't counted. A count would
-//!   have to be moved at every arrival, promotion and retirement of a first name, by three crates; the place of one
-//!   name that was seen waiting needs nothing of them.
-//! - `advance` takes both managers, and asks the listeners only where the first clusters have come.
+//! How far the proxy has booted, as Envoy's init manager knows it: the names that the first response of clusters, and of listeners,
+//! made generations for are its init targets. Which of these wait isn't counted, since a count would have to be moved at every
+//! arrival, promotion and retirement; a name that was seen waiting is asked first, so no event looks at all of them.
 #![tactic(auto)]
 
 ghost use Rattle.std.specs.Prelude.{◌≡◌, ◌&&◌, not, ℕ, List, true, length, if◌then◌else◌, OnOk};
 ghost use Rattle.ev_model.specs.World.{opening};
 ghost use Rattle.ev_model.specs.Phase.{have_come, is_clusters, listeners_phase, phase_from};
-ghost use Rattle.ev_clusters.specs.Clusters.{AreKept as AreClustersKept};
-ghost use Rattle.ev_listeners.specs.Listeners.{AreKept as AreListenersKept};
-ghost use Rattle.ev_targets.specs.Targets.{StandsFor, InWorlds, StandAfter, MoveOn, awaits_clusters, awaits_listeners, clusters_come, listeners_come, with_late_clusters, with_late_listeners, with_first_made};
+ghost use Rattle.ev_types.specs.declared.contents.Kind.TheVariants.{Cds, Lds};
+ghost use Rattle.ev_indexes.specs.Indexes.{IsIndexed};
+ghost use Rattle.ev_targets.specs.Targets.{HaveBooted, InWorlds, StandAfter, MoveOn, awaits_clusters, awaits_listeners, clusters_come, listeners_come, with_late_clusters, with_late_listeners, with_first_made};
 
 mod first;
-mod waited;
 
 use crate::first::First;
-use ev_clusters::Clusters;
-use ev_listeners::Listeners;
+use ev_indexes::State;
 use ev_types::{Kind, Phase, Response, TryCopy, Verdict};
 use std::alloc::{AllocError, Global};
 use std::marker::Model;
@@ -51,7 +43,7 @@ impl Model for Targets {
 impl Targets {
     /// Nothing came yet, and the first clusters are awaited.
     pub fn new() -> Targets
-        ensures { (workers : ℕ) (node : List ℕ) → StandsFor result (opening workers node) }
+        ensures { (workers : ℕ) (node : List ℕ) → HaveBooted result (opening workers node) }
     {
         Targets {
             phase: Phase::Clusters,
@@ -115,17 +107,19 @@ impl Targets {
     /// The phase moves on as far as what came allows: where the first clusters have come, listeners are awaited, and where the
     /// first listeners have come, they serve. Answers whether listeners are awaited from now on, or serve, and weren't before.
     /// While a name that was seen waiting still waits, it costs one look-up.
-    pub fn advance(&mut self, clusters: &Clusters, listeners: &Listeners) -> bool
-        requires clusters { AreClustersKept clusters.now }
-        requires listeners { AreListenersKept listeners.now }
+    pub fn advance(&mut self, clusters: &State, listeners: &State) -> bool
+        requires clusters { clusters.now.kind ≡ Cds }
+        requires listeners { listeners.now.kind ≡ Lds }
+        requires indexed { IsIndexed clusters.now }
+        requires indexed_too { IsIndexed listeners.now }
         ensures phase { self.new ≡ record self.old {
           phase = phase_from
-              (clusters_come self.old clusters.now.state)
-              (listeners_come self.old listeners.now.state) self.old.phase;
+              (clusters_come self.old clusters.now)
+              (listeners_come self.old listeners.now) self.old.phase;
         } }
         ensures left { result ≡ (is_clusters self.old.phase && not (is_clusters self.new.phase)) }
         // Whatever world all three stood for, it stands for that world in the phase that follows.
-        ensures stands { MoveOn clusters.now.state listeners.now self.old self.new }
+        ensures stands { MoveOn clusters.now listeners.now self.old self.new }
     {
         let before = self.phase;
         self.phase = self.phase_after(clusters, listeners);
@@ -133,12 +127,12 @@ impl Targets {
     }
 
     // The phase that follows.
-    fn phase_after(&mut self, clusters: &Clusters, listeners: &Listeners) -> Phase
-        requires clusters { AreClustersKept clusters.now }
-        requires listeners { AreListenersKept listeners.now }
+    fn phase_after(&mut self, clusters: &State, listeners: &State) -> Phase
+        requires clusters { IsIndexed clusters.now }
+        requires listeners { IsIndexed listeners.now }
         ensures phase { result ≡ phase_from
-            (clusters_come self.old clusters.now.state)
-            (listeners_come self.old listeners.now.state) self.old.phase }
+            (clusters_come self.old clusters.now)
+            (listeners_come self.old listeners.now) self.old.phase }
         ensures same { self.new ≡ self.old }
     {
         match self.phase {
@@ -154,9 +148,9 @@ impl Targets {
     }
 
     // The phase that follows once listeners are awaited.
-    fn listeners_phase(&mut self, listeners: &Listeners) -> Phase
-        requires listeners { AreListenersKept listeners.now }
-        ensures phase { result ≡ listeners_phase (listeners_come self.old listeners.now.state) }
+    fn listeners_phase(&mut self, listeners: &State) -> Phase
+        requires { IsIndexed listeners.now }
+        ensures phase { result ≡ listeners_phase (listeners_come self.old listeners.now) }
         ensures same { self.new ≡ self.old }
     {
         if self.listeners.have_come(listeners) {

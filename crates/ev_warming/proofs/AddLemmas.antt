@@ -19,12 +19,13 @@ use Rattle.ev_model.specs.Watching.{is_limited}
 use Rattle.ev_generations.specs.Tables.{GenerationsParts, IsTable, is_number, row_in, status_with, with_status, numbers_of}
 use Rattle.ev_indexes.specs.declared.watches.Watch.{Watch}
 use Rattle.ev_indexes.specs.declared.state.State.{State}
+use Rattle.ev_indexes.specs.Addresses.{AddressesKept, HoldsAddress, listens_at}
 use Rattle.ev_indexes.specs.Due.{is_among}
 use Rattle.ev_indexes.specs.Kept.{Sets}
 use Rattle.ev_indexes.specs.Standings.{NamesKept, nobody, standing_in}
-use Rattle.ev_indexes.specs.Watched.{WatchesKept, watch_in, watched_too, without_number}
+use Rattle.ev_indexes.specs.Watched.{WatchesKept, watch_in, watched_too, numbers_without}
 use Rattle.ev_indexes.specs.Ready.{name_needed, is_due_found, is_due_at}
-use Rattle.ev_indexes.specs.Indexes.{IsIndexed, is_needed, depends_on, waits_limited, serves, warms, numbers_where, status_in}
+use Rattle.ev_indexes.specs.Indexes.{IsIndexed, is_needed, depends_on, waits_limited, serves, warms, holds, numbers_where, status_in}
 use Rattle.ev_indexes.proofs.WhereLemmas.{where-left, where-members, found-where, flipped, emptied, without-one}
 use Rattle.ev_warming.proofs.ReadyLemmas.{Agrees}
 use Rattle.ev_warming.proofs.IndexLemmas.{live-warming, is_due_at-agrees}
@@ -92,7 +93,7 @@ module _ (s : State) (x : IsIndexed s) (name : List ℕ) where
         emptied (standing_in t.names name).warming
         (y.warming name ∙ ap (numbers_where (warms name)) (e ∙ (λ i. with_status p (removed i) s.table.rows))
         ∙ where-left (warms name) p Dropped (λ r. refl) s.table.rows
-        ∙ ap (without_number p) members
+        ∙ ap (numbers_without p) members
         ∙ without-one p (Some p) (or-false (nat_eq p p) ∙ eq-eqb p p refl))
 
 where-push : (test : GenRow → Bool) (row : GenRow) (rows : List GenRow) → numbers_where test (rows ++ row ∷ []) ≡ numbers_where test rows ++ cond (test row) (row.number ∷ []) []
@@ -118,6 +119,7 @@ module _ (s : State) (x : IsIndexed s) (name : List ℕ) (content : Content) (al
     (names : NamesKept) (stands : Sets nobody s.names names name (record { active = (standing_in s.names name).active; warming = Some (s.table.made + 1) }))
     (watches : WatchesKept)
     (more : (q : List ℕ) → watch_in watches q ≡ cond (is_needed q (name_needed content)) (watched_too (s.table.made + 1) (is_limited content) (watch_in s.watches q)) (watch_in s.watches q))
+    (addresses : AddressesKept) (held : HoldsAddress s.addresses addresses (s.table.made + 1) content)
     (due : List ℕ) (looked : (n : ℕ) → is_among due n ≡ cond (is_among ((s.table.made + 1) ∷ []) n) (is_due_at watches s.results n table.rows) (is_among s.due n)) where
   pushed : (test : GenRow → Bool) → numbers_where test table.rows ≡ numbers_where test s.table.rows ++ cond (test (new_row s.kind s.table.made name content)) ((s.table.made + 1) ∷ []) []
   pushed test = ap (numbers_where test) rows ∙ where-push test (new_row s.kind s.table.made name content) s.table.rows
@@ -173,7 +175,7 @@ module _ (s : State) (x : IsIndexed s) (name : List ℕ) (content : Content) (al
       by None = refl
       by (Some row) = refl
 
-  pub indexed-added : IsIndexed (record s { table = table; names = names; watches = watches; due = due })
+  pub indexed-added : IsIndexed (record s { table = table; names = names; watches = watches; addresses = addresses; due = due })
   indexed-added = record {
     table = tabled;
     kinds = subst (AllByRecursion (λ (r : GenRow). r.kind ≡ s.kind)) (sym rows) (kinds-push s.kind (new_row s.kind s.table.made name content) s.table.rows refl x.kinds);
@@ -181,6 +183,7 @@ module _ (s : State) (x : IsIndexed s) (name : List ℕ) (content : Content) (al
     warming = λ q. (λ i. option_to_list (stands q i).warming) ∙ warming_too q (bytes_eq name q) refl ∙ sym (pushed (warms q));
     watchers = λ q. (λ i. (more q i).rows) ∙ watchers_too q (is_needed q (name_needed content)) ∙ sym (pushed (depends_on q));
     limited = λ q. (λ i. (more q i).limited) ∙ limited_too q (is_needed q (name_needed content)) (is_limited content) ∙ sym (pushed (waits_limited q));
+    holders = λ a. held a ∙ (λ i. x.holders a i ++ cond (listens_at a content) ((s.table.made + 1) ∷ []) []) ∙ sym (pushed (holds a));
     due = λ n. looked n ∙ due_too n (nat_eq n (s.table.made + 1)) refl;
     drawn = λ n h above. x.drawn n h (omega (arith, made, above));
   }

@@ -56,29 +56,30 @@ there_early kind made name content rows n below there =
     by None h = h
     by (Some row) h = h
 
-pub added-stands : (s t : State) (world : World) (name : List ℕ) (content : Content) → IsName name → content_kind content ≡ s.kind → IsIndexed s → StandsFor s world
+pub added-stands : (s t : State) (world : World) (name : List ℕ) (content : Content) → IsName name → content_kind content ≡ s.kind → IsIndexed s → StandsFor s world → s.table.made ≡ world.made
     → t.kind ≡ s.kind → t.results ≡ s.results → t.table.made ≡ s.table.made + 1 → SameMarks s.watches t.watches
     → t.table.rows ≡ rows_with_new s.kind s.table.made name content s.table.rows
-    → StandsFor t (record world { rows = rows_with_new s.kind world.made name content world.rows; made = world.made + 1 })
-added-stands s t world name content named typed x stands kind results made marks rows =
+    → StandsFor t (record world { rows = rows_with_new s.kind world.made name content world.rows; made = world.made + 1 }) × (t.table.made ≡ world.made + 1)
+added-stands s t world name content named typed x stands level kind results made marks rows =
     let there : (n : ℕ) → n ≤ s.table.made → IsSome (row_in n t.table.rows) → IsSome (row_in n s.table.rows) =
-    λ n below there. there_early s.kind s.table.made name content s.table.rows n below (subst (λ (rs : List GenRow). IsSome (row_in n rs)) rows there) in
-    record {
-      sound = sound-added world s.kind name content stands.sound named typed;
-      rows = rows ∙ (λ i. rows_with_new s.kind (stands.made i) name content (stands.rows i)) ∙ new-rows s.kind world.made name content world.rows
-          ∙ (λ i. rows_of_kind (sym kind i) (rows_with_new s.kind world.made name content world.rows));
-      made = made ∙ (λ i. stands.made i + 1);
-      told = λ q. (marks q).0 ∙ stands.told q ∙ (λ i. is_told_by world.arrivals (needs_of (sym kind i)) q);
-      timed = λ q. (marks q).1 ∙ stands.timed q ∙ (λ i. is_timed_by world.arrivals (needs_of (sym kind i)) q);
-      value = λ q. (marks q).2 ∙ stands.value q ∙ (λ i. value_by world.arrivals (needs_of (sym kind i)) q);
-      resulted = λ n h found. (λ i. is_some (result_in (results i) n h))
-          ∙ ⊎_elim (λ above. ap is_some (x.drawn n h above) ∙ sym (stands.sound.heard n h (subst (λ m. m < n) stands.made above)))
-          (λ below. stands.resulted n h (there n below found)) (cases_lt s.table.made n);
-      healthy = λ n h found. (λ i. unwrap_or (result_in (results i) n h) false)
-          ∙ ⊎_elim (λ above. (λ i. unwrap_or (x.drawn n h above i) false)
-          ∙ sym (unheard-healthy world.results n h (stands.sound.heard n h (subst (λ m. m < n) stands.made above))))
-          (λ below. stands.healthy n h (there n below found)) (cases_lt s.table.made n);
-    }
+    λ n below there. there_early s.kind s.table.made name content s.table.rows n below (subst (λ (rs : List GenRow). IsSome (row_in n rs)) rows there) in (
+      record {
+        sound = sound-added world s.kind name content stands.sound named typed;
+        rows = rows ∙ (λ i. rows_with_new s.kind (level i) name content (stands.rows i)) ∙ new-rows s.kind world.made name content world.rows
+            ∙ (λ i. rows_of_kind (sym kind i) (rows_with_new s.kind world.made name content world.rows));
+        told = λ q. (marks q).0 ∙ stands.told q ∙ (λ i. is_told_by world.arrivals (needs_of (sym kind i)) q);
+        timed = λ q. (marks q).1 ∙ stands.timed q ∙ (λ i. is_timed_by world.arrivals (needs_of (sym kind i)) q);
+        value = λ q. (marks q).2 ∙ stands.value q ∙ (λ i. value_by world.arrivals (needs_of (sym kind i)) q);
+        resulted = λ n h found. (λ i. is_some (result_in (results i) n h))
+            ∙ ⊎_elim (λ above. ap is_some (x.drawn n h above) ∙ sym (stands.sound.heard n h (subst (λ m. m < n) level above)))
+            (λ below. stands.resulted n h (there n below found)) (cases_lt s.table.made n);
+        healthy = λ n h found. (λ i. unwrap_or (result_in (results i) n h) false)
+            ∙ ⊎_elim (λ above. (λ i. unwrap_or (x.drawn n h above i) false)
+            ∙ sym (unheard-healthy world.results n h (stands.sound.heard n h (subst (λ m. m < n) level above))))
+            (λ below. stands.healthy n h (there n below found)) (cases_lt s.table.made n);
+      },
+      made ∙ (λ i. level i + 1),
+    )
 
 -- what follows from four facts that a call ensures on success
 pub on_ok4 : {A E P Q R S T : Type 0} (r : Result A E) → OnOk r P → OnOk r Q → OnOk r R → OnOk r S → (P → Q → R → S → T) → OnOk r T

@@ -124,7 +124,6 @@ module _ (s : State) (world : World) (stands : StandsFor s world) (name : List �
   arrived-stands due = record {
     sound = record { table = stands.sound.table; typed = stands.sound.typed; named = stands.sound.named; heard = stands.sound.heard };
     rows = stands.rows;
-    made = stands.made;
     told = told_after;
     timed = timed_after;
     value = value_after;
@@ -133,12 +132,11 @@ module _ (s : State) (world : World) (stands : StandsFor s world) (name : List �
   }
 
 -- other statuses by one rule, in the state and in the world
-pub statused-stands : (s t : State) (world : World) (f : GenRow → RowStatus) → StandsFor s world → t.kind ≡ s.kind → t.results ≡ s.results → t.table.made ≡ s.table.made → SameMarks s.watches t.watches
+pub statused-stands : (s t : State) (world : World) (f : GenRow → RowStatus) → StandsFor s world → t.kind ≡ s.kind → t.results ≡ s.results → SameMarks s.watches t.watches
     → t.table.rows ≡ with_statuses f s.table.rows → StandsFor t (record world { rows = with_statuses f world.rows })
-statused-stands s t world f stands kind results made marks rows = record {
+statused-stands s t world f stands kind results marks rows = record {
   sound = sound-with_statuses world f stands.sound;
   rows = rows ∙ ap (with_statuses f) stands.rows ∙ sym (rows_of_kind-with_statuses s.kind f world.rows) ∙ (λ i. rows_of_kind (sym kind i) (with_statuses f world.rows));
-  made = made ∙ stands.made;
   told = λ name. (marks name).0 ∙ stands.told name ∙ (λ i. is_told_by world.arrivals (needs_of (sym kind i)) name);
   timed = λ name. (marks name).1 ∙ stands.timed name ∙ (λ i. is_timed_by world.arrivals (needs_of (sym kind i)) name);
   value = λ name. (marks name).2 ∙ stands.value name ∙ (λ i. value_by world.arrivals (needs_of (sym kind i)) name);

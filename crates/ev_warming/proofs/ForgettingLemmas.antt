@@ -160,6 +160,7 @@ module _ (s : State) (number : ℕ) (row : GenRow) (x : IsIndexed s) (found : ro
     warming = x.warming;
     watchers = λ q. waits (depends_on q) q (λ (w : Watch). w.rows) refl (x.watchers q) (λ r h. h);
     limited = λ q. waits (waits_limited q) q (λ (w : Watch). w.limited) refl (x.limited q) (λ r h. early (depends_on q r) _ h);
+    holders = x.holders;
     due = λ n. x.due n ∙ sym (due_same n);
     drawn = λ n h above. trimmed n h ∙ undrawn (nat_eq number n && not (keeps_result s.watches h row)) (result_in s.results n h) (x.drawn n h above);
   }

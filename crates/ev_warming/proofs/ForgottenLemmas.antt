@@ -322,7 +322,6 @@ module _ (s : State) (stale : List ℕ) (tidy : IsTidyBut s stale) (watches : Wa
       heard = λ n h above. none-left (is_result_of n h) (is_result_due arrivals world.rows) world.results (stands.sound.heard n h above);
     };
     rows = stands.rows;
-    made = stands.made;
     told = told;
     timed = timed;
     value = value;

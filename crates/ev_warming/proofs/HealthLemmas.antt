@@ -25,7 +25,7 @@ use Rattle.ev_endpoints.specs.Results.{ResultsKept, result_in, Notes}
 use Rattle.ev_generations.specs.Tables.{row_in, numbers_of}
 use Rattle.ev_generations.proofs.TableLemmas.{number-row_in}
 use Rattle.ev_indexes.specs.declared.state.State.{State}
-use Rattle.ev_indexes.specs.Due.{is_among, is_filled}
+use Rattle.ev_indexes.specs.Due.{is_among, has_number}
 use Rattle.ev_indexes.specs.Standings.{standing_in}
 use Rattle.ev_indexes.specs.Watched.{WatchesKept}
 use Rattle.ev_indexes.specs.Ready.{are_results_in, assignment_in, is_answered_in, is_due_at, is_due_found, takes_result}
@@ -71,6 +71,7 @@ indexed-noted s number row host healthy results due x found notes looked = recor
   warming = x.warming;
   watchers = x.watchers;
   limited = x.limited;
+  holders = x.holders;
   due = λ n. looked n ∙ by n (is_among (number ∷ []) n) refl;
   drawn = λ n h above. notes n h ∙ far n h above (nat_eq number n) refl;
 }
@@ -153,11 +154,11 @@ either_way Active false t = refl
 either_way Draining b t = refl
 either_way Dropped b t = refl
 
-among-some : (ns : List ℕ) (n : ℕ) → is_among ns n ≡ true → is_filled ns ≡ true
+among-some : (ns : List ℕ) (n : ℕ) → is_among ns n ≡ true → has_number ns ≡ true
 among-some [] n h = h
 among-some (k ∷ ns) n h = refl
 
-none-some : (ns : List ℕ) → ((n : ℕ) → is_among ns n ≡ false) → is_filled ns ≡ false
+none-some : (ns : List ℕ) → ((n : ℕ) → is_among ns n ≡ false) → has_number ns ≡ false
 none-some [] none = refl
 none-some (k ∷ ns) none = absurd (true≢false ((λ i. sym (eq-eqb k k refl) i || is_among ns k) ∙ none k))
 
@@ -221,8 +222,8 @@ module _ (s : State) (x : IsIndexed s) (name : List ℕ) (host : Host) (served w
       (λ h k. none-some (numbers_meant s.watches name host s.table.rows) (λ n. among-meant n
       ∙ (λ i. is_among (cond (h i) (option_to_list (standing_in s.names name).active) []) n || is_among (cond (k i) (option_to_list (standing_in s.names name).warming) []) n)))
     where
-      by : (a b : Bool) → (a ≡ true → is_filled (numbers_meant s.watches name host s.table.rows) ≡ true) → (b ≡ true → is_filled (numbers_meant s.watches name host s.table.rows) ≡ true)
-          → (a ≡ false → b ≡ false → is_filled (numbers_meant s.watches name host s.table.rows) ≡ false) → is_filled (numbers_meant s.watches name host s.table.rows) ≡ (a || b)
+      by : (a b : Bool) → (a ≡ true → has_number (numbers_meant s.watches name host s.table.rows) ≡ true) → (b ≡ true → has_number (numbers_meant s.watches name host s.table.rows) ≡ true)
+          → (a ≡ false → b ≡ false → has_number (numbers_meant s.watches name host s.table.rows) ≡ false) → has_number (numbers_meant s.watches name host s.table.rows) ≡ (a || b)
       by true b f g h = f refl
       by false true f g h = g refl
       by false false f g h = h refl refl
@@ -295,7 +296,7 @@ module _ (s : State) (world : World) (stands : StandsFor s world) (x : IsIndexed
 
   pub any_meant-same : list_any (is_meant_in s.watches name host) s.table.rows ≡ list_any (is_meant world.arrivals name host) world.rows
   any_meant-same =
-      any-some (is_meant_in s.watches name host) s.table.rows ∙ ap (λ (rs : List GenRow). is_filled (numbers_of rs)) (sym rows_meant-same)
+      any-some (is_meant_in s.watches name host) s.table.rows ∙ ap (λ (rs : List GenRow). has_number (numbers_of rs)) (sym rows_meant-same)
       ∙ sym (any-some (is_meant world.arrivals name host) world.rows)
 
   pub noted-stands : (healthy : Bool) (results : ResultsKept) (due : List ℕ) → NotesEach s.results results (numbers_meant s.watches name host s.table.rows) host healthy
@@ -303,7 +304,6 @@ module _ (s : State) (world : World) (stands : StandsFor s world) (x : IsIndexed
   noted-stands healthy results due notes = record {
     sound = record { table = stands.sound.table; typed = stands.sound.typed; named = stands.sound.named; heard = heard_too };
     rows = stands.rows;
-    made = stands.made;
     told = stands.told;
     timed = stands.timed;
     value = stands.value;

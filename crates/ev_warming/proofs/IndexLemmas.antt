@@ -10,6 +10,7 @@ use Rattle.ev_types.specs.declared.rows.Arrival.{Arrival}
 use Rattle.ev_types.specs.declared.rows.Arrival.TheVariants.{Value, Absent, Bad, TimedOut}
 use Rattle.ev_types.specs.declared.rows.RowStatus.{RowStatus}
 use Rattle.ev_types.specs.declared.rows.RowStatus.TheVariants.{Warming, Active, Draining, Dropped}
+use Rattle.ev_types.specs.declared.hosts.Host.{Host}
 use Rattle.ev_types.specs.declared.rows.GenRow.{GenRow}
 use Rattle.ev_model.specs.Watching.{is_limited}
 use Rattle.ev_model.specs.Rows.{removed_status}
@@ -19,12 +20,13 @@ use Rattle.ev_generations.proofs.TableLemmas.{table-with_status}
 use Rattle.ev_indexes.specs.declared.names.Standing.{Standing}
 use Rattle.ev_indexes.specs.declared.watches.Watch.{Watch}
 use Rattle.ev_indexes.specs.declared.state.State.{State}
+use Rattle.ev_indexes.specs.Addresses.{AddressesKept, ReleasesAddress, listens_at, numbers_at}
 use Rattle.ev_indexes.specs.Due.{is_among}
 use Rattle.ev_indexes.specs.Kept.{Sets}
 use Rattle.ev_indexes.specs.Standings.{NamesKept, nobody, standing_in}
-use Rattle.ev_indexes.specs.Watched.{WatchesKept, unwatched, watch_in, watched_less, with_arrival, without_number}
+use Rattle.ev_indexes.specs.Watched.{WatchesKept, unwatched, watch_in, watched_less, with_arrival, numbers_without}
 use Rattle.ev_indexes.specs.Ready.{name_needed, is_ready_in, is_due_found, is_due_at}
-use Rattle.ev_indexes.specs.Indexes.{IsIndexed, is_needed, depends_on, waits_limited, serves, warms, numbers_where}
+use Rattle.ev_indexes.specs.Indexes.{IsIndexed, is_needed, depends_on, waits_limited, serves, warms, holds, numbers_where}
 use Rattle.ev_indexes.proofs.KeptLemmas.{kept_at-found}
 use Rattle.ev_indexes.proofs.WhereLemmas.{kinds-with_statuses, row_with, among-where, where-left, where-absent, where-kept, where-one, where-some, without-one}
 use Rattle.ev_warming.proofs.ReadyLemmas.{Agrees, is_ready_in-agrees, is_due_at-with_status}
@@ -120,6 +122,7 @@ module _ (s : State) (name : List ℕ) (arrival : Arrival) (watches : WatchesKep
     warming = x.warming;
     watchers = λ q. part (λ (w : Watch). w.rows) (rows-with_arrival arrival) q ∙ x.watchers q;
     limited = λ q. part (λ (w : Watch). w.limited) (limited-with_arrival arrival) q ∙ x.limited q;
+    holders = x.holders;
     due = λ n. looked n ∙ by n (is_among (watch_in watches name).rows n) refl;
     drawn = x.drawn;
   }
@@ -154,18 +157,19 @@ module _ (s : State) (number : ℕ) (row : GenRow) (status : RowStatus) (x : IsI
       → (test row ≡ true → p ≡ None) → (test row ≡ false → p ≡ o) → option_to_list p ≡ numbers_where test table.rows
   leaves test o p index fails gone stays = by (test row) refl ∙ sym (ap (numbers_where test) rows ∙ where-left test number status fails s.table.rows)
     where
-      by : (b : Bool) → test row ≡ b → option_to_list p ≡ without_number number (numbers_where test s.table.rows)
+      by : (b : Bool) → test row ≡ b → option_to_list p ≡ numbers_without number (numbers_where test s.table.rows)
       by true e =
           ap option_to_list (gone e)
-          ∙ sym ((λ i. without_number number (sym index i))
+          ∙ sym ((λ i. numbers_without number (sym index i))
           ∙ without-one number o ((λ i. is_among (index i) number) ∙ among-where test number row s.table.rows found e))
       by false e = ap option_to_list (stays e) ∙ index ∙ sym (where-absent test number row s.table.rows found x.table.apart e)
 
   -- the one that warmed, or served, is gone
-  module _ (live : is_live row.status ≡ true) (ended : is_live status ≡ false) (names : NamesKept) (watches : WatchesKept) (due : List ℕ)
+  module _ (live : is_live row.status ≡ true) (ended : is_live status ≡ false) (names : NamesKept) (watches : WatchesKept) (addresses : AddressesKept) (due : List ℕ)
       (stands : Sets nobody s.names names row.name
       (cond (is_warming row.status) (record (standing_in s.names row.name) { warming = None }) (record (standing_in s.names row.name) { active = None })))
       (less : (q : List ℕ) → watch_in watches q ≡ cond (is_needed q (name_needed row.content)) (watched_less number (watch_in s.watches q)) (watch_in s.watches q))
+      (released : ReleasesAddress s.addresses addresses number row.content)
       (dues : (n : ℕ) → is_among due n ≡ (not (nat_eq number n) && is_among s.due n)) where
     cold : (st : RowStatus) → is_live st ≡ false → (is_warming st ≡ false) × (is_active st ≡ false)
     cold Warming h = absurd (true≢false h)
@@ -194,14 +198,14 @@ module _ (s : State) (number : ℕ) (row : GenRow) (status : RowStatus) (x : IsI
     warming_left q Dropped l b e = absurd (true≢false (sym l))
 
     -- a list of those that wait for a name
-    fewer : (f : Watch → List ℕ) → ((w : Watch) → f (watched_less number w) ≡ without_number number (f w)) → (test : List ℕ → GenRow → Bool)
+    fewer : (f : Watch → List ℕ) → ((w : Watch) → f (watched_less number w) ≡ numbers_without number (f w)) → (test : List ℕ → GenRow → Bool)
         → ((q : List ℕ) (r : GenRow) → test q (row_with status r) ≡ false) → ((q : List ℕ) → is_needed q (name_needed row.content) ≡ false → test q row ≡ false)
         → ((q : List ℕ) → f (watch_in s.watches q) ≡ numbers_where (test q) s.table.rows) → (q : List ℕ) → f (watch_in watches q) ≡ numbers_where (test q) table.rows
     fewer f out test fails apart index q =
         ap f (less q) ∙ by (is_needed q (name_needed row.content)) refl ∙ sym (ap (numbers_where (test q)) rows ∙ where-left (test q) number status (fails q) s.table.rows)
       where
-        by : (b : Bool) → is_needed q (name_needed row.content) ≡ b → f (cond b (watched_less number (watch_in s.watches q)) (watch_in s.watches q)) ≡ without_number number (numbers_where (test q) s.table.rows)
-        by true e = out (watch_in s.watches q) ∙ ap (without_number number) (index q)
+        by : (b : Bool) → is_needed q (name_needed row.content) ≡ b → f (cond b (watched_less number (watch_in s.watches q)) (watch_in s.watches q)) ≡ numbers_without number (numbers_where (test q) s.table.rows)
+        by true e = out (watch_in s.watches q) ∙ ap (numbers_without number) (index q)
         by false e = index q ∙ sym (where-absent (test q) number row s.table.rows found x.table.apart (apart q e))
 
     agrees : (q : List ℕ) → Agrees s.watches watches q
@@ -216,7 +220,17 @@ module _ (s : State) (number : ℕ) (row : GenRow) (status : RowStatus) (x : IsI
         by f stays true = stays (watch_in s.watches q)
         by f stays false = refl
 
-    pub indexed-retired : IsIndexed (record s { table = table; names = names; watches = watches; due = due })
+    -- the list of those that hold an address
+    holders_less : (a : Host) → numbers_at addresses a ≡ numbers_where (holds a) table.rows
+    holders_less a =
+        released a ∙ by (listens_at a row.content) refl
+        ∙ sym (ap (numbers_where (holds a)) rows ∙ where-left (holds a) number status (λ r. ap (λ b. b && listens_at a r.content) ended) s.table.rows)
+      where
+        by : (b : Bool) → listens_at a row.content ≡ b → cond b (numbers_without number (numbers_at s.addresses a)) (numbers_at s.addresses a) ≡ numbers_without number (numbers_where (holds a) s.table.rows)
+        by true e = ap (numbers_without number) (x.holders a)
+        by false e = x.holders a ∙ sym (where-absent (holds a) number row s.table.rows found x.table.apart (λ i. live i && e i))
+
+    pub indexed-retired : IsIndexed (record s { table = table; names = names; watches = watches; addresses = addresses; due = due })
     indexed-retired = record {
       table = table_too;
       kinds = kinds_too;
@@ -232,6 +246,7 @@ module _ (s : State) (number : ℕ) (row : GenRow) (status : RowStatus) (x : IsI
           (λ q e. (λ i. live i && e i)) x.watchers;
       limited = fewer (λ (w : Watch). w.limited) (λ w. refl) waits_limited (λ q r. ap (λ b. (b && is_needed q (name_needed r.content)) && is_limited r.content) ended)
           (λ q e. (λ i. (live i && e i) && is_limited row.content)) x.limited;
+      holders = holders_less;
       due = λ n.
           dues n ∙ ap (λ b. not (nat_eq number n) && b) (x.due n)
           ∙ sym (is_due_at-with_status s.watches s.results number status (cold status ended).0 n s.table.rows)
@@ -254,7 +269,7 @@ module _ (s : State) (number : ℕ) (row : GenRow) (x : IsIndexed s) (found : ro
   active_at q false e =
       x.active q ∙ sym (where-kept (serves q) number Active row s.table.rows found x.table.apart (e ∙ sym (and_right (is_active row.status) (bytes_eq row.name q) e)))
 
-  -- those that wait for a name stay
+  -- those that wait for a name, or hold an address, stay
   waits : (test : GenRow → Bool) (ns : List ℕ) → ns ≡ numbers_where test s.table.rows → test (row_with Active row) ≡ test row → ns ≡ numbers_where test table.rows
   waits test ns index same = index ∙ sym (ap (numbers_where test) rows ∙ where-kept test number Active row s.table.rows found x.table.apart same)
 
@@ -269,6 +284,7 @@ module _ (s : State) (number : ℕ) (row : GenRow) (x : IsIndexed s) (found : ro
         (λ h. (λ i. (stands q i).warming) ∙ (λ i. (cond (((λ j. sym warm j && bytes_eq row.name q) ∙ h) i) (record { active = Some number; warming = None }) (standing_in s.names q)).warming));
     watchers = λ q. waits (depends_on q) (watch_in s.watches q).rows (x.watchers q) (λ i. sym (live-warming row.status warm) i && is_needed q (name_needed row.content));
     limited = λ q. waits (waits_limited q) (watch_in s.watches q).limited (x.limited q) (λ i. (sym (live-warming row.status warm) i && is_needed q (name_needed row.content)) && is_limited row.content);
+    holders = λ a. waits (holds a) (numbers_at s.addresses a) (x.holders a) (λ i. sym (live-warming row.status warm) i && listens_at a row.content);
     due = λ n.
         dues n ∙ ap (λ b. not (nat_eq number n) && b) (x.due n)
         ∙ sym (is_due_at-with_status s.watches s.results number Active refl n s.table.rows)

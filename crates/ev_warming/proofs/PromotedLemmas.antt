@@ -62,14 +62,13 @@ there_before number f rows there = by (row_in number rows) (subst IsSome (row_in
     by (Some row) h = refl
 
 -- what stands for a world stands for the promoted world once it has promoted
-pub promoted-stands : (s t : State) (world : World) → IsIndexed s → StandsFor s world → t.kind ≡ s.kind → t.results ≡ s.results → t.table.made ≡ s.table.made → SameMarks s.watches t.watches
+pub promoted-stands : (s t : State) (world : World) → IsIndexed s → StandsFor s world → t.kind ≡ s.kind → t.results ≡ s.results → SameMarks s.watches t.watches
     → t.table.rows ≡ rows_promoted (is_ready_in s.watches s.results) s.table.rows → StandsFor t (promoted world)
-promoted-stands s t world x stands kind results made marks rows =
+promoted-stands s t world x stands kind results marks rows =
     let f = λ (r : GenRow). status_by (succeeded_by (is_ready_in s.watches s.results) s.table.rows r) (is_ready_in s.watches s.results r) r.status in
     record {
       sound = sound-with_statuses world (promoted_status world.arrivals world.results world.rows) stands.sound;
       rows = rows ∙ promoted_too s world stands x ∙ (λ i. rows_of_kind (sym kind i) (promoted_rows world.arrivals world.results world.rows));
-      made = made ∙ stands.made;
       told = λ name. (marks name).0 ∙ stands.told name ∙ (λ i. is_told_by world.arrivals (needs_of (sym kind i)) name);
       timed = λ name. (marks name).1 ∙ stands.timed name ∙ (λ i. is_timed_by world.arrivals (needs_of (sym kind i)) name);
       value = λ name. (marks name).2 ∙ stands.value name ∙ (λ i. value_by world.arrivals (needs_of (sym kind i)) name);

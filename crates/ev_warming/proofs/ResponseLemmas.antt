@@ -32,7 +32,6 @@ pub versions-stand : (s : State) (world : World) (versions : List KeptVersion) �
 versions-stand s world versions stands = record {
   sound = record { table = stands.sound.table; typed = stands.sound.typed; named = stands.sound.named; heard = stands.sound.heard };
   rows = stands.rows;
-  made = stands.made;
   told = stands.told;
   timed = stands.timed;
   value = stands.value;
@@ -177,6 +176,13 @@ pub removals-stand : (s : State) (world : World) (kind : Kind) (response : Respo
 removals-stand s world kind response rows stands =
     subst (StandsFor s) (removals-are kind response world rows)
     (versions-stand s (record world { rows = rows_left kind response world.rows }) (versions_left kind response world.versions) stands)
+
+-- removals draw no number
+pub removals-draw : (kind : Kind) (response : ResponseParts) (world : World) → world.made ≡ (with_removals kind response world).made
+removals-draw Cds response world = refl
+removals-draw Lds response world = refl
+removals-draw Eds response world = refl
+removals-draw Rds response world = refl
 
 -- a listed name is removed where it stands at no resource
 pub is_unlisted-listed : (response : ResponseParts) (name : List ℕ) (removed : Bool) → removed ≡ is_removed response name → is_among name response.removed ≡ true → is_unlisted response name ≡ removed

@@ -1,9 +1,9 @@
 -- Which generations retired: what each step tells, and what steps tell together.
-use Rattle.std.proofs.Common.{◌≡◌, ◌∙◌, ◌+◌, length, arith, ⊎_elim, ℕ, Bool, true, false, cond, not, ◌&&◌, ◌||◌, nat_eq, List, [], ◌∷◌, ◌++◌, Option, None, Some, option_map, option_to_list, refl, sym, ap, true≢false}
+use Rattle.std.proofs.Common.{◌≡◌, ◌∙◌, ℕ, Bool, true, false, cond, not, ◌&&◌, ◌||◌, nat_eq, List, [], ◌∷◌, ◌++◌, Option, None, Some, option_map, option_to_list, refl, sym, ap, true≢false}
 use Rattle.std.specs.List.{AllByRecursion, IsDistinct}
 use Rattle.std.specs.Option.{option_or}
 use Rattle.std.specs.Str.{bytes_eq}
-use Rattle.std.proofs.lemmas.Bool.{cases_lt, not-true}
+use Rattle.std.proofs.lemmas.Bool.{not-true}
 use Rattle.std.proofs.lemmas.List.Folds.{list_any-append, find-append}
 use Rattle.ev_types.specs.Kinds.{kind_same, kind_decides}
 use Rattle.ev_types.specs.Statuses.{is_warming, is_active, is_live}
@@ -18,7 +18,7 @@ use Rattle.ev_generations.specs.Tables.{is_number, row_in, numbers_of}
 use Rattle.ev_generations.proofs.TableLemmas.{row_in-with_statuses}
 use Rattle.ev_indexes.specs.Due.{is_among}
 use Rattle.ev_indexes.specs.Indexes.{serves, warms, numbers_where}
-use Rattle.ev_warming.specs.Changes.{is_over, has_retired, Draws, Tells}
+use Rattle.ev_warming.specs.Changes.{is_over, has_retired, Tells}
 use Rattle.ev_indexes.proofs.WhereLemmas.{among-where}
 use Rattle.ev_warming.proofs.DrainLemmas.{absent-where, fails-where}
 use Rattle.ev_indexes.proofs.RowLemmas.{all-at}
@@ -190,17 +190,3 @@ module _ (kind : Kind) (name : List ℕ) (rows : List GenRow) (apart : IsDistinc
           ended-by Draining false h = refl
           ended-by Dropped true h = refl
           ended-by Dropped false h = refl
-
--- no number was drawn
-pub draws-none : (made : ℕ) (numbers : List ℕ) → Draws made made numbers numbers
-draws-none made numbers = record { grows = omega arith; count = refl; same = λ k h. refl; each = λ k low high. absurd (omega arith) }
-
--- some, and more
-pub draws-then : (made drawn later : ℕ) (xs ys zs : List ℕ) → Draws made drawn xs ys → Draws drawn later ys zs → Draws made later xs zs
-draws-then made drawn later xs ys zs p q = record {
-  grows = omega (arith, p.grows, q.grows);
-  count = omega (arith, p.count, q.count);
-  same = λ k h. q.same k (omega (arith, p.grows, h)) ∙ p.same k h;
-  each = λ k low high. ⊎_elim (λ early. (λ i. q.same k early i + length xs) ∙ p.each k low early)
-      (λ late. let there = q.each k late high in omega (arith, there, p.count)) (cases_lt k (length ys));
-}

@@ -16,7 +16,7 @@ use Rattle.ev_endpoints.specs.Results.{ResultsKept}
 use Rattle.ev_indexes.specs.declared.state.State.{State}
 use Rattle.ev_indexes.specs.Due.{is_among}
 use Rattle.ev_indexes.specs.Standings.{standing_in}
-use Rattle.ev_indexes.specs.Watched.{without_number, WatchesKept}
+use Rattle.ev_indexes.specs.Watched.{numbers_without, WatchesKept}
 use Rattle.ev_indexes.specs.Ready.{is_ready_in, is_due_in, is_due_found}
 use Rattle.ev_indexes.specs.Indexes.{IsIndexed, serves, warms, SameMarks, numbers_where, status_in}
 use Rattle.ev_warming.specs.Promotion.{rows_promoted, status_drained}
@@ -108,7 +108,7 @@ module _ (s : State) (x : IsIndexed s) (name : List ℕ) where
         emptied (standing_in t.names name).active
         (y.active name ∙ ap (numbers_where (serves name)) (e ∙ (λ i. with_status p (removed i) s.table.rows))
         ∙ where-left (serves name) p Draining (λ r. refl) s.table.rows
-        ∙ ap (without_number p) members
+        ∙ ap (numbers_without p) members
         ∙ without-one p (Some p) (or-false (nat_eq p p) ∙ eq-eqb p p refl))
 
 -- a generation that is due serves

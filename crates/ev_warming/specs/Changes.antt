@@ -1,6 +1,5 @@
 -- How generations changed, by their rows before and after.
-use Rattle.std.specs.Prelude.{◌≡◌, ◌+◌, ◌<◌, ◌≤◌, slice_index, ℕ, Bool, true, false, not, ◌&&◌, ◌||◌, nat_le, if◌then◌else◌, List, [], ◌∷◌, ◌++◌, length, Option, None, Some, option_to_list, EachIndex}
-use Rattle.std.specs.List.{list_any}
+use Rattle.std.specs.Prelude.{◌≡◌, ℕ, Bool, true, false, not, ◌&&◌, ◌||◌, nat_le, if◌then◌else◌, List, [], ◌∷◌, ◌++◌, length, Option, None, Some, option_to_list}
 use Rattle.ev_types.specs.Items.{ResponseParts}
 use Rattle.ev_types.specs.Kinds.{kind_same}
 use Rattle.ev_types.specs.Statuses.{is_active, is_live}
@@ -18,7 +17,6 @@ use Rattle.ev_indexes.specs.Indexes.{status_in, name_in, depends_on, serves, war
 use Rattle.ev_indexes.specs.Ready.{is_ready_in, is_due_at}
 use Rattle.ev_indexes.specs.Reads.{names_watched}
 use Rattle.ev_indexes.specs.Watched.{watch_in}
-use Rattle.ev_warming.specs.declared.response.Applied.{Applied}
 use Rattle.ev_warming.specs.Promotion.{rows_promoted, status_drained}
 
 -- the row of this number serves after, and it didn't serve before
@@ -47,33 +45,14 @@ abbrev pub status_left_by : Kind → ResponseParts → List (List ℕ) → GenRo
 status_left_by kind response names row =
     if kind_same row.kind kind && (is_among row.name names && is_unlisted response row.name) then removed_status row.status else row.status
 
--- the second list has the first one, and behind it the numbers that were drawn in between, each in its turn
-pub record Draws (made drawn : ℕ) (numbers more : List ℕ) : Type 0 where
-  pub grows : length numbers ≤ length more
-  pub count : drawn + length numbers ≡ made + length more
-  pub same : (k : ℕ) → k < length numbers → slice_index more k ≡ slice_index numbers k
-  pub each : (k : ℕ) → length numbers ≤ k → k < length more → slice_index more k + length numbers ≡ made + k + 1
-
 -- the second list has the first one's numbers and those of the rows that retired in between, and a row that is over stays over
 pub record Tells (before after : List GenRow) (numbers more : List ℕ) : Type 0 where
   pub told : (number : ℕ) → among more number ≡ (among numbers number || has_retired number before after)
   pub stays : (number : ℕ) → is_over (row_in number before) ≡ true → is_over (row_in number after) ≡ true
 
--- the numbers that a response made grow by those that were drawn in between
-abbrev pub DrawsMade : State → State → Applied → Applied → Type 0
-DrawsMade old new applied more = Draws old.table.made new.table.made applied.made more.made
-
--- what a response retired grows by what retired in between
-abbrev pub TellsRetired : State → State → Applied → Applied → Type 0
-TellsRetired old new applied more = Tells old.table.rows new.table.rows applied.retired more.retired
-
--- as many numbers as stand here were drawn in between
-abbrev pub DrawsAll : State → State → List ℕ → Type 0
-DrawsAll old new numbers = new.table.made ≡ old.table.made + length numbers
-
--- these are the next numbers, one after the other
-abbrev pub AreNext : State → List ℕ → Type 0
-AreNext s numbers = EachIndex numbers (λ k. slice_index numbers k ≡ s.table.made + k + 1)
+-- what was told to have retired grows by what retired in between
+abbrev pub TellsRetired : State → State → List ℕ → List ℕ → Type 0
+TellsRetired old new numbers more = Tells old.table.rows new.table.rows numbers more
 
 -- these are the numbers of the rows that retired in between
 abbrev pub HaveRetired : List ℕ → State → State → Type 0
@@ -103,10 +82,6 @@ ServesName number name s = option_to_list number ≡ numbers_where (serves name)
 abbrev pub WarmsUnder : Option ℕ → List ℕ → State → Type 0
 WarmsUnder number name s = option_to_list number ≡ numbers_where (warms name) s.table.rows
 
--- a row serves the name, or none warms under it
-abbrev pub has_come_in : State → List ℕ → Bool
-has_come_in s name = list_any (serves name) s.table.rows || not (list_any (warms name) s.table.rows)
-
 -- the numbers of the live rows that depend on the name
 abbrev pub dependents_in : State → List ℕ → List ℕ
 dependents_in s name = numbers_where (depends_on name) s.table.rows
@@ -123,7 +98,7 @@ EndsRows old new name = new.table.rows ≡ rows_ended old.kind name old.table.ro
 abbrev pub AddsRow : State → State → List ℕ → Content → Type 0
 AddsRow old new name content = new.table.rows ≡ rows_with_new old.kind old.table.made name content old.table.rows
 
--- the rows and a new one behind them
+-- the rows and a new one after them
 abbrev pub AppendsRow : State → State → List ℕ → Content → Type 0
 AppendsRow old new name content = new.table.rows ≡ old.table.rows ++ new_row old.kind old.table.made name content ∷ []
 
@@ -141,16 +116,18 @@ promoted_by s rows = rows_promoted (is_ready_in s.watches s.results) rows
 
 -- the kind and the results stay
 abbrev pub KeepsResults : State → State → Type 0
-KeepsResults old new = new ≡ record old { table = new.table; names = new.names; watches = new.watches; due = new.due }
+KeepsResults old new =
+    new ≡ record old { table = new.table; names = new.names; watches = new.watches; addresses = new.addresses; due = new.due }
 
--- the kind, what is known of names and the results stay
+-- the kind, what is known of names, who holds an address and the results stay
 abbrev pub KeepsKnown : State → State → Type 0
 KeepsKnown old new = new ≡ record old { table = new.table; names = new.names; due = new.due }
 
--- the kind, the rows with their names, and which are due stay
-abbrev pub KeepsRows : State → State → Type 0
-KeepsRows old new = new ≡ record old { watches = new.watches; results = new.results }
+-- the kind, the rows with their names and addresses, and which are due stay
+abbrev pub KeepsTable : State → State → Type 0
+KeepsTable old new = new ≡ record old { watches = new.watches; results = new.results }
 
 -- the kind and the results stay, and none is due any more
 abbrev pub LeavesNoneDue : State → State → Type 0
-LeavesNoneDue old new = new ≡ record old { table = new.table; names = new.names; watches = new.watches; due = [] }
+LeavesNoneDue old new =
+    new ≡ record old { table = new.table; names = new.names; watches = new.watches; addresses = new.addresses; due = [] }

@@ -27,6 +27,16 @@ use Rattle.ev_warming.specs.Changes.{is_unlisted, status_left_by}
 abbrev pub Follows : State → State → (World → World) → Type 0
 Follows old new change = (world : World) → StandsFor old world → StandsFor new (change world)
 
+-- whatever world the first state stands for in which so many numbers were drawn, the second one stands for that world changed so, and as
+-- many numbers were drawn in both
+abbrev pub FollowsDrawing : ℕ → State → State → (World → World) → Type 0
+FollowsDrawing made old new change = (world : World) → StandsFor old world → made ≡ world.made
+    → StandsFor new (change world) × (new.table.made ≡ (change world).made)
+
+-- the world as it is
+abbrev pub unchanged : World → World
+unchanged world = world
+
 -- whatever world the state stands for, the answer is what is read of it so
 abbrev pub AnswersFor : {A : Type 0} → State → A → (World → A) → Type 0
 AnswersFor s answer reading = (world : World) → StandsFor s world → answer ≡ reading world
@@ -55,10 +65,6 @@ with_generation kind name content world =
 -- the world without the generation of this number
 abbrev pub without_generation : ℕ → World → World
 without_generation number world = record world { rows = without_row number world.rows }
-
--- the world with so many numbers drawn
-abbrev pub with_made : ℕ → World → World
-with_made made world = record world { made = made }
 
 -- the world once something came for a name, where a live row of the state depends on it
 abbrev pub with_told : State → Arrival → List ℕ → World → World

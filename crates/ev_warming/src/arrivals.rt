@@ -1,3 +1,5 @@
+//! Responses of what generations depend on: endpoints, or routes.
+
 ghost use Rattle.std.specs.Prelude.{◌≡◌, true, Some, length, OnOk};
 ghost use Rattle.std.specs.List.{list_any};
 ghost use Rattle.ev_types.specs.declared.events.Verdict.TheVariants.{Kept};

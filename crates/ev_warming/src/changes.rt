@@ -1,3 +1,6 @@
+//! The single steps, on a `State`: something arrives for a name, a generation is added, serves, or retires. Each keeps every index
+//! a search of the rows, and each look-up of a row is counted.
+
 ghost use Rattle.std.specs.Prelude.{◌≡◌, if◌then◌else◌, ℕ, ◌+◌, ◌*◌, ◌^◌, ◌≤◌, ◌++◌, IfOk, ◌<◌, ◌&&◌, not, nat_eq, true, length, None, OnOk, option_to_list};
 ghost use Rattle.std.specs.List.{list_any};
 ghost use Rattle.ev_model.specs.Rows.{replaced_status, with_statuses};
@@ -14,7 +17,7 @@ ghost use Rattle.ev_warming.specs.Promotion.{status_drained};
 ghost use Rattle.ev_indexes.specs.Indexes.{IsIndexed, SameMarks, depends_on, status_in, name_in};
 ghost use Rattle.ev_warming.specs.Arrivals.{Hears, UnwatchesNeed, WatchesNeed, with_arrived};
 ghost use Rattle.ev_warming.specs.Changes.{AddsRow, AppendsRow, AreDue, BeganToDrain, CameToServe, EndsRows, KeepsKnown, KeepsResults, LeavesNoneDue, dependents_in, promoted_by, rows_giving_way, rows_retired};
-ghost use Rattle.ev_warming.specs.Worlds.{Follows, with_generation, with_rows_ended};
+ghost use Rattle.ev_warming.specs.Worlds.{Follows, FollowsDrawing, with_generation, with_rows_ended};
 
 use ev_generations::Steps;
 use ev_indexes::{Standing, State, Watches, limited, needed, refresh};
@@ -82,6 +85,7 @@ fn retire<L: Ledger>(state: &mut State, number: Gen, steps: &mut Steps<L>)
     let warms = row.status.is_warming();
     state.names.set(&row.name, left(standing, warms));
     unwatch(&mut state.watches, &row.content, number);
+    state.addresses.release(&row.content, number);
     state.due.leave(number);
     state.table.gone(number, warms);
 }
@@ -203,24 +207,25 @@ pub(crate) fn add<L: Ledger>(
     name: Name,
     content: Content,
     steps: &mut Steps<L>,
-) -> Result<Gen, AllocError>
+) -> Result<(), AllocError>
     requires indexed { IsIndexed state.old }
     requires typed { content_kind content ≡ state.old.kind }
     requires room { state.old.table.made + 1 < 2 ^ 32 }
     ensures indexed { OnOk result (IsIndexed state.new) }
-    ensures number { IfOk result (λ number. number ≡ state.old.table.made + 1) }
     ensures rows { OnOk result (AddsRow state.old state.new name content) }
     ensures made { OnOk result (state.new.table.made ≡ state.old.table.made + 1) }
     ensures marks { OnOk result (SameMarks state.old.watches state.new.watches) }
     ensures others { OnOk result (KeepsResults state.old state.new) }
     ensures steps { OnOk result (steps.new ≤ steps.old + 2) }
     ensures needs { OnOk result (IsNeedName (name_needed content)) }
-    // Whatever world the state stood for, it stands for that world with the new generation.
-    ensures stands { OnOk result (Follows state.old state.new (with_generation state.old.kind name content)) }
+    // Whatever world the state stood for in which no other number was drawn, it stands for that world with the new generation.
+    ensures stands { OnOk result (FollowsDrawing state.old.table.made state.old state.new
+        (with_generation state.old.kind name content)) }
 {
     let _text = name.as_str();
     drop_warming(state, &name, steps);
-    append(state, alloc, name, content, steps)
+    append(state, alloc, name, content, steps)?;
+    Ok(())
 }
 
 /// What a name stands for has come to its end, or is removed: the generation that warms under it is dropped, and the one that
@@ -278,12 +283,11 @@ fn append<L: Ledger>(
     name: Name,
     content: Content,
     steps: &mut Steps<L>,
-) -> Result<Gen, AllocError>
+) -> Result<(), AllocError>
     requires indexed { IsIndexed state.old }
     requires alone { (standing_in state.old.names name).warming ≡ None }
     requires room { state.old.table.made + 1 < 2 ^ 32 }
     ensures indexed { OnOk result (IsIndexed state.new) }
-    ensures number { IfOk result (λ number. number ≡ state.old.table.made + 1) }
     ensures rows { OnOk result (AppendsRow state.old state.new name content) }
     ensures made { OnOk result (state.new.table.made ≡ state.old.table.made + 1) }
     ensures marks { OnOk result (SameMarks state.old.watches state.new.watches) }
@@ -296,6 +300,7 @@ fn append<L: Ledger>(
         .table
         .add(state.kind, name.copy(alloc)?, content.copy(alloc)?)?;
     watch(&mut state.watches, alloc, &content, number)?;
+    state.addresses.hold(alloc, &content, number)?;
     let standing = Standing {
         active,
         warming: Some(number),
@@ -309,7 +314,7 @@ fn append<L: Ledger>(
         &[number],
         steps,
     )?;
-    Ok(number)
+    Ok(())
 }
 
 // Puts a number to the others, where there is one.

@@ -1,3 +1,8 @@
+//! Forgetting, a step of its own after the promotion of the same event, as in the machine: till then a name that one resource of a
+//! response ceases to depend on and another begins to keeps its value. What it looks at follows from what changed: the
+//! generations that retired, and those whose name something came for. A name that may have to go is one of theirs, so no list
+//! of names is kept.
+
 ghost use Rattle.std.specs.Prelude.{◌≡◌, ◌+◌, false, Some, nat_eq, [], length, OnOk};
 ghost use Rattle.ev_model.specs.Watching.{is_by_name};
 ghost use Rattle.ev_model.specs.Warming.{rows_in};
@@ -6,7 +11,7 @@ ghost use Rattle.ev_indexes.specs.Watched.{watch_in};
 ghost use Rattle.ev_indexes.specs.Ready.{name_needed, assignment_in};
 ghost use Rattle.ev_indexes.specs.Indexes.{IsIndexed};
 ghost use Rattle.ev_warming.specs.Forgetting.{IsTidyBut, ForgetsNeed, ForgetsNeedOf, TrimsRow, TrimsRowOf};
-ghost use Rattle.ev_warming.specs.Changes.{KeepsRows};
+ghost use Rattle.ev_warming.specs.Changes.{KeepsTable};
 ghost use Rattle.ev_warming.specs.Worlds.{Follows, without_unneeded};
 
 use ev_endpoints::Endpoints;
@@ -31,7 +36,7 @@ pub(crate) fn forget<L: Ledger>(
     requires rows { is_by_name state.old.kind ≡ false }
     ensures indexed { OnOk result (IsIndexed state.new) }
     ensures tidy { OnOk result (IsTidyBut state.new []) }
-    ensures others { OnOk result (KeepsRows state.old state.new) }
+    ensures others { OnOk result (KeepsTable state.old state.new) }
     ensures steps { OnOk result (steps.new ≡ steps.old + length stale.now) }
     // Whatever world the state stood for, it stands for that world once the machine has forgotten.
     ensures stands { OnOk result (Follows state.old state.new without_unneeded) }
@@ -53,7 +58,7 @@ fn forget_row<L: Ledger>(
     ensures indexed { OnOk result (IsIndexed state.new) }
     ensures watches { OnOk result (ForgetsNeedOf state.old state.new number) }
     ensures results { OnOk result (TrimsRowOf state.old state.new number) }
-    ensures others { OnOk result (KeepsRows state.old state.new) }
+    ensures others { OnOk result (KeepsTable state.old state.new) }
     ensures steps { OnOk result (steps.new ≡ steps.old + 1) }
 {
     let Some(row) = state.table.row(number, steps) else {

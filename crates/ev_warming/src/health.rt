@@ -1,3 +1,6 @@
+//! Health results. A result finds its generations by the name, of which at most two are live. Only one that warms can become due to
+//! serve by it; the one that serves is looked at in the same way all the same.
+
 ghost use Rattle.std.specs.Prelude.{◌≡◌, ℕ, ◌+◌, ◌≤◌, List, IfOk, OnOk};
 ghost use Rattle.ev_warming.specs.Forgetting.{IsTidyBut};
 ghost use Rattle.ev_warming.specs.Health.{takes_at, NotesMeant, NotesWhere, is_meant_by};

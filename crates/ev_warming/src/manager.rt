@@ -1,20 +1,21 @@
-ghost use Rattle.std.specs.Prelude.{◌≡◌, ℕ, ◌+◌, ◌*◌, ◌^◌, ◌≤◌, ◌<◌, [], ◌++◌, List, true, false, length, IfOk, OnOk};
+//! A manager, and what happens to it by single names.
+
+ghost use Rattle.std.specs.Prelude.{◌≡◌, ℕ, ◌+◌, ◌*◌, ◌≤◌, [], ◌++◌, List, true, false, length, IfOk, OnOk};
 ghost use Rattle.std.specs.List.{list_any};
-ghost use Rattle.ev_types.specs.Items.{content_kind};
 ghost use Rattle.ev_model.specs.World.{opening};
 ghost use Rattle.ev_model.specs.Watching.{is_by_name};
 ghost use Rattle.ev_model.specs.Tidy.{promoted};
 ghost use Rattle.ev_indexes.specs.Indexes.{depends_on};
 ghost use Rattle.ev_indexes.specs.Worlds.{StandsFor, needs_of};
 ghost use Rattle.ev_warming.specs.Arrivals.{with_arrived};
-ghost use Rattle.ev_warming.specs.Changes.{AddsRow, AreDue, BeganToDrain, CameToServe, EndsRows, ServesName, WarmsUnder, WatchesTheSame, dependents_in, watchers_in};
-ghost use Rattle.ev_warming.specs.Worlds.{Follows, with_generation, with_rows_ended, without_unneeded};
+ghost use Rattle.ev_warming.specs.Changes.{AreDue, BeganToDrain, CameToServe, EndsRows, ServesName, WarmsUnder, WatchesTheSame, dependents_in, watchers_in};
+ghost use Rattle.ev_warming.specs.Worlds.{Follows, with_rows_ended, without_unneeded};
 
 use crate::changes::{self, Promoted, put_one};
 use crate::forgetting::forget;
 use ev_generations::Steps;
 use ev_indexes::{Standing, State};
-use ev_types::{Arrival, Content, Gen, Kind, Name, Seq, TryCopy};
+use ev_types::{Arrival, Gen, Kind, Name, Seq, TryCopy};
 use std::alloc::{AllocError, Global};
 use std::mem;
 use std::sync::ledger::Ledger;
@@ -28,13 +29,6 @@ pub struct Manager {
     pub stale: Seq<Gen>,
 }
 
-/// What a new generation changed: its number, and that of the one that warmed under its name before and is dropped.
-#[derive(Clone, Copy, Debug, PartialEq, Eq)]
-pub struct Added {
-    pub number: Gen,
-    pub dropped: Option<Gen>,
-}
-
 impl Manager {
     ghost use Rattle.ev_warming.specs.Managers.{IsKept};
 
@@ -45,6 +39,7 @@ impl Manager {
         ensures kind { result.state.kind ≡ kind }
         ensures kept { IsKept result }
         ensures done { result.stale ≡ [] }
+        ensures made { result.state.table.made ≡ 0 }
         ensures stands { (workers : ℕ) (node : List ℕ) → StandsFor result.state (opening workers node) }
     {
         Manager {
@@ -111,35 +106,6 @@ impl Manager {
         put_one(&mut self.stale, &ended.active)?;
         changes::end(&mut self.state, name, steps);
         Ok(ended)
-    }
-
-    /// A new generation of a name warms, with content of the manager's kind, and one that warmed under it before is dropped. It
-    /// costs at most two look-ups. Without memory nothing is promised.
-    pub fn add<L: Ledger>(
-        &mut self,
-        alloc: Global,
-        name: Name,
-        content: Content,
-        steps: &mut Steps<L>,
-    ) -> Result<Added, AllocError>
-        requires kept { IsKept self.old }
-        requires typed { content_kind content ≡ self.old.state.kind }
-        requires room { self.old.state.table.made + 1 < 2 ^ 32 }
-        ensures kept { OnOk result (IsKept self.new) }
-        ensures kind { OnOk result (self.new.state.kind ≡ self.old.state.kind) }
-        ensures number { IfOk result (λ added. added.number ≡ self.old.state.table.made + 1) }
-        ensures dropped { IfOk result (λ added. WarmsUnder added.dropped name self.old.state) }
-        ensures rows { OnOk result (AddsRow self.old.state self.new.state name content) }
-        ensures made { OnOk result (self.new.state.table.made ≡ self.old.state.table.made + 1) }
-        ensures steps { OnOk result (steps.new ≤ steps.old + 2) }
-        // Whatever world the manager stood for, it stands for that world with the new generation.
-        ensures stands { OnOk result (Follows self.old.state self.new.state
-            (with_generation self.old.state.kind name content)) }
-    {
-        let dropped = self.state.names.standing(&name).warming;
-        put_one(&mut self.stale, &dropped)?;
-        let number = changes::add(&mut self.state, alloc, name, content, steps)?;
-        Ok(Added { number, dropped })
     }
 
     /// Each generation that is due serves, and the one that served its name before it drains. Answers the numbers of both. Each of

@@ -1,15 +1,17 @@
-ghost use Rattle.std.specs.Prelude.{◌≡◌, ◌≤◌, [], Some, true};
+//! What the holder of a manager takes out, and what it reads of the counter of numbers.
+
+ghost use Rattle.std.specs.Prelude.{◌≡◌, [], Some, true};
 ghost use Rattle.ev_generations.specs.Tables.{row_in, without_row};
 ghost use Rattle.ev_warming.specs.Changes.{is_over};
 ghost use Rattle.ev_warming.specs.Managers.{IsKept};
-ghost use Rattle.ev_warming.specs.Worlds.{Follows, with_made, without_generation};
+ghost use Rattle.ev_warming.specs.Worlds.{Follows, without_generation};
 
 use crate::Manager;
 use ev_types::{Gen, GenRow};
 
 impl Manager {
-    /// Takes out a generation that drains or was dropped, once all is forgotten that nobody needs. It costs a look-up: no other row
-    /// moves.
+    /// Takes out a generation that drains or was dropped, once all is forgotten that nobody needs: forgetting finds the name that it
+    /// depended on by its row. It costs a look-up: no other row moves.
     pub fn remove(&mut self, number: Gen) -> GenRow
         requires kept { IsKept self.old }
         requires forgotten { self.old.stale ≡ [] }
@@ -17,6 +19,7 @@ impl Manager {
         ensures kept { IsKept self.new }
         ensures row { row_in number self.old.state.table.rows ≡ Some result }
         ensures rows { self.new.state.table.rows ≡ without_row number self.old.state.table.rows }
+        ensures made { self.new.state.table.made ≡ self.old.state.table.made }
         ensures others { self.new ≡ record self.old { state = record self.old.state { table = self.new.state.table } } }
         // Whatever world the manager stood for, it stands for that world without the generation.
         ensures stands { Follows self.old.state self.new.state (without_generation number) }
@@ -24,24 +27,10 @@ impl Manager {
         self.state.table.remove(number)
     }
 
-    /// How many numbers were drawn.
+    /// The number that was drawn last here, or the one up to which numbers had been drawn elsewhere by then: no row has a greater one.
     pub fn made(&self) -> u32
         ensures { result ≡ self.now.state.table.made }
     {
         self.state.table.made()
-    }
-
-    /// Numbers go on after this one: both managers draw from one counter.
-    pub fn advance(&mut self, made: u32)
-        requires kept { IsKept self.old }
-        requires later { self.old.state.table.made ≤ made }
-        ensures kept { IsKept self.new }
-        ensures made { self.new.state.table.made ≡ made }
-        ensures rows { self.new.state.table.rows ≡ self.old.state.table.rows }
-        ensures others { self.new ≡ record self.old { state = record self.old.state { table = self.new.state.table } } }
-        // Whatever world the manager stood for, it stands for that world with so many numbers drawn.
-        ensures stands { Follows self.old.state self.new.state (with_made made) }
-    {
-        self.state.table.advance(made);
     }
 }

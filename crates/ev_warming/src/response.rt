@@ -1,3 +1,8 @@
+//! Responses of clusters or listeners. A removed name is a text of any length, and no row has one that is no name of 1 to 512
+//! bytes. Whether it stands at a resource is looked up in a table of what the response mentions, made where it removes names;
+//! the verdicts were made by another, above both managers: with that one as an argument these calls would speak of a table
+//! in place of a response.
+
 ghost use Rattle.std.specs.Prelude.{◌≡◌, ◌+◌, ◌^◌, ◌<◌, ◌≤◌, true, Some, All, length, IfOk, OnOk};
 ghost use Rattle.ev_types.specs.Items.{IsBodyOf, content_kind};
 ghost use Rattle.ev_types.specs.declared.contents.Body.TheVariants.{Good};
@@ -5,61 +10,68 @@ ghost use Rattle.ev_types.specs.declared.events.Verdict.TheVariants.{New};
 ghost use Rattle.ev_model.specs.Verdicts.{is_among as is_listed};
 ghost use Rattle.ev_model.specs.Rows.{add_item, add_items};
 ghost use Rattle.ev_warming.specs.Managers.{IsKept};
-ghost use Rattle.ev_warming.specs.Changes.{AreNext, DrawsAll, DrawsMade, HaveRetired, TellsRetired};
-ghost use Rattle.ev_warming.specs.Worlds.{Follows, with_generation, with_name_left, with_response, with_rows_ended, with_rows_left};
+ghost use Rattle.ev_warming.specs.Changes.{HaveRetired, TellsRetired};
+ghost use Rattle.ev_warming.specs.Worlds.{Follows, FollowsDrawing, with_generation, with_name_left, unchanged, with_response, with_rows_ended, with_rows_left};
 
 use crate::Manager;
-use crate::changes::put_one;
+use crate::changes::{add, put_one};
 use ev_generations::Steps;
 use ev_mentions::Mentions;
 use ev_types::{Body, Content, Gen, Item, Name, NameError, Response, Seq, Text, TryCopy, Verdict};
 use std::alloc::{AllocError, Global};
 use std::sync::ledger::Ledger;
 
-/// What a response changed: the numbers of the generations that it made, and of those that began to drain or were dropped.
-#[derive(Drop)]
-pub struct Applied {
-    pub made: Seq<Gen>,
-    pub retired: Seq<Gen>,
-}
-
 impl Manager {
     /// A response of the manager's own kind, with the verdicts on its resources: removed generations drain, or are dropped where
-    /// they warmed; then each new resource makes a generation, in order, and one that warmed under its name is dropped. Other
-    /// resources change nothing here. Look-ups are counted, and not bounded. Without memory nothing is promised.
+    /// they warmed; then each new resource makes a generation, in order, whose number is the next after `made`, and one that
+    /// warmed under its name is dropped. Other resources change nothing here. Answers the numbers of those that began to drain
+    /// or were dropped. Look-ups are counted, and not bounded. Without memory nothing is promised.
     pub fn apply<L: Ledger>(
         &mut self,
         alloc: Global,
+        made: u32,
         response: &Response,
         verdicts: &[Verdict],
         steps: &mut Steps<L>,
-    ) -> Result<Applied, AllocError>
+    ) -> Result<Seq<Gen>, AllocError>
         requires kept { IsKept self.old }
         requires typed { response.now.kind ≡ Some self.old.state.kind }
         requires one_each { length verdicts.now ≡ length response.now.items }
-        requires room { self.old.state.table.made + length response.now.items < 2 ^ 32 }
+        requires later { self.old.state.table.made ≤ made }
+        requires room { made + length response.now.items < 2 ^ 32 }
         ensures kept { OnOk result (IsKept self.new) }
         ensures kind { OnOk result (self.new.state.kind ≡ self.old.state.kind) }
-        ensures made { IfOk result (λ applied. DrawsAll self.old.state self.new.state applied.made) }
-        ensures numbers { IfOk result (λ applied. AreNext self.old.state applied.made) }
-        ensures retired { IfOk result (λ applied. HaveRetired applied.retired self.old.state self.new.state) }
-        // Whatever world the manager stood for, it stands for that world once the response's removals and resources are in.
-        ensures stands { OnOk result (Follows self.old.state self.new.state
+        ensures grows { OnOk result (made ≤ self.new.state.table.made) }
+        ensures retired { IfOk result (λ retired. HaveRetired retired self.old.state self.new.state) }
+        // Whatever world the manager stood for in which so many numbers were drawn, it stands for that world once the response's
+        // removals and resources are in, and as many were drawn.
+        ensures stands { OnOk result (FollowsDrawing made self.old.state self.new.state
             (with_response self.old.state.kind verdicts.now response.now)) }
     {
-        let mut applied = Applied {
-            made: Seq::new(alloc),
-            retired: Seq::new(alloc),
-        };
-        self.remove_names(alloc, response, &mut applied, steps)?;
+        let mut retired = Seq::new(alloc);
+        self.remove_names(alloc, response, &mut retired, steps)?;
+        self.advance(made);
         self.take_items(
             alloc,
             response.items.as_slice(),
             verdicts,
-            &mut applied,
+            &mut retired,
             steps,
         )?;
-        Ok(applied)
+        Ok(retired)
+    }
+
+    // The next number is drawn after this one.
+    fn advance(&mut self, made: u32)
+        requires kept { IsKept self.old }
+        requires later { self.old.state.table.made ≤ made }
+        ensures kept { IsKept self.new }
+        ensures made { self.new.state.table.made ≡ made }
+        ensures rows { self.new.state.table.rows ≡ self.old.state.table.rows }
+        ensures others { self.new ≡ record self.old { state = record self.old.state { table = self.new.state.table } } }
+        ensures stands { Follows self.old.state self.new.state unchanged }
+    {
+        self.state.table.advance(made);
     }
 
     // The removed names of a response come to their end, but those that stand at a resource.
@@ -67,15 +79,14 @@ impl Manager {
         &mut self,
         alloc: Global,
         response: &Response,
-        applied: &mut Applied,
+        retired: &mut Seq<Gen>,
         steps: &mut Steps<L>,
     ) -> Result<(), AllocError>
         requires kept { IsKept self.old }
         ensures kept { OnOk result (IsKept self.new) }
         ensures kind { OnOk result (self.new.state.kind ≡ self.old.state.kind) }
         ensures made { OnOk result (self.new.state.table.made ≡ self.old.state.table.made) }
-        ensures others { OnOk result (applied.new.made ≡ applied.old.made) }
-        ensures told { OnOk result (TellsRetired self.old.state self.new.state applied.old applied.new) }
+        ensures told { OnOk result (TellsRetired self.old.state self.new.state retired.old retired.new) }
         ensures stands { OnOk result (Follows self.old.state self.new.state
             (with_rows_left self.old.state.kind response.now)) }
     {
@@ -84,7 +95,7 @@ impl Manager {
         }
         let mentions = Mentions::of(alloc, response)?;
         for name in response.removed.as_slice() {
-            self.remove_name(alloc, &mentions, name, applied, steps)?;
+            self.remove_name(alloc, &mentions, name, retired, steps)?;
         }
         Ok(())
     }
@@ -95,7 +106,7 @@ impl Manager {
         alloc: Global,
         mentions: &Mentions<'_>,
         name: &Text,
-        applied: &mut Applied,
+        retired: &mut Seq<Gen>,
         steps: &mut Steps<L>,
     ) -> Result<(), AllocError>
         requires kept { IsKept self.old }
@@ -103,8 +114,7 @@ impl Manager {
         ensures kept { OnOk result (IsKept self.new) }
         ensures kind { OnOk result (self.new.state.kind ≡ self.old.state.kind) }
         ensures made { OnOk result (self.new.state.table.made ≡ self.old.state.table.made) }
-        ensures others { OnOk result (applied.new.made ≡ applied.old.made) }
-        ensures told { OnOk result (TellsRetired self.old.state self.new.state applied.old applied.new) }
+        ensures told { OnOk result (TellsRetired self.old.state self.new.state retired.old retired.new) }
         ensures stands { OnOk result (Follows self.old.state self.new.state
             (with_name_left self.old.state.kind mentions.now name.now)) }
     {
@@ -112,7 +122,7 @@ impl Manager {
             return Ok(());
         }
         match Name::new(alloc, name.as_str()) {
-            Ok(name) => self.end_name(&name, applied, steps),
+            Ok(name) => self.end_name(&name, retired, steps),
             Err(NameError::Length) => Ok(()),
             Err(NameError::OutOfMemory) => Err(AllocError),
         }
@@ -122,21 +132,20 @@ impl Manager {
     fn end_name<L: Ledger>(
         &mut self,
         name: &Name,
-        applied: &mut Applied,
+        retired: &mut Seq<Gen>,
         steps: &mut Steps<L>,
     ) -> Result<(), AllocError>
         requires kept { IsKept self.old }
         ensures kept { OnOk result (IsKept self.new) }
         ensures kind { OnOk result (self.new.state.kind ≡ self.old.state.kind) }
         ensures made { OnOk result (self.new.state.table.made ≡ self.old.state.table.made) }
-        ensures others { OnOk result (applied.new.made ≡ applied.old.made) }
-        ensures told { OnOk result (TellsRetired self.old.state self.new.state applied.old applied.new) }
+        ensures told { OnOk result (TellsRetired self.old.state self.new.state retired.old retired.new) }
         ensures stands { OnOk result (Follows self.old.state self.new.state
             (with_rows_ended self.old.state.kind name.now)) }
     {
         let ended = self.end(name, steps)?;
-        put_one(&mut applied.retired, &ended.warming)?;
-        put_one(&mut applied.retired, &ended.active)
+        put_one(retired, &ended.warming)?;
+        put_one(retired, &ended.active)
     }
 
     // The resources of a response come in, in order, each by its verdict.
@@ -145,7 +154,7 @@ impl Manager {
         alloc: Global,
         items: &[Item],
         verdicts: &[Verdict],
-        applied: &mut Applied,
+        retired: &mut Seq<Gen>,
         steps: &mut Steps<L>,
     ) -> Result<(), AllocError>
         requires kept { IsKept self.old }
@@ -154,24 +163,24 @@ impl Manager {
         requires room { self.old.state.table.made + length items.now < 2 ^ 32 }
         ensures kept { OnOk result (IsKept self.new) }
         ensures kind { OnOk result (self.new.state.kind ≡ self.old.state.kind) }
-        ensures drawn { OnOk result (DrawsMade self.old.state self.new.state applied.old applied.new) }
-        ensures told { OnOk result (TellsRetired self.old.state self.new.state applied.old applied.new) }
-        ensures stands { OnOk result (Follows self.old.state self.new.state
+        ensures grows { OnOk result (self.old.state.table.made ≤ self.new.state.table.made) }
+        ensures told { OnOk result (TellsRetired self.old.state self.new.state retired.old retired.new) }
+        ensures stands { OnOk result (FollowsDrawing self.old.state.table.made self.old.state self.new.state
             (add_items self.old.state.kind verdicts.now items.now)) }
     {
         for (place, item) in items.iter().enumerate() {
-            self.take_item(alloc, verdicts[place], item, applied, steps)?;
+            self.take_item(alloc, verdicts[place], item, retired, steps)?;
         }
         Ok(())
     }
 
-    // One resource comes in.
+    // One resource comes in: one that is new makes a generation, where it has content.
     fn take_item<L: Ledger>(
         &mut self,
         alloc: Global,
         verdict: Verdict,
         item: &Item,
-        applied: &mut Applied,
+        retired: &mut Seq<Gen>,
         steps: &mut Steps<L>,
     ) -> Result<(), AllocError>
         requires kept { IsKept self.old }
@@ -179,50 +188,26 @@ impl Manager {
         requires room { self.old.state.table.made + 1 < 2 ^ 32 }
         ensures kept { OnOk result (IsKept self.new) }
         ensures kind { OnOk result (self.new.state.kind ≡ self.old.state.kind) }
-        ensures drawn { OnOk result (DrawsMade self.old.state self.new.state applied.old applied.new) }
-        ensures told { OnOk result (TellsRetired self.old.state self.new.state applied.old applied.new) }
+        ensures grows { OnOk result (self.old.state.table.made ≤ self.new.state.table.made) }
         ensures few { OnOk result (self.new.state.table.made ≤ self.old.state.table.made + 1) }
-        ensures stands { OnOk result (Follows self.old.state self.new.state
+        ensures told { OnOk result (TellsRetired self.old.state self.new.state retired.old retired.new) }
+        ensures stands { OnOk result (FollowsDrawing self.old.state.table.made self.old.state self.new.state
             (add_item self.old.state.kind verdict item.now)) }
     {
-        match verdict {
-            Verdict::New => self.take_new(alloc, item, applied, steps),
+        match (verdict, &item.body) {
+            (Verdict::New, Body::Good(content)) => self.make(alloc, item, content, retired, steps),
             _ => Ok(()),
         }
     }
 
-    // A resource that is new makes a generation, where it has content.
-    fn take_new<L: Ledger>(
-        &mut self,
-        alloc: Global,
-        item: &Item,
-        applied: &mut Applied,
-        steps: &mut Steps<L>,
-    ) -> Result<(), AllocError>
-        requires kept { IsKept self.old }
-        requires typed { IsBodyOf self.old.state.kind item.now.body }
-        requires room { self.old.state.table.made + 1 < 2 ^ 32 }
-        ensures kept { OnOk result (IsKept self.new) }
-        ensures kind { OnOk result (self.new.state.kind ≡ self.old.state.kind) }
-        ensures drawn { OnOk result (DrawsMade self.old.state self.new.state applied.old applied.new) }
-        ensures told { OnOk result (TellsRetired self.old.state self.new.state applied.old applied.new) }
-        ensures few { OnOk result (self.new.state.table.made ≤ self.old.state.table.made + 1) }
-        ensures stands { OnOk result (Follows self.old.state self.new.state
-            (add_item self.old.state.kind New item.now)) }
-    {
-        match &item.body {
-            Body::Good(content) => self.make(alloc, item, content, applied, steps),
-            _ => Ok(()),
-        }
-    }
-
-    // A resource makes a generation of this content, which is the resource's.
+    // A generation of this name and content, which are the resource's, warms, and one that warmed under the name is dropped. It
+    // costs at most two look-ups.
     fn make<L: Ledger>(
         &mut self,
         alloc: Global,
         item: &Item,
         content: &Content,
-        applied: &mut Applied,
+        retired: &mut Seq<Gen>,
         steps: &mut Steps<L>,
     ) -> Result<(), AllocError>
         requires kept { IsKept self.old }
@@ -231,15 +216,17 @@ impl Manager {
         requires room { self.old.state.table.made + 1 < 2 ^ 32 }
         ensures kept { OnOk result (IsKept self.new) }
         ensures kind { OnOk result (self.new.state.kind ≡ self.old.state.kind) }
-        ensures drawn { OnOk result (DrawsMade self.old.state self.new.state applied.old applied.new) }
-        ensures few { OnOk result (self.new.state.table.made ≤ self.old.state.table.made + 1) }
-        ensures told { OnOk result (TellsRetired self.old.state self.new.state applied.old applied.new) }
-        ensures stands { OnOk result (Follows self.old.state self.new.state
+        ensures made { OnOk result (self.new.state.table.made ≡ self.old.state.table.made + 1) }
+        ensures told { OnOk result (TellsRetired self.old.state self.new.state retired.old retired.new) }
+        ensures steps { OnOk result (steps.new ≤ steps.old + 2) }
+        ensures stands { OnOk result (FollowsDrawing self.old.state.table.made self.old.state self.new.state
             (with_generation self.old.state.kind item.now.name content.now)) }
     {
         let name = item.resource_name(alloc)?;
-        let added = self.add(alloc, name, content.copy(alloc)?, steps)?;
-        applied.made.push(added.number)?;
-        put_one(&mut applied.retired, &added.dropped)
+        let dropped = self.state.names.standing(&name).warming;
+        put_one(&mut self.stale, &dropped)?;
+        put_one(retired, &dropped)?;
+        add(&mut self.state, alloc, name, content.copy(alloc)?, steps)?;
+        Ok(())
     }
 }

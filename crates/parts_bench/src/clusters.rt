@@ -2,14 +2,15 @@
 //! of so many of them come, each time followed by a promotion and a forgetting.
 
 ghost use Rattle.std.specs.Prelude.{◌≡◌, length, OnOk};
-ghost use Rattle.ev_clusters.specs.Clusters.{AreKept};
+ghost use Rattle.ev_managers.specs.Managers.{AreKept};
 
 mod responses;
 mod survey;
 
 use crate::names::news;
 use anyhow::{Result, anyhow};
-use ev_clusters::Clusters;
+use ev_managers::{Managers, Moved};
+use ev_types::Kind;
 use ev_generations::Steps;
 use responses::{endpoints, response, service};
 use std::alloc::Global;
@@ -48,9 +49,9 @@ fn run<L: Ledger>(alloc: Global, blank: Blank, size: u16, arrivals: u16) -> Resu
     requires one { L.parts ≡ 1 }
 {
     let mut steps = Steps::<L>::new(blank);
-    let mut clusters = Clusters::new(alloc);
-    let told = go(alloc, &mut clusters, size, arrivals, &mut steps);
-    drop(clusters);
+    let mut managers = Managers::new(alloc);
+    let told = go(alloc, &mut managers, size, arrivals, &mut steps);
+    drop(managers);
     told
 }
 
@@ -58,32 +59,32 @@ fn run<L: Ledger>(alloc: Global, blank: Blank, size: u16, arrivals: u16) -> Resu
 // proof of all that it has.
 fn go<L: Ledger>(
     alloc: Global,
-    clusters: &mut Clusters,
+    managers: &mut Managers,
     size: u16,
     arrivals: u16,
     steps: &mut Steps<L>,
 ) -> Result<(u32, Counts)>
-    requires { AreKept clusters.old }
+    requires { AreKept managers.old }
 {
-    take_all(alloc, clusters, size, steps)?;
-    let served = warm_all(alloc, clusters, arrivals, steps)?;
-    let survey = survey(alloc, clusters, steps)?;
+    take_all(alloc, managers, size, steps)?;
+    let served = warm_all(alloc, managers, arrivals, steps)?;
+    let survey = survey(alloc, managers, steps)?;
     Ok((served, survey))
 }
 
 // The endpoints of so many clusters come. Answers how many came to serve.
 fn warm_all<L: Ledger>(
     alloc: Global,
-    clusters: &mut Clusters,
+    managers: &mut Managers,
     arrivals: u16,
     steps: &mut Steps<L>,
 ) -> Result<u32>
-    requires { AreKept clusters.old }
-    ensures { OnOk result (AreKept clusters.new) }
+    requires { AreKept managers.old }
+    ensures { OnOk result (AreKept managers.new) }
 {
     let mut served = 0u32;
     for place in 0..arrivals {
-        if warm(alloc, clusters, place, steps)? {
+        if warm(alloc, managers, place, steps)? {
             served = served.saturating_add(1);
         }
     }
@@ -93,45 +94,47 @@ fn warm_all<L: Ledger>(
 // A response brings so many clusters.
 fn take_all<L: Ledger>(
     alloc: Global,
-    clusters: &mut Clusters,
+    managers: &mut Managers,
     size: u16,
     steps: &mut Steps<L>,
 ) -> Result<()>
-    requires { AreKept clusters.old }
-    ensures { OnOk result (AreKept clusters.new) }
+    requires { AreKept managers.old }
+    ensures { OnOk result (AreKept managers.new) }
 {
-    if clusters.made() > 0 {
+    if managers.made > 0 {
         return Err(anyhow!("numbers were drawn before"));
     }
     let verdicts = news(alloc, size)?;
     let response = response(alloc, size)?;
-    let applied = clusters.apply(alloc, &response, verdicts.as_slice(), steps);
+    let retired = managers.respond(alloc, Kind::Cds, &response, verdicts.as_slice(), steps);
     drop(response);
-    drop(applied?);
+    drop(retired?);
     Ok(())
 }
 
 // The endpoints of one cluster come. Answers whether it came to serve.
 fn warm<L: Ledger>(
     alloc: Global,
-    clusters: &mut Clusters,
+    managers: &mut Managers,
     place: u16,
     steps: &mut Steps<L>,
 ) -> Result<bool>
-    requires { AreKept clusters.old }
-    ensures { OnOk result (AreKept clusters.new) }
+    requires { AreKept managers.old }
+    ensures { OnOk result (AreKept managers.new) }
 {
     let name = service(alloc, place)?;
-    if !clusters.is_watched(name.as_str()) {
+    if !managers.is_watched(Kind::Eds, name.as_str()) {
         return Ok(false);
     }
     let arrival = endpoints(alloc)?;
-    let arrived = clusters.arrival(alloc, &name, &arrival, steps);
+    let arrived = managers.arrive(alloc, Kind::Eds, &name, &arrival, steps);
     drop(arrival);
     arrived?;
-    let promoted = clusters.promote(alloc, steps)?;
-    let serves = !promoted.served.is_empty();
-    drop(promoted);
-    clusters.forget(alloc, steps)?;
+    let mut moved = Moved::none(alloc);
+    let promoted = managers.promote(alloc, &mut moved, steps);
+    let serves = !moved.changed.is_empty();
+    drop(moved);
+    promoted?;
+    managers.forget(alloc, steps)?;
     Ok(serves)
 }

@@ -3,7 +3,7 @@
 //! routes come, each time followed by a promotion and a forgetting.
 
 ghost use Rattle.std.specs.Prelude.{◌≡◌, length, OnOk};
-ghost use Rattle.ev_listeners.specs.Listeners.{AreKept};
+ghost use Rattle.ev_managers.specs.Managers.{AreKept};
 
 mod endings;
 mod responses;
@@ -13,7 +13,8 @@ use crate::names::news;
 use anyhow::{Result, anyhow};
 use endings::end_first;
 use ev_generations::Steps;
-use ev_listeners::Listeners;
+use ev_managers::{Managers, Moved};
+use ev_types::Kind;
 use responses::{address, response, routes, routes_name};
 use std::alloc::Global;
 use std::marker::Brand;
@@ -74,9 +75,9 @@ fn run<L: Ledger>(alloc: Global, blank: Blank, plan: Plan) -> Result<Told>
     requires one { L.parts ≡ 1 }
 {
     let mut steps = Steps::<L>::new(blank);
-    let mut listeners = Listeners::new(alloc);
-    let told = go(alloc, &mut listeners, plan, &mut steps);
-    drop(listeners);
+    let mut managers = Managers::new(alloc);
+    let told = go(alloc, &mut managers, plan, &mut steps);
+    drop(managers);
     told
 }
 
@@ -84,17 +85,17 @@ fn run<L: Ledger>(alloc: Global, blank: Blank, plan: Plan) -> Result<Told>
 // proof of all that it has.
 fn go<L: Ledger>(
     alloc: Global,
-    listeners: &mut Listeners,
+    managers: &mut Managers,
     plan: Plan,
     steps: &mut Steps<L>,
 ) -> Result<Told>
-    requires { AreKept listeners.old }
+    requires { AreKept managers.old }
 {
-    take_all(alloc, listeners, plan.size, steps)?;
-    let held = ask_all(alloc, listeners, plan.asks)?;
-    let served = warm_all(alloc, listeners, plan.arrivals, steps)?;
-    let survey = survey(alloc, listeners)?;
-    let goes = end_first(alloc, listeners, steps)?;
+    take_all(alloc, managers, plan.size, steps)?;
+    let held = ask_all(alloc, managers, plan.asks)?;
+    let served = warm_all(alloc, managers, plan.arrivals, steps)?;
+    let survey = survey(alloc, &managers.listeners.state)?;
+    let goes = end_first(alloc, managers, steps)?;
     Ok(Told {
         held,
         served,
@@ -106,32 +107,32 @@ fn go<L: Ledger>(
 // A response brings so many listeners.
 fn take_all<L: Ledger>(
     alloc: Global,
-    listeners: &mut Listeners,
+    managers: &mut Managers,
     size: u16,
     steps: &mut Steps<L>,
 ) -> Result<()>
-    requires { AreKept listeners.old }
-    ensures { OnOk result (AreKept listeners.new) }
+    requires { AreKept managers.old }
+    ensures { OnOk result (AreKept managers.new) }
 {
-    if listeners.made() > 0 {
+    if managers.made > 0 {
         return Err(anyhow!("numbers were drawn before"));
     }
     let verdicts = news(alloc, size)?;
     let response = response(alloc, size)?;
-    let applied = listeners.apply(alloc, &response, verdicts.as_slice(), steps);
+    let retired = managers.respond(alloc, Kind::Lds, &response, verdicts.as_slice(), steps);
     drop(response);
-    drop(applied?);
+    drop(retired?);
     Ok(())
 }
 
 // The addresses of so many listeners are asked. Answers at how many a listener is found.
-fn ask_all(alloc: Global, listeners: &Listeners, asks: u16) -> Result<u32>
-    requires { AreKept listeners.now }
+fn ask_all(alloc: Global, managers: &Managers, asks: u16) -> Result<u32>
+    requires { AreKept managers.now }
 {
     let mut held = 0u32;
     for place in 0..asks {
         let address = address(alloc, place)?;
-        if !listeners.holders(alloc, &address)?.is_empty() {
+        if !managers.listeners.state.holders(alloc, &address)?.is_empty() {
             held = held.saturating_add(1);
         }
     }
@@ -141,16 +142,16 @@ fn ask_all(alloc: Global, listeners: &Listeners, asks: u16) -> Result<u32>
 // The routes of so many listeners come. Answers how many came to serve.
 fn warm_all<L: Ledger>(
     alloc: Global,
-    listeners: &mut Listeners,
+    managers: &mut Managers,
     arrivals: u16,
     steps: &mut Steps<L>,
 ) -> Result<u32>
-    requires { AreKept listeners.old }
-    ensures { OnOk result (AreKept listeners.new) }
+    requires { AreKept managers.old }
+    ensures { OnOk result (AreKept managers.new) }
 {
     let mut served = 0u32;
     for place in 0..arrivals {
-        if warm(alloc, listeners, place, steps)? {
+        if warm(alloc, managers, place, steps)? {
             served = served.saturating_add(1);
         }
     }
@@ -160,24 +161,26 @@ fn warm_all<L: Ledger>(
 // The routes of one listener come. Answers whether it came to serve.
 fn warm<L: Ledger>(
     alloc: Global,
-    listeners: &mut Listeners,
+    managers: &mut Managers,
     place: u16,
     steps: &mut Steps<L>,
 ) -> Result<bool>
-    requires { AreKept listeners.old }
-    ensures { OnOk result (AreKept listeners.new) }
+    requires { AreKept managers.old }
+    ensures { OnOk result (AreKept managers.new) }
 {
     let name = routes_name(alloc, place)?;
-    if !listeners.is_watched(name.as_str()) {
+    if !managers.is_watched(Kind::Rds, name.as_str()) {
         return Ok(false);
     }
     let arrival = routes(alloc)?;
-    let arrived = listeners.arrival(alloc, &name, &arrival, steps);
+    let arrived = managers.arrive(alloc, Kind::Rds, &name, &arrival, steps);
     drop(arrival);
     arrived?;
-    let promoted = listeners.promote(alloc, steps)?;
-    let serves = !promoted.served.is_empty();
-    drop(promoted);
-    listeners.forget(alloc, steps)?;
+    let mut moved = Moved::none(alloc);
+    let promoted = managers.promote(alloc, &mut moved, steps);
+    let serves = !moved.changed.is_empty();
+    drop(moved);
+    promoted?;
+    managers.forget(alloc, steps)?;
     Ok(serves)
 }

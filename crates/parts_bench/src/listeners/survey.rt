@@ -1,7 +1,7 @@
-ghost use Rattle.ev_listeners.specs.Listeners.{AreKept};
+ghost use Rattle.ev_indexes.specs.Indexes.{IsIndexed};
 
 use anyhow::Result;
-use ev_listeners::Listeners;
+use ev_indexes::State;
 use ev_types::TryCopy;
 use std::alloc::Global;
 use std::mem::drop;
@@ -15,11 +15,11 @@ pub(crate) struct Counts {
 }
 
 /// Asks for all of this.
-pub(crate) fn survey(alloc: Global, listeners: &Listeners) -> Result<Counts>
-    requires { AreKept listeners.now }
+pub(crate) fn survey(alloc: Global, listeners: &State) -> Result<Counts>
+    requires { IsIndexed listeners.now }
 {
     let live = count_live(alloc, listeners)?;
-    let shown = listeners.shown(alloc)?.len();
+    let shown = listeners.listeners(alloc)?.len();
     let copied = count_copied(alloc, listeners)?;
     Ok(Counts {
         live,
@@ -29,17 +29,13 @@ pub(crate) fn survey(alloc: Global, listeners: &Listeners) -> Result<Counts>
 }
 
 // How many listeners are live in a copy.
-fn count_copied(alloc: Global, listeners: &Listeners) -> Result<usize>
-    requires { AreKept listeners.now }
-{
+fn count_copied(alloc: Global, listeners: &State) -> Result<usize> {
     let copy = listeners.copy(alloc)?;
     let count = count_live(alloc, &copy);
     drop(copy);
     count
 }
 
-fn count_live(alloc: Global, listeners: &Listeners) -> Result<usize>
-    requires { AreKept listeners.now }
-{
+fn count_live(alloc: Global, listeners: &State) -> Result<usize> {
     Ok(listeners.live(alloc)?.len())
 }

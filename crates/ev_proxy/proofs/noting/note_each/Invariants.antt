@@ -1,6 +1,6 @@
 use Rattle.std.proofs.Common.{◌≡◌, take}
 use Rattle.ev_model.specs.World.{World}
-use Rattle.ev_state.specs.States.{IsAt as ManagesAt}
+use Rattle.ev_state.specs.States.{ManagesAt}
 use Rattle.ev_proxy.specs.Proxies.{noted_each}
 use Rattle.ev_proxy.proofs.noting.note_each.Given as goal
 

@@ -3,7 +3,7 @@ use Rattle.std.specs.Prelude.{option_to_list}
 use Rattle.std.proofs.lemmas.List.{append_assoc, take_more}
 use Rattle.ev_types.specs.declared.rows.GenRow.{GenRow}
 use Rattle.ev_model.specs.World.{World}
-use Rattle.ev_state.specs.States.{IsAt as ManagesAt, over_in}
+use Rattle.ev_state.specs.States.{ManagesAt, over_in}
 use Rattle.ev_proxy.specs.Proxies.{rows_gone, without_each}
 use Rattle.ev_proxy.proofs.ReapedLemmas.{rows_more}
 use Rattle.ev_proxy.proofs.ReapingLemmas.{each_more}

@@ -1,7 +1,7 @@
 use Rattle.std.proofs.Common.{◌≡◌, ◌≤◌, ◌+◌, ◌++◌, length, take}
 use Rattle.ev_model.specs.World.{World}
 use Rattle.ev_managers.specs.Managers.{AreForgotten, AreKept}
-use Rattle.ev_state.specs.States.{IsAt as ManagesAt}
+use Rattle.ev_state.specs.States.{ManagesAt}
 use Rattle.ev_proxy.specs.Proxies.{rows_gone, without_each}
 use Rattle.ev_proxy.proofs.noting.remove_each.Given as goal
 

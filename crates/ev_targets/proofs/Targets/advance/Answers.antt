@@ -1,7 +1,7 @@
 use Rattle.std.proofs.Common.{◌∙◌, sym, subst}
 use Rattle.ev_types.specs.declared.rows.Phase.{Phase}
 use Rattle.ev_model.specs.Tidy.{with_phase}
-use Rattle.ev_targets.specs.Targets.{TargetsParts, StandsFor}
+use Rattle.ev_targets.specs.Targets.{TargetsParts, HaveBooted}
 use Rattle.ev_targets.proofs.ComeLemmas.{phase-stands}
 use Rattle.ev_targets.proofs.Targets.advance.Goals as goal
 
@@ -9,6 +9,6 @@ pub returns-clause-stands : goal.returns-clause-stands
 returns-clause-stands c world stands clusters listeners =
     let told = c.phase_after-self-inside.ensures in
     let next : Phase = c.phase_after-self-inside.result in
-    subst (λ (t : TargetsParts). StandsFor (record t { phase = next }) (with_phase world)) (sym (c.self-2.view_is ∙ told.same))
-    (subst (λ (p : Phase). StandsFor (record c.args.self.now { phase = p }) (with_phase world)) (sym told.phase)
-    (phase-stands c.args.self.now c.args.clusters.now.state c.args.listeners.now.state world c.requires.clusters.clusters c.requires.listeners.listeners stands clusters listeners.part))
+    subst (λ (t : TargetsParts). HaveBooted (record t { phase = next }) (with_phase world)) (sym (c.self-2.view_is ∙ told.same))
+    (subst (λ (p : Phase). HaveBooted (record c.args.self.now { phase = p }) (with_phase world)) (sym told.phase)
+    (phase-stands c.args.self.now c.args.clusters.now c.args.listeners.now world c.requires.clusters c.requires.listeners stands clusters listeners))

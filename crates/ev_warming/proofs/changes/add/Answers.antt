@@ -1,7 +1,7 @@
 use Rattle.std.proofs.Common.{◌∙◌, ◌++◌, ◌+◌, [], ◌∷◌}
 use Rattle.ev_model.specs.Rows.{new_row}
 use Rattle.ev_warming.proofs.WayLemmas.{marks-then}
-use Rattle.ev_warming.proofs.AddedLemmas.{on_ok4, added-stands}
+use Rattle.ev_warming.proofs.AddedLemmas.{added-stands}
 use Rattle.ev_warming.proofs.changes.add.Goals as goal
 
 pub returns-clause-stands : goal.returns-clause-stands
@@ -10,8 +10,9 @@ returns-clause-stands g c =
     let mid = c.drop_warming.new.state in
     let t = c.append.new.state in
     let d = c.drop_warming.ensures in
-    on_ok4 c.append.result c.append.ensures.rows c.append.ensures.made c.append.ensures.marks c.append.ensures.others (λ rows made marks others world stands.
-    added-stands s t world c.args.name c.args.content c.as_str-text.ensures.named c.requires.typed c.requires.indexed stands
-    ((λ i. (others i).kind) ∙ (λ i. (d.others i).kind)) ((λ i. (others i).results) ∙ (λ i. (d.others i).results)) (made ∙ (λ i. d.made i + 1))
-    (marks-then s.watches mid.watches t.watches d.marks marks)
-    (rows ∙ (λ i. d.rows i ++ new_row (d.others i).kind (d.made i) c.args.name c.args.content ∷ [])))
+    let a = c.in_ok-append.ensures in
+    λ world stands level.
+    added-stands s t world c.args.name c.args.content c.as_str-text.ensures.named c.requires.typed c.requires.indexed stands level
+    ((λ i. (a.others i).kind) ∙ (λ i. (d.others i).kind)) ((λ i. (a.others i).results) ∙ (λ i. (d.others i).results)) (a.made ∙ (λ i. d.made i + 1))
+    (marks-then s.watches mid.watches t.watches d.marks a.marks)
+    (a.rows ∙ (λ i. d.rows i ++ new_row (d.others i).kind (d.made i) c.args.name c.args.content ∷ []))

@@ -2,6 +2,7 @@ use Rattle.std.proofs.Common.{◌≡◌, ◌∙◌, ◌+◌, ◌++◌, [], ◌�
 use Rattle.std.specs.Str.{bytes_eq}
 use Rattle.ev_model.specs.Rows.{new_row}
 use Rattle.ev_model.specs.Watching.{is_limited}
+use Rattle.ev_indexes.specs.Addresses.{listens_at, numbers_at}
 use Rattle.ev_indexes.specs.Due.{is_among}
 use Rattle.ev_indexes.specs.Ready.{name_needed, is_due_at}
 use Rattle.ev_indexes.specs.Standings.{standing_in}
@@ -24,5 +25,7 @@ returns-clause-indexed g c =
     (λ q. c.in_ok-enter.ensures.ok q ∙ (λ i. cond (bytes_eq name q) (record { active = (c.standing-active.ensures i).active; warming = Some (number i) }) (standing_in s.names q)))
     c.watch.new.watches
     (λ q. c.in_ok-watch.ensures.watched q ∙ (λ i. cond (is_needed q (name_needed content)) (watched_too (number i) (is_limited content) (watch_in s.watches q)) (watch_in s.watches q)))
+    c.hold.new.self
+    (λ a. c.in_ok-hold.ensures a ∙ (λ i. numbers_at s.addresses a ++ cond (listens_at a content) (number i ∷ []) []))
     c.refresh.new.due
     (λ n. c.in_ok-refresh.ensures.due n ∙ (λ i. cond (is_among (number i ∷ []) n) (is_due_at c.watch.new.watches s.results n c.add.new.self.rows) (is_among s.due n)))

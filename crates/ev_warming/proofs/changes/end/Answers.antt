@@ -20,7 +20,6 @@ returns-clause-stands g c = λ world stands.
     statused-stands s u world (ended_status s.kind c.args.name.now) stands
     ((λ i. (c.drain_active.ensures.others i).kind) ∙ (λ i. (c.drop_warming.ensures.others i).kind))
     ((λ i. (c.drain_active.ensures.others i).results) ∙ (λ i. (c.drop_warming.ensures.others i).results))
-    (c.drain_active.ensures.made ∙ c.drop_warming.ensures.made)
     (marks-then s.watches t.watches u.watches c.drop_warming.ensures.marks c.drain_active.ensures.marks)
     (c.drain_active.ensures.rows ∙ ap (with_statuses (status_drained c.args.name.now)) c.drop_warming.ensures.rows
     ∙ ended-rows s.kind c.args.name.now s.table.rows c.requires.indexed.kinds)

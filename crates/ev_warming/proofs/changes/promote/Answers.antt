@@ -92,5 +92,5 @@ returns-clause-stands g c =
     (λ j. is_ready_in s.watches (i.results j)) ∙ ready-same s0.watches s.watches s0.results i.marks in
     let none : s.due ≡ [] = subst (λ o. IfNone o (s.due ≡ [])) c.in_default.is c.first.ensures.none in
     λ world stands.
-    promoted-stands s0 s world c.requires.indexed stands i.kind i.results i.made i.marks
+    promoted-stands s0 s world c.requires.indexed stands i.kind i.results i.marks
     (sym (promoted-done s i.indexed none) ∙ (λ j. rows_promoted (same j) s.table.rows) ∙ i.rows)

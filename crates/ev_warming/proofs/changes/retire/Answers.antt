@@ -34,6 +34,6 @@ returns-clause-indexed g c =
     let live = (λ i. is_live (status_in (c.in-Some.ensures.row i))) ∙ c.requires.live in
     let left = c.left.ensures ∙ (λ i. cond (c.is_warming-warms.ensures i) (record (c.standing-standing.ensures i) { warming = None }) (record (c.standing-standing.ensures i) { active = None })) in
     indexed-retired s c.args.number row (cond warms Dropped Draining) c.requires.indexed (sym c.in-Some.ensures.row) c.gone.new.self c.gone.ensures.rows c.gone.ensures.made
-    live (ended warms) c.set.new.self c.unwatch.new.watches c.leave.new.self
+    live (ended warms) c.set.new.self c.unwatch.new.watches c.release.new.self c.leave.new.self
     (λ q. c.set.ensures q ∙ (λ i. cond (bytes_eq row.name q) (left i) (standing_in s.names q)))
-    c.unwatch.ensures c.leave.ensures.left
+    c.unwatch.ensures c.release.ensures c.leave.ensures.left

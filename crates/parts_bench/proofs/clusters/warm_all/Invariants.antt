@@ -1,5 +1,5 @@
-use Rattle.ev_clusters.specs.Clusters.{AreKept}
+use Rattle.ev_managers.specs.Managers.{AreKept}
 use Rattle.parts_bench.proofs.clusters.warm_all.Given as goal
 
 abbrev pub invariant-loop-place : goal.invariant-loop-place
-invariant-loop-place g l = AreKept l.clusters
+invariant-loop-place g l = AreKept l.managers

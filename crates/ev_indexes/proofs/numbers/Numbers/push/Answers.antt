@@ -1,5 +1,5 @@
 use Rattle.std.proofs.Common.{◌∙◌, ℕ, Bool, List, ◌-◌, length, slice_get, sym, ap, subst, true≢false}
-use Rattle.ev_indexes.specs.Numbers.{AreStored, is_above}
+use Rattle.ev_indexes.specs.Numbers.{AreStored, is_above_other}
 use Rattle.ev_indexes.proofs.NumberLemmas.{stored-more}
 use Rattle.ev_indexes.proofs.numbers.Numbers.push.Goals as goal
 use Rattle.ev_indexes.proofs.numbers.Numbers.push.Goals.{then-self, else-self}
@@ -9,7 +9,7 @@ invariant_of-self-2 c =
     let gone = c.self.inside.gone in
     let rise = c.self.inside.rise in
     let stored = c.self.inside.numbers.items in
-    let above_last : List ℕ → Bool = λ xs. is_above c.args.number (slice_get xs (length xs - 1)) in
+    let above_last : List ℕ → Bool = λ xs. is_above_other c.args.number (slice_get xs (length xs - 1)) in
     subst (AreStored gone c.if-self.rise) (sym c.in_ok-push.ensures.items)
     (elim c.if-self.branch [
       | then-self w ↦

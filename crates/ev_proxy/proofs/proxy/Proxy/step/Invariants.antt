@@ -1,22 +1,7 @@
 use Rattle.ev_proxy.proofs.proxy.Proxy.step.Given as goal
 
-abbrev pub ghost-manage : goal.ghost-manage
-ghost-manage g a = g.here
+abbrev pub ghosts-led : goal.ghosts-led
+ghosts-led g a = record { name = a.blank.name; parts = a.blank.parts }
 
-abbrev pub ghost-drain_timeout : goal.ghost-drain_timeout
-ghost-drain_timeout g a = g.here
-
-abbrev pub ghost-publish : goal.ghost-publish
-ghost-publish g a = g.here
-
-abbrev pub ghost-reap : goal.ghost-reap
-ghost-reap g a = g.here
-
-abbrev pub ghost-accept : goal.ghost-accept
-ghost-accept g a = g.here
-
-abbrev pub ghost-close : goal.ghost-close
-ghost-close g a = g.here
-
-abbrev pub ghost-settle_by : goal.ghost-settle_by
-ghost-settle_by g a = g.here
+abbrev pub ghost-led : goal.ghost-led
+ghost-led g a = g.here

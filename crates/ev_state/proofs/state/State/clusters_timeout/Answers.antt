@@ -4,11 +4,11 @@ use Rattle.ev_types.specs.declared.events.Answer.TheVariants.{Ignored}
 use Rattle.ev_model.specs.World.{World}
 use Rattle.ev_model.specs.Signals.{moved}
 use Rattle.ev_managers.proofs.FrameLemmas.{see_the_same}
-use Rattle.ev_targets.specs.Targets.{StandsFor as HasTargets}
+use Rattle.ev_targets.specs.Targets.{HaveBooted}
 use Rattle.ev_state.specs.declared.state.State.{State}
 use Rattle.ev_state.proofs.SignalLemmas.{targets_follow, not_true, not_false, ignores}
 use Rattle.ev_state.proofs.StepLemmas.{where_true, where_false}
-use Rattle.ev_state.proofs.MoveLemmas.{none-have}
+use Rattle.ev_state.proofs.MoveLemmas.{none-moved}
 use Rattle.ev_state.proofs.TellLemmas.{quiet-changed}
 use Rattle.ev_state.proofs.state.State.clusters_timeout.Goals as goal
 
@@ -16,12 +16,12 @@ pub returns-then-not-clusters_timeout : goal.returns-then-not-clusters_timeout
 returns-then-not-clusters_timeout g c = λ world follows.
     let booted = follows.stands.targets in
     let after : World = record world { late_clusters = true } in
-    let boots : HasTargets c.clusters_timeout.new.self world =
-    subst (λ (b : Bool). HasTargets c.clusters_timeout.new.self (cond b after world)) c.if-not-clusters_timeout.true (c.clusters_timeout.ensures.stands world booted) in
+    let boots : HaveBooted c.clusters_timeout.new.self world =
+    subst (λ (b : Bool). HaveBooted c.clusters_timeout.new.self (cond b after world)) c.if-not-clusters_timeout.true (c.clusters_timeout.ensures.stands world booted) in
     let state : State = record c.args.self.now { targets = c.clusters_timeout.new.self } in
-    where_true state c.ignored.result world (is_some world.first_clusters || world.late_clusters) (world, Ignored) (moved world after)
+    where_true state Ignored c.none.result world (is_some world.first_clusters || world.late_clusters) (world, Ignored) (moved world after)
     (not_false (is_some world.first_clusters || world.late_clusters) (sym (c.clusters_timeout.ensures.heard world booted) ∙ c.if-not-clusters_timeout.true))
-    (ignores state c.ignored.result world c.ignored.ensures c.requires.kept c.requires.forgotten
+    (ignores state c.none.result world c.none.ensures c.requires.kept c.requires.forgotten
     (targets_follow c.args.self.now c.clusters_timeout.new.self world world follows boots follows.stands.managers follows.stands.subscription refl refl refl))
 
 pub returns : goal.returns
@@ -29,13 +29,13 @@ returns g c = λ world follows.
     let booted = follows.stands.targets in
     let had = follows.stands.subscription in
     let after : World = record world { late_clusters = true } in
-    let boots : HasTargets c.clusters_timeout.new.self after =
-    subst (λ (b : Bool). HasTargets c.clusters_timeout.new.self (cond b after world)) c.if-not-clusters_timeout.false (c.clusters_timeout.ensures.stands world booted) in
-    where_false c.moved.new.self c.in_ok-stepped.stepped world (is_some world.first_clusters || world.late_clusters) (world, Ignored) (moved world after)
+    let boots : HaveBooted c.clusters_timeout.new.self after =
+    subst (λ (b : Bool). HaveBooted c.clusters_timeout.new.self (cond b after world)) c.if-not-clusters_timeout.false (c.clusters_timeout.ensures.stands world booted) in
+    where_false c.finish.new.self c.in_ok-told.told.0 c.in_ok-told.told.1 world (is_some world.first_clusters || world.late_clusters) (world, Ignored) (moved world after)
     (not_true (is_some world.first_clusters || world.late_clusters) (sym (c.clusters_timeout.ensures.heard world booted) ∙ c.if-not-clusters_timeout.false))
-    (c.in_ok-stepped.ensures world after
+    (c.in_ok-told.ensures world after
     (targets_follow c.args.self.now c.clusters_timeout.new.self world after follows boots
     (see_the_same c.args.self.now.managers world after (record { rows = refl; made = refl; arrivals = refl; results = refl }) follows.stands.managers)
     (record { node = had.node; stream = had.stream; versions = had.versions; kept_once = had.kept_once })
     refl refl refl)
-    refl (none-have c.none.result world after c.none.ensures refl) (quiet-changed c.new.result world after refl (λ k q. refl) refl refl))
+    refl (none-moved c.none-2.result world after c.none-2.ensures refl (quiet-changed c.none-2.result.changed world after refl (λ k q. refl) refl refl)))

@@ -10,7 +10,7 @@ use Rattle.ev_model.specs.Live.{lives_of}
 use Rattle.ev_model.specs.Phase.{is_clusters}
 use Rattle.ev_model.specs.Tidy.{tidy, has_successor, promoted, without_unwatched, without_old_results, is_version_due}
 use Rattle.ev_subscription.specs.Subscriptions.{StandsFor as HasVersions}
-use Rattle.ev_targets.specs.Targets.{StandsFor as HasTargets}
+use Rattle.ev_targets.specs.Targets.{HaveBooted}
 use Rattle.ev_managers.proofs.FrameLemmas.{see_the_same}
 use Rattle.ev_state.proofs.AgeLemmas.{later-same, later-then, later-promoted}
 use Rattle.ev_state.specs.Changed.{listeners_begun}
@@ -20,7 +20,7 @@ use Rattle.ev_state.proofs.TidyLemmas.{ended_of}
 use Rattle.ev_state.proofs.state.State.tidy.Goals as goal
 
 pub returns-clause-over : goal.returns-clause-over
-returns-clause-over g c = λ before world follows drawn have changed.
+returns-clause-over g c = λ before world follows drawn have.
     let w1 : World = promoted world in
     let w3 : World = without_old_results (without_unwatched w1) in
     let first = c.in_ok-promote.ensures.stands world follows.stands.managers in
@@ -28,16 +28,16 @@ returns-clause-over g c = λ before world follows drawn have changed.
     let m = c.args.self.now.managers in
     let now_later = later-promoted before.made (λ (row : GenRow). has_successor world.arrivals world.results world.rows row) (λ (row : GenRow). is_ready_by world.arrivals world.results row) world.rows in
     let later = later-then before.made before.rows world.rows w1.rows follows.later now_later in
-    let told = promoted-have c.args.retired c.promote.new.retired m c.promote.new.self before world c.requires.kept c.in_ok-promote.ensures.kept follows.stands.managers first
-    c.in_ok-promote.ensures.drained follows.later have in
-    let endpoints = c.in_ok-endpoints.ensures before w1 first follows.sound later drawn (λ n. ap (λ ns. is_among ns n) c.as_slice.ensures.elements ∙ told.clusters n) in
-    let routes = c.in_ok-routes.ensures before w1 first follows.sound later drawn (λ n. ap (λ ns. is_among ns n) c.as_slice-2.ensures.elements ∙ told.listeners n) in
+    let told = promoted-have c.args.moved.now.retired c.promote.new.moved.retired m c.promote.new.self before world c.requires.kept c.in_ok-promote.ensures.kept follows.stands.managers first
+    c.in_ok-promote.ensures.told.retired follows.later have.retired in
+    let endpoints = c.in_ok-endpoints.ensures before w1 first follows.sound later drawn (λ n. ap (λ ns. is_among ns n) c.as_slice.ensures.elements ∙ told n) in
+    let routes = c.in_ok-routes.ensures before w1 first follows.sound later drawn (λ n. ap (λ ns. is_among ns n) c.as_slice-2.ensures.elements ∙ told n) in
     let had = follows.stands.subscription in
     let held1 : HasVersions c.args.self.now.subscription w1 = record { node = had.node; stream = had.stream; versions = had.versions; kept_once = had.kept_once } in
     let left2 = c.forget_unwatched.ensures w1 held1 (ended_of Eds before w1 c.in_ok-endpoints.endpoints.ended refl endpoints.ended follows.heard)
     (ended_of Rds before w1 c.in_ok-routes.routes.ended refl routes.ended follows.heard) in
     let booted = follows.stands.targets in
-    let booted3 : HasTargets c.args.self.now.targets w3 = record {
+    let booted3 : HaveBooted c.args.self.now.targets w3 = record {
       phase = booted.phase;
       first_clusters = booted.first_clusters;
       first_listeners = booted.first_listeners;
@@ -58,15 +58,15 @@ returns-clause-over g c = λ before world follows drawn have changed.
         phase = refl;
       };
       later = later;
-      moves = record {
-        endpoints = endpoints;
-        routes = routes;
-        retired = record { clusters = told.clusters; listeners = told.listeners };
-        changed = tidied-changed c.args.changed c.promote.new.changed c.put_listeners.new.changed m c.promote.new.self c.forget.new.self before world
-            c.requires.kept c.in_ok-promote.ensures.kept c.in_ok-forget.ensures.kept follows.stands.managers first third c.in_ok-promote.ensures.changed
+      endpoints = endpoints;
+      routes = routes;
+      left = c.advance-left.ensures.left ∙ (λ i. is_clusters ((booted.phase ∙ follows.phase) i) && not (is_clusters (moved.phase i)));
+      moved = record {
+        retired = told;
+        changed = tidied-changed c.args.moved.now.changed c.promote.new.moved.changed c.put_listeners.new.changed m c.promote.new.self c.forget.new.self before world
+            c.requires.kept c.in_ok-promote.ensures.kept c.in_ok-forget.ensures.kept follows.stands.managers first third c.in_ok-promote.ensures.told.changed
             (c.in_ok-put_listeners.ensures
-            ∙ (λ i. c.promote.new.changed ++ listeners_begun ((c.phase-phase.ensures.value ∙ booted.phase) i) (moved.phase i) c.forget.new.self.listeners.state))
-            changed;
-        left = c.advance-left.ensures.left ∙ (λ i. is_clusters ((booted.phase ∙ follows.phase) i) && not (is_clusters (moved.phase i)));
+            ∙ (λ i. c.promote.new.moved.changed ++ listeners_begun ((c.phase-phase.ensures.value ∙ booted.phase) i) (moved.phase i) c.forget.new.self.listeners.state))
+            have.changed;
       };
     }

@@ -11,6 +11,6 @@ returns-clause-told g c =
     let e = c.in_ok-ended.ensures in
     let x = c.requires.kept.indexed in
     on_ok c.put_one-2.result c.put_one-2.ensures (λ put.
-    subst (Tells m.state.table.rows c.end.new.self.state.table.rows c.args.applied.now.retired)
-    (sym (put ∙ (λ i. c.in_ok-put_one.ensures i ++ option_to_list ended.active) ∙ append_assoc c.args.applied.now.retired (option_to_list ended.warming) (option_to_list ended.active)))
-    (tells-ended m.state.kind c.args.name.now m.state.table.rows x.table.apart x.kinds ended.warming ended.active c.end.new.self.state.table.rows c.args.applied.now.retired e.dropped e.drains e.rows))
+    subst (Tells m.state.table.rows c.end.new.self.state.table.rows c.args.retired.now)
+    (sym (put ∙ (λ i. c.in_ok-put_one.ensures i ++ option_to_list ended.active) ∙ append_assoc c.args.retired.now (option_to_list ended.warming) (option_to_list ended.active)))
+    (tells-ended m.state.kind c.args.name.now m.state.table.rows x.table.apart x.kinds ended.warming ended.active c.end.new.self.state.table.rows c.args.retired.now e.dropped e.drains e.rows))

@@ -36,7 +36,7 @@ returns-in-Err-Length-clause-stands g c =
     unnamed-stands c.args.self.now.state world c.args.self.now.state.kind c.args.mentions.now name (λ named. bad (subst IsName (sym c.as_str-2.ensures.bytes) named)) stands
 
 pub returns-then-not-is_removed-clause-told : goal.returns-then-not-is_removed-clause-told
-returns-then-not-is_removed-clause-told g c = tells-none c.args.self.now.state.table.rows c.args.applied.now.retired
+returns-then-not-is_removed-clause-told g c = tells-none c.args.self.now.state.table.rows c.args.retired.now
 
 pub returns-in-Err-Length-clause-told : goal.returns-in-Err-Length-clause-told
-returns-in-Err-Length-clause-told g c = tells-none c.args.self.now.state.table.rows c.args.applied.now.retired
+returns-in-Err-Length-clause-told g c = tells-none c.args.self.now.state.table.rows c.args.retired.now

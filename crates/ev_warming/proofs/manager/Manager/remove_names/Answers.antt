@@ -15,8 +15,7 @@ loop-name-init g c = record {
   kept = c.requires.kept;
   kind = refl;
   made = refl;
-  others = refl;
-  told = tells-none c.args.self.now.state.table.rows c.args.applied.now.retired;
+  told = tells-none c.args.self.now.state.table.rows c.args.retired.now;
   stands = λ world stands. nothing-stands c.args.self.now.state world c.args.response.now stands;
 }
 
@@ -33,8 +32,7 @@ loop-name-preserved g c =
       kept = e.kept;
       kind = e.kind ∙ i.kind;
       made = e.made ∙ i.made;
-      others = e.others ∙ i.others;
-      told = tells-then c.args.self.now.state.table.rows s.table.rows t.table.rows c.args.applied.now.retired c.loop-name.applied.retired c.remove_name.new.applied.retired i.told e.told;
+      told = tells-then c.args.self.now.state.table.rows s.table.rows t.table.rows c.args.retired.now c.loop-name.retired c.remove_name.new.retired i.told e.told;
       stands = λ world stands.
           more-stands s t world kind response c.as_slice-name-items.result.now c.loop-name.name-index name c.loop-name-test.true c.name-item.is (i.stands world stands)
           (λ w standing.
@@ -68,4 +66,4 @@ returns-then-is_empty-clause-stands g c =
     (sym none) (nothing-stands c.args.self.now.state world response stands)
 
 pub returns-then-is_empty-clause-told : goal.returns-then-is_empty-clause-told
-returns-then-is_empty-clause-told g c = tells-none c.args.self.now.state.table.rows c.args.applied.now.retired
+returns-then-is_empty-clause-told g c = tells-none c.args.self.now.state.table.rows c.args.retired.now

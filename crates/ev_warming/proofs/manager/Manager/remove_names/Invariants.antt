@@ -11,8 +11,7 @@ invariant-loop-name g l = record {
   kept : IsKept l.self;
   kind : l.self.state.kind ≡ l.initial.self.state.kind;
   made : l.self.state.table.made ≡ l.initial.self.state.table.made;
-  others : l.applied.made ≡ l.initial.applied.made;
-  told : Tells l.initial.self.state.table.rows l.self.state.table.rows l.initial.applied.retired l.applied.retired;
+  told : Tells l.initial.self.state.table.rows l.self.state.table.rows l.initial.retired l.retired;
   stands : (world : World) → StandsFor l.initial.self.state world
       → StandsFor l.self.state (record world { rows = with_statuses (status_left_by l.initial.self.state.kind l.response (take l.name-index l.name-items)) world.rows });
 }

@@ -1,8 +1,5 @@
-use Rattle.ev_warming.proofs.RetiredLemmas.{tells-none, draws-none}
+use Rattle.ev_warming.proofs.RetiredLemmas.{tells-none}
 use Rattle.ev_warming.proofs.manager.Manager.take_item.Goals as goal
 
 pub returns-in_default-clause-told : goal.returns-in_default-clause-told
-returns-in_default-clause-told g c = tells-none c.args.self.now.state.table.rows c.args.applied.now.retired
-
-pub returns-in_default-clause-drawn : goal.returns-in_default-clause-drawn
-returns-in_default-clause-drawn g c = draws-none c.args.self.now.state.table.made c.args.applied.now.made
+returns-in_default-clause-told g c = tells-none c.args.self.now.state.table.rows c.args.retired.now

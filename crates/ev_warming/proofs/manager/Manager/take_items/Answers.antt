@@ -1,9 +1,9 @@
-use Rattle.std.proofs.Common.{◌∙◌, ◌<◌, length, get_or, subst, arith, refl}
+use Rattle.std.proofs.Common.{◌≡◌, ◌∙◌, ◌<◌, length, get_or, subst, arith, refl}
 use Rattle.ev_types.specs.declared.contents.Kind.{Kind}
 use Rattle.ev_types.specs.declared.events.Verdict.TheVariants.{New}
 use Rattle.ev_model.specs.Rows.{add_item}
 use Rattle.ev_indexes.specs.Worlds.{StandsFor}
-use Rattle.ev_warming.proofs.RetiredLemmas.{tells-none, tells-then, draws-none, draws-then}
+use Rattle.ev_warming.proofs.RetiredLemmas.{tells-none, tells-then}
 use Rattle.ev_warming.proofs.ResponseLemmas.{item-more}
 use Rattle.ev_warming.proofs.manager.Manager.take_items.Goals as goal
 
@@ -11,10 +11,10 @@ pub loop-place-init : goal.loop-place-init
 loop-place-init g c = record {
   kept = c.requires.kept;
   kind = refl;
-  drawn = draws-none c.args.self.now.state.table.made c.args.applied.now.made;
-  told = tells-none c.args.self.now.state.table.rows c.args.applied.now.retired;
+  grows = omega arith;
+  told = tells-none c.args.self.now.state.table.rows c.args.retired.now;
   few = omega arith;
-  stands = λ world stands. (world, stands, refl);
+  stands = λ world stands level. (world, stands, level, refl);
 }
 
 pub loop-place-preserved : goal.loop-place-preserved
@@ -29,13 +29,16 @@ loop-place-preserved g c =
     record {
       kept = e.kept;
       kind = e.kind ∙ i.kind;
-      drawn = draws-then c.args.self.now.state.table.made c.loop-place.self.state.table.made t.table.made c.args.applied.now.made c.loop-place.applied.made c.take_item.new.applied.made i.drawn e.drawn;
-      told = tells-then c.args.self.now.state.table.rows c.loop-place.self.state.table.rows t.table.rows c.args.applied.now.retired c.loop-place.applied.retired c.take_item.new.applied.retired i.told e.told;
+      grows = omega (arith, i.grows, e.grows);
+      told = tells-then c.args.self.now.state.table.rows c.loop-place.self.state.table.rows t.table.rows c.args.retired.now c.loop-place.retired c.take_item.new.retired i.told e.told;
       few = omega (arith, e.few, i.few);
-      stands = λ world stands.
-          let w = i.stands world stands in (
+      stands = λ world stands level.
+          let w = i.stands world stands level in
+          let next = subst (λ (k : Kind). StandsFor t (add_item k (get_or c.args.verdicts.now place New) item w.0) × (t.table.made ≡ (add_item k (get_or c.args.verdicts.now place New) item w.0).made))
+          i.kind (e.stands w.0 w.1 w.2) in (
             add_item kind (get_or c.args.verdicts.now place New) item w.0,
-            subst (λ (k : Kind). StandsFor t (add_item k (get_or c.args.verdicts.now place New) item w.0)) i.kind (e.stands w.0 w.1),
-            item-more kind c.args.verdicts.now c.args.items.now place New item w.0 within c.loop-place-test.true c.index-items-place.is ∙ w.2,
+            next.0,
+            next.1,
+            item-more kind c.args.verdicts.now c.args.items.now place New item w.0 within c.loop-place-test.true c.index-items-place.is ∙ w.3,
           );
     }

@@ -1,0 +1,73 @@
+ghost use Rattle.std.specs.Prelude.{◌≡◌, ◌++◌, [], IfOk, OnOk};
+ghost use Rattle.ev_model.specs.Tidy.{promoted};
+ghost use Rattle.ev_warming.specs.Managers.{IsKept};
+ghost use Rattle.ev_warming.specs.Worlds.{Follows};
+ghost use Rattle.ev_managers.specs.Moved.{TellsPromoted};
+
+use ev_generations::Steps;
+use ev_types::{Gen, Seq};
+use ev_warming::Manager;
+use std::alloc::{AllocError, Global};
+use std::sync::ledger::Ledger;
+
+/// What an event moves: which generations began to drain or were dropped, and of which a picture may show something else than before.
+/// A number is of one kind, so clusters and listeners stand in one list.
+#[derive(Drop)]
+pub struct Moved {
+    pub retired: Seq<Gen>,
+    /// A number may stand among these more than once.
+    pub changed: Seq<Gen>,
+}
+
+impl Moved {
+    /// Nothing moved. It takes no memory.
+    pub fn none(alloc: Global) -> Moved
+        ensures { result ≡ record { retired = []; changed = [] } }
+    {
+        Moved {
+            retired: Seq::new(alloc),
+            changed: Seq::new(alloc),
+        }
+    }
+
+    /// These generations retired, and a picture may show something else of these others and of them.
+    pub fn of(retired: Seq<Gen>, others: Seq<Gen>) -> Result<Moved, AllocError>
+        ensures retired { IfOk result (λ moved. moved.retired ≡ retired) }
+        ensures changed { IfOk result (λ moved. moved.changed ≡ others ++ retired) }
+    {
+        let mut changed = others;
+        put_all(&mut changed, retired.as_slice())?;
+        Ok(Moved { retired, changed })
+    }
+}
+
+/// Each generation of a manager that is due serves, and the one that served its name before it drains; both are told.
+pub(crate) fn promote<L: Ledger>(
+    manager: &mut Manager,
+    alloc: Global,
+    moved: &mut Moved,
+    steps: &mut Steps<L>,
+) -> Result<(), AllocError>
+    requires { IsKept manager.old }
+    ensures kept { OnOk result (IsKept manager.new) }
+    ensures kind { OnOk result (manager.new.state.kind ≡ manager.old.state.kind) }
+    ensures made { OnOk result (manager.new.state.table.made ≡ manager.old.state.table.made) }
+    ensures told { OnOk result (TellsPromoted manager.old.state manager.new.state moved.old moved.new) }
+    ensures stands { OnOk result (Follows manager.old.state manager.new.state promoted) }
+{
+    let promoted = manager.promote(alloc, steps)?;
+    put_all(&mut moved.retired, promoted.drained.as_slice())?;
+    put_all(&mut moved.changed, promoted.served.as_slice())?;
+    put_all(&mut moved.changed, promoted.drained.as_slice())?;
+    Ok(())
+}
+
+// Puts numbers to the others.
+fn put_all(numbers: &mut Seq<Gen>, more: &[Gen]) -> Result<(), AllocError>
+    ensures { OnOk result (numbers.new ≡ numbers.old ++ more.now) }
+{
+    for number in more {
+        numbers.push(*number)?;
+    }
+    Ok(())
+}
