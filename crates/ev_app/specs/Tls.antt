@@ -9,7 +9,7 @@ use Rattle.ev_types.specs.declared.events.Entry.{Entry}
 use Rattle.ev_types.specs.declared.journals.Format.{Format}
 use Rattle.ev_model.specs.Operations.{IsRunOf}
 use Rattle.ev_secrets.specs.Sealing.{tls_rules}
-use Rattle.ev_sealed.specs.Sealed.{IsSealed, sealed_script}
+use Rattle.ev_tls.specs.Sealed.{IsSealed, sealed_script}
 use Rattle.ev_app.specs.declared.status.Status.TheVariants.{Done}
 use Rattle.ev_app.specs.declared.made.Made.{Made}
 use Rattle.ev_app.specs.Trees.{AreTreesOf}

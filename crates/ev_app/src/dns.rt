@@ -12,9 +12,8 @@ use crate::made::Made;
 use crate::status::Status;
 use crate::trees::read_trees_of;
 use ev_dns::DnsLines;
+use ev_dns_laws::{answers_are_last, resolve};
 use ev_io::{ScriptFault, Source};
-use ev_last_answers::answers_are_last;
-use ev_resolved::resolve;
 use ev_script::ScriptTrees;
 use std::alloc::Global;
 

@@ -12,8 +12,7 @@ use crate::status::Status;
 use crate::trees::read_trees_of;
 use ev_io::{ScriptFault, Source};
 use ev_script::{LineTrees, ScriptTrees};
-use ev_sealed::accepts_are_sealed;
-use ev_tls::seal;
+use ev_tls::{accepts_are_sealed, seal};
 use std::alloc::Global;
 
 // Makes the text of the script that the source's bytes are, in which clusters wait for their secrets.

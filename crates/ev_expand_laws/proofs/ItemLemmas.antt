@@ -1,31 +1,33 @@
 -- A resource whose body waits is read as the cluster that waits.
 use Rattle.std.proofs.Common.{◌≡◌, ◌∙◌, ℕ, zero, suc, ◌+◌, ◌≤◌, Bool, true, false, true≢false, not, ◌&&◌, nat_lt, ◌==◌, ◌/◌, ◌%◌, cond, List, [], ◌∷◌, length, Option, Some, None, Result, Ok, Err, codes, decimal, refl, sym, ap, arith, length-append}
+use Rattle.std.specs.Prelude.{unwrap_or}
 use Rattle.std.specs.Str.{bytes_eq}
 use Rattle.std.proofs.lemmas.Bool.Decides.{nat_tests}
 use Rattle.std.specs.Fmt.{digits, digits_onto, digit_glyph}
 use Rattle.serde_json.specs.Data.{Data, null, boolean, number, string, array, object}
+use Rattle.serde_json.specs.Find.{get}
 use Rattle.ev_types.specs.declared.clusters.Cluster.{Cluster}
 use Rattle.ev_types.specs.declared.contents.Kind.TheVariants.{Cds}
 use Rattle.ev_types.specs.declared.contents.Content.{Content}
 use Rattle.ev_types.specs.declared.contents.Content.TheVariants.{Cluster as a_cluster}
 use Rattle.ev_types.specs.declared.contents.Body.{Body}
-use Rattle.ev_types.specs.declared.contents.Body.TheVariants.{Good, Bad}
+use Rattle.ev_types.specs.declared.contents.Body.TheVariants.{Good, Bad, Beat}
 use Rattle.ev_tree.specs.declared.limits.TheConstants.{MAX_NAME_BYTES}
 use Rattle.ev_tree.specs.declared.outcome.Found.{Found}
 use Rattle.ev_tree.specs.declared.outcome.Found.TheVariants.{Given}
 use Rattle.ev_tree.specs.declared.span.Span.{Span}
 use Rattle.ev_tree.specs.Spelling.{camel_of}
-use Rattle.ev_tree.specs.Forms.{is_object, is_wrong, given_or, present_member, value_or_absent, field_of, text_of}
+use Rattle.ev_tree.specs.Forms.{is_object, is_wrong, given_or, inside, present_member, value_or_absent, field_of, text_of}
 use Rattle.ev_tree.specs.Spans.{is_not_positive}
 use Rattle.ev_tree.specs.Broken.{none_broken, least_of}
 use Rattle.ev_cluster_json.specs.Clusters.{cluster_reading}
 use Rattle.ev_cluster_json.proofs.RowsMade.{not_false}
 use Rattle.ev_wire.specs.Requests.{type_url}
-use Rattle.ev_wire.specs.Bodies.{is_positive, is_of_type, breaks_v1, breaks_v2, differs, breaks_v3, own_broken, content_with, content_of, body_with, resource_of, body_of}
+use Rattle.ev_wire.specs.Bodies.{is_heartbeat, is_positive, is_of_type, breaks_v1, breaks_v2, differs, breaks_v3, own_broken, content_with, content_of, body_with, resource_of, body_of}
 use Rattle.ev_wire.specs.Responses.{entry_name, ttl_of, item_of}
 use Rattle.ev_expand.specs.Editing.{with_value}
 use Rattle.ev_expand.specs.Guarding.{private_name, body_in, waiting_body, waiting_entry}
-use Rattle.ev_expand_laws.specs.Waiting.{waiting_cluster, waiting_item, IsShortPrefix, IsClusterWith}
+use Rattle.ev_expand_laws.specs.Waiting.{waiting_cluster, waiting_item, body_read, IsShortPrefix, IsClusterWith}
 use Rattle.ev_expand_laws.proofs.FieldLemmas.{IsOther, field_with, field_with_other, text_by, duration_by}
 use Rattle.ev_expand_laws.proofs.WaitLemmas.{KeepsFields, waiting_keeps, keeps_both, keeps_name, keeps_own_type, waits_read}
 
@@ -61,6 +63,18 @@ good_by name ttl body cluster h =
 by_good : (name : List ℕ) (ttl : Found Span) (body : Data) (cluster : Cluster) → IsGood name ttl body cluster → resource_of Cds name ttl body ≡ Good (a_cluster cluster)
 unfolding resource_of content_of
 by_good name ttl body cluster is = λ i. cond (not (is.typed i)) (Bad 1) (body_with (is.own i) (content_with a_cluster (is.reads i)))
+
+-- what is good of clusters is a cluster
+with_cluster : (reading : Result Cluster ℕ) (content : Content) → content_with a_cluster reading ≡ Ok content → (cluster : Cluster) × (content ≡ a_cluster cluster)
+with_cluster (Ok cluster) content h = (cluster, cc)
+with_cluster (Err rule) content h = absurd (cc)
+
+good_cluster : (name : List ℕ) (ttl : Found Span) (body : Data) (content : Content) → resource_of Cds name ttl body ≡ Good content → (cluster : Cluster) × (content ≡ a_cluster cluster)
+unfolding resource_of content_of
+good_cluster name ttl body content h =
+    let outer = cond_good (breaks_v1 Cds body) (body_with (least_of (own_broken Cds name ttl body)) (content_of Cds body)) content h in
+    let inner = body_good (least_of (own_broken Cds name ttl body)) (content_of Cds body) content outer.1 in
+    with_cluster (cluster_reading body) content inner.1
 
 typed_object : (body : Data) → is_of_type Cds body ≡ true → is_object body ≡ true
 unfolding is_of_type
@@ -198,6 +212,35 @@ item_with body entry content holds is good =
     let read : body_of Cds (entry_name made) (ttl_of made) (field_of (codes "resource") made) ≡ Good content =
     (λ i. body_of Cds (name i) (ttl i) (there i)) ∙ good in
     λ i. record { name = name i; version = version i; ttl = is_positive (ttl i); body = read i }
+
+-- the body of a good item is that of its resource
+read_inside : (found : Option Data) → inside (value_or_absent (present_member found)) ≡ unwrap_or found null
+read_inside None = refl
+read_inside (Some null) = refl
+read_inside (Some (boolean b)) = refl
+read_inside (Some (number n)) = refl
+read_inside (Some (string s)) = refl
+read_inside (Some (array ds)) = refl
+read_inside (Some (object ms)) = refl
+
+field_inside : (entry : Data) → inside (field_of (codes "resource") entry) ≡ body_in entry
+unfolding field_of camel_of
+field_inside entry = read_inside (get (codes "resource") entry)
+
+not_beat : (b : Bool) (body : Body) (content : Content) → cond b Beat body ≡ Good content → body ≡ Good content
+not_beat true body content h = absurd (cc)
+not_beat false body content h = h
+
+pub item_good : (entry : Data) (content : Content) → (item_of Cds entry).body ≡ Good content → body_read entry (body_in entry) ≡ Good content
+unfolding item_of body_of
+item_good entry content h =
+    let resource : Found Data = field_of (codes "resource") entry in
+    ap (λ (body : Data). resource_of Cds (entry_name entry) (ttl_of entry) body) (sym (field_inside entry))
+    ∙ not_beat (is_heartbeat (entry_name entry) (ttl_of entry) resource) (resource_of Cds (entry_name entry) (ttl_of entry) (inside resource)) content h
+
+-- it is a cluster
+pub item_cluster : (entry : Data) (content : Content) → (item_of Cds entry).body ≡ Good content → (cluster : Cluster) × (content ≡ a_cluster cluster)
+item_cluster entry content h = good_cluster (entry_name entry) (ttl_of entry) (body_in entry) content (item_good entry content h)
 
 pub keeps_itself : (tree : Data) → KeepsFields tree tree
 keeps_itself tree = record { object = refl; fields = λ field is. refl }

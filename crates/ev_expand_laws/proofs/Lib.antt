@@ -10,3 +10,11 @@ pub mod FormLemmas
 pub mod GivenLemmas
 pub mod ScriptLemmas
 pub mod CountLemmas
+pub mod ListLemmas
+pub mod NamedLemmas
+pub mod OrderLemmas
+pub mod SaidPlaceLemmas
+pub mod FrontLemmas
+pub mod DueLemmas
+pub mod GuardLemmas
+pub mod UsedLemmas

@@ -1,3 +1,4 @@
 pub mod Said
 pub mod Waiting
 pub mod Scripts
+pub mod Runs

@@ -1,4 +1,5 @@
-//! The command `tls`: of the trees of a script's lines the text of a script in which clusters wait for their secrets.
+//! The command `tls`: of the trees of a script's lines the text of a script in which clusters wait for their secrets, and the law
+//! that what is accepted in its runs is sealed.
 //!
 //! # Choices
 //!
@@ -15,9 +16,12 @@ ghost use Rattle.ev_expand.specs.Expanding.{IsExpanded};
 ghost use Rattle.ev_expand_laws.specs.Said.{lines_in, input_of_text, expanded_script};
 ghost use Rattle.ev_secrets.specs.Sealing.{tls_rules};
 
+mod laws;
+
 use ev_expand::ExpandError;
 use ev_script::ScriptTrees;
 use ev_secrets::expand;
+pub use laws::accepts_are_sealed;
 use std::alloc::Global;
 
 /// The text of a script whose clusters wait for their secrets, by the trees of a script's lines. It is a script without fault.

@@ -1,0 +1,344 @@
+-- The hosts of a template are good: its rows are those of a good cluster, and its addresses are names.
+use Rattle.std.proofs.Common.{◌≡◌, inl, inr, ℕ, ◌≤◌, ◌<◌, ◌^◌, ◌==◌, Bool, true, false, cond, not, ◌&&◌, nat_lt, nat_le, List, [], ◌∷◌, map, filter, filter_map, flat_map, length, Option, Some, None, IfSome, codes, refl, sym, ap, subst, arith}
+use Rattle.std.specs.Prelude.{Result, Ok, Err, option_and_then, option_map, slice_get, unwrap_or}
+use Rattle.std.specs.List.{AllByRecursion as ByRecursion, last_or, list_any}
+use Rattle.std.specs.Str.{bytes_eq}
+use Rattle.std.specs.Str.Parse.{digits_value}
+use Rattle.std.proofs.lemmas.Bool.{leb-true, ltb-false, ltb-true}
+use Rattle.std.proofs.lemmas.Bool.Decides.{nat_tests}
+use Rattle.serde_json.specs.Data.{unsigned, negative, float, Data, null, boolean, number, string, array, object}
+use Rattle.serde_json.specs.Find.{as_str, get}
+use Rattle.ev_types.specs.Hosts.{HostRowParts}
+use Rattle.ev_types.specs.declared.clusters.Cluster.{Cluster}
+use Rattle.ev_types.specs.declared.clusters.Discovery.{Discovery}
+use Rattle.ev_types.specs.declared.clusters.Discovery.TheVariants.{Static}
+use Rattle.ev_types.specs.declared.contents.Kind.{Kind}
+use Rattle.ev_types.specs.declared.contents.Kind.TheVariants.{Cds}
+use Rattle.ev_types.specs.declared.contents.Body.TheVariants.{Bad, Good}
+use Rattle.ev_types.specs.declared.contents.Content.{Content}
+use Rattle.ev_types.specs.declared.contents.Content.TheVariants.{Cluster as a_cluster}
+use Rattle.ev_types.specs.declared.limits.TheConstants.{ITEM_LIMIT, MAX_NAME_LENGTH, MAX_WEIGHT_SUM}
+use Rattle.ev_tree.specs.declared.broken.BrokenRules.{BrokenRules}
+use Rattle.ev_tree.specs.declared.limits.TheConstants.{MAX_PORT, MAX_U32_DIGITS}
+use Rattle.ev_tree.specs.declared.outcome.Found.{Found}
+use Rattle.ev_tree.specs.declared.outcome.Found.TheVariants.{Absent, Given, Wrong}
+use Rattle.ev_tree.specs.declared.span.Span.{Span}
+use Rattle.ev_tree.specs.Addresses.{port_of, port_or_none, socket_of}
+use Rattle.ev_tree.specs.Broken.{broken_where, least_of, none_broken}
+use Rattle.ev_tree.specs.Forms.{field_of, given_or, in_form, number_of, value_or_wrong}
+use Rattle.ev_tree.specs.Rules.{is_name, judged}
+use Rattle.ev_tree.specs.Scalars.{is_numeral, list_in, u32_in, u32_text}
+use Rattle.ev_tree.proofs.Unions.{least_none}
+use Rattle.ev_cluster_json.specs.declared.groups.TheConstants.{MAX_PRIORITY}
+use Rattle.ev_cluster_json.specs.Assignments.{assignment_broken, endpoint_of, group_broken, group_rows, groups_of, host_broken, hosts_of, priority_of, row_of, rows_of, weight_of}
+use Rattle.ev_cluster_json.specs.Clusters.{cluster_broken, cluster_of, cluster_reading, discovery_of, is_static, load_assignment_broken, load_assignment_of}
+use Rattle.ev_cluster_json.proofs.RowsMade.{left_false, right_false}
+use Rattle.ev_wire.specs.Bodies.{body_with, breaks_v1, content_of, content_with, own_broken, resource_of}
+use Rattle.ev_wire.specs.Responses.{entry_name, ttl_of}
+use Rattle.ev_script.specs.Members.{has_only, is_op, member_of, name_of, or_default}
+use Rattle.ev_model_laws.proofs.OperationLists.{IsIn, at_in, each_flat, each_in, in_filter}
+use Rattle.ev_expand.specs.declared.keys.Key.{Key}
+use Rattle.ev_expand.specs.Fronts.{up_to}
+use Rattle.ev_expand.specs.Guarding.{Guarded, body_in, clusters_in, each_once, guarded_by, guarded_in, guarded_of, guarded_same}
+use Rattle.ev_expand_laws.proofs.ListLemmas.{in_flat, in_found, in_get}
+use Rattle.ev_dns.specs.declared.lines.Resolution.{Resolution}
+use Rattle.ev_dns.specs.Answers.{addresses_of, each_once as once_each, is_of, last_success, resolutions_in, success_of}
+use Rattle.ev_dns.specs.Hosts.{with_address}
+use Rattle.ev_dns.specs.Lines.{addresses_at, all_names, given_addresses, resolution_in, resolution_of}
+use Rattle.ev_dns.specs.Resolving.{hosts_of as hosts_by}
+use Rattle.ev_dns.specs.Templates.{by_names, rows_in, rows_of as template_rows, static_body}
+use Rattle.ev_dns_laws.proofs.EndpointLemmas.{IsGoodHost, item_reads}
+use Rattle.ev_dns_laws.proofs.GuardLemmas.{template_reads}
+use Rattle.ev_dns_laws.proofs.LastLemmas.{ReadsHosts}
+
+-- ---- rows that are read
+
+-- all but the address of a row is read again as it is
+record IsGoodRow (row : HostRowParts) : Type 0 where
+  port : row.host.port ≤ MAX_PORT
+  some : 1 ≤ row.weight
+  light : row.weight ≤ MAX_WEIGHT_SUM
+  near : row.priority ≤ MAX_PRIORITY
+
+port_small : (found : Found ℕ) → port_or_none found ≤ MAX_PORT
+port_small Absent = omega arith
+port_small Wrong = omega arith
+port_small (Given n) = by (nat_le n MAX_PORT) refl
+  where
+    by : (b : Bool) → nat_le n MAX_PORT ≡ b → cond b n 0 ≤ MAX_PORT
+    by true h = leb-true n MAX_PORT h
+    by false h = omega arith
+
+abbrev Fits32 : ℕ → Type 0
+Fits32 n = n ≤ MAX_WEIGHT_SUM
+
+text_small : (s : List ℕ) → IfSome (u32_text s) Fits32
+unfolding u32_text
+text_small s = by (is_numeral MAX_U32_DIGITS s) (nat_lt (digits_value 10 s) (2 ^ 32)) refl
+  where
+    by : (a b : Bool) → nat_lt (digits_value 10 s) (2 ^ 32) ≡ b → IfSome (cond (a && b) (Some (digits_value 10 s)) None) Fits32
+    by true true h = omega (arith, ltb-true (digits_value 10 s) (2 ^ 32) h)
+    by true false h = tt
+    by false b h = tt
+
+number_small : (tree : Data) → IfSome (u32_in tree) Fits32
+unfolding u32_in
+number_small null = tt
+number_small (boolean b) = tt
+number_small (number (unsigned n)) = by (nat_lt n (2 ^ 32)) refl
+  where
+    by : (b : Bool) → nat_lt n (2 ^ 32) ≡ b → IfSome (cond b (Some n) None) Fits32
+    by true h = omega (arith, ltb-true n (2 ^ 32) h)
+    by false h = tt
+number_small (number (negative z)) = tt
+number_small (number (float x)) = tt
+number_small (string s) = text_small s
+number_small (array ds) = tt
+number_small (object ms) = tt
+
+found_small : (found : Found Data) → given_or 1 (in_form u32_in found) ≤ MAX_WEIGHT_SUM
+found_small Absent = omega arith
+found_small Wrong = omega arith
+found_small (Given tree) = by (u32_in tree) (number_small tree)
+  where
+    by : (n : Option ℕ) → IfSome n Fits32 → given_or 1 (value_or_wrong n) ≤ MAX_WEIGHT_SUM
+    by None h = omega arith
+    by (Some n) h = h
+
+weight_small : (host : Data) → weight_of host ≤ MAX_WEIGHT_SUM
+unfolding weight_of number_of
+weight_small host = found_small (field_of (codes "load_balancing_weight") host)
+
+not_zero : (n : ℕ) → (n == 0) ≡ false → 1 ≤ n
+not_zero n h = grind (arith, nat_tests)
+
+heavy : (host : Data) → (host_broken host).v13 ≡ false → 1 ≤ weight_of host
+unfolding host_broken
+heavy host h = not_zero (weight_of host) (right_false _ _ h)
+
+row_good : (priority : ℕ) (host : Data) → priority ≤ MAX_PRIORITY → (host_broken host).v13 ≡ false → IsGoodRow (row_of priority host)
+unfolding row_of port_of
+row_good priority host near h = record {
+  port = port_small (number_of (codes "port_value") (socket_of (endpoint_of host)));
+  some = heavy host h;
+  light = weight_small host;
+  near = near;
+}
+
+hosts_good : (priority : ℕ) (hosts : List Data) → priority ≤ MAX_PRIORITY → list_any (λ h. (host_broken h).v13) hosts ≡ false
+    → ByRecursion IsGoodRow (map (row_of priority) hosts)
+hosts_good priority [] near h = tt
+hosts_good priority (host ∷ hosts) near h = (row_good priority host near (left_false _ _ h), hosts_good priority hosts near (right_false _ _ h))
+
+group_good : (group : Data) → (group_broken group).v13 ≡ false → ByRecursion IsGoodRow (group_rows group)
+unfolding group_broken group_rows
+group_good group h =
+    hosts_good (priority_of group) (hosts_of group) (ltb-false MAX_PRIORITY (priority_of group) (left_false _ _ (right_false _ _ h))) (left_false _ _ h)
+
+groups_good : (groups : List Data) → list_any (λ g. (group_broken g).v13) groups ≡ false → ByRecursion IsGoodRow (flat_map group_rows groups)
+groups_good groups h = each_flat IsGoodRow group_rows groups (by groups h)
+  where
+    by : (gs : List Data) → list_any (λ g. (group_broken g).v13) gs ≡ false → ByRecursion (λ g. ByRecursion IsGoodRow (group_rows g)) gs
+    by [] h = tt
+    by (g ∷ gs) h = (group_good g (left_false _ _ h), by gs (right_false _ _ h))
+
+assignment_good : (tree : Data) → (assignment_broken tree).v13 ≡ false → ByRecursion IsGoodRow (rows_of tree)
+unfolding assignment_broken rows_of
+assignment_good tree h = groups_good (groups_of tree) h
+
+-- ---- clusters that are read
+
+good_content : (kind : Kind) (name : List ℕ) (ttl : Found Span) (body : Data) (content : Content) → resource_of kind name ttl body ≡ Good content → content_of kind body ≡ Ok content
+unfolding resource_of
+good_content kind name ttl body content h = by (breaks_v1 kind body) (least_of (own_broken kind name ttl body)) (content_of kind body) h
+  where
+    by : (b : Bool) (rule : Option ℕ) (read : Result Content ℕ) → cond b (Bad 1) (body_with rule read) ≡ Good content → read ≡ Ok content
+    by true rule read e = absurd (cc)
+    by false None (Ok other) e = let same : other ≡ content = cc in ap (λ c. Ok c) same
+    by false None (Err r) e = absurd (cc)
+    by false (Some rule) (Ok other) e = absurd (cc)
+    by false (Some rule) (Err r) e = absurd (cc)
+
+read_cluster : (read : Result Cluster ℕ) (cluster : Cluster) → content_with a_cluster read ≡ Ok (a_cluster cluster) → read ≡ Ok cluster
+read_cluster (Ok other) cluster h =
+    let inner : a_cluster other ≡ a_cluster cluster = cc in
+    let same : other ≡ cluster = cc in
+    ap (λ c. Ok c) same
+read_cluster (Err rule) cluster h = absurd (cc)
+
+judged_good : (rule : Option ℕ) (made cluster : Cluster) → judged rule made ≡ Ok cluster → (rule ≡ None) × (made ≡ cluster)
+judged_good None made cluster h = (refl, cc)
+judged_good (Some rule) made cluster h = absurd (cc)
+
+static_good : (b : Bool) (tree : Data) (other : Discovery) → rows_in other ≡ [] → (broken_where b (load_assignment_broken tree)).v13 ≡ false
+    → ByRecursion IsGoodRow (rows_in (cond b (Static (rows_of (load_assignment_of tree))) other))
+unfolding load_assignment_broken
+static_good true tree other none h = assignment_good (load_assignment_of tree) (left_false _ _ h)
+static_good false tree other none h = subst (ByRecursion IsGoodRow) (sym none) tt
+
+discovered_good : (tree : Data) → cluster_broken tree ≡ none_broken → ByRecursion IsGoodRow (rows_in (discovery_of tree))
+unfolding cluster_broken discovery_of
+discovered_good tree none =
+    let light = ap (λ (b : BrokenRules). b.v13) none in
+    static_good (is_static tree) tree _ refl (right_false _ _ (right_false _ _ light))
+
+read_good : (tree : Data) (cluster : Cluster) → content_of Cds tree ≡ Ok (a_cluster cluster) → ByRecursion IsGoodRow (rows_in cluster.discovery)
+unfolding content_of
+read_good tree cluster h =
+    let both = judged_good (least_of (cluster_broken tree)) (cluster_of tree) cluster (read_cluster (cluster_reading tree) cluster h) in
+    subst (λ (c : Cluster). ByRecursion IsGoodRow (rows_in c.discovery)) both.1 (discovered_good tree (least_none (cluster_broken tree) both.0))
+
+-- the rows of a template
+template_good : (entry : Data) (key : Key) → by_names.key_of entry ≡ Some key → ByRecursion IsGoodRow (template_rows key)
+template_good entry key is =
+    read_good (static_body (body_in entry)) key.cluster
+    (good_content Cds (entry_name entry) (ttl_of entry) (static_body (body_in entry)) (a_cluster key.cluster) (template_reads entry key is))
+
+-- ---- addresses
+
+abbrev IsName : List ℕ → Type 0
+IsName name = is_name name ≡ true
+
+abbrev AreNames : List (List ℕ) → Type 0
+AreNames names = ByRecursion IsName names
+
+name_named : (tree : Data) → IfSome (name_of tree) IsName
+name_named tree = by (as_str tree)
+  where
+    tested : (text : List ℕ) (b : Bool) → is_name text ≡ b → IfSome (cond b (Some text) None) IsName
+    tested text true h = h
+    tested text false h = tt
+
+    by : (found : Option (List ℕ)) → IfSome (option_and_then (λ text. cond (nat_le 1 (length text) && nat_le (length text) MAX_NAME_LENGTH) (Some text) None) found) IsName
+    by None = tt
+    by (Some text) = tested text (is_name text) refl
+
+all_named : (trees : List Data) → IfSome (all_names trees) AreNames
+all_named [] = tt
+all_named (tree ∷ trees) = by (name_of tree) (all_names trees) (name_named tree) (all_named trees)
+  where
+    by : (first : Option (List ℕ)) (rest : Option (List (List ℕ))) → IfSome first IsName → IfSome rest AreNames
+        → IfSome (option_and_then (λ name. option_map (λ names. name ∷ names) rest) first) AreNames
+    by None rest h k = tt
+    by (Some name) None h k = tt
+    by (Some name) (Some names) h k = (h, k)
+
+abbrev GivesNames : Option (List (List ℕ)) → Type 0
+GivesNames addresses = IfSome addresses AreNames
+
+abbrev SaysNames : Resolution → Type 0
+SaysNames resolution = GivesNames resolution.addresses
+
+given_named : (tree : Data) → IfSome (given_addresses tree) GivesNames
+given_named tree = by (list_in tree)
+  where
+    mapped : (names : Option (List (List ℕ))) → IfSome names AreNames → IfSome (option_map (λ ns. Some ns) names) GivesNames
+    mapped None h = tt
+    mapped (Some names) h = h
+
+    by : (found : Option (List Data)) → IfSome (option_map (λ ns. Some ns) (option_and_then all_names found)) GivesNames
+    by None = tt
+    by (Some trees) = mapped (all_names trees) (all_named trees)
+
+addresses_named : (tree : Data) → IfSome (addresses_at tree) GivesNames
+addresses_named tree = by (get (codes "addresses") tree)
+  where
+    by : (found : Option Data) → IfSome (or_default given_addresses None found) GivesNames
+    by None = tt
+    by (Some given) = given_named given
+
+resolution_named : (line : Data) → IfSome (resolution_in line) SaysNames
+resolution_named line = by (is_op (codes "resolved") line) (has_only (codes "op" ∷ codes "name" ∷ codes "addresses" ∷ []) line)
+  where
+    made : (name : Option (List ℕ)) (addresses : Option (Option (List (List ℕ)))) → IfSome addresses GivesNames
+        → IfSome (option_and_then (λ n. option_map (λ a. record { name = n; addresses = a }) addresses) name) SaysNames
+    made None addresses h = tt
+    made (Some name) None h = tt
+    made (Some name) (Some addresses) h = h
+
+    by : (a b : Bool) → IfSome (cond a (cond b (resolution_of line) None) None) SaysNames
+    by true true = made (member_of name_of (codes "name") line) (addresses_at line) (addresses_named line)
+    by true false = tt
+    by false b = tt
+
+-- ---- lists
+
+-- what holds of all that is found of each holds of all that is found
+found_each : {X Y : Type 0} (P : Y → Type 0) (f : X → Option Y) (xs : List X) → ((x : X) → IsIn x xs → IfSome (f x) P) → ByRecursion P (filter_map f xs)
+found_each P f xs each =
+    each_in P (filter_map f xs) (λ y is. let found = in_found f xs y is in subst (λ o. IfSome o P) found.2 (each found.0 found.1))
+
+once_named : (names : List (List ℕ)) → AreNames names → AreNames (once_each names)
+once_named [] each = tt
+once_named (first ∷ others) each =
+    let test : List ℕ → Bool = λ other. not (bytes_eq other first) in (
+      each.0,
+      each_in IsName (filter test (once_each others))
+          (λ name is. at_in IsName name (once_each others) (once_named others each.1) (in_filter test name (once_each others) is).0),
+    )
+
+last_if : {X : Type 0} (P : X → Type 0) (first : Option X) (xs : List X) → IfSome first P → ByRecursion P xs → IfSome (last_or first xs) P
+last_if P first [] h each = h
+last_if P first (x ∷ xs) h each = last_if P (Some x) xs each.0 each.1
+
+-- ---- hosts
+
+success_named : (name : List ℕ) (resolution : Resolution) → SaysNames resolution → IfSome (success_of name resolution) AreNames
+success_named name resolution says = by (is_of name resolution)
+  where
+    by : (b : Bool) → IfSome (cond b resolution.addresses None) AreNames
+    by true = says
+    by false = tt
+
+-- the addresses of a name are names
+known_named : (lines : List Data) (name : List ℕ) → AreNames (addresses_of lines name)
+known_named lines name =
+    let said : ByRecursion SaysNames (resolutions_in lines) =
+    found_each SaysNames resolution_in lines (λ line is. resolution_named line) in
+    let successes : ByRecursion AreNames (filter_map (success_of name) (resolutions_in lines)) =
+    found_each AreNames (success_of name) (resolutions_in lines) (λ r is. success_named name r (at_in SaysNames r (resolutions_in lines) said is)) in
+    by (last_success name (resolutions_in lines)) (last_if AreNames None (filter_map (success_of name) (resolutions_in lines)) tt successes)
+  where
+    by : (found : Option (List (List ℕ))) → IfSome found AreNames → AreNames (once_each (unwrap_or found []))
+    by None h = tt
+    by (Some names) h = once_named names h
+
+row_hosts : (row : HostRowParts) (addresses : List (List ℕ)) → IsGoodRow row → AreNames addresses → ByRecursion IsGoodHost (map (with_address row) addresses)
+row_hosts row [] good each = tt
+row_hosts row (address ∷ addresses) good each = (
+  record { named = each.0; port = good.port; some = good.some; light = good.light; near = good.near },
+  row_hosts row addresses good each.1,
+)
+
+-- the hosts of a template are good
+all_hosts : (lines : List Data) (key : Key) → ByRecursion IsGoodRow (template_rows key) → ByRecursion IsGoodHost (hosts_by lines key)
+all_hosts lines key good =
+    each_flat IsGoodHost (λ (row : HostRowParts). map (with_address row) (addresses_of lines row.host.address)) (template_rows key)
+    (each_in (λ (row : HostRowParts). ByRecursion IsGoodHost (map (with_address row) (addresses_of lines row.host.address))) (template_rows key)
+    (λ row is. row_hosts row (addresses_of lines row.host.address) (at_in IsGoodRow row (template_rows key) good is) (known_named lines row.host.address)))
+
+-- ---- what is guarded is a template
+
+in_once : (g : Guarded) (gs : List Guarded) → IsIn g (each_once gs) → IsIn g gs
+in_once g [] is = absurd is
+in_once g (first ∷ gs) (inl e) = inl e
+in_once g (first ∷ gs) (inr is) = inr (in_once g gs (in_filter (λ (other : Guarded). not (guarded_same other first)) g (each_once gs) is).0)
+
+guarded_good : (lines : List Data) (place : ℕ) (g : Guarded) → slice_get (guarded_by by_names lines) place ≡ Some g → ByRecursion IsGoodRow (template_rows g.key)
+guarded_good lines place g there =
+    let among : IsIn g (flat_map (guarded_in by_names) lines) = in_once g (flat_map (guarded_in by_names) lines) (in_get (guarded_by by_names lines) place g there) in
+    let line = in_flat (guarded_in by_names) lines g among in
+    let entry = in_found (guarded_of by_names) (clusters_in line.0) g line.2 in
+    by entry.0 (by_names.key_of entry.0) refl entry.2
+  where
+    by : (entry : Data) (key : Option Key) → by_names.key_of entry ≡ key → option_map (λ (k : Key). record { key = k; own = by_names.own_of entry }) key ≡ Some g
+        → ByRecursion IsGoodRow (template_rows g.key)
+    by entry None is h = absurd (cc)
+    by entry (Some key) is h =
+        let same : record { key = key; own = by_names.own_of entry } ≡ g = cc in
+        subst (λ (x : Guarded). ByRecursion IsGoodRow (template_rows x.key)) same (template_good entry key is)
+
+-- so the endpoints that are written of a place are read as its hosts
+pub hosts_read : (lines : List Data) (place : ℕ) (g : Guarded) → place < ITEM_LIMIT → ReadsHosts lines place g
+hosts_read lines place g small index front version at there =
+    item_reads version place (hosts_by (up_to front) g.key) small (all_hosts (up_to front) g.key (guarded_good (up_to front) place g there))

@@ -1,0 +1,172 @@
+-- What makes a generation that depends on endpoints is a response of clusters, by a cluster that asks for them.
+use Rattle.std.proofs.Common.{◌≡◌, ◌∙◌, inl, inr, ℕ, Bool, true, false, cond, List, [], ◌∷◌, flat_map, Option, Some, None, codes, refl, ap, subst}
+use Rattle.std.specs.Prelude.{Result, Ok, Err}
+use Rattle.std.specs.List.{list_any, zip}
+use Rattle.std.proofs.lemmas.Bool.{false≢true}
+use Rattle.serde_json.specs.Data.{Data}
+use Rattle.ev_types.specs.Items.{ItemParts, ResponseParts}
+use Rattle.ev_types.specs.Same.{bytes_decide}
+use Rattle.ev_types.specs.declared.clusters.Cluster.{Cluster}
+use Rattle.ev_types.specs.declared.clusters.Discovery.{Discovery}
+use Rattle.ev_types.specs.declared.clusters.Discovery.TheVariants.{Static, Eds as by_name}
+use Rattle.ev_types.specs.declared.contents.Kind.{Kind}
+use Rattle.ev_types.specs.declared.contents.Kind.TheVariants.{Cds, Eds, Lds, Rds}
+use Rattle.ev_types.specs.declared.contents.Content.{Content}
+use Rattle.ev_types.specs.declared.contents.Content.TheVariants.{Cluster as a_cluster, Assignment as an_assignment, Listener as a_listener, Routes as routes}
+use Rattle.ev_types.specs.declared.contents.Body.{Body}
+use Rattle.ev_types.specs.declared.contents.Body.TheVariants.{Good, Bad, Beat}
+use Rattle.ev_types.specs.declared.events.Answer.{Answer}
+use Rattle.ev_types.specs.declared.events.Answer.TheVariants.{Replied}
+use Rattle.ev_types.specs.declared.events.Event.{Event}
+use Rattle.ev_types.specs.declared.events.Event.TheVariants.{Response}
+use Rattle.ev_types.specs.declared.events.Verdict.{Verdict}
+use Rattle.ev_types.specs.declared.events.Verdict.TheVariants.{New, Same, Kept, Unasked, Renewed, Refused}
+use Rattle.ev_types.specs.declared.listeners.Serve.{Serve}
+use Rattle.ev_types.specs.declared.listeners.Serve.TheVariants.{Rds as by_rds, Inline, Tcp}
+use Rattle.ev_model.specs.Entries.{MadeRow, made_by, made_in, made_in_response}
+use Rattle.ev_model.specs.Watching.{dependency_of, discovery_dependency, is_dependency, serve_dependency}
+use Rattle.ev_model_laws.proofs.OperationLists.{IsIn}
+use Rattle.ev_stream_laws.specs.Watches.{waits_for}
+use Rattle.ev_wire.specs.Bodies.{body_of, body_with, breaks_v1, content_of, content_with, is_heartbeat, own_broken, resource_of}
+use Rattle.ev_tree.specs.Broken.{least_of}
+use Rattle.ev_tree.specs.Forms.{field_of, inside}
+use Rattle.ev_tree.specs.declared.outcome.Found.{Found}
+use Rattle.ev_wire.specs.Responses.{entry_name, item_of, ttl_of}
+use Rattle.ev_expand_laws.proofs.ListLemmas.{in_any, in_flat}
+
+-- a cluster that asks for its endpoints by this name
+pub record IsAsking (name : List ℕ) (content : Content) : Type 0 where
+  pub cluster : Cluster
+  pub is : content ≡ a_cluster cluster
+  pub limited : Bool
+  pub asks : cluster.discovery ≡ by_name name limited
+
+discovery_asks : (name : List ℕ) (cluster : Cluster) (discovery : Discovery) → cluster.discovery ≡ discovery
+    → is_dependency Eds name (discovery_dependency discovery) ≡ true → IsAsking name (a_cluster cluster)
+discovery_asks name cluster (Static rows) is h = absurd (false≢true h)
+discovery_asks name cluster (by_name service limited) is h =
+    record { cluster = cluster; is = refl; limited = limited; asks = is ∙ ap (λ n. by_name n limited) ((bytes_decide service name).0 h) }
+
+serve_asks : (name : List ℕ) (serve : Serve) → is_dependency Eds name (serve_dependency serve) ≡ true → ⊥
+serve_asks name (by_rds other limited) h = false≢true h
+serve_asks name (Inline table) h = false≢true h
+serve_asks name (Tcp target) h = false≢true h
+
+pub content_asks : (name : List ℕ) (content : Content) → is_dependency Eds name (dependency_of content) ≡ true → IsAsking name content
+content_asks name (a_cluster cluster) h = discovery_asks name cluster cluster.discovery refl h
+content_asks name (an_assignment rows) h = absurd (false≢true h)
+content_asks name (a_listener listener) h = absurd (serve_asks name listener.serve h)
+content_asks name (routes table) h = absurd (false≢true h)
+
+-- ---- what an event makes
+
+-- a good resource of a response asks for endpoints by this name
+pub record IsMaker (name : List ℕ) (event : Event) : Type 0 where
+  pub response : ResponseParts
+  pub is : event ≡ Response response
+  pub kind : Kind
+  pub typed : response.kind ≡ Some kind
+  pub item : ItemParts
+  pub among : IsIn item response.items
+  pub content : Content
+  pub good : item.body ≡ Good content
+  pub asks : IsAsking name content
+
+zip_in : {X Y : Type 0} (xs : List X) (ys : List Y) (p : X × Y) → IsIn p (zip xs ys) → IsIn p.1 ys
+zip_in [] ys p is = absurd is
+zip_in (x ∷ xs) [] p is = absurd is
+zip_in (x ∷ xs) (y ∷ ys) p (inl e) = inl (ap (λ q. q.1) e)
+zip_in (x ∷ xs) (y ∷ ys) p (inr is) = inr (zip_in xs ys p is)
+
+made_good : (kind : Kind) (verdict : Verdict) (name : List ℕ) (body : Body) (row : MadeRow) → IsIn row (made_by kind verdict name body) → body ≡ Good row.content
+made_good kind New name (Good content) row (inl e) = ap (λ (r : MadeRow). Good r.content) e
+made_good kind New name (Good content) row (inr none) = absurd none
+made_good kind New name (Bad rule) row is = absurd is
+made_good kind New name Beat row is = absurd is
+made_good kind Same name body row is = absurd is
+made_good kind Kept name body row is = absurd is
+made_good kind Unasked name body row is = absurd is
+made_good kind Renewed name body row is = absurd is
+made_good kind (Refused rule) name body row is = absurd is
+
+response_makes : (name : List ℕ) (response : ResponseParts) (kind : Option Kind) (verdicts : List Verdict) → response.kind ≡ kind
+    → list_any (waits_for Eds name) (made_in_response kind response verdicts) ≡ true → IsMaker name (Response response)
+response_makes name response None verdicts typed h = absurd (false≢true h)
+response_makes name response (Some kind) verdicts typed h =
+    let made : Verdict × ItemParts → List MadeRow = λ judged. made_by kind judged.0 judged.1.name judged.1.body in
+    let row = in_any (waits_for Eds name) (flat_map made (zip verdicts response.items)) h in
+    let judged = in_flat made (zip verdicts response.items) row.0 row.1 in
+    record {
+      response = response;
+      is = refl;
+      kind = kind;
+      typed = typed;
+      item = judged.0.1;
+      among = zip_in verdicts response.items judged.0 judged.1;
+      content = row.0.content;
+      good = made_good kind judged.0.0 judged.0.1.name judged.0.1.body row.0 judged.2;
+      asks = content_asks name row.0.content row.2;
+    }
+
+event_makes : (name : List ℕ) (response : ResponseParts) (answer : Answer) → list_any (waits_for Eds name) (made_in (Response response) answer) ≡ true → IsMaker name (Response response)
+event_makes name response (Replied requests verdicts) h = response_makes name response response.kind verdicts refl h
+event_makes name response answer h = absurd (false≢true h)
+
+pub maker_of : (name : List ℕ) (event : Event) (answer : Answer) → list_any (waits_for Eds name) (made_in event answer) ≡ true → IsMaker name event
+maker_of name (Response response) answer h = event_makes name response answer h
+maker_of name event answer h = absurd (false≢true h)
+
+-- ---- what is read
+
+-- a cluster is read of clusters alone
+abbrev IsOfKind : Kind → Content → Type 0
+IsOfKind kind (a_cluster cluster) = kind ≡ Cds
+IsOfKind kind (an_assignment rows) = Unit {0}
+IsOfKind kind (a_listener listener) = Unit {0}
+IsOfKind kind (routes table) = Unit {0}
+
+of_clusters : (content : Content) → IsOfKind Cds content
+of_clusters (a_cluster cluster) = refl
+of_clusters (an_assignment rows) = tt
+of_clusters (a_listener listener) = tt
+of_clusters (routes table) = tt
+
+with_content : {A : Type 0} (kind : Kind) (make : A → Content) (read : Result A ℕ) (content : Content) → ((value : A) → IsOfKind kind (make value))
+    → content_with make read ≡ Ok content → IsOfKind kind content
+with_content kind make (Ok value) content each h = let same : make value ≡ content = cc in subst (IsOfKind kind) same (each value)
+with_content kind make (Err rule) content each h = absurd (cc)
+
+content_kind : (kind : Kind) (body : Data) (content : Content) → content_of kind body ≡ Ok content → IsOfKind kind content
+unfolding content_of
+content_kind Cds body content is = of_clusters content
+content_kind Eds body content is = with_content Eds an_assignment _ content (λ value. tt) is
+content_kind Lds body content is = with_content Lds a_listener _ content (λ value. tt) is
+content_kind Rds body content is = with_content Rds routes _ content (λ value. tt) is
+
+good_with : (kind : Kind) (rule : Option ℕ) (read : Result Content ℕ) (content : Content) → ((c : Content) → read ≡ Ok c → IsOfKind kind c)
+    → body_with rule read ≡ Good content → IsOfKind kind content
+good_with kind None (Ok other) content each h = let same : other ≡ content = cc in subst (IsOfKind kind) same (each other refl)
+good_with kind None (Err rule) content each h = absurd (cc)
+good_with kind (Some rule) (Ok other) content each h = absurd (cc)
+good_with kind (Some rule) (Err other) content each h = absurd (cc)
+
+either_body : (a b : Bool) (kind : Kind) (read : Body) (content : Content) → (read ≡ Good content → IsOfKind kind content)
+    → cond a Beat (cond b (Bad 1) read) ≡ Good content → IsOfKind kind content
+either_body true b kind read content each h = absurd (cc)
+either_body false true kind read content each h = absurd (cc)
+either_body false false kind read content each h = each h
+
+-- what a good resource is read as is of its kind
+good_kind : (kind : Kind) (entry : Data) (content : Content) → (item_of kind entry).body ≡ Good content → IsOfKind kind content
+unfolding item_of body_of resource_of
+good_kind kind entry content h =
+    let name : List ℕ = entry_name entry in
+    let resource : Found Data = field_of (codes "resource") entry in
+    let tree : Data = inside resource in
+    let rule : Option ℕ = least_of (own_broken kind name (ttl_of entry) tree) in
+    either_body (is_heartbeat name (ttl_of entry) resource) (breaks_v1 kind tree) kind (body_with rule (content_of kind tree)) content
+    (λ read. good_with kind rule (content_of kind tree) content (λ c is. content_kind kind tree c is) read) h
+
+-- a resource that asks for endpoints is one of clusters
+pub asking_kind : (name : List ℕ) (kind : Kind) (entry : Data) (content : Content) → (item_of kind entry).body ≡ Good content → IsAsking name content → kind ≡ Cds
+asking_kind name kind entry content good asks = subst (IsOfKind kind) asks.is (good_kind kind entry content good)

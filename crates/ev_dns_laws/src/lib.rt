@@ -1,0 +1,42 @@
+//! The command `dns`: of the trees of a script's lines and resolutions the text of a script in which clusters wait for the
+//! addresses of their hosts, and the law that what its runs know of them is what the last answers say.
+//!
+//! # Choices
+//!
+//! - The text is made by `ev_dns`; that it is a script is the law of `ev_expand_laws`, whose premises are proved here: what is
+//!   written of the trees that were read is a line of a script, and endpoints of hosts nest by a constant.
+#![tactic(auto)]
+
+ghost use Rattle.std.specs.Prelude.{◌≡◌, false, Some, Ok, IfOk};
+ghost use Rattle.serde_json.specs.View.{view};
+ghost use Rattle.ev_script.specs.Faults.{Input, plain_lines, HasNoFault};
+ghost use Rattle.ev_script.specs.ReadTrees.{IsTreesAnswer};
+ghost use Rattle.ev_script.specs.Script.{script_of};
+ghost use Rattle.ev_dns.specs.Lines.{dns_lines};
+ghost use Rattle.ev_dns.specs.Resolving.{dns_rules};
+ghost use Rattle.ev_expand.specs.Expanding.{IsExpanded};
+ghost use Rattle.ev_expand_laws.specs.Said.{lines_in, input_of_text, expanded_script};
+
+mod laws;
+
+use ev_dns::expand;
+use ev_expand::ExpandError;
+use ev_script::ScriptTrees;
+pub use laws::answers_are_last;
+use std::alloc::Global;
+
+/// The text of a script whose clusters wait for the addresses of their hosts, by the trees of a script's lines and of
+/// resolutions. It is a script without fault.
+///
+/// # Errors
+/// `Private` exactly for the first line that uses a name that begins with `dns/` for endpoints. `Large` where there is none,
+/// exactly for the line with whose output the text goes above a limit of inputs. `OutOfMemory` without memory, and for 2^32
+/// lines and more.
+pub fn resolve(alloc: Global, trees: &ScriptTrees) -> Result<Vec<u8>, ExpandError>
+    requires read { (input : Input) × IsTreesAnswer dns_lines input (Ok trees.now) }
+    ensures expanded { IsExpanded dns_rules (view trees.now.head) (lines_in trees.now) result }
+    ensures sound { IfOk result (λ text. HasNoFault plain_lines (input_of_text text.items)) }
+    ensures script { IfOk result (λ text. script_of false text.items ≡ Some (expanded_script dns_rules trees.now)) }
+{
+    expand(alloc, &trees.head, &trees.lines)
+}

@@ -1,3 +1,0 @@
-pub mod ShallowLemmas
-pub mod WrittenLemmas
-pub mod ResolveLemmas
