@@ -21,7 +21,7 @@ use Rattle.ev_expand_laws.specs.Said.{lines_in}
 use Rattle.ev_sotw_delta.specs.DeltaText.{written_of, delta_script, FitsInput}
 use Rattle.ev_sotw_delta.proofs.LimitLemmas.{fits_front}
 use Rattle.ev_sotw.specs.Text.{stated_in, sotw_text}
-use Rattle.ev_sotw_laws.specs.SameWorld.{SameWorld}
+use Rattle.ev_sotw_delta.specs.SameWorld.{SameWorld}
 use Rattle.ev_app.specs.declared.commands.Command.TheVariants.{Sotw}
 use Rattle.ev_app.specs.declared.made.Made.{Made}
 use Rattle.ev_app.specs.Faults.{IsFirstEarly}

@@ -13,7 +13,7 @@ use Rattle.ev_sotw_lines.specs.Lines.{sotw_lines}
 use Rattle.ev_expand_laws.specs.Said.{lines_in}
 use Rattle.ev_sotw_delta.specs.DeltaText.{written_of, delta_script, FitsInput, IsFirstTooLarge}
 use Rattle.ev_sotw.specs.Text.{stated_in, sotw_text}
-use Rattle.ev_sotw_laws.specs.SameWorld.{IsSameWorld}
+use Rattle.ev_sotw_delta.specs.SameWorld.{IsSameWorld}
 use Rattle.ev_app.specs.declared.status.Status.TheVariants.{Done}
 use Rattle.ev_app.specs.declared.made.Made.{Made}
 use Rattle.ev_app.specs.Trees.{AreTreesOf}

@@ -1,13 +1,10 @@
 //! The journal of a replay of a state-of-the-world script: its requests are those of the state of the world.
 //!
-//! # Choices
-//!
 //! - The replay itself is that of the incremental script: what the requests of the state of the world say more, or in another
 //!   way, is found in the entries so far. The version of a response is given with its entry, since an entry doesn't have it.
 //! - A line first takes in all that its entry says, and then writes: so a reply counts for the requests behind it.
 //! - Versions that were acknowledged outlive a stream, and nonces and lists of names don't. A stream begins with a connect that
-//!   is answered with requests.
-//! - Which names are listed follows from the requests of the incremental protocol: what they ask for and give up.
+//!   is answered with requests. Which names are listed follows from what the incremental requests ask for and give up.
 //! - The words of actors, operations and verdicts, and the object of a row, are written here again, since `ev_journal` writes an
 //!   entry as a whole; their definitions are its own. Where an answer has no requests, its writer is called.
 #![tactic(auto)]

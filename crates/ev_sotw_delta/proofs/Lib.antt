@@ -1,3 +1,14 @@
 pub mod LimitLemmas
 pub mod DeltaLemmas
 pub mod ScriptLemmas
+pub mod LiveLemmas
+pub mod EventLemmas
+pub mod StripLemmas
+pub mod RunLemmas
+pub mod StayLemmas
+pub mod PlainLemmas
+pub mod DeltaRunLemmas
+pub mod RequestLemmas
+pub mod StepLemmas
+pub mod WatchLemmas
+pub mod WorldLemmas

@@ -1,1 +1,3 @@
 pub mod DeltaText
+pub mod SameWorld
+pub mod Watches

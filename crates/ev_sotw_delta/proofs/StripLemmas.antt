@@ -18,7 +18,7 @@ use Rattle.ev_model.specs.World.{World}
 use Rattle.ev_model.specs.Runs.{RunsFrom}
 use Rattle.ev_model.specs.Step.{step}
 use Rattle.ev_model.specs.Operations.{Operation, actor_same, is_automatic, is_full_at, line_operation, step_behind, last_settle, followers, line_operations, operations_of, operation_of, entries_of}
-use Rattle.ev_sotw_laws.proofs.EventLemmas.{is_told}
+use Rattle.ev_sotw_delta.proofs.EventLemmas.{is_told}
 
 -- ---- who says something
 

@@ -54,7 +54,7 @@ use Rattle.ev_model_laws.proofs.TidyLists.{any_none, map_same}
 use Rattle.ev_names.proofs.NameLemmas.{among_other}
 use Rattle.ev_sotw_lines.proofs.SearchLemmas.{or_last}
 use Rattle.ev_sotw.specs.Stated.{is_connect, is_moved, requests_in}
-use Rattle.ev_sotw_watches.proofs.RequestLemmas.{part_by, parts_by, names_of, nothing_by, changed, change_parts, connect_parts, among_watched}
+use Rattle.ev_sotw_delta.proofs.RequestLemmas.{part_by, parts_by, names_of, nothing_by, changed, change_parts, connect_parts, among_watched}
 
 -- ---- what lives
 

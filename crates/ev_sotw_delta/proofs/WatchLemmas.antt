@@ -18,9 +18,9 @@ use Rattle.ev_names.proofs.NameLemmas.{same-names, sorted-in_order}
 use Rattle.ev_sotw_lines.proofs.SearchLemmas.{or_last, search_more}
 use Rattle.ev_sotw.specs.Stated.{Stated, asked, asked_said, is_asked, names_asked}
 use Rattle.ev_sotw.proofs.FollowLemmas.{among_asked}
-use Rattle.ev_sotw_watches.specs.Watches.{RequestsTellWatches, entries_in}
-use Rattle.ev_sotw_watches.proofs.RequestLemmas.{among_watched}
-use Rattle.ev_sotw_watches.proofs.StepLemmas.{said, step_says}
+use Rattle.ev_sotw_delta.specs.Watches.{RequestsTellWatches, entries_in}
+use Rattle.ev_sotw_delta.proofs.RequestLemmas.{among_watched}
+use Rattle.ev_sotw_delta.proofs.StepLemmas.{said, step_says}
 
 module _ (format : Format) (workers : ℕ) (kind : Kind) (by_name : is_by_name kind ≡ true) (name : List ℕ) where
   abbrev Told : List Stated → World → Type 0

@@ -32,10 +32,10 @@ use Rattle.ev_expand_laws.specs.Said.{HasLine, AllAt, lines_said}
 use Rattle.ev_expand_laws.proofs.FormLemmas.{HasForm}
 use Rattle.ev_sotw_delta.proofs.DeltaLemmas.{placed_delta}
 use Rattle.ev_sotw_delta.proofs.ScriptLemmas.{response_is, line_made, delta_has}
-use Rattle.ev_sotw_laws.proofs.EventLemmas.{Heard, item_names, heard_of, heard_after, FitsKind, FitsAt, AllFit, among_items, removed_so}
-use Rattle.ev_sotw_laws.proofs.StripLemmas.{line_events}
-use Rattle.ev_sotw_laws.proofs.RunLemmas.{connected_after}
-use Rattle.ev_sotw_laws.proofs.PlainLemmas.{is_response, IsPlain, plain_line}
+use Rattle.ev_sotw_delta.proofs.EventLemmas.{Heard, item_names, heard_of, heard_after, FitsKind, FitsAt, AllFit, among_items, removed_so}
+use Rattle.ev_sotw_delta.proofs.StripLemmas.{line_events}
+use Rattle.ev_sotw_delta.proofs.RunLemmas.{connected_after}
+use Rattle.ev_sotw_delta.proofs.PlainLemmas.{is_response, IsPlain, plain_line}
 
 -- what is heard is what the lines say
 pub record Agrees (heard : Heard) (names : NamesSoFar) : Type 0 where

@@ -22,8 +22,8 @@ use Rattle.ev_script.specs.WorkerLines.{worker_in, accept_line, close_line, sett
 use Rattle.ev_script.specs.Lines.{main_side_line, line_by, line_of}
 use Rattle.ev_stream_laws.specs.MainSide.{stream_told}
 use Rattle.ev_sotw_lines.specs.Deltas.{stream_said}
-use Rattle.ev_sotw_laws.proofs.EventLemmas.{is_told}
-use Rattle.ev_sotw_laws.proofs.StripLemmas.{teller}
+use Rattle.ev_sotw_delta.proofs.EventLemmas.{is_told}
+use Rattle.ev_sotw_delta.proofs.StripLemmas.{teller}
 
 -- ---- whose lines they are
 

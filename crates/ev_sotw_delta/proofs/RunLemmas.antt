@@ -22,9 +22,9 @@ use Rattle.ev_stream_laws.specs.MainSide.{stream_told}
 use Rattle.ev_stream_laws.specs.Watches.{has_live, has_item}
 use Rattle.ev_stream_laws.proofs.LiveLemmas.{live_named}
 use Rattle.ev_stream_laws.proofs.StreamLemmas.{stream_after}
-use Rattle.ev_sotw_laws.proofs.LiveLemmas.{IsOther, lived_before}
-use Rattle.ev_sotw_laws.proofs.EventLemmas.{Heard, nothing_heard, item_names, heard_of, heard_after, RemovesOthers, FitsKind, FitsAt, AllFit, among_items}
-use Rattle.ev_sotw_laws.proofs.StripLemmas.{entry_events}
+use Rattle.ev_sotw_delta.proofs.LiveLemmas.{IsOther, lived_before}
+use Rattle.ev_sotw_delta.proofs.EventLemmas.{Heard, nothing_heard, item_names, heard_of, heard_after, RemovesOthers, FitsKind, FitsAt, AllFit, among_items}
+use Rattle.ev_sotw_delta.proofs.StripLemmas.{entry_events}
 
 -- what lives has a name that was heard last
 pub record Holds (world : World) (heard : Heard) : Type 0 where

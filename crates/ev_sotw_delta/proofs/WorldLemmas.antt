@@ -1,5 +1,5 @@
 -- A replay of the state of the world is the same world.
-use Rattle.std.proofs.Common.{◌≡◌, ◌∙◌, ℕ, ◌+◌, Bool, true, false, cond, List, [], map, filter, Some, Ok, refl, sym, ap, subst}
+use Rattle.std.proofs.Common.{◌≡◌, ◌∙◌, ℕ, ◌+◌, Bool, true, false, cond, List, [], map, take, filter, Some, Ok, refl, sym, ap, subst}
 use Rattle.std.proofs.lemmas.Bool.{false≢true}
 use Rattle.ev_types.specs.Items.{ResponseParts}
 use Rattle.ev_types.specs.Scripts.{IsScript, ScriptParts}
@@ -16,10 +16,10 @@ use Rattle.ev_model.specs.World.{World, opening}
 use Rattle.ev_model.specs.Laws.{Told}
 use Rattle.ev_model.specs.Live.{lives_of}
 use Rattle.ev_model.specs.Operations.{Operation, IsRunOf, entries_of, operations_of}
-use Rattle.ev_model.specs.Runs.{world_at}
+use Rattle.ev_model.specs.Runs.{IsRun, world_at}
 use Rattle.ev_model.specs.Step.{step, respond_by}
 use Rattle.ev_model.specs.Warming.{value_of}
-use Rattle.ev_model.specs.Watching.{is_by_name, is_watched}
+use Rattle.ev_model.specs.Watching.{is_by_name, is_watched, watched_of}
 use Rattle.ev_model_laws.proofs.PlaceLemmas.{IsAnswered, entry_answered, world_next}
 use Rattle.ev_script.specs.declared.trees.ScriptTrees.{ScriptTrees}
 use Rattle.ev_script.specs.Faults.{Input}
@@ -31,13 +31,16 @@ use Rattle.ev_sotw_lines.specs.declared.names_so_far.NamesSoFar.{NamesSoFar}
 use Rattle.ev_sotw_lines.specs.Lines.{sotw_lines}
 use Rattle.ev_expand_laws.specs.Said.{lines_in}
 use Rattle.ev_expand_laws.proofs.FormLemmas.{trees_have_forms}
+use Rattle.ev_sotw.specs.Stated.{Stated, names_asked}
 use Rattle.ev_sotw_delta.specs.DeltaText.{delta_script}
-use Rattle.ev_sotw_laws.specs.SameWorld.{is_replied, AnswersAt, SameWorld}
-use Rattle.ev_sotw_laws.proofs.EventLemmas.{Heard, nothing_heard, FitsKind, AllFit, is_told, told_fit, all_fit}
-use Rattle.ev_sotw_laws.proofs.StripLemmas.{line_events, entry_events, told_script, told_entries}
-use Rattle.ev_sotw_laws.proofs.RunLemmas.{nothing_lives, named_by, FitsHere, fits_here}
-use Rattle.ev_sotw_laws.proofs.StayLemmas.{tells_nothing}
-use Rattle.ev_sotw_laws.proofs.DeltaLemmas.{lines_fit}
+use Rattle.ev_sotw_delta.specs.SameWorld.{is_replied, AnswersAt, SameWorld}
+use Rattle.ev_sotw_delta.specs.Watches.{entries_in}
+use Rattle.ev_sotw_delta.proofs.EventLemmas.{Heard, nothing_heard, FitsKind, AllFit, is_told, told_fit, all_fit}
+use Rattle.ev_sotw_delta.proofs.StripLemmas.{line_events, entry_events, told_script, told_entries}
+use Rattle.ev_sotw_delta.proofs.RunLemmas.{nothing_lives, named_by, FitsHere, fits_here}
+use Rattle.ev_sotw_delta.proofs.StayLemmas.{tells_nothing}
+use Rattle.ev_sotw_delta.proofs.DeltaRunLemmas.{lines_fit}
+use Rattle.ev_sotw_delta.proofs.WatchLemmas.{tell_watches}
 
 -- ---- the events of a run
 
@@ -122,6 +125,14 @@ stays_in format script journal k kind response name shown typed is watched none 
     ∙ (told_stay format world shown.actor (Response response) kind name (subst (λ (w : World). is_watched (lives_of w) kind name ≡ true) shown.next watched)
     (tells_nothing kind name response (step format world shown.actor (Response response)).1 none removed) refl).value
 
+asked_in : (format : Format) (script : ScriptParts) (journal : List Entry) (k : ℕ) (kind : Kind) (stated : List Stated) → IsRun format script.workers script.node journal
+    → entries_in stated ≡ journal → is_by_name kind ≡ true → (world_at format script.workers script.node journal (k + 1)).stream ≡ true
+    → names_asked kind (take (k + 1) stated) ≡ watched_of (world_at format script.workers script.node journal (k + 1)) kind
+asked_in format script journal k kind stated run entries by_name streams =
+    tell_watches format script.workers script.node stated kind (k + 1) (subst (IsRun format script.workers script.node) (sym entries) run) by_name
+    (ap (λ (all : List Entry). (world_at format script.workers script.node all (k + 1)).stream) entries ∙ streams)
+    ∙ ap (λ (all : List Entry). watched_of (world_at format script.workers script.node all (k + 1)) kind) entries
+
 pub same_world : SameWorld
 same_world input trees format journal read proper run =
     let script : ScriptParts = delta_script trees in
@@ -129,4 +140,5 @@ same_world input trees format journal read proper run =
     record {
       named = λ k kind response name at isnt live. named_in format script journal k kind response name (shows format script journal run all k kind response at) at.typed isnt live;
       stays = λ k kind response name at is watched none. stays_in format script journal k kind response name (shows format script journal run all k kind response at) at.typed is watched none;
+      asked = λ k kind stated entries by_name streams. asked_in format script journal k kind stated run.run entries by_name streams;
     }

@@ -1,3 +1,0 @@
-pub mod RequestLemmas
-pub mod StepLemmas
-pub mod WatchLemmas
