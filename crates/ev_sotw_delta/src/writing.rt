@@ -10,6 +10,7 @@ ghost use Rattle.ev_expand_laws.specs.Said.{input_of_text};
 ghost use Rattle.ev_sotw_lines.specs.Lines.{sotw_lines};
 ghost use Rattle.ev_sotw_lines.specs.Deltas.{delta_of};
 ghost use Rattle.ev_sotw_lines.specs.Follows.{FollowsLines, GoesOnBy};
+ghost use Rattle.ev_sotw_delta.specs.SameWorld.{RunsAreSameWorld};
 ghost use Rattle.ev_sotw_delta.specs.DeltaText.{FitsInput, IsWritten, WritesOn, IsTooLargeFor, IsRefusal, written_of, delta_script};
 
 use crate::outcome::DeltaError;
@@ -24,7 +25,8 @@ use std::alloc::{AllocError, Global};
 const MAX_DEPTH: u32 = 127;
 
 /// The text of the script of the incremental protocol that says what a script of the state of the world says, whose trees
-/// were read without a fault: a line for each of its lines, with -1 for each float.
+/// were read without a fault: a line for each of its lines, with -1 for each float. Each run of that script, by one thread or by
+/// several, is the same world.
 ///
 /// # Errors
 /// `Large` where the text goes beyond the limits of inputs, or a line nests deeper than 127, with the first line with which
@@ -36,6 +38,7 @@ pub fn to_delta(alloc: Global, trees: &ScriptTrees) -> Result<Vec<u8>, DeltaErro
     ensures large { IfErr result (IsRefusal (written_of trees.now)) }
     ensures sound { IfOk result (λ text. HasNoFault plain_lines (input_of_text text.items)) }
     ensures script { IfOk result (λ text. script_of false text.items ≡ Some (delta_script trees.now)) }
+    ensures same { IfOk result (λ text. RunsAreSameWorld trees.now) }
 {
     let mut text = TextSoFar::new(alloc);
     let mut names = NamesSoFar::new(alloc);

@@ -14,6 +14,7 @@ use Rattle.ev_sotw_delta.specs.DeltaText.{IsWritten, IsRefusal, written_of}
 use Rattle.ev_sotw_delta.proofs.LimitLemmas.{refused, nothing_written}
 use Rattle.ev_sotw_delta.proofs.DeltaLemmas.{placed_delta, written_lines, written_more, written_front, viewed_more, viewed_parts}
 use Rattle.ev_sotw_delta.proofs.ScriptLemmas.{text_is_script}
+use Rattle.ev_sotw_delta.proofs.WorldLemmas.{same_world}
 use Rattle.ev_sotw_delta.proofs.writing.to_delta.Goals as goal
 
 pub returns-in_err-push_tree-clause-large : goal.returns-in_err-push_tree-clause-large
@@ -81,3 +82,6 @@ returns-clause-script c =
     let all : take c.loop-line.line-index items ≡ items = take_all c.loop-line.line-index items (omega arith) in
     (text_is_script c.requires.read.0 trees c.loop-line.text c.requires.read.1
     (subst (λ vs. IsWritten (written_lines (view trees.head) (map view vs)) c.loop-line.text) (all ∙ c.deref-line-items.ensures.value) c.loop-line.invariant.written)).1
+
+pub returns-clause-same : goal.returns-clause-same
+returns-clause-same c = λ format journal. same_world c.requires.read.0 c.args.trees.now format journal c.requires.read.1
