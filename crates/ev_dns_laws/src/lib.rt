@@ -19,11 +19,10 @@ ghost use Rattle.ev_expand_laws.specs.Said.{lines_in, input_of_text, expanded_sc
 
 mod laws;
 
-pub use laws::answers_are_last;
-
 use ev_dns::expand;
 use ev_expand::ExpandError;
 use ev_script::ScriptTrees;
+pub use laws::answers_are_last;
 use std::alloc::Global;
 
 /// The text of a script whose clusters wait for the addresses of their hosts, by the trees of a script's lines and of

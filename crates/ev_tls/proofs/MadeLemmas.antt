@@ -45,19 +45,20 @@ taken_past xs n h = let next : n + 1 ≡ suc n = omega arith in ap (λ m. take m
     by (x ∷ xs) zero h = absurd (cc)
     by (x ∷ xs) (suc n) h = ap (λ ys. x ∷ ys) (by xs n h)
 
+one_more_by : {X Y : Type 0} (g : X → List Y) (xs : List X) (n : ℕ) (y : Y) (found : Option X) → slice_get xs n ≡ found
+    → flat_map g (take (n + 1) xs) ≡ flat_map g (take n xs) ++ y ∷ [] → (x : X) × (slice_get xs n ≡ Some x) × (g x ≡ y ∷ [])
+one_more_by g xs n y None none more =
+    let same : flat_map g (take n xs) ≡ flat_map g (take n xs) ++ y ∷ [] = sym (ap (flat_map g) (taken_past xs n none)) ∙ more in
+    absurd (omega (arith, ap length same, length-append (flat_map g (take n xs)) (y ∷ [])))
+one_more_by g xs n y (Some x) there more =
+    let grown : flat_map g (take (n + 1) xs) ≡ flat_map g (take n xs) ++ g x =
+    ap (flat_map g) (take_one xs n x there) ∙ flat_map-append g (take n xs) (x ∷ []) ∙ ap (λ ys. flat_map g (take n xs) ++ ys) (append-nil (g x)) in
+    (x, there, append_cancel_left (flat_map g (take n xs)) (g x) (y ∷ []) (sym grown ∙ more))
+
 -- an element that adds a piece of one stands at its place, and gives that piece
 one_more : {X Y : Type 0} (g : X → List Y) (xs : List X) (n : ℕ) (y : Y) → flat_map g (take (n + 1) xs) ≡ flat_map g (take n xs) ++ y ∷ []
     → (x : X) × (slice_get xs n ≡ Some x) × (g x ≡ y ∷ [])
-one_more g xs n y more = by (slice_get xs n) refl
-  where
-    by : (found : Option X) → slice_get xs n ≡ found → (x : X) × (slice_get xs n ≡ Some x) × (g x ≡ y ∷ [])
-    by None none =
-        let same : flat_map g (take n xs) ≡ flat_map g (take n xs) ++ y ∷ [] = sym (ap (flat_map g) (taken_past xs n none)) ∙ more in
-        absurd (omega (arith, ap length same, length-append (flat_map g (take n xs)) (y ∷ [])))
-    by (Some x) there =
-        let grown : flat_map g (take (n + 1) xs) ≡ flat_map g (take n xs) ++ g x =
-        ap (flat_map g) (take_one xs n x there) ∙ flat_map-append g (take n xs) (x ∷ []) ∙ ap (λ ys. flat_map g (take n xs) ++ ys) (append-nil (g x)) in
-        (x, there, append_cancel_left (flat_map g (take n xs)) (g x) (y ∷ []) (sym grown ∙ more))
+one_more g xs n y more = one_more_by g xs n y (slice_get xs n) refl more
 
 -- ---- resources
 

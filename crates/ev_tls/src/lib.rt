@@ -18,11 +18,10 @@ ghost use Rattle.ev_secrets.specs.Sealing.{tls_rules};
 
 mod laws;
 
-pub use laws::accepts_are_sealed;
-
 use ev_expand::ExpandError;
 use ev_script::ScriptTrees;
 use ev_secrets::expand;
+pub use laws::accepts_are_sealed;
 use std::alloc::Global;
 
 /// The text of a script whose clusters wait for their secrets, by the trees of a script's lines. It is a script without fault.
