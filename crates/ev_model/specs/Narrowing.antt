@@ -6,7 +6,7 @@ use Rattle.std.specs.List.{list_any}
 use Rattle.std.specs.Str.{bytes_eq, str_to_ascii_lowercase}
 use Rattle.ev_types.specs.declared.filter_chains.FilterChainMatch.{FilterChainMatch}
 use Rattle.ev_types.specs.declared.ips.Ip.{Ip}
-use Rattle.ev_types.specs.FilterChains.{nat_same, has_value, ports, transports}
+use Rattle.ev_types.specs.FilterChains.{nat_same, has_value, ports, prefix_ranges, server_names, transports, application_protocols}
 use Rattle.ev_types.specs.Ips.{cidr_range_same, ranges_about}
 use Rattle.ev_model.specs.declared.pictures.ServedChain.{ServedChain}
 
@@ -45,11 +45,23 @@ names_brought (byte ∷ rest) = (byte ∷ rest) ∷ wildcards rest
 abbrev pub transport_of : Bool → List ℕ
 transport_of tls = if tls then codes "tls" else codes "raw_buffer"
 
--- the chains that are left: by port, address, server name, transport protocol and application protocols
+-- narrowed by each of the five criteria
+abbrev pub by_port : Incoming → List ServedChain → List ServedChain
+by_port incoming chains = narrowed nat_same ports (incoming.port ∷ []) chains
+
+abbrev pub by_address : Incoming → List ServedChain → List ServedChain
+by_address incoming chains = narrowed cidr_range_same prefix_ranges (ranges_about incoming.ip) chains
+
+abbrev pub by_server_name : Incoming → List ServedChain → List ServedChain
+by_server_name incoming chains = narrowed bytes_eq server_names (names_brought (str_to_ascii_lowercase incoming.server_name)) chains
+
+abbrev pub by_transport : Incoming → List ServedChain → List ServedChain
+by_transport incoming chains = narrowed bytes_eq transports (transport_of incoming.tls ∷ []) chains
+
+abbrev pub by_protocol : Incoming → List ServedChain → List ServedChain
+by_protocol incoming chains = narrowed bytes_eq application_protocols incoming.alpn chains
+
+-- the chains that are left: by port, address, server name, transport protocol and application protocols, in this order
 abbrev pub chains_left : Incoming → List ServedChain → List ServedChain
 chains_left incoming chains =
-    narrowed bytes_eq (λ (m : FilterChainMatch). m.application_protocols) incoming.alpn
-    (narrowed bytes_eq transports (transport_of incoming.tls ∷ [])
-    (narrowed bytes_eq (λ (m : FilterChainMatch). m.server_names) (names_brought (str_to_ascii_lowercase incoming.server_name))
-    (narrowed cidr_range_same (λ (m : FilterChainMatch). m.prefix_ranges) (ranges_about incoming.ip)
-    (narrowed nat_same ports (incoming.port ∷ []) chains))))
+    by_protocol incoming (by_transport incoming (by_server_name incoming (by_address incoming (by_port incoming chains))))

@@ -47,3 +47,4 @@ pub mod AnsweredLemmas
 pub mod ServesLemmas
 pub mod ShownLemmas
 pub mod RefusedLemmas
+pub mod NarrowingLemmas

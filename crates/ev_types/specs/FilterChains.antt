@@ -26,12 +26,21 @@ filter_chain_match_same a b =
     && texts_same a.application_protocols b.application_protocols
     && bool_same a.asks_source b.asks_source
 
--- what a match asks for by the criteria of one value: that value, or nothing
+-- what a match asks for by each criterion: one value or more, or nothing
 abbrev pub ports : FilterChainMatch → List ℕ
 ports m = option_to_list m.destination_port
 
+abbrev pub prefix_ranges : FilterChainMatch → List CidrRange
+prefix_ranges m = m.prefix_ranges
+
+abbrev pub server_names : FilterChainMatch → List (List ℕ)
+server_names m = m.server_names
+
 abbrev pub transports : FilterChainMatch → List (List ℕ)
 transports m = option_to_list m.transport_protocol
+
+abbrev pub application_protocols : FilterChainMatch → List (List ℕ)
+application_protocols m = m.application_protocols
 
 -- the value is among these
 abbrev pub has_value : {A : Type 0} → (A → A → Bool) → List A → A → Bool
