@@ -69,13 +69,23 @@ has_collision (m ∷ ms) = list_any (collide m) ms || has_collision ms
 pub filter_chain_match_decides : (a b : FilterChainMatch) → Decides (filter_chain_match_same a b) (a ≡ b)
 filter_chain_match_decides a b = decides_as
     (both_decide (both_decide (both_decide (both_decide (both_decide
-        (option_decides numbers_decide a.destination_port b.destination_port)
-        (pointwise_decides cidr_range_decides a.prefix_ranges b.prefix_ranges))
-        (pointwise_decides bytes_decide a.server_names b.server_names))
-        (option_decides bytes_decide a.transport_protocol b.transport_protocol))
-        (pointwise_decides bytes_decide a.application_protocols b.application_protocols))
-        (bool_decides a.asks_source b.asks_source))
+    (option_decides numbers_decide a.destination_port b.destination_port)
+    (pointwise_decides cidr_range_decides a.prefix_ranges b.prefix_ranges))
+    (pointwise_decides bytes_decide a.server_names b.server_names))
+    (option_decides bytes_decide a.transport_protocol b.transport_protocol))
+    (pointwise_decides bytes_decide a.application_protocols b.application_protocols))
+    (bool_decides a.asks_source b.asks_source))
     (λ p. λ i. record { destination_port = p.0.0.0.0.0 i; prefix_ranges = p.0.0.0.0.1 i; server_names = p.0.0.0.1 i; transport_protocol = p.0.0.1 i; application_protocols = p.0.1 i; asks_source = p.1 i })
-    (λ e. (((((ap (λ (m : FilterChainMatch). m.destination_port) e, ap (λ (m : FilterChainMatch). m.prefix_ranges) e),
-        ap (λ (m : FilterChainMatch). m.server_names) e), ap (λ (m : FilterChainMatch). m.transport_protocol) e),
-        ap (λ (m : FilterChainMatch). m.application_protocols) e), ap (λ (m : FilterChainMatch). m.asks_source) e))
+    (λ e. (
+      (
+        (
+          (
+            (ap (λ (m : FilterChainMatch). m.destination_port) e, ap (λ (m : FilterChainMatch). m.prefix_ranges) e),
+            ap (λ (m : FilterChainMatch). m.server_names) e,
+          ),
+          ap (λ (m : FilterChainMatch). m.transport_protocol) e,
+        ),
+        ap (λ (m : FilterChainMatch). m.application_protocols) e,
+      ),
+      ap (λ (m : FilterChainMatch). m.asks_source) e,
+    ))
