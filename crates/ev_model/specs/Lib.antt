@@ -9,6 +9,7 @@ pub mod Warming
 pub mod Phase
 pub mod Tidy
 pub mod Picture
+pub mod Narrowing
 pub mod Choice
 pub mod Dead
 pub mod Requests

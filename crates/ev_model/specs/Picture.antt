@@ -6,6 +6,7 @@ use Rattle.std.specs.Str.{bytes_eq}
 use Rattle.std.specs.Bool.{Decides}
 use Rattle.std.proofs.Common.{ap}
 use lib.Pointwise.{pointwise, pointwise_decides}
+use Rattle.ev_types.specs.FilterChains.{filter_chain_match_same, filter_chain_match_decides}
 use Rattle.ev_types.specs.Kinds.{kind_same}
 use Rattle.ev_types.specs.Same.{both_decide, decides_as, bytes_decide, numbers_decide}
 use Rattle.ev_types.specs.SameHosts.{host_same, rows_same, host_decides, rows_decide}
@@ -23,6 +24,7 @@ use Rattle.ev_model.specs.declared.pictures.Picture.{Picture}
 use Rattle.ev_model.specs.declared.pictures.Shown.{Shown}
 use Rattle.ev_model.specs.declared.pictures.Routing.{Routing}
 use Rattle.ev_model.specs.declared.pictures.Routing.TheVariants.{Table, Tcp}
+use Rattle.ev_model.specs.declared.pictures.ServedChain.{ServedChain}
 use Rattle.ev_model.specs.declared.pictures.ServedCluster.{ServedCluster}
 use Rattle.ev_model.specs.declared.pictures.ServedListener.{ServedListener}
 use Rattle.ev_model.specs.World.{World, Arrived, HealthResult}
@@ -96,6 +98,10 @@ routing_same (Table a) (Tcp b) = false
 routing_same (Tcp a) (Table b) = false
 routing_same (Tcp a) (Tcp b) = target_same a b
 
+-- the same connections are taken, with the same routing
+abbrev pub served_chain_same : ServedChain → ServedChain → Bool
+served_chain_same a b = filter_chain_match_same a.criteria b.criteria && routing_same a.routing b.routing
+
 -- the same generation of the same listener, at the same address, with the same routing
 abbrev pub served_listener_same : ServedListener → ServedListener → Bool
 served_listener_same a b = (a.number == b.number) && bytes_eq a.name b.name && host_same a.address b.address && routing_same a.routing b.routing
@@ -127,6 +133,11 @@ routing_decides (Table a) (Table b) = decides_as (route_table_decides a b) (λ e
 routing_decides (Table a) (Tcp b) = (λ h. cc, λ e. cc)
 routing_decides (Tcp a) (Table b) = (λ h. cc, λ e. cc)
 routing_decides (Tcp a) (Tcp b) = decides_as (target_decides a b) (λ e. ap Tcp e) (λ e. cc)
+
+pub served_chain_decides : (a b : ServedChain) → Decides (served_chain_same a b) (a ≡ b)
+served_chain_decides a b = decides_as (both_decide (filter_chain_match_decides a.criteria b.criteria) (routing_decides a.routing b.routing))
+    (λ (p, q). λ i. record { criteria = p i; routing = q i })
+    (λ e. (ap (λ (c : ServedChain). c.criteria) e, ap (λ (c : ServedChain). c.routing) e))
 
 pub served_listener_decides : (a b : ServedListener) → Decides (served_listener_same a b) (a ≡ b)
 served_listener_decides a b = decides_as

@@ -1,4 +1,6 @@
-use ev_types::{Assignment, Gen, Host, Name, RouteTable, Seq, Shared, Target, TryCopy};
+use ev_types::{
+    Assignment, FilterChainMatch, Gen, Host, Name, RouteTable, Seq, Shared, Target, TryCopy,
+};
 use std::alloc::{AllocError, Global};
 
 /// An active cluster as workers see it, with the hosts that may be chosen, in the order of its assignment.
@@ -79,6 +81,42 @@ impl Eq for Routing {
     ghost use Rattle.ev_model.specs.Picture.{routing_same, routing_decides};
 
     ghost laws = { decided routing_same routing_decides };
+}
+
+/// A filter chain of an active listener as workers see it: which connections it takes, and where they go.
+#[derive(Drop)]
+pub struct ServedChain {
+    pub criteria: FilterChainMatch,
+    pub routing: Routing,
+}
+
+impl TryCopy for ServedChain {
+    fn copy(&self, alloc: Global) -> Result<ServedChain, AllocError> {
+        Ok(ServedChain {
+            criteria: self.criteria.copy(alloc)?,
+            routing: self.routing.copy(alloc)?,
+        })
+    }
+}
+
+impl PartialEq for ServedChain {
+    ghost use Rattle.std.specs.Cmp.{decided, partial_equiv_from_equiv};
+    ghost use Rattle.ev_model.specs.Picture.{served_chain_same, served_chain_decides};
+
+    ghost eq = { served_chain_same };
+
+    ghost laws = { partial_equiv_from_equiv (decided served_chain_same served_chain_decides) };
+
+    fn eq(&self, other: &ServedChain) -> bool {
+        self.criteria == other.criteria && self.routing == other.routing
+    }
+}
+
+impl Eq for ServedChain {
+    ghost use Rattle.std.specs.Cmp.{decided};
+    ghost use Rattle.ev_model.specs.Picture.{served_chain_same, served_chain_decides};
+
+    ghost laws = { decided served_chain_same served_chain_decides };
 }
 
 /// An active listener as workers see it.

@@ -48,3 +48,4 @@ pub mod ServesLemmas
 pub mod ShownLemmas
 pub mod RefusedLemmas
 pub mod ReplyLemmas
+pub mod NarrowingLemmas

@@ -9,3 +9,4 @@ pub mod VersionsKept
 pub mod Acknowledging
 pub mod Kept
 pub mod RunLaws
+pub mod Narrowing

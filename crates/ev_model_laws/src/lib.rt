@@ -3,6 +3,7 @@
 
 mod acknowledging;
 mod legal_findings;
+mod narrowing;
 mod nothing_done;
 mod numbers;
 mod one_a_name;
@@ -14,6 +15,7 @@ mod versions_kept;
 
 pub use acknowledging::acknowledges_exactly;
 pub use legal_findings::legal_exactly;
+pub use narrowing::one_chain_is_left;
 pub use nothing_done::nothing_done_leaves_the_world;
 pub use numbers::numbers_are_drawn_once;
 pub use one_a_name::one_warms_and_one_serves;

@@ -14,3 +14,5 @@ pub mod Scripts
 pub mod Kinds
 pub mod Statuses
 pub mod SameAnswers
+pub mod Ips
+pub mod FilterChains

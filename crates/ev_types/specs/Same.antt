@@ -1,8 +1,9 @@
 -- Tests of equality, by which definitions compare contents. Each `.._decides` says that the test holds of equal values alone.
-use Rattle.std.specs.Prelude.{Bool, true, false, not, ◌≡◌, ◌&&◌, ◌==◌, refl, ℕ, List}
+use Rattle.std.specs.Prelude.{Bool, true, false, not, ◌≡◌, ◌&&◌, ◌==◌, refl, ℕ, List, Option, Some, None}
 use Rattle.std.specs.Bool.{Decides}
 use Rattle.std.specs.Cmp.{first_so, second_so, unsigned_Decides}
 use Rattle.std.specs.Str.{bytes_eq}
+use Rattle.std.specs.Option.{option_eq}
 use Rattle.std.proofs.Common.{sym, ap, ◌∙◌}
 use Rattle.std.proofs.lemmas.Slice.Eq.{bytes_eq-Decides}
 use lib.Pointwise.{pointwise}
@@ -36,3 +37,8 @@ bytes_decide = bytes_eq-Decides
 
 pub numbers_decide : (a b : ℕ) → Decides (a == b) (a ≡ b)
 numbers_decide = unsigned_Decides
+
+pub option_decides : {A : Type 0} {same : A → A → Bool} → ((a b : A) → Decides (same a b) (a ≡ b)) → (a b : Option A) → Decides (option_eq same a b) (a ≡ b)
+option_decides decide None None = (λ h. refl, λ e. refl)
+option_decides decide (Some a) (Some b) = decides_as (decide a b) (λ e. ap Some e) (λ e. cc)
+option_decides decide a b = (λ h. cc, λ e. cc)
