@@ -122,8 +122,7 @@ news_batch : (format : Format) (number : ℕ) (picture : Picture) (lines : List 
     → SettlesForNews format number rests world (entries_of number picture lines ++ last ∷ [])
 news_batch format number picture [] last rests world batched behind = (λ h. behind refl (first_so rests (is_settle_by number last) h), tt)
 news_batch format number picture (line ∷ lines) last rests world batched behind =
-    let after : World = (step format world (Worker number) line.event).0 in
-    (
+    let after : World = (step format world (Worker number) line.event).0 in (
       λ h. absurd (no_settle line batched.0
           (first_so (is_settle line.event) (actor_same (Worker number) (Worker number))
           (second_so rests (is_settle line.event && actor_same (Worker number) (Worker number)) h))),
