@@ -70,74 +70,79 @@ news_stays (Worker worker) before after grows news =
     (news_append before.format worker true (opening before.workers before.node) before.journal grows.more news
     (news_of_others before.format worker (rests_at before.format worker true (opening before.workers before.node) before.journal) (world_now before) grows.more grows.others))
 
+none_head : (number connection : ℕ) (m : OpenMember) (ms : List OpenMember) (b : Bool) → (m.worker == number) ≡ b
+    → list_any (is_held_by (Worker number)) (m ∷ ms) ≡ false
+    → (list_any (is_held_by (Worker number)) ms ≡ false → [] ≡ filter (is_member number connection) ms)
+    → [] ≡ filter (is_member number connection) (m ∷ ms)
+none_head number connection m ms true is none rest = absurd (let never : true ≡ false = simp is at none in cc)
+none_head number connection m ms false is none rest = simp is (rest (simp is at none))
+
 -- where no connection is the worker's, none of its number is open
 none_of : (number : ℕ) (opened : List OpenMember) → list_any (is_held_by (Worker number)) opened ≡ false → SameOpen number [] opened
 none_of number [] none connection = refl
-none_of number (m ∷ ms) none connection = by (m.worker == number) refl
-  where
-    by : (b : Bool) → (m.worker == number) ≡ b → [] ≡ filter (is_member number connection) (m ∷ ms)
-    by true is = absurd (let never : true ≡ false = simp is at none in cc)
-    by false is = simp is (none_of number ms (simp is at none) connection)
+none_of number (m ∷ ms) none connection =
+    none_head number connection m ms (m.worker == number) refl none (λ others. none_of number ms others connection)
 
--- a worker that rests behind entries has nothing open there
+not_so : (b : Bool) → not b ≡ true → b ≡ false
+not_so true h = absurd (cc)
+not_so false h = refl
+
+-- a worker that rests behind an entry has nothing open there
+rest_opens : (format : Format) (number : ℕ) (rests : Bool) (world : World) (entry : Entry) → HoldsPublished world
+    → (rests ≡ true → SameOpen number [] world.opened) → (b : Bool) → actor_same entry.actor (Worker number) ≡ b
+    → (if b then rests_behind (step format world entry.actor entry.event).0 (operation_of entry) else rests) ≡ true
+    → SameOpen number [] (step format world entry.actor entry.event).0.opened
+rest_opens format number rests world entry published here true same resting =
+    let after : World = (step format world entry.actor entry.event).0 in
+    none_of number after.opened
+    (not_so (list_any (is_held_by (Worker number)) after.opened)
+    (subst (λ (a : Actor). not (list_any (is_held_by a) after.opened) ≡ true) ((actor_decides entry.actor (Worker number)).0 same)
+    (second_so (is_settle entry.event) (not (list_any (is_held_by entry.actor) after.opened)) resting)))
+rest_opens format number rests world entry published here false apart resting =
+    (step_leaves number (picture_held world number) [] format world entry.actor entry.event published
+    (λ worker is same. both_ways (actor_same entry.actor (Worker number)) apart ((actor_decides entry.actor (Worker number)).1 (is ∙ ap Worker same)))
+    (record { holds = refl; has = here resting })).has
+
+-- and behind entries
 none_open : (format : Format) (number : ℕ) (rests : Bool) (world : World) (entries : List Entry) → HoldsPublished world
     → (rests ≡ true → SameOpen number [] world.opened) → rests_at format number rests world entries ≡ true
     → SameOpen number [] (world_after format world entries).opened
 none_open format number rests world [] published here is = here is
 none_open format number rests world (entry ∷ entries) published here is =
+    let after : World = (step format world entry.actor entry.event).0 in
     none_open format number (rests_after number rests after entry) after entries (step-held format world entry.actor entry.event published)
-    (by (actor_same entry.actor (Worker number)) refl) is
-  where
-    after : World
-    after = (step format world entry.actor entry.event).0
+    (rest_opens format number rests world entry published here (actor_same entry.actor (Worker number)) refl) is
 
-    by : (b : Bool) → actor_same entry.actor (Worker number) ≡ b → (if b then rests_behind after (operation_of entry) else rests) ≡ true → SameOpen number [] after.opened
-    by true same resting =
-        none_of number after.opened
-        (not_so (list_any (is_held_by (Worker number)) after.opened)
-        (subst (λ (a : Actor). not (list_any (is_held_by a) after.opened) ≡ true) ((actor_decides entry.actor (Worker number)).0 same)
-        (second_so (is_settle entry.event) (not (list_any (is_held_by entry.actor) after.opened)) resting)))
-      where
-        not_so : (b : Bool) → not b ≡ true → b ≡ false
-        not_so true h = absurd (cc)
-        not_so false h = refl
-    by false apart resting =
-        (step_leaves number (picture_held world number) [] format world entry.actor entry.event published
-        (λ worker is same. both_ways (actor_same entry.actor (Worker number)) apart ((actor_decides entry.actor (Worker number)).1 (is ∙ ap Worker same)))
-        (record { holds = refl; has = here resting })).has
+no_settle : (line : BatchLine) → is_batched line.event ≡ true → is_settle line.event ≡ true → ⊥
+no_settle line batched settle = both_ways (is_batched line.event) (settle_not_batched line.event settle) batched
 
 -- a batch has no settle, and its worker doesn't rest behind it
 news_batch : (format : Format) (number : ℕ) (picture : Picture) (lines : List BatchLine) (last : Entry) (rests : Bool) (world : World) → AreBatched lines
     → (lines ≡ [] → rests ≡ true → IsBehind number world)
     → SettlesForNews format number rests world (entries_of number picture lines ++ last ∷ [])
 news_batch format number picture [] last rests world batched behind = (λ h. behind refl (first_so rests (is_settle_by number last) h), tt)
-news_batch format number picture (line ∷ lines) last rests world batched behind = (
-  λ h. absurd (no (first_so (is_settle line.event) (actor_same (Worker number) (Worker number)) (second_so rests (is_settle line.event && actor_same (Worker number) (Worker number)) h))),
-  news_batch format number picture lines last (rests_after number rests after made) after batched.1
-      (λ none resting. absurd (no (first_so (is_settle line.event) (not (list_any (is_held_by (Worker number)) after.opened))
-      (subst (λ b. (if b then is_settle line.event && not (list_any (is_held_by (Worker number)) after.opened) else rests) ≡ true)
-      ((actor_decides (Worker number) (Worker number)).1 refl) resting)))),
-)
-  where
-    made : Entry
-    made = entry_of number picture line
-
-    after : World
-    after = (step format world (Worker number) line.event).0
-
-    no : is_settle line.event ≡ true → ⊥
-    no settle = both_ways (is_batched line.event) (settle_not_batched line.event settle) batched.0
+news_batch format number picture (line ∷ lines) last rests world batched behind =
+    let after : World = (step format world (Worker number) line.event).0 in (
+      λ h. absurd (no_settle line batched.0
+          (first_so (is_settle line.event) (actor_same (Worker number) (Worker number))
+          (second_so rests (is_settle line.event && actor_same (Worker number) (Worker number)) h))),
+      news_batch format number picture lines last (rests_after number rests after (entry_of number picture line)) after batched.1
+          (λ none resting. absurd (no_settle line batched.0
+          (first_so (is_settle line.event) (not (list_any (is_held_by (Worker number)) after.opened))
+          (subst (λ b. (if b then is_settle line.event && not (list_any (is_held_by (Worker number)) after.opened) else rests) ≡ true)
+          ((actor_decides (Worker number) (Worker number)).1 refl) resting)))),
+    )
 
 -- an idle settle brings news where the last picture is newer than the worker's
 settle_brings : (at n : ℕ) (before after : JournalParts) (old new : WorkerParts) (committed : HasCommitted at n before after old new)
     → WorksIn old (world_now committed.turn) → LearnsAtRest after old → old.lines ≡ []
     → SameOpen old.number [] (world_now committed.turn).opened → IsBehind old.number (world_now committed.turn)
-settle_brings at n before after old new committed works learns none open =
+settle_brings at n before after old new committed works learns none shut =
     let turn : JournalParts = committed.turn in
     let stands : StandsFor old (world_now turn) =
     subst (λ (lines : List BatchLine). StandsFor old (world_after Two (world_now turn) (entries_of old.number old.picture lines))) none
     (works.made.leads Two (world_now turn) works.has) in
-    let newer : old.picture.version < version_shown after = learns (none, λ connection. stands.has connection ∙ sym (open connection)) in
+    let newer : old.picture.version < version_shown after = learns (none, λ connection. stands.has connection ∙ sym (shut connection)) in
     let held : version_held (world_now turn) old.number ≡ old.picture.version = ap (λ (p : Picture). p.version) works.has.holds in
     let shown : version_shown after ≡ last_version (world_now turn) =
     ap last_version (world_with turn after (entries_made old ++ settle_made old at n turn ∷ []) committed.settled.entered)
