@@ -12,30 +12,28 @@ def adapted(chosen, report):
     maker = ScriptOf(chosen, report)
     for number, path in enumerate(chosen.input):
         before = maker.known
-        try:
-            for document in documents(text_of(read_file(path))):
-                if wanted(chosen.source, kind_of(document.tree)):
-                    take(maker, document, path, number)
-        except Unreadable as error:
-            raise Unreadable(f'{shown(path)}: {error}') from None
+        for document in documents_of(path):
+            if wanted(chosen.source, kind_of(document.tree)):
+                with maker.placing():
+                    maker.take(document, f'line {document.line} of {shown(path)}', number)
         if maker.known == before:
             raise Unreadable(f'{shown(path)} has no config dump, response, body, script or event')
+    with maker.placing():
+        maker.tell_state()
     return maker.finish()
 
 
-def take(maker, document, path, number):
+def documents_of(path):
     try:
-        maker.take(document, f'line {document.line} of {shown(path)}', number)
+        yield from documents(text_of(read_file(path)))
     except Unreadable as error:
-        raise Unreadable(f'line {document.line}: {error}') from None
-    except RecursionError:
-        raise Unreadable(f'line {document.line} nests too deep') from None
+        raise Unreadable(f'{shown(path)}: {error}') from None
 
 
 def wanted(source, kind):
     """Whether a document of this kind is taken under --from."""
     if source == 'config-dump':
-        return kind in (source, None)
+        return kind in (source, 'body', 'statuses', None)
     if source == 'envoy-log':
         return kind in ('log', 'health', None)
     return True

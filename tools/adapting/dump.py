@@ -55,7 +55,7 @@ class Dump:
     def __init__(self, report):
         self.report, self.node, self.came = report, None, {}
         self.static, self.clusters, self.warming_clusters = [], [], []
-        self.endpoints, self.routes, self.statuses = [], [], []
+        self.endpoints, self.routes, self.statuses, self.route_names = [], [], [], {''}
         self.draining, self.listeners, self.warming_listeners = [], [], []
         self.failed = {kind: [] for kind in NAMES}
 
@@ -78,11 +78,11 @@ class Dump:
         found = wrapped(kind, {'@type': URLS[kind], **body}, '')
         if kind == 'lds':
             self.give_name(found)
-        rows = {'cds': self.clusters, 'eds': self.endpoints, 'lds': self.listeners, 'rds': self.routes}[kind]
-        if kind == 'rds' and found['name'] in {'', *(route['name'] for route in rows)}:
+        if kind == 'rds' and found['name'] in self.route_names:
             self.report.add('not-sent', 'rds', found['name'], before='routes without a name of their own: they stand in their listener')
             return
-        rows.append(found)
+        self.route_names.update([found['name']] if kind == 'rds' else [])
+        {'cds': self.clusters, 'eds': self.endpoints, 'lds': self.listeners, 'rds': self.routes}[kind].append(found)
 
     def part(self, part):
         name = part_name(part)

@@ -1,10 +1,12 @@
 """Makes the lines of a script of documents: the work of tools/adapt between what it reads and what it writes."""
+import contextlib
 import copy
 import json
 
 from shared.resources import KINDS, read_message
 from shared.script import MAX_INPUT, MAX_LINE, MAX_LINES
 from shared.shown import quoted
+from shared.words import counted
 
 from . import envoy_log
 from .capture import Unreadable, get, kind_of, list_in, text_in
@@ -49,7 +51,8 @@ class ScriptOf:
     def take(self, document, place, source):
         """Takes a document. `place` says where it stands, `source` which input it is of."""
         tree, found = document.tree, kind_of(document.tree)
-        if self.state and found not in OF_STATE:
+        self.documents += 1
+        if found not in OF_STATE or self.state and not self.state.joins(tree, self.source_of(found, source)):
             self.tell_state()
         self.place = place
         for key in document.repeated:
@@ -61,13 +64,27 @@ class ScriptOf:
                   'sotw': self.full, 'health': self.health, 'log': self.log}
         if found in OF_STATE:
             self.known += 1
-            self.documents += 1
-            self.gather(tree, self.documents if found == 'config-dump' else source)
+            self.state = self.state or Dump(self.report)
+            self.state.add(tree, self.source_of(found, source))
         elif found in takers:
             self.known += 1
             takers[found](tree)
         else:
             self.report.add('not-sent', before=f'{place}: no document that is known')
+
+    @contextlib.contextmanager
+    def placing(self):
+        """What is wrong with the input in the block is told with its place."""
+        try:
+            yield
+        except Unreadable as error:
+            raise Unreadable(f'{self.place}: {error}') from None
+        except RecursionError:
+            raise Unreadable(f'{self.place} nests too deep') from None
+
+    def source_of(self, found, source):
+        """What the parts of a state are of: each document of a dump is one, and all bodies of an input."""
+        return ('document', self.documents) if found == 'config-dump' else ('input', source)
 
     # Documents
 
@@ -111,14 +128,10 @@ class ScriptOf:
 
     # A state
 
-    def gather(self, tree, source):
-        if self.state and not self.state.joins(tree, source):
-            self.tell_state()
-        self.state = self.state or Dump(self.report)
-        self.state.add(tree, source)
-
     def tell_state(self):
         """Writes the responses that bring about the state that was gathered."""
+        if not self.state:
+            return
         state, self.state = self.state, None
         self.named(state.node)
         state.finish()
@@ -132,7 +145,7 @@ class ScriptOf:
             if words == 'endpoints':
                 self.first_waits(state)
         for kind, resource in failed:
-            self.failure(kind, resource, kept[kind, resource['name']])
+            self.failure(kind, resource, kept[kind, resource['name']], kind == 'cds' and resource['name'] in state.active_clusters())
 
     def lacks_endpoints(self, state):
         """A dump without any endpoints makes no script, unless that is wanted."""
@@ -140,7 +153,7 @@ class ScriptOf:
         names = {text_in(get(one['resource'], 'eds_cluster_config'), 'service_name') or one['name'] for one in clusters}
         if not names or 'eds' in state.came or names & set(self.hosts):
             return
-        words = (f'{len(clusters)} clusters are of type EDS, and there are no endpoints: ask Envoy for /config_dump?include_eds, or give its '
+        words = (f'there are no endpoints, and {counted(len(clusters), "cluster")} of type EDS: ask Envoy for /config_dump?include_eds, or give its '
                  '/clusters?format=json or the output of `istioctl proxy-config endpoints -o json` too')
         if not self.chosen.no_endpoints:
             raise Unreadable(f'{words}. --no-endpoints goes on without them')
@@ -176,8 +189,9 @@ class ScriptOf:
         for address, port in places:
             self.write({'op': 'health', 'cluster': name, 'address': address, 'port': port, 'healthy': True})
 
-    def failure(self, kind, resource, kept):
-        """Sends what Envoy refused; where it breaks no rule here, what Envoy kept is sent again behind it."""
+    def failure(self, kind, resource, kept, is_active):
+        """Sends what Envoy refused; where it breaks no rule here, what Envoy kept is sent again behind it. The first of that is a cluster
+        that is active there, or it isn't."""
         name = resource['name']
         self.report.add('made', kind, name, before='failed_configuration', after='a response', turns=True)
         self.delta(message_of(kind, [resource]))
@@ -187,10 +201,12 @@ class ScriptOf:
             self.report.add('absent', kind, name, before='Envoy has none, and this profile goes on with what Envoy refused', turns=True)
             return
         again = [message_of(kind, [one]) for one in kept] or [message_of(kind, [], [name])]
-        for message in again:
+        for place, message in enumerate(again):
             self.report.add('made', kind, name, before='Envoy refused the one before, and this profile doesn\'t',
                             after='a response with what Envoy has' if kept else 'a removal: Envoy has none', turns=True)
             self.delta(message)
+            if is_active and place == 0 and self.good.get(name) and self.clusters[name]['checked']:
+                self.results(name, self.clusters[name])
 
     # Responses
 
@@ -337,8 +353,6 @@ class ScriptOf:
 
     def finish(self):
         """All lines, the header first."""
-        if self.state:
-            self.tell_state()
         if self.chosen.probe:
             self.place = '--probe'
             found, more = self.probes.lines(MAX_LINES - len(self.lines) - 2)

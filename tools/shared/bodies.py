@@ -26,9 +26,10 @@ class Difference:
 
 
 def canonical(value):
-    """A value as protobuf takes it: members in one spelling, those that are null left out."""
+    """A value as protobuf takes it: members in one spelling, those that are null left out. Where one stands in both spellings both are kept."""
     if isinstance(value, dict):
-        return {camel(name): canonical(part) for name, part in value.items() if part is not None}
+        spelled = {name: camel(name) if camel(name) == name or value.get(camel(name)) is None else name for name in value}
+        return {spelled[name]: canonical(part) for name, part in value.items() if part is not None}
     return [canonical(part) for part in value] if isinstance(value, list) else value
 
 
@@ -43,8 +44,12 @@ def resources_of(line):
 
 
 def body_of(resource):
-    """The body of a resource; None where it has none."""
-    return resource.get('resource') if isinstance(resource, dict) else None
+    """The body of a resource; None where it has none. What isn't a resource, as in a response of the state of the world, is a body itself."""
+    return resource if is_body(resource) else resource.get('resource')
+
+
+def is_body(resource):
+    return not isinstance(resource, dict) or ('@type' in resource and 'resource' not in resource)
 
 
 def sent(resource):
@@ -54,7 +59,7 @@ def sent(resource):
 
 def outer(resource):
     """The other members of a resource, as its time to live."""
-    return canonical({name: value for name, value in resource.items() if name not in OUTER}) if isinstance(resource, dict) else {}
+    return {} if is_body(resource) else canonical({name: value for name, value in resource.items() if name not in OUTER})
 
 
 def original(resource):

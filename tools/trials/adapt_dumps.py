@@ -60,7 +60,7 @@ def without_endpoints(check):
     plain = dump(clusters(eds('a'), eds('b'), cluster('s')))
     for words in ([], ['--project', 'all'], ['--strict'], ['--sotw']):
         status, data, _, errors = adapted(*words, data=plain)
-        check(status == 3 and not data and '2 clusters are of type EDS' in errors and '?include_eds' in errors, f'adapt {words} of a plain dump: {status} {errors}')
+        check(status == 3 and not data and '2 clusters of type EDS' in errors and '?include_eds' in errors, f'adapt {words} of a plain dump: {status} {errors}')
     status, data, report, errors = adapted('--no-endpoints', data=plain)
     check(status == 0 and ops(data) == [('fetchTimeout', 'a'), ('fetchTimeout', 'b')] and '?include_eds' in lines_of(report, 'absent')[0]['before'],
           f'adapt --no-endpoints of a plain dump: {status} {errors} {ops(data)}')
@@ -91,6 +91,9 @@ def health_results(check):
     check([line['name'] for line in lines_of(report, 'made') if line['member'] == 'health_checks'] == ['s', 'a'], f'their report: {report}')
     rows = [json.loads(text) for text in replayed(adapted('--auto', data=tree)[1]).splitlines()]
     check(not any(row.get('answer') == 'ignored' for row in rows), 'a line that ends a wait is ignored')
+    failed = {'cluster': static, 'error_state': {'failed_configuration': cluster('s', lb_policy='MAGLEV')}}
+    ends = [line.op for line in script.read_script(adapted(data=dump(part('Clusters', dynamic_active_clusters=[failed])))[1]).lines]
+    check(ends == ['connect', 'response', 'health', 'response', 'response', 'health'], f'what Envoy has comes again without its health results: {ends}')
 
 
 def refused_there(check):

@@ -120,11 +120,16 @@ def script(*messages):
     """A script of responses: (type or URL, resources, removed names), each resource a body or a whole resource without its name."""
     lines = [{'workers': 1, 'auto': True}, {'op': 'connect'}]
     for place, (of, resources, *removed) in enumerate(messages, 1):
-        found = [resource if 'resource' in resource else {'name': resource.get('clusterName') or resource['name'], 'version': '1', 'resource': resource}
-                 for resource in resources]
+        found = [resource_of(resource) for resource in resources]
         message = {'typeUrl': URLS.get(of, of), 'nonce': str(place), 'resources': found, 'removedResources': removed}
         lines.append({'op': 'response', 'message': message})
     return b''.join(json.dumps(line).encode() + b'\n' for line in lines)
+
+
+def resource_of(body):
+    """A resource round a body that has a name; what has none stands alone."""
+    name = (body.get('clusterName') or body.get('name')) if isinstance(body, dict) else None
+    return body if name is None or 'resource' in body else {'name': name, 'version': '1', 'resource': body}
 
 
 def pushed(*more):
@@ -158,6 +163,11 @@ def bodies(check, told):
             ('a refused body', refused(1), refused(2), ('UNJUDGED', 'cds', 'x', 'lbPolicy differs; refused by V7')),
             ('a refused body that changes back', refused(1), refused(1, 2, 1), ('UNJUDGED', 'cds', 'x', 'its body came in 3 ways')),
             ('a refused body in between', refused(1, 3, 4), refused(2, 3, 4), ('UNJUDGED', 'cds', 'x', 'lbPolicy differs')),
+            ('a resource that is none', script((SECRET, []), (SECRET, [5])), script((SECRET, []), (SECRET, [6])), ('UNJUDGED', SECRET, '', 'the body differs')),
+            ('a body that stands alone', script((SECRET, [{'@type': SECRET, 'version': 1}])), script((SECRET, [{'@type': SECRET, 'version': 2}])),
+             ('UNJUDGED', SECRET, '', 'version differs')),
+            ('a member in both spellings', pushed(('cds', [cluster('x', hosts=[1], lbPolicy=1, lb_policy=2)])), pushed(('cds', [cluster('x', hosts=[1], lbPolicy=1, lb_policy=3)])),
+             ('UNJUDGED', 'cds', 'x', 'lb_policy differs')),
             ('true and 1', refused(1), refused(True), ('UNJUDGED', 'cds', 'x', 'lbPolicy differs')),
             ('a time to live', timed('5s'), timed('500s'), ('UNJUDGED', 'eds', 'b', 'ttl differs')),
             ('endpoints that are removed', pushed(), pushed(('eds', [], 'b')), ('CHANGED', 'eds', 'b', 'are gone'))):

@@ -30,7 +30,7 @@ def run(check):
         def looked(*words, **settings):
             return trials.ran(f'{TOP}/tools/look', '--program', program, '--out', f'{folder}/out', *words, env={**os.environ, 'TMPDIR': folder, **settings})
 
-        for trial in (of_a_dump, of_recordings, of_responses, opened, endings):
+        for trial in (of_a_dump, of_the_document, of_recordings, of_responses, opened, endings):
             trial(check, folder, looked)
 
 
@@ -57,6 +57,21 @@ def of_a_dump(check, folder, looked):
     check(names == ['journal.jsonl', 'page.html', 'report.jsonl', 'script.jsonl'], f'look writes {names}')
     check(all(stat.S_IMODE(os.stat(f'{folder}/out/{name}').st_mode) == 0o600 for name in names), 'others may read what look writes')
     check(not script.read_script(content(f'{folder}/out/script.jsonl')).faults, 'look writes no script')
+
+
+def of_the_document(check, folder, looked):
+    """docs/RECORDING.md shows what is printed of this dump."""
+    host = {'endpoint': {'address': {'socket_address': {'address': 'a.example', 'port_value': 443}}}}
+    pay = {'cluster': cluster('pay', load_assignment={'endpoints': [{'lb_endpoints': [host]}]}),
+           'error_state': {'version_info': '2', 'failed_configuration': cluster('pay', connect_timeout='0s'), 'details': 'ConnectTimeout: value must be greater than 0s'}}
+    partner = cluster('partner', type='STRICT_DNS', load_assignment={'endpoints': [{'lb_endpoints': [host]}]})
+    tree = dump(part('Clusters', dynamic_active_clusters=[pay, {'cluster': partner}], dynamic_warming_clusters=[{'cluster': eds('web')}]), endpoints(),
+                part('Listeners', dynamic_listeners=[{'name': 'in', 'active_state': {'listener': listener('in', 80, 'pay')}}]))
+    status, out, errors = looked(trials.written(f'{folder}/document.json', tree.decode()))
+    shown = out.decode().splitlines()[:-1]
+    page = [line[4:] for line in content(f'{TOP}/docs/RECORDING.md').decode().splitlines() if line.startswith('    ')]
+    first = page.index(shown[0]) if shown and shown[0] in page else 0
+    check(status == 0 and page[first:first + len(shown)] == shown, f'docs/RECORDING.md shows otherwise than {shown} {errors}')
 
 
 def of_recordings(check, folder, looked):
