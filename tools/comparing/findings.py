@@ -91,8 +91,8 @@ def unread(key, olds, news, alike, why='', generation=None):
     places, counts = {}, [len(side.resources) for side in (olds, news)]
     for (old, was), (new, now) in zip(reversed(olds.resources), reversed(news.resources)):
         if was != now:
-            for difference in differences(key[0], old, new, alike):
-                places.setdefault(difference.words(), difference.path)
+            found = {difference.words(): difference.path for difference in differences(key[0], old, new, alike)}
+            places.update(found or ({'its body differs': None} if alike else {}))
     for words in list(places)[:MOST_PLACES]:
         yield Finding(UNJUDGED, *key, words + why, generation, places[words])
     if len(places) > MOST_PLACES:

@@ -4,6 +4,8 @@ By Envoy's documentation an update of a cluster of type EDS waits until its endp
 at once with these. And every change of a cluster or listener is an update there, one of TLS or load balancing too; here it is `same`.
 A script of the profile `envoy` has neither.
 """
+import collections
+
 from .bodies import canonical, differences, original, resources_of, text_of
 from .resources import WORD
 from .shown import quoted
@@ -47,6 +49,7 @@ class EnvoyWaits:
     def __init__(self, reading):
         self.is_other, self.whole = getattr(reading, 'profile', None) != 'envoy', reading.whole is not None
         self.bodies, self.waits, self.begun, self.over = {}, {}, [], []
+        self.of_endpoints = collections.defaultdict(dict)  # the waits by the name of endpoints, and then by the cluster's
 
     def take(self, line, op, answer, first, machine):
         """`first` is the number of the first generation that the entry may make."""
@@ -87,21 +90,22 @@ class EnvoyWaits:
             found = Wait(kind, item.name, row.number, at, name, row.limited(), changed)
             self.begun.append(found)
             if name:
-                self.waits[item.name] = found
+                self.waits[item.name] = self.of_endpoints[name[1]][item.name] = found
 
     def forget(self, kind, name, at):
         """An update or a removal ends the wait of the one before."""
-        wait = self.waits.pop(name, None) if kind == 'cds' else None
-        if wait:
-            wait.until = at
+        if kind == 'cds' and name in self.waits:
+            self.end(self.waits[name], at)
+
+    def end(self, wait, at):
+        wait.until = at
+        del self.waits[wait.name], self.of_endpoints[wait.key[1]][wait.name]
 
     def come(self, at, names, limited=False):
         """Endpoints of these names came, or with `limited` their fetch timeouts."""
-        found = [wait for wait in self.waits.values() if wait.key[1] in names and (wait.limited or not limited)]
-        for wait in found:
-            del self.waits[wait.name]
-            wait.until = at
-        self.over = found
+        self.over = [wait for name in sorted(names) for wait in self.of_endpoints.get(name, {}).values() if wait.limited or not limited]
+        for wait in self.over:
+            self.end(wait, at)
 
 
 def changed_words(kind, before, after):
