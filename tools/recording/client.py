@@ -36,14 +36,15 @@ class ResponsesSoFar(Progress):
 
 
 class Limits:
-    """When the client ends: after so many seconds, where no response came for so many, or where `stop` is set."""
+    """When the client ends: after so many seconds, where no response came for so many, or where `stop` is set. The first stream that opens
+    is heard as a response is, and no later one."""
 
     def __init__(self, seconds, quiet, stop):
         self.until = None if seconds is None else time.monotonic() + seconds
         self.quiet, self.stop, self.heard = quiet, stop, time.monotonic()
 
     def hear(self):
-        """A response came."""
+        """A response came, or the first stream opened."""
         self.heard = time.monotonic()
 
     def rest(self):
@@ -123,6 +124,8 @@ class Client:
         self.failed = None
         self.recording.connect(self.login.node['id'])
         self.streams += 1
+        if self.streams == 1:
+            self.limits.hear()
         try:
             self.send(outgoing, self.replies.requests())
             while not self.over():
