@@ -17,6 +17,7 @@ use Rattle.ev_model.specs.World.{opening}
 use Rattle.ev_model.specs.Dead.{last_picture, picture_at}
 use Rattle.ev_model.specs.Runs.{IsRun}
 use Rattle.ev_model.specs.Operations.{Operation}
+use Rattle.ev_model_laws.proofs.AllLaws.{all_laws}
 use Rattle.ev_worker.specs.Workers.{WorkerParts}
 use Rattle.ev_actors.specs.Journals.{HasReplayed, JournalParts, WorksIn, nothing_done, world_now}
 use Rattle.ev_actors.specs.Passes.{one_pass, put_out, put_out_last, waiting_behind, waiting_of}
@@ -183,13 +184,14 @@ ends script parts after workers at kept is goes way settled run =
     let format : after.format ≡ Two = ap (λ (p : JournalParts). p.format) whole in
     let count : after.workers ≡ script.workers = ap (λ (p : JournalParts). p.workers) whole in
     let node : after.node ≡ script.node = ap (λ (p : JournalParts). p.node) whole in
+    let sound : IsRun Two script.workers script.node after.journal =
+    subst (λ (p : JournalParts). IsRun p.format p.workers p.node p.journal) whole run in
     record {
       format = format;
       workers = count;
       node = node;
       journal = record {
-        run =
-            subst (λ (p : JournalParts). IsRun p.format p.workers p.node p.journal) whole run;
+        run = sound;
         order =
             settled.out
             ∙ ap (λ (os : List Operation). operations_in parts ++ os)
@@ -200,4 +202,5 @@ ends script parts after workers at kept is goes way settled run =
             ∙ way.order
             ∙ in_one_pass script kept;
       };
+      laws = all_laws (record { format = Two; workers = script.workers; node = script.node; journal = after.journal }) sound.answers;
     }

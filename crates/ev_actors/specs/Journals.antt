@@ -11,6 +11,7 @@ use Rattle.ev_types.specs.declared.journals.Format.{Format}
 use Rattle.ev_types.specs.declared.journals.Format.TheVariants.{Two}
 use Rattle.ev_model.specs.World.{World, OpenMember, opening}
 use Rattle.ev_model.specs.Step.{step as machine_step}
+use Rattle.ev_model.specs.Laws.{Laws}
 use Rattle.ev_model.specs.Runs.{world_after}
 use Rattle.ev_model.specs.Operations.{IsReplay}
 use Rattle.ev_worker.specs.Batches.{entries_of}
@@ -82,9 +83,10 @@ with_settled worker at step parts = with_entries (entries_made worker ++ settle_
 abbrev pub nothing_done : ScriptParts → JournalParts
 nothing_done script = record { format = Two; workers = script.workers; node = script.node; journal = [] }
 
--- it has the script's workers and node, and its journal is the script's replay by the rules of format 2
+-- it has the script's workers and node, and its journal is the script's replay by the rules of format 2, and has the laws
 pub record HasReplayed (script : ScriptParts) (parts : JournalParts) : Type 0 where
   pub format : parts.format ≡ Two
   pub workers : parts.workers ≡ script.workers
   pub node : parts.node ≡ script.node
   pub journal : IsReplay Two script parts.journal
+  pub laws : Laws record { format = Two; workers = script.workers; node = script.node; journal = parts.journal }
