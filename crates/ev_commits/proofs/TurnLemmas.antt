@@ -101,10 +101,11 @@ answer_batched worker world (Accept ask) outcome is = refl
 answer_batched worker world (Close connection) outcome is = refl
 answer_batched worker world Settle outcome is = absurd is
 
-abbrev AreBatched : List BatchLine → Type 0
+abbrev pub AreBatched : List BatchLine → Type 0
 AreBatched lines = ByRecursion (λ (line : BatchLine). is_batched line.event ≡ true) lines
 
-lines_batched : (format : Format) (worker : ℕ) (world : World) (lines : List BatchLine) → AreAnswered format worker world lines → AreBatched lines
+-- each line of a batch is an accept or close
+pub lines_batched : (format : Format) (worker : ℕ) (world : World) (lines : List BatchLine) → AreAnswered format worker world lines → AreBatched lines
 lines_batched format worker world [] answered = tt
 lines_batched format worker world (line ∷ lines) answered = (
   answer_batched worker world line.event line.outcome answered.0,

@@ -1,5 +1,5 @@
 -- What a pass at the gate has seen of the journal. This project's own.
-use Rattle.std.specs.Prelude.{ℕ, ◌≡◌, ◌≤◌, ◌==◌, ◌||◌, ◌&&◌, Bool, true, false, List, [], ◌∷◌, ◌++◌}
+use Rattle.std.specs.Prelude.{ℕ, ◌≡◌, ◌<◌, ◌≤◌, ◌==◌, ◌||◌, ◌&&◌, Bool, true, false, List, [], ◌∷◌, ◌++◌}
 use Rattle.std.specs.List.{list_any}
 use Rattle.ev_types.specs.declared.events.Entry.{Entry}
 use Rattle.ev_model.specs.World.{OpenMember}
@@ -10,7 +10,7 @@ use Rattle.ev_model.specs.Runs.{IsRun}
 use Rattle.ev_actors.specs.Journals.{JournalParts, entries_made, world_now}
 use Rattle.ev_types.specs.declared.events.Actor.TheVariants.{Worker}
 use Rattle.ev_model.specs.Operations.{Operation}
-use Rattle.ev_worker.specs.Workers.{WorkerParts}
+use Rattle.ev_worker.specs.Workers.{HasNoneOpen, WorkerParts}
 use Rattle.ev_actors.specs.Taken.{HasEntered, HasSettled}
 use Rattle.ev_gate.specs.History.{seen_of}
 use Rattle.ev_gate.specs.Words.{first_of, pass_heard, pass_knows}
@@ -91,7 +91,11 @@ HasHeard seen heard = version_shown seen ≤ version_shown heard
 
 -- the worker did nothing since it settled, and has nothing open
 abbrev pub IsIdle : WorkerParts → Type 0
-IsIdle worker = (worker.lines ≡ []) × (worker.opened ≡ [])
+IsIdle worker = (worker.lines ≡ []) × HasNoneOpen worker
+
+-- where the worker is idle, its picture is older than the last one behind this journal
+abbrev pub LearnsAtRest : JournalParts → WorkerParts → Type 0
+LearnsAtRest after worker = IsIdle worker → worker.picture.version < version_shown after
 
 -- a settle is left out: the worker is idle, and its picture's version is not below any that its pass had heard of
 pub record IsLeftOut (before after heard : JournalParts) (old new : WorkerParts) : Type 0 where

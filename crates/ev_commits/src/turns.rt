@@ -4,7 +4,7 @@ ghost use Rattle.ev_types.specs.declared.events.Actor.TheVariants.{Worker as by_
 ghost use Rattle.ev_gate.specs.Words.{gate_id, pass_gate, pass_knows};
 ghost use Rattle.ev_actors.specs.Journals.{SufficeFor, WorksIn, world_now};
 ghost use Rattle.ev_commits.specs.Commits.{GrowsByOthers, seat_of};
-ghost use Rattle.ev_commits.specs.Seen.{HasActed, HasCommitted, HasHeard, IsIdle, IsLeftOut, began_at, heard_by, seen_by, version_shown};
+ghost use Rattle.ev_commits.specs.Seen.{HasActed, HasCommitted, HasHeard, IsLeftOut, LearnsAtRest, began_at, heard_by, seen_by, version_shown};
 ghost use Rattle.ev_model.specs.Operations.{batch_limit};
 
 use crate::acts::{apply_in, settle_in};
@@ -75,8 +75,7 @@ pub fn settle<R: Threads + Wait + Sync, J: Journaled>(
     ensures seat { (pass_knows result.0).number ≡ seat_of (by_worker worker.old.number) }
     ensures start { (pass_knows result.0).start ≡ (pass_knows pass).start }
     ensures heard { HasHeard (seen_by J.shows gate.now result.0) (heard_by J.shows gate.now result.0) }
-    ensures newer { IfOk result.1 (λ made. made ≡ true → IsIdle worker.old
-        → worker.old.picture.version < version_shown (seen_by J.shows gate.now result.0)) }
+    ensures newer { IfOk result.1 (λ made. made ≡ true → LearnsAtRest (seen_by J.shows gate.now result.0) worker.old) }
     ensures settled { IfOk result.1 (λ made. made ≡ true → HasCommitted at step
         (seen_by J.shows gate.now pass) (seen_by J.shows gate.now result.0) worker.old worker.new) }
     ensures left_out { IfOk result.1 (λ made. made ≡ false → IsLeftOut

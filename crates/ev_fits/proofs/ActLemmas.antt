@@ -1,6 +1,6 @@
 -- An actor of the main side begins, and goes on by an entry.
 use Rattle.std.proofs.Common.{◌≡◌, ℕ, ◌+◌, ◌<◌, ◌≤◌, List, [], ◌∷◌, ◌++◌, refl, ap, ◌∙◌, subst, arith}
-use Rattle.ev_types.specs.Events.{IsStream, MayMake}
+use Rattle.ev_types.specs.Events.{IsMainSide, IsStream, MayMake}
 use Rattle.ev_types.specs.Scripts.{ScriptParts, items_in}
 use Rattle.ev_types.specs.declared.events.Actor.{Actor}
 use Rattle.ev_types.specs.declared.events.Actor.TheVariants.{Stream, Health, Timer, Main, Worker}
@@ -19,7 +19,7 @@ use Rattle.ev_actors.proofs.SettleLemmas.{world_with}
 use Rattle.ev_commits.specs.Commits.{AreElsewhere, GrowsByOthers, seat_of}
 use Rattle.ev_commits.specs.Seen.{HasActed}
 use Rattle.ev_fits.specs.Left.{SufficeForAll, deeds_in, items_left}
-use Rattle.ev_fits.specs.Acting.{HasEnded, IsActing}
+use Rattle.ev_fits.specs.Acting.{HasEnded, HasNews, IsActing}
 use Rattle.ev_fits.proofs.FitLemmas.{all_own, deeds_with, fits_ended, fits_more, fits_stays, own_deeds}
 
 -- what another than the stream makes brings no resources
@@ -102,6 +102,13 @@ suffices workers Timer o left parts may suffice = λ some. let none : items_in o
 suffices workers Main o left parts may suffice = λ some. let none : items_in o.event ≡ 0 = none_brought workers Main o.event may (λ is. is) in omega arith
 suffices workers (Worker worker) o left parts may suffice = λ some. let none : items_in o.event ≡ 0 = none_brought workers (Worker worker) o.event may (λ is. is) in omega arith
 
+no_news : (actor : Actor) (parts : JournalParts) → IsMainSide actor → HasNews actor parts
+no_news Stream parts main = tt
+no_news Health parts main = tt
+no_news Timer parts main = tt
+no_news Main parts main = tt
+no_news (Worker worker) parts main = absurd main
+
 -- and with nothing left it has done all
-pub acts_ended : (script : ScriptParts) (actor : Actor) (parts : JournalParts) → IsActing script actor [] parts → HasEnded script actor parts
-acts_ended script actor parts acting = fits_ended (operations_of script actor) actor acting.rests parts acting.fits
+pub acts_ended : (script : ScriptParts) (actor : Actor) (parts : JournalParts) → IsMainSide actor → IsActing script actor [] parts → HasEnded script actor parts
+acts_ended script actor parts main acting = record { done = fits_ended (operations_of script actor) actor acting.rests parts acting.fits; news = no_news actor parts main }

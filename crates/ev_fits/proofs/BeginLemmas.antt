@@ -2,7 +2,7 @@
 use Rattle.std.proofs.Common.{◌≡◌, ℕ, zero, suc, ◌+◌, ◌<◌, true, List, [], ◌∷◌, ◌++◌, Some, map, length, drop, get_or, replicate, add-one, refl, ap, sym, ◌∙◌, subst}
 use Rattle.std.specs.Prelude.{slice_index_or}
 use Rattle.std.proofs.Math.Seq.{drop-cons}
-use Rattle.ev_types.specs.Events.{MayMake}
+use Rattle.ev_types.specs.Events.{IsMainSide, MayMake}
 use Rattle.ev_types.specs.Scripts.{IsScript, ScriptParts}
 use Rattle.ev_types.specs.declared.events.Actor.{Actor}
 use Rattle.ev_types.specs.declared.events.Actor.TheVariants.{Worker}
@@ -107,9 +107,9 @@ acts_on script actor due todo before after on done =
           (subst (λ (os : List Operation). IsActing script actor os before) first.whole on.acting) (done first.operation first.is);
     }
 
-pub acting_ended : (script : ScriptParts) (actor : Actor) (parts : JournalParts) → IsActingOn script actor [] parts → HasEnded script actor parts
-acting_ended script actor parts on =
-    acts_ended script actor parts
+pub acting_ended : (script : ScriptParts) (actor : Actor) (parts : JournalParts) → IsMainSide actor → IsActingOn script actor [] parts → HasEnded script actor parts
+acting_ended script actor parts main on =
+    acts_ended script actor parts main
     (subst (λ (os : List Operation). IsActing script actor os parts) (none_left script actor on.left on.due) on.acting)
 
 -- a worker
@@ -147,6 +147,7 @@ begins_working script worker dues parts kept none within begun are = record {
             subst (λ (ls : List BatchLine). FitsSoFar (operations_of script (Worker worker.number)) (Worker worker.number) true
             (map (operation_made worker.number) ls ++ operations_of script (Worker worker.number)) (nothing_done script)) (sym begun.lines) (λ deeds done. done);
         idle = λ idle. refl;
+        news = tt;
       });
 }
 

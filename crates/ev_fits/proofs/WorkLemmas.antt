@@ -21,10 +21,11 @@ use Rattle.ev_actors.specs.Journals.{JournalParts, WorksIn, entries_made, settle
 use Rattle.ev_actors.specs.Working.{operation_made, operations_made}
 use Rattle.ev_actors.proofs.SettleLemmas.{batch_operations, world_with}
 use Rattle.ev_actors.proofs.SinceLemmas.{in_kept}
-use Rattle.ev_commits.specs.Seen.{HasCommitted, IsIdle, IsLeftOut}
+use Rattle.ev_commits.specs.Seen.{HasCommitted, IsIdle, IsLeftOut, LearnsAtRest}
 use Rattle.ev_fits.specs.Left.{AreOwn, FitsSoFar, KeepToBatches, deeds_in}
-use Rattle.ev_fits.specs.Acting.{HasEnded, IsWorking, settle_of}
+use Rattle.ev_fits.specs.Acting.{HasEnded, HasNews, IsWorking, settle_of}
 use Rattle.ev_fits.proofs.FitLemmas.{all_own, deeds_ops, deeds_with, fits_ended, fits_idle, fits_more, fits_stays, rest_last}
+use Rattle.ev_fits.proofs.NewsLemmas.{news_more}
 
 -- where nothing of a worker is open by number, it has nothing open
 none_held : (number : ℕ) (opened : List OpenMember) → ((connection : ℕ) → filter (is_member number connection) opened ≡ [])
@@ -52,7 +53,7 @@ idle_rests worker number world is works idle =
     (λ connection.
     ap (λ n. filter (is_member n connection) world.opened) (sym is)
     ∙ sym (stands.has connection)
-    ∙ ap (filter (is_member worker.number connection)) idle.1)
+    ∙ idle.1 connection)
 
 cons_length : {X : Type 0} (xs : List X) → length xs ≡ 0 → xs ≡ []
 cons_length [] is = refl
@@ -77,7 +78,7 @@ batch_own number picture (line ∷ lines) = (refl, batch_own number picture line
 module _ (script : ScriptParts) (old new : WorkerParts) (at n : ℕ) (left : List Operation) (before after : JournalParts)
     (was : IsWorking script old (settle_of old at n ∷ left) before) where
   -- the settle is made
-  module _ (committed : HasCommitted at n before after old new) where
+  module _ (committed : HasCommitted at n before after old new) (learns : LearnsAtRest after old) where
     abbrev turn : JournalParts
     turn = committed.turn
 
@@ -125,6 +126,9 @@ module _ (script : ScriptParts) (old new : WorkerParts) (at n : ℕ) (left : Lis
           (fits_stays (operations_of script (Worker old.number)) (Worker old.number) was.rests (operations_made old ++ settle_of old at n ∷ left) before turn
           committed.grows was.fits)));
       idle = resting;
+      news =
+          subst (λ number. HasNews (Worker number) after) (sym committed.settled.number)
+          (news_more at n before after old new was.works committed learns was.news);
     }
 
   -- the settle is left out
@@ -140,6 +144,7 @@ module _ (script : ScriptParts) (old new : WorkerParts) (at n : ℕ) (left : Lis
         (subst (λ (ls : List BatchLine). FitsSoFar (operations_of script (Worker old.number)) (Worker old.number) was.rests (map (operation_made old.number) ls ++ settle_of old at n ∷ left) before) idle.0
         was.fits));
     idle = was.idle;
+    news = was.news;
   }
 
   pub leaves_out : (heard : JournalParts) → IsLeftOut before after heard old new → IsWorking script new left after
@@ -168,6 +173,7 @@ joins script old new o left parts was batched number picture longer made from = 
       (sym (append_assoc (operations_made old) (o ∷ []) left) ∙ ap (λ (os : List Operation). os ++ left) (sym made))
       (subst (λ n. FitsSoFar (operations_of script (Worker n)) (Worker n) was.rests (operations_made old ++ o ∷ left) parts) (sym number) was.fits);
   idle = λ idle. absurd (some (length old.lines) (sym longer ∙ ap length idle.0));
+  news = subst (λ n. HasNews (Worker n) parts) (sym number) was.news;
 }
   where
     counted : (b : Bool) → b ≡ true → (if b then length old.lines + 1 else 0) ≡ length old.lines + 1
@@ -180,7 +186,10 @@ joins script old new o left parts was batched number picture longer made from = 
 -- with nothing left it has done all
 pub works_ended : (script : ScriptParts) (worker : WorkerParts) (parts : JournalParts) → IsWorking script worker [] parts
     → HasEnded script (Worker worker.number) parts
-works_ended script worker parts working =
-    fits_ended (operations_of script (Worker worker.number)) (Worker worker.number) working.rests parts
-    (subst (λ (ls : List BatchLine). FitsSoFar (operations_of script (Worker worker.number)) (Worker worker.number) working.rests (map (operation_made worker.number) ls ++ []) parts)
-    (cons_length worker.lines working.room) working.fits)
+works_ended script worker parts working = record {
+  done =
+      fits_ended (operations_of script (Worker worker.number)) (Worker worker.number) working.rests parts
+      (subst (λ (ls : List BatchLine). FitsSoFar (operations_of script (Worker worker.number)) (Worker worker.number) working.rests (map (operation_made worker.number) ls ++ []) parts)
+      (cons_length worker.lines working.room) working.fits);
+  news = working.news;
+}

@@ -1,14 +1,16 @@
 -- Actors at their operations, beside a journal. This project's own.
-use Rattle.std.specs.Prelude.{ℕ, ◌≡◌, ◌<◌, Bool, true, List, ◌∷◌, ◌++◌, length, Some}
+use Rattle.std.specs.Prelude.{ℕ, ◌≡◌, ◌<◌, Bool, true, List, ◌∷◌, ◌++◌, length, Some, ⊤}
 use Rattle.ev_types.specs.Events.{MayMake}
 use Rattle.ev_types.specs.Scripts.{ScriptParts}
 use Rattle.ev_types.specs.declared.events.Actor.{Actor}
-use Rattle.ev_types.specs.declared.events.Actor.TheVariants.{Worker}
+use Rattle.ev_types.specs.declared.events.Actor.TheVariants.{Stream, Health, Timer, Main, Worker}
 use Rattle.ev_types.specs.declared.events.Event.TheVariants.{Settle}
+use Rattle.ev_model.specs.World.{opening}
 use Rattle.ev_model.specs.Runs.{is_batched}
 use Rattle.ev_model.specs.Operations.{AreDone, Operation, batch_limit, operations_of}
 use Rattle.ev_worker.specs.Workers.{WorkerParts}
 use Rattle.ev_actors.specs.Journals.{JournalParts, SufficeFor, WorksIn, world_now}
+use Rattle.ev_actors.specs.Resting.{SettlesForNews}
 use Rattle.ev_actors.specs.Working.{operations_made}
 use Rattle.ev_commits.specs.Seen.{HasActed, IsIdle}
 use Rattle.ev_operations.specs.Dues.{AreDue, operation_due}
@@ -22,6 +24,14 @@ pub record IsActing (script : ScriptParts) (actor : Actor) (left : List Operatio
   pub rests : Bool
   pub fits : FitsSoFar (operations_of script actor) actor rests left parts
 
+-- a worker's settles at rest have brought news in the journal; of the others nothing is said
+abbrev pub HasNews : Actor → JournalParts → Type 0
+HasNews Stream parts = ⊤
+HasNews Health parts = ⊤
+HasNews Timer parts = ⊤
+HasNews Main parts = ⊤
+HasNews (Worker worker) parts = SettlesForNews parts.format worker true (opening parts.workers parts.node) parts.journal
+
 -- A worker has these operations of the script left, behind those of its batch. Where it did nothing since it settled and has nothing
 -- open, it rests.
 pub record IsWorking (script : ScriptParts) (worker : WorkerParts) (left : List Operation) (parts : JournalParts) : Type 0 where
@@ -31,6 +41,7 @@ pub record IsWorking (script : ScriptParts) (worker : WorkerParts) (left : List 
   pub rests : Bool
   pub fits : FitsSoFar (operations_of script (Worker worker.number)) (Worker worker.number) rests (operations_made worker ++ left) parts
   pub idle : IsIdle worker → rests ≡ true
+  pub news : HasNews (Worker worker.number) parts
 
 -- the same, where what is left is told by places of lines
 pub record IsActingOn (script : ScriptParts) (actor : Actor) (todo : List Due) (parts : JournalParts) : Type 0 where
@@ -77,6 +88,7 @@ HasGoneThrough script due before after old new =
 abbrev pub settle_of : WorkerParts → ℕ → ℕ → Operation
 settle_of worker at step = record { actor = Worker worker.number; at = at; step = step; event = Settle }
 
--- the actor has done all of its operations of the script
-abbrev pub HasEnded : ScriptParts → Actor → JournalParts → Type 0
-HasEnded script actor parts = AreDone true (operations_of script actor) (deeds_in parts actor)
+-- the actor has done all of its operations of the script, and a worker's settles at rest have brought news
+pub record HasEnded (script : ScriptParts) (actor : Actor) (parts : JournalParts) : Type 0 where
+  pub done : AreDone true (operations_of script actor) (deeds_in parts actor)
+  pub news : HasNews actor parts

@@ -1,5 +1,6 @@
 -- Actors begin with all their operations, go on by what is due next, and have done all where nothing is left. This project's own.
 use Rattle.std.specs.Prelude.{ℕ, ◌≡◌, ◌<◌, ◌+◌, true, List, [], ◌∷◌, ◌++◌, length}
+use Rattle.ev_types.specs.Events.{IsMainSide}
 use Rattle.ev_types.specs.Scripts.{IsScript, ScriptParts}
 use Rattle.ev_types.specs.declared.events.Actor.{Actor}
 use Rattle.ev_types.specs.declared.events.Actor.TheVariants.{Worker}
@@ -11,7 +12,7 @@ use Rattle.ev_worker.specs.Workers.{IsMadeFrom, WorkerParts}
 use Rattle.ev_actors.specs.Journals.{JournalParts, nothing_done, world_now}
 use Rattle.ev_actors.specs.Taken.{HasBegun}
 use Rattle.ev_actors.specs.Working.{operations_made}
-use Rattle.ev_commits.specs.Seen.{HasCommitted, IsLeftOut}
+use Rattle.ev_commits.specs.Seen.{HasCommitted, IsLeftOut, LearnsAtRest}
 use Rattle.ev_operations.specs.Dues.{AreDue}
 use Rattle.ev_operations.specs.declared.due.Due.{Due}
 use Rattle.ev_fits.specs.Acting.{HasDone, HasEnded, HasGoneThrough, IsActingOn, IsNextAct, IsNextWork, IsWorking, IsWorkingOn, settle_of}
@@ -36,7 +37,8 @@ ActsOn =
 
 -- and with nothing left it has done all
 abbrev pub EndsActing : Type 0
-EndsActing = (script : ScriptParts) (actor : Actor) (parts : JournalParts) → IsActingOn script actor [] parts → HasEnded script actor parts
+EndsActing =
+    (script : ScriptParts) (actor : Actor) (parts : JournalParts) → IsMainSide actor → IsActingOn script actor [] parts → HasEnded script actor parts
 
 -- a worker that has done nothing yet begins with all that is due
 abbrev pub BeginsWorking : Type 0
@@ -59,11 +61,12 @@ JoinsAsDue =
     → length new.lines ≡ length old.lines + 1 → operations_made new ≡ operations_made old ++ o ∷ []
     → ((begun : List OpenMember) → IsMadeFrom begun old → IsMadeFrom begun new) → IsWorking script new left parts
 
--- so with a settle that it has made, with its batch before it
+-- so with a settle that it has made, with its batch before it, where that brings news to a worker at rest
 abbrev pub CommitsAsDue : Type 0
 CommitsAsDue =
     (script : ScriptParts) (old new : WorkerParts) (at step : ℕ) (left : List Operation) (before after : JournalParts)
-    → IsWorking script old (settle_of old at step ∷ left) before → HasCommitted at step before after old new → IsWorking script new left after
+    → IsWorking script old (settle_of old at step ∷ left) before → HasCommitted at step before after old new → LearnsAtRest after old
+    → IsWorking script new left after
 
 -- and with one that is left out
 abbrev pub LeavesOutAsDue : Type 0

@@ -24,6 +24,7 @@ use Rattle.ev_gate.specs.declared.gate.Gate.{Gate}
 use Rattle.ev_gate.specs.declared.gate.Pass.{Pass}
 use Rattle.ev_gate.specs.declared.stands.Stands.{Ghosts}
 use Rattle.ev_actors.specs.Journals.{JournalParts, nothing_done}
+use Rattle.ev_actors.specs.Resting.{SettlesForNews}
 use Rattle.ev_commits.specs.Commits.{GrowsByOthers, commits_of, seat_of}
 use Rattle.ev_commits.specs.Seen.{IsSound, began_as, journal_with}
 use Rattle.ev_commits.specs.declared.kept.Began.{Began}
@@ -33,6 +34,7 @@ use Rattle.ev_fits.specs.Left.{AreOwn, deeds_in}
 use Rattle.ev_fits.specs.Acting.{HasEnded}
 use Rattle.ev_run.specs.Playing.{EachAt, HasRun, IsGateFor, IsOverAt}
 use Rattle.ev_fits.proofs.FitLemmas.{deeds_stay, not_same, own_deeds}
+use Rattle.ev_fits.proofs.NewsLemmas.{news_stays}
 use Rattle.ev_fits.proofs.OwnLemmas.{all_own}
 
 no_more : {X : Type 0} (xs ys : List X) → xs ++ ys ≡ xs → ys ≡ []
@@ -53,8 +55,10 @@ rest_of_others number since all own (more, goes_on) =
 -- the operations are still done behind it
 pub ended_stays : (script : ScriptParts) (actor : Actor) (before after : JournalParts) → GrowsByOthers (seat_of actor) before after
     → HasEnded script actor before → HasEnded script actor after
-ended_stays script actor before after grows ended =
-    subst (AreDone true (operations_of script actor)) (sym (deeds_stay actor before after grows)) ended
+ended_stays script actor before after grows ended = record {
+  done = subst (AreDone true (operations_of script actor)) (sym (deeds_stay actor before after grows)) ended.done;
+  news = news_stays actor before after grows ended.news;
+}
 
 pub ended_whole : (script : ScriptParts) (actor : Actor) (parts : JournalParts) (began : Began) (knows : Knowledge Began (List Entry))
     (all : List (ℕ × List Entry)) → IsSound parts → began_as parts ≡ began → commits_of parts.journal ≡ all → knows.start ≡ [] → knows.number ≡ seat_of actor
@@ -106,7 +110,7 @@ none_done format workers worker world (entry ∷ entries) past runs =
     apart a b le less = omega arith
 
 ended_past : (script : ScriptParts) (worker : ℕ) (parts : JournalParts) → IsScript script → IsSound parts → parts.workers ≡ script.workers → script.workers ≤ worker
-    → HasEnded script (Worker worker) parts
+    → AreDone true (operations_of script (Worker worker)) (deeds_in parts (Worker worker))
 ended_past script worker parts kept sound same past =
     let none : deeds_in parts (Worker worker) ≡ [] =
     none_done parts.format parts.workers worker (opening parts.workers parts.node) parts.journal (subst (λ n. n ≤ worker) (sym same) past) sound.answers in
@@ -116,15 +120,16 @@ ended_past script worker parts kept sound same past =
 
 -- each actor has done its operations
 all_ended : (script : ScriptParts) (parts : JournalParts) → IsScript script → IsSound parts → parts.workers ≡ script.workers
-    → ((actor : Actor) → seat_of actor < 4 + script.workers → HasEnded script actor parts) → (actor : Actor) → HasEnded script actor parts
-all_ended script parts kept sound same each Stream = each Stream (omega arith)
-all_ended script parts kept sound same each Health = each Health (omega arith)
-all_ended script parts kept sound same each Timer = each Timer (omega arith)
-all_ended script parts kept sound same each Main = each Main (omega arith)
+    → ((actor : Actor) → seat_of actor < 4 + script.workers → HasEnded script actor parts) → (actor : Actor)
+    → AreDone true (operations_of script actor) (deeds_in parts actor)
+all_ended script parts kept sound same each Stream = (each Stream (omega arith)).done
+all_ended script parts kept sound same each Health = (each Health (omega arith)).done
+all_ended script parts kept sound same each Timer = (each Timer (omega arith)).done
+all_ended script parts kept sound same each Main = (each Main (omega arith)).done
 all_ended script parts kept sound same each (Worker worker) = by (cases_lt worker script.workers)
   where
-    by : (worker < script.workers) ⊎ (script.workers ≤ worker) → HasEnded script (Worker worker) parts
-    by (inl less) = each (Worker worker) (omega arith)
+    by : (worker < script.workers) ⊎ (script.workers ≤ worker) → AreDone true (operations_of script (Worker worker)) (deeds_in parts (Worker worker))
+    by (inl less) = (each (Worker worker) (omega arith)).done
     by (inr past) = ended_past script worker parts kept sound same past
 
 -- so it is a run of the script
@@ -144,6 +149,9 @@ has_run script parts kept laws sound is each =
             (all_ended script parts kept sound (ap (λ (b : Began). b.workers) is) each actor);
       };
       laws = laws Two script.workers script.node parts.journal run;
+      news = λ worker below.
+          subst (λ (b : Began). SettlesForNews b.format worker true (opening b.workers b.node) parts.journal) is
+          (each (Worker worker) (omega arith)).news;
     }
 
 -- what the passes know at the close

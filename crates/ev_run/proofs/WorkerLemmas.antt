@@ -14,16 +14,16 @@ use Rattle.ev_actors.specs.Journals.{JournalParts}
 use Rattle.ev_actors.specs.Taken.{HasJoined}
 use Rattle.ev_actors.specs.Working.{operations_made}
 use Rattle.ev_actors.proofs.LineLemmas.{settle_is, worker_batches}
-use Rattle.ev_commits.specs.Seen.{HasCommitted, IsLeftOut}
+use Rattle.ev_commits.specs.Seen.{HasCommitted, IsLeftOut, LearnsAtRest}
 use Rattle.ev_fits.specs.Acting.{GoesThrough, settle_of}
 use Rattle.ev_fits.proofs.WorkLemmas.{commits, joins, leaves_out}
 
 -- a settle is made or left out
 module _ (script : ScriptParts) (at n : ℕ) (before after heard : JournalParts) (old new : WorkerParts) where
-  pub settle_goes : (made : Bool) → (made ≡ true → HasCommitted at n before after old new) → (made ≡ false → IsLeftOut before after heard old new)
-      → GoesThrough script (settle_of old at n) before after old new
-  settle_goes true made out = λ left was. commits script old new at n left before after was (made refl)
-  settle_goes false made out = λ left was. leaves_out script old new at n left before after was heard (out refl)
+  pub settle_goes : (made : Bool) → (made ≡ true → LearnsAtRest after old) → (made ≡ true → HasCommitted at n before after old new)
+      → (made ≡ false → IsLeftOut before after heard old new) → GoesThrough script (settle_of old at n) before after old new
+  settle_goes true learns made out = λ left was. commits script old new at n left before after was (made refl) (learns refl)
+  settle_goes false learns made out = λ left was. leaves_out script old new at n left before after was heard (out refl)
 
 -- a settle line is the worker's settle
 pub settle_line : (worker : WorkerParts) (line : Line) → line.actor ≡ Worker worker.number → is_settle line.event ≡ true

@@ -14,6 +14,7 @@ use Rattle.ev_gate.specs.declared.gate.Gate.{Gate}
 use Rattle.ev_gate.specs.declared.gate.Pass.{Pass}
 use Rattle.ev_gate.specs.declared.stands.Stands.{Ghosts}
 use Rattle.ev_actors.specs.Journals.{JournalParts, nothing_done, world_now}
+use Rattle.ev_actors.specs.Resting.{IdleSettlesBringNews}
 use Rattle.ev_actors.specs.Taken.{HasBegun}
 use Rattle.ev_commits.specs.Commits.{seat_of}
 use Rattle.ev_commits.specs.Seen.{HasHeard, heard_by, seen_by}
@@ -66,10 +67,11 @@ module _ {J : Type 0} (shows : J → JournalParts) where
     IsOver script gate seat ended pass = IsSomeAnd pass (IsOverAt script gate ended seat)
 
 -- it has the script's workers and node, and its journal is a run of format 2 that holds each actor's operations of the script, and has
--- the laws
+-- the laws; where a worker rests it has settled only on a newer picture, so the journal need be no replay's
 pub record HasRun (script : ScriptParts) (parts : JournalParts) : Type 0 where
   pub format : parts.format ≡ Two
   pub workers : parts.workers ≡ script.workers
   pub node : parts.node ≡ script.node
   pub journal : IsRunOf Two script parts.journal
   pub laws : Laws record { format = Two; workers = script.workers; node = script.node; journal = parts.journal }
+  pub news : IdleSettlesBringNews Two script.workers script.node parts.journal

@@ -1,12 +1,11 @@
 -- Open connections of a worker, by their numbers.
-use Rattle.std.proofs.Common.{◌≡◌, ℕ, Bool, true, false, not, ◌&&◌, ◌||◌, ◌==◌, nat_eq, cond, List, [], ◌∷◌, ◌++◌, filter, map, Option, None, Some, is_some, IsSome, refl, sym, ap, ◌∙◌, subst, arith}
+use Rattle.std.proofs.Common.{◌≡◌, ℕ, Bool, true, false, not, ◌&&◌, ◌||◌, ◌==◌, nat_eq, cond, List, [], ◌∷◌, ◌++◌, filter, length, map, Option, None, Some, is_some, IsSome, refl, sym, ap, ◌∙◌, subst, arith}
 use Rattle.std.specs.Cmp.{nat_eq_equiv}
-use Rattle.std.specs.List.{IsDistinct, list_any, AllByRecursion}
+use Rattle.std.specs.List.{IsDistinct, list_any}
 use Rattle.std.specs.Option.{option_map, option_to_list}
 use Rattle.std.specs.Map.{keys_of, lookup}
 use Rattle.std.proofs.lemmas.Bool.{cond-true, cond-false, true≢false, false≢true}
 use Rattle.std.proofs.lemmas.Bool.Decides.{nat_tests}
-use Rattle.std.proofs.lemmas.Grind.{common_steps}
 use Rattle.std.proofs.lemmas.List.{append-nil, map-append}
 use Rattle.std.proofs.lemmas.List.Elements.{filter-append}
 use Rattle.std.proofs.lemmas.Map.{lookup-none}
@@ -244,3 +243,30 @@ opens_apart picture ask false some = refl
 pub absent : (found : Option (ℕ × Option ℕ)) → is_some found ≡ false → found ≡ None
 absent None none = refl
 absent (Some on) none = absurd (true≢false none)
+
+-- where none of the worker's number is open, it stores none
+pub none_stored : (worker : ℕ) (es : List (ℕ × (ℕ × Option ℕ))) → SameOpen worker (members_of worker es) [] → es ≡ []
+none_stored worker [] none = refl
+none_stored worker (e ∷ es) none =
+    absurd (let never : member_of worker e ∷ filter (is_member worker e.0) (members_of worker es) ≡ [] =
+    sym (cond-true (is_member worker e.0 (member_of worker e)) (member_of worker e ∷ filter (is_member worker e.0) (members_of worker es))
+    (filter (is_member worker e.0) (members_of worker es))
+    (ap (λ b. b && (e.0 == e.0)) (same_number worker) ∙ same_number e.0))
+    ∙ none e.0 in cc)
+
+-- where nothing is open, none of the worker's number is
+pub none_same : (worker : ℕ) (opened : List OpenMember) → opened ≡ [] → SameOpen worker opened []
+none_same worker opened none connection = ap (filter (is_member worker connection)) none
+
+-- and the other way, of the connections that it stores
+pub none_shown : (number worker : ℕ) (opened : List OpenMember) (es : List (ℕ × (ℕ × Option ℕ))) → worker ≡ number → members_of worker es ≡ opened
+    → SameOpen number opened [] → es ≡ []
+none_shown number worker opened es is shown none =
+    none_stored worker es
+    (subst (λ (n : ℕ). SameOpen n (members_of worker es) []) (sym is)
+    (subst (λ (ms : List OpenMember). SameOpen number ms []) (sym shown) none))
+
+-- what has no length is empty
+pub empty_of : {X : Type 0} (xs : List X) → length xs ≡ 0 → xs ≡ []
+empty_of [] none = refl
+empty_of (x ∷ xs) none = absurd (omega arith)

@@ -1,22 +1,19 @@
 -- A settle by the numbers that were closed.
-use Rattle.std.proofs.Common.{◌≡◌, ℕ, ◌<◌, Bool, true, false, not, ◌&&◌, ◌||◌, ◌==◌, nat_eq, nat_le, cond, List, [], ◌∷◌, filter, map, length, Option, None, Some, refl, sym, ap, ◌∙◌, subst, arith}
+use Rattle.std.proofs.Common.{◌≡◌, ℕ, ◌<◌, Bool, true, false, not, ◌&&◌, ◌||◌, ◌==◌, nat_eq, nat_le, cond, List, [], ◌∷◌, filter, map, length, Option, None, Some, refl, sym, ap, ◌∙◌}
 use Rattle.std.specs.List.{IsDistinct, list_any}
 use Rattle.std.specs.Option.{option_map, option_to_list}
 use Rattle.std.specs.Map.{keys_of, lookup}
-use Rattle.std.proofs.lemmas.Bool.{cond_both, cond-true, cond-false}
-use Rattle.std.proofs.lemmas.Bool.Decides.{nat_tests}
-use Rattle.std.proofs.lemmas.Grind.{common_steps}
+use Rattle.std.proofs.lemmas.Bool.{cond_both}
 use Rattle.std.proofs.lemmas.List.{get_or-set_same}
 use Rattle.ev_model.specs.World.{OpenMember, World, last_version}
 use Rattle.ev_model.specs.Sorted.{put_by, sorted_by}
 use Rattle.ev_model.specs.Picture.{has_number}
 use Rattle.ev_model.specs.Dead.{last_picture, picture_at, picture_held}
-use Rattle.ev_model.specs.Publishing.{ascending}
 use Rattle.ev_model.specs.Connections.{closed_by, is_closing, is_member, left_open, member_on, settle}
 use Rattle.ev_model.specs.declared.pictures.Picture.{Picture}
 use Rattle.ev_worker.specs.Members.{members_of}
-use Rattle.ev_worker.specs.Workers.{HasWorker, IsToldBy, SameOpen, StandsFor, WorkerParts, without_numbers}
-use Rattle.ev_worker.proofs.OpenLemmas.{filter_same, filter_swap, numbered}
+use Rattle.ev_worker.specs.Workers.{HasWorker, IsToldBy, SameOpen, without_numbers}
+use Rattle.ev_worker.proofs.OpenLemmas.{filter_swap, numbered}
 
 or_swap : (x y z : Bool) → (y || (x || z)) ≡ (x || (y || z))
 or_swap true true z = refl

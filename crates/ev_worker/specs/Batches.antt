@@ -2,7 +2,6 @@
 use Rattle.std.specs.Prelude.{ℕ, Bool, if◌then◌else◌, List, map}
 use Rattle.ev_types.specs.declared.events.Actor.TheVariants.{Worker as by_worker}
 use Rattle.ev_types.specs.declared.events.Ask.{Ask}
-use Rattle.ev_types.specs.declared.events.Event.{Event}
 use Rattle.ev_types.specs.declared.events.Event.TheVariants.{Accept, Close}
 use Rattle.ev_types.specs.declared.events.Answer.{Answer}
 use Rattle.ev_types.specs.declared.events.Answer.TheVariants.{InUse as in_use, Done as done, NotOpen as not_open}

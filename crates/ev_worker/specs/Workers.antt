@@ -30,6 +30,10 @@ pub record WorkerParts : Type 0 where
 abbrev pub SameOpen : ℕ → List OpenMember → List OpenMember → Type 0
 SameOpen worker one other = (connection : ℕ) → filter (is_member worker connection) one ≡ filter (is_member worker connection) other
 
+-- no connection of the worker's number is open
+abbrev pub HasNoneOpen : WorkerParts → Type 0
+HasNoneOpen worker = SameOpen worker.number worker.opened []
+
 -- in this world the worker of this number holds this picture, and has these connections open
 pub record HasWorker (number : ℕ) (picture : Picture) (opened : List OpenMember) (world : World) : Type 0 where
   pub holds : picture_held world number ≡ picture

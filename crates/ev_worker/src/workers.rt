@@ -5,7 +5,7 @@ ghost use Rattle.ev_model.specs.World.{OpenMember};
 ghost use Rattle.ev_model.specs.Connections.{closed, is_open};
 ghost use Rattle.ev_model.specs.Operations.{batch_limit};
 ghost use Rattle.ev_worker.specs.Batches.{accepted_as, accepted_answer, accept_line, close_line, closed_as, closed_answer};
-ghost use Rattle.ev_worker.specs.Workers.{IsMadeFrom, SameOpen, SettlesBy, acceptance, without_numbers};
+ghost use Rattle.ev_worker.specs.Workers.{HasNoneOpen, IsMadeFrom, SameOpen, SettlesBy, acceptance, without_numbers};
 
 use crate::batches::{BATCH_LIMIT, Batch};
 use crate::lines::{Accepted, BatchLine, Closed, Outcome, Settled};
@@ -80,7 +80,8 @@ impl Worker {
 
     /// Whether it did nothing since it settled, and has nothing open. It takes no memory.
     pub fn idle(&self) -> bool
-        ensures { IsTrue result ↔ ((self.now.lines ≡ []) × (self.now.opened ≡ [])) }
+        ensures idle { IsTrue result ↔ ((self.now.lines ≡ []) × (self.now.opened ≡ [])) }
+        ensures rests { IsTrue result ↔ ((self.now.lines ≡ []) × HasNoneOpen self.now) }
     {
         self.batch.lines().is_empty() && self.members.is_empty()
     }

@@ -21,7 +21,7 @@ returns-clause-newer g c =
           (is_newer c.args.worker.now.picture.version (version_shown seen) (version_shown heard) w.newest-newest.result
           (works_behind c.args.worker.now seen c.requires.works) c.requires.heard w.newest-newest.ensures.not_below
           (λ same. w.if-newest-version.false (same ∙ sym w.version.ensures)))
-      | else-idle w ↦ λ idle. let never : IsTrue false = subst IsTrue w.if-idle.false (c.idle.ensures.1 idle) in cc
+      | else-idle w ↦ λ idle. let never : IsTrue false = subst IsTrue w.if-idle.false (c.idle.ensures.rests.1 idle) in cc
     ])
     c.commit.ensures.newer
 

@@ -33,6 +33,6 @@ loop-due-preserved g c =
 pub returns-clause-ended : goal.returns-clause-ended
 returns-clause-ended g c = λ came.
     let parts : JournalParts = seen_by g.J.Journaled.shows c.args.gate.now c.loop-due.pass in
-    acting_ended c.args.script.now c.args.actor parts
+    acting_ended c.args.script.now c.args.actor parts c.requires.main
     (subst (λ (ds : List Due). IsActingOn c.args.script.now c.args.actor ds parts) (drop_all c.loop-due.due-index c.args.dues.now c.loop-due-test.false)
     c.loop-due.invariant.acting)

@@ -1,4 +1,4 @@
-use Rattle.std.proofs.Common.{◌≡◌, ◌++◌, ◌∷◌, [], ℕ, List, Option, nat_eq, is_some, map, ap, sym, ◌∙◌}
+use Rattle.std.proofs.Common.{◌++◌, ℕ, Option, nat_eq, is_some, map, ap, sym, ◌∙◌}
 use Rattle.std.specs.Option.{option_to_list}
 use Rattle.indexmap.proofs.CallerLemmas.{insert_entry-new}
 use Rattle.ev_worker.proofs.members.open_on.Goals as goal

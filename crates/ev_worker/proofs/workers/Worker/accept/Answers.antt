@@ -1,5 +1,5 @@
-use Rattle.std.proofs.Common.{◌≡◌, ◌++◌, ◌∷◌, [], ℕ, Option, List, map, ap, sym, ◌∙◌, is_some}
-use Rattle.std.specs.Option.{IsSome, option_to_list}
+use Rattle.std.proofs.Common.{◌++◌, ◌∷◌, [], ℕ, Option, map, ap, sym, ◌∙◌, is_some}
+use Rattle.std.specs.Option.{option_to_list}
 use Rattle.std.specs.Arc.{arc_value}
 use Rattle.ev_model.specs.Connections.{accepted, is_open}
 use Rattle.ev_worker.specs.Batches.{BatchParts, accept_line, accepted_as}

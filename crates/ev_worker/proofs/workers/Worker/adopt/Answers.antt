@@ -1,12 +1,11 @@
-use Rattle.std.proofs.Common.{◌≡◌, ◌<◌, ℕ, None, cond, nat_eq, List, length, filter, ap, sym, ◌∙◌, subst}
+use Rattle.std.proofs.Common.{◌<◌, ℕ, None, cond, nat_eq, List, length, filter, ap, sym, ◌∙◌, subst}
 use Rattle.std.specs.Arc.{arc_value}
 use Rattle.std.specs.Map.{lookup}
-use Rattle.ev_model.specs.World.{World}
 use Rattle.ev_model.specs.Picture.{has_number}
 use Rattle.ev_model.specs.Connections.{is_member, settle}
 use Rattle.ev_worker.specs.Batches.{BatchParts}
 use Rattle.ev_worker.specs.Members.{members_of}
-use Rattle.ev_worker.specs.Workers.{HasWorker, IsToldBy, SameOpen, WorkerParts, without_numbers}
+use Rattle.ev_worker.specs.Workers.{HasWorker, IsToldBy, WorkerParts, without_numbers}
 use Rattle.ev_worker.proofs.OpenLemmas.{numbers_leave}
 use Rattle.ev_worker.proofs.SettleLemmas.{adopted}
 use Rattle.ev_worker.proofs.workers.Worker.adopt.Goals as goal

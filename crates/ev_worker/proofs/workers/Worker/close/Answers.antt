@@ -1,10 +1,8 @@
-use Rattle.std.proofs.Common.{◌≡◌, ◌++◌, ◌∷◌, ◌&&◌, ◌==◌, [], ℕ, Bool, true, not, Option, List, map, filter, nat_eq, ap, refl, sym, ◌∙◌, arith}
-use Rattle.std.proofs.lemmas.Bool.Decides.{nat_tests}
-use Rattle.ev_model.specs.World.{OpenMember}
-use Rattle.ev_model.specs.Connections.{closed, is_member, is_open, member_on}
+use Rattle.std.proofs.Common.{◌++◌, ◌∷◌, [], filter, ap, sym, ◌∙◌}
+use Rattle.ev_model.specs.Connections.{closed, is_member, is_open}
 use Rattle.ev_worker.specs.Batches.{BatchParts, close_line, closed_answer, closed_as}
 use Rattle.ev_worker.specs.Members.{members_of}
-use Rattle.ev_worker.specs.Workers.{SameOpen, WorkerParts}
+use Rattle.ev_worker.specs.Workers.{WorkerParts}
 use Rattle.ev_worker.proofs.OpenLemmas.{close_answer, close_leaves, found_open}
 use Rattle.ev_worker.proofs.BatchLemmas.{close_made}
 use Rattle.ev_worker.proofs.workers.Worker.close.Goals as goal
