@@ -219,7 +219,7 @@ def logins(check, program, folder):
         done = subprocess.run([sys.executable, '-B', f'{TOOLS}/record', '--connect', f'127.0.0.1:{port}', '--until-quiet', '3', '--out', f'{folder}/out',
                                '--node-json', node, '--header', 'X-Mesh=a=b', '--header-env', 'authorization=TOKEN_OF_TRIAL', '--program', program],
                               capture_output=True, text=True, timeout=2 * MOST, env={**os.environ, 'TOKEN_OF_TRIAL': secret})
-    check(done.returncode == 0 and len(plane.requests) == 2, f'a client with a login: {done.returncode} {done.stderr}')
+    check(done.returncode == 0 and len(plane.requests) >= 2, f'a client with a login: {done.returncode} {done.stderr}')
     for metadata, seen in zip(plane.metadata, plane.requests):
         check((metadata.get('authorization'), metadata.get('x-mesh')) == (secret, 'a=b'), f'the headers are {metadata}')
         first = seen[0].node
