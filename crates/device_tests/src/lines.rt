@@ -108,12 +108,15 @@ struct Stripes {
     total: u64,
     width: u64,
     closed: u64,
+    ended: bool,
 }
 
 impl Source for Stripes {
     ghost use Rattle.std.specs.Prelude.{None};
 
     ghost left = { λ _. None };
+
+    ghost ended = { λ s. s.ended };
 
     ghost faults = { λ _. 0 };
 
@@ -130,6 +133,9 @@ impl Source for Stripes {
             }
         }
         self.at = self.at.saturating_add(count);
+        if count == 0 && buf.len() > 0 {
+            self.ended = true;
+        }
         Ok(count as usize)
     }
 }
@@ -157,6 +163,7 @@ fn tells_what_is_above_a_limit(rt: HostRuntime) -> Result<(), Fail> {
             total,
             width,
             closed,
+            ended: false,
         };
         let mut all = Vec::new(rt.alloc());
         let found = read_from(rt.alloc(), &mut source, &mut all)?;
