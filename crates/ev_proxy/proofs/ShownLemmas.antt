@@ -144,13 +144,13 @@ part_names s world stands indexed = subst (λ (rows : List GenRow). IsDistinct b
 
 pub cluster_names : (s : State) (world : World) → ManagesAt s world → NamesDiffer Cds world.rows
 cluster_names s world at =
-    subst (λ kind. NamesDiffer kind world.rows) at.kept.clusters.clusters
+    subst (λ kind. NamesDiffer kind world.rows) at.kept.clusters.rows
     (part_names s.managers.clusters.state world at.follows.stands.managers.clusters at.kept.clusters.kept.indexed)
 
 pub listener_names : (s : State) (world : World) → ManagesAt s world → NamesDiffer Lds world.rows
 listener_names s world at =
-    subst (λ kind. NamesDiffer kind world.rows) at.kept.listeners.listeners
-    (part_names s.managers.listeners.state world at.follows.stands.managers.listeners.part at.kept.listeners.kept.indexed)
+    subst (λ kind. NamesDiffer kind world.rows) at.kept.listeners.rows
+    (part_names s.managers.listeners.state world at.follows.stands.managers.listeners at.kept.listeners.kept.indexed)
 
 -- a publication: the last picture shows what is to be shown
 pub published_shown : (s : State) (world : World) → ManagesAt s world → IsShownBut [] (publish world).0

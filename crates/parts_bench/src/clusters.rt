@@ -9,9 +9,9 @@ mod survey;
 
 use crate::names::news;
 use anyhow::{Result, anyhow};
+use ev_generations::Steps;
 use ev_managers::{Managers, Moved};
 use ev_types::Kind;
-use ev_generations::Steps;
 use responses::{endpoints, response, service};
 use std::alloc::Global;
 use std::marker::Brand;

@@ -132,7 +132,12 @@ fn ask_all(alloc: Global, managers: &Managers, asks: u16) -> Result<u32>
     let mut held = 0u32;
     for place in 0..asks {
         let address = address(alloc, place)?;
-        if !managers.listeners.state.holders(alloc, &address)?.is_empty() {
+        if !managers
+            .listeners
+            .state
+            .holders(alloc, &address)?
+            .is_empty()
+        {
             held = held.saturating_add(1);
         }
     }
