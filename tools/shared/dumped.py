@@ -38,7 +38,7 @@ def read_dump(data):
 def tell(page, tree):
     """Prints a dump as a table."""
     counters = tree['counters']
-    page.end(f'Behind entry {tree["entries"]}: picture {tree["version"]} is the last, phase {tree["phase"]}: {PHASES[tree["phase"]]}.')
+    page.end(f'After entry {tree["entries"]}: picture {tree["version"]} is the last, phase {tree["phase"]}: {PHASES[tree["phase"]]}.')
     page.end(f'So far {counted(counters["ack"], "response")} acknowledged, {counters["nack"]} answered with an error; '
              f'{counted(counters["opened"], "connection")} opened; {counted(counters["reaped"], "generation")} destroyed.')
     rows = [(row['number'], kind, row) for kind in ('cds', 'lds') for row in tree['clusters' if kind == 'cds' else 'listeners']]
