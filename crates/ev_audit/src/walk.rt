@@ -9,10 +9,9 @@ ghost use Rattle.ev_walk_laws.specs.Walks.{leaves_out};
 ghost use Rattle.ev_audit.specs.Audits.{IsBefore, batch_after, breaks_open, is_settle_word, world_before};
 
 use crate::steps::{has_open, step_due};
-use ev_answers::is_same_answer;
 use ev_courses::Courses;
 use ev_proxy::Proxy;
-use ev_types::{Actor, Finding, Format, Op, Row, Script};
+use ev_types::{Actor, Finding, Format, Op, Row, Script, is_same_answer};
 use std::alloc::{AllocError, Global};
 
 /// A walk over a journal's rows: the machine behind the rows so far, how far each actor has come, and whose batch is open.

@@ -33,7 +33,9 @@
 //!   nor have those of served clusters, in which no host is looked up.
 #![tactic(auto)]
 
+mod answers;
 mod clusters;
+mod compared;
 mod contents;
 mod copies;
 mod events;
@@ -52,6 +54,7 @@ mod shared;
 mod texts;
 mod timeouts;
 
+pub use answers::is_same_answer;
 pub use clusters::{Cluster, Discovery};
 pub use contents::{Body, Content, Item, Kind, Request, Response};
 pub use copies::TryCopy;

@@ -2,7 +2,9 @@ ghost use Rattle.std.specs.Prelude.{◌≡◌, Bool};
 ghost use lib.Pointwise.{pointwise};
 ghost use Rattle.ev_types.specs.SameAnswers.{told_same};
 
-use ev_types::{Name, Request, Text, Verdict};
+use crate::contents::Request;
+use crate::events::Verdict;
+use crate::texts::{Name, Text};
 
 /// What can be compared, by a test of its own.
 pub(crate) trait Compared {

@@ -1,10 +1,11 @@
 ghost use Rattle.std.specs.Prelude.{◌≡◌};
 ghost use Rattle.ev_types.specs.SameAnswers.{answer_same};
 
-use crate::requests::are_same;
-use ev_types::Answer;
+use crate::compared::are_same;
+use crate::events::Answer;
 
-/// Whether the two are the same answer, with the same content. It goes over both once, and takes no memory.
+/// Whether the two are the same answer, with the same content. It goes over both once, and takes no memory: a list is
+/// compared by its length first, then place by place, and the first difference ends it.
 pub fn is_same_answer(one: &Answer, other: &Answer) -> bool
     ensures { result ≡ answer_same one.now other.now }
 {
