@@ -14,3 +14,4 @@ pub mod ExpandLemmas
 pub mod TlsLemmas
 pub mod DnsLemmas
 pub mod SotwLemmas
+pub mod NumberLemmas

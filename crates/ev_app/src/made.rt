@@ -15,7 +15,7 @@ use crate::sotw::make_sotw;
 use crate::status::Status;
 use crate::tls::make_tls;
 use ev_io::{ScriptFault, Source};
-use ev_pace::Pace;
+use ev_run::Pace;
 use std::alloc::Global;
 use std::sync::Wait;
 use std::thread::Threads;

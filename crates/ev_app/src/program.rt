@@ -8,7 +8,7 @@ use crate::commands::{Command, command_of};
 use crate::made::make;
 use crate::status::Status;
 use ev_io::{ScriptFault, Sink, Source, write_all};
-use ev_pace::Pace;
+use ev_run::Pace;
 use ev_types::Text;
 use std::alloc::Global;
 use std::sync::Wait;

@@ -29,9 +29,9 @@ use Rattle.ev_proxy.specs.Proxies.{IsAt, IsKnown}
 use Rattle.ev_walk_laws.specs.Walks.{IsTaken, NothingFound, journal_before, leaves_out, may_leave_out, next_of, world_behind}
 use Rattle.ev_walk_laws.proofs.NextLemmas.{at_row, journal_more, rests_own, stray_found, takes_next}
 use Rattle.ev_walk_laws.proofs.DrawnLemmas.{numbers_suffice}
-use Rattle.ev_courses.specs.Courses.{HaveCome, HaveMoved, IsFound}
-use Rattle.ev_courses.specs.declared.courses.Found.{Found}
-use Rattle.ev_courses.proofs.SeatLemmas.{more_come}
+use Rattle.ev_operations.specs.Courses.{HaveCome, HaveMoved, IsFound}
+use Rattle.ev_operations.specs.declared.courses.Found.{Found}
+use Rattle.ev_operations.proofs.SeatLemmas.{more_come}
 use Rattle.ev_audit.specs.Audits.{IsBefore, batch_after, batch_behind, breaks_open, is_batched_word, is_settle_word, open_batch}
 use Rattle.ev_audit.specs.declared.walk.Walk.{Walk}
 

@@ -15,7 +15,7 @@ use Rattle.ev_model.specs.World.{World}
 use Rattle.ev_model_laws.specs.LegalFindings.{IsLegalJournal}
 use Rattle.ev_proxy.specs.Proxies.{IsAt}
 use Rattle.ev_walk_laws.specs.Walks.{NothingFound, journal_before, world_behind}
-use Rattle.ev_courses.specs.Courses.{HaveCome}
+use Rattle.ev_operations.specs.Courses.{HaveCome}
 use Rattle.ev_audit.specs.declared.walk.Walk.{Walk}
 
 -- the word of a settle

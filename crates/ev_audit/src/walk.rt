@@ -9,7 +9,7 @@ ghost use Rattle.ev_walk_laws.specs.Walks.{leaves_out};
 ghost use Rattle.ev_audit.specs.Audits.{IsBefore, batch_after, breaks_open, is_settle_word, world_before};
 
 use crate::steps::{has_open, step_due};
-use ev_courses::Courses;
+use ev_operations::Courses;
 use ev_proxy::Proxy;
 use ev_types::{Actor, Finding, Format, Op, Row, Script, is_same_answer};
 use std::alloc::{AllocError, Global};

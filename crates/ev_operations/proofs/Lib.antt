@@ -1,1 +1,3 @@
 pub mod DueLemmas
+pub mod CourseLemmas
+pub mod SeatLemmas

@@ -1,4 +1,5 @@
-//! The threaded run: each actor of a script in a thread of its own.
+//! The threaded run: each actor of a script in a thread of its own, and the pace of it: who is told before each turn of an actor, and
+//! may hold the actor up.
 //!
 //! # Choices
 //!
@@ -11,9 +12,11 @@
 #![tactic(auto)]
 
 mod main_side;
+mod pace;
 mod player;
 mod players;
 mod threaded;
 mod workers;
 
+pub use pace::{Free, Pace};
 pub use threaded::run;

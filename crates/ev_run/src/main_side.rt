@@ -7,12 +7,12 @@ ghost use Rattle.ev_commits.specs.Seen.{HasActed, began_at, seen_by};
 ghost use Rattle.ev_fits.specs.Acting.{HasDone, HasEnded, IsActingOn, IsNextAct};
 ghost use Rattle.ev_run.specs.Playing.{IsGateFor, IsNewPass, IsPassAt};
 
+use crate::pace::Pace;
 use crate::player::worker_count;
 use ev_actors::Journaled;
 use ev_commits::{Kept, enter};
 use ev_gate::{Gate, Pass};
 use ev_operations::{Due, operations};
-use ev_pace::Pace;
 use ev_types::{Actor, Event, Line, Script};
 use std::alloc::{AllocError, Global};
 use std::sync::Wait;

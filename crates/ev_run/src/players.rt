@@ -2,12 +2,12 @@ ghost use Rattle.std.specs.Prelude.{◌≡◌, ◌≤◌, ◌+◌, ◌<◌, ◌&
 ghost use Rattle.ev_run.specs.Playing.{IsGateFor, IsNewPass, IsOver, IsOverAt, IsReady, IsTask};
 
 use crate::main_side::act_main;
+use crate::pace::Pace;
 use crate::player::{Player, Task};
 use crate::workers::act_worker;
 use ev_actors::Journaled;
 use ev_commits::Kept;
 use ev_gate::{Gate, Pass};
-use ev_pace::Pace;
 use ev_types::Script;
 use ev_worker::Worker;
 use std::alloc::Global;

@@ -7,13 +7,13 @@ ghost use Rattle.ev_actors.specs.Journals.{nothing_done, world_now};
 ghost use Rattle.ev_actors.specs.Taken.{HasBegun};
 ghost use Rattle.ev_run.specs.Playing.{HasRun, IsGateFor, IsOverAt, IsTask};
 
+use crate::pace::Pace;
 use crate::player::{Player, Task, worker_count};
 use crate::players::{passes_of, play_all, players_of};
 use ev_actors::Journaled;
 use ev_commits::Kept;
 use ev_gate::{Gate, Pass, Stands};
 use ev_model_laws::runs_have_the_laws;
-use ev_pace::Pace;
 use ev_types::{Actor, Script};
 use ev_worker::Worker;
 use std::alloc::{AllocError, Global};

@@ -12,12 +12,12 @@ ghost use Rattle.ev_fits.specs.Acting.{GoesThrough, HasEnded, HasGoneThrough, Is
 ghost use Rattle.ev_run.specs.Playing.{IsGateFor, IsNewPass, IsPassAt};
 
 use crate::main_side::line_at;
+use crate::pace::Pace;
 use crate::player::worker_count;
 use ev_actors::Journaled;
 use ev_commits::{Kept, settle};
 use ev_gate::{Gate, Pass};
 use ev_operations::{Due, operations};
-use ev_pace::Pace;
 use ev_types::{Actor, Event, Line, Script, TryCopy};
 use ev_worker::Worker;
 use std::alloc::{AllocError, Global};

@@ -1,6 +1,6 @@
 //! A pace that holds actors up until others have stepped, and looks at the last batch of a worker.
 use ev_model::Choice;
-use ev_pace::Pace;
+use ev_run::Pace;
 use ev_types::{Actor, Gen};
 use ev_worker::{Accepted, Batch, Outcome};
 use std::sync::Wait;

@@ -1,9 +1,8 @@
 use crate::paces::{Hold, Holds, Step};
 use ev_actors::Journaled;
 use ev_io::{Lines, MemSource};
-use ev_pace::Pace;
 use ev_registry::Registry;
-use ev_run::run;
+use ev_run::{Pace, run};
 use ev_script::read_script;
 use ev_types::{Actor, Answer, Format, Script};
 use std::alloc::Global;

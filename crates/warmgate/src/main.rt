@@ -4,7 +4,7 @@
 
 use ev_app::{Status, run_program};
 use ev_io::{StdSink, StdSource};
-use ev_pace::Free;
+use ev_run::Free;
 use ev_types::Text;
 use std::alloc::AllocError;
 use std::io;

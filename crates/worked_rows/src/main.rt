@@ -19,7 +19,7 @@ use crate::row_texts::{try_journals, try_texts};
 use crate::script_inputs::{try_cuts, try_inputs};
 use ev_app::{Status, run_program};
 use ev_io::{MemSink, MemSource};
-use ev_pace::Free;
+use ev_run::Free;
 use std::alloc::Global;
 use std::rt::Files;
 use std::sync::Wait;

@@ -8,7 +8,7 @@ use Rattle.ev_model.specs.World.{World}
 use Rattle.ev_run_laws.specs.Drawing.{NumbersSuffice}
 use Rattle.ev_proxy.specs.Proxies.{IsAt, IsKnown}
 use Rattle.ev_walk_laws.specs.Walks.{journal_before, world_behind}
-use Rattle.ev_courses.specs.Courses.{IsFound}
+use Rattle.ev_operations.specs.Courses.{IsFound}
 use Rattle.ev_audit.specs.declared.walk.Walk.{Walk}
 use Rattle.ev_audit.proofs.WalkLemmas.{found_behind, found_broken, found_differing, found_known, found_none, found_room}
 use Rattle.ev_audit.proofs.walk.Walk.pass.Goals as goal
