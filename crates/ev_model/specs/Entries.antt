@@ -1,5 +1,5 @@
 -- What an entry of a journal tells by itself. This project's own.
-use Rattle.std.specs.Prelude.{ℕ, zero, suc, Bool, true, false, ◌&&◌, ◌||◌, ◌==◌, if◌then◌else◌, List, [], ◌∷◌, filter_map, Option, Some, None, unwrap_or, slice_get, option_map, option_and_then}
+use Rattle.std.specs.Prelude.{ℕ, zero, suc, Bool, true, false, ◌&&◌, ◌||◌, ◌==◌, if◌then◌else◌, List, [], ◌∷◌, filter_map, Option, Some, None, unwrap_or, slice_get, option_map}
 use Rattle.std.specs.List.{flat_map, last_or, list_any, zip}
 use Rattle.std.specs.Str.{bytes_eq}
 use Rattle.ev_types.specs.Items.{ItemParts, ResponseParts}
@@ -17,7 +17,7 @@ use Rattle.ev_types.specs.declared.events.Answer.TheVariants.{Done, Moved, Repli
 use Rattle.ev_types.specs.declared.events.Verdict.{Verdict}
 use Rattle.ev_types.specs.declared.events.Verdict.TheVariants.{New, Same, Kept, Unasked, Renewed, Refused}
 use Rattle.ev_types.specs.declared.events.Entry.{Entry}
-use Rattle.ev_model.specs.Watching.{Dependency, dependency_of, is_limited}
+use Rattle.ev_model.specs.Watching.{Dependency}
 use Rattle.ev_model.specs.Verdicts.{is_removed}
 use Rattle.ev_model.specs.Picture.{has_number}
 use Rattle.ev_model.specs.Operations.{actor_same}
@@ -56,10 +56,6 @@ made_rows journal = flat_map (λ (entry : Entry). made_in entry.event entry.answ
 abbrev pub made_of : List Entry → ℕ → Option MadeRow
 made_of journal zero = None
 made_of journal (suc place) = slice_get (made_rows journal) place
-
--- what the generation depends on
-abbrev pub dependency_made : Option MadeRow → Option Dependency
-dependency_made row = option_and_then (λ (r : MadeRow). dependency_of r.content) row
 
 -- the answer names the generation of this number, as a listener or as a cluster
 abbrev pub names_row : ℕ → Answer → Bool
@@ -104,13 +100,13 @@ times_out kind name (FetchTimeout timeout) (Moved requests) = is_timeout_of kind
 times_out kind name event answer = false
 
 -- the entry is what a generation with this dependency waits for: a word of the control plane, or its timeout where that ends the wait
-abbrev pub answers_wait : Bool → Dependency → Entry → Bool
-answers_wait limited d entry =
-    tells_of_name d.kind d.name entry.event entry.answer || (limited && times_out d.kind d.name entry.event entry.answer)
+abbrev pub answers_wait : Dependency → Entry → Bool
+answers_wait d entry =
+    tells_of_name d.kind d.name entry.event entry.answer || (d.limited && times_out d.kind d.name entry.event entry.answer)
 
--- it answers the wait of this generation; one that depends on nothing waits for nothing
-abbrev pub has_arrived_for : MadeRow → Entry → Bool
-has_arrived_for row entry = unwrap_or (option_map (λ d. answers_wait (is_limited row.content) d entry) (dependency_of row.content)) false
+-- one of these entries ends the wait for this dependency
+abbrev pub has_ended_wait : List Entry → Dependency → Bool
+has_ended_wait entries d = list_any (answers_wait d) entries
 
 -- the event is an accept
 abbrev pub is_accept : Event → Bool

@@ -1,7 +1,7 @@
 -- What holds of every journal that is a run, so that operators may rely on it. This project's own; each law speaks of the
 -- journal, by the rules of its format, and the worlds that it leads through.
-use Rattle.std.specs.Prelude.{ℕ, ◌≡◌, ◌<◌, ◌≤◌, ◌+◌, ◌⊎◌, ◌↔◌, false, if◌then◌else◌, IsTrue, List, [], ◌∷◌, map, filter, filter_map, take, drop, All, Contains, Option, Some, None, slice_get, ⊤}
-use Rattle.std.specs.List.{list_any, zip}
+use Rattle.std.specs.Prelude.{ℕ, ◌≡◌, ◌<◌, ◌≤◌, ◌+◌, ◌⊎◌, ◌↔◌, false, if◌then◌else◌, IsTrue, List, [], ◌∷◌, map, filter, filter_map, take, drop, All, Contains, Option, Some, None, slice_get}
+use Rattle.std.specs.List.{list_any, list_all, zip}
 use Rattle.std.specs.List.Sorted.{IsStrictlyIncreasing}
 use Rattle.std.specs.Option.{option_or}
 use Rattle.ev_types.specs.Items.{ItemParts, ResponseParts}
@@ -30,12 +30,12 @@ use Rattle.ev_model.specs.Live.{lives_of}
 use Rattle.ev_model.specs.Versions.{is_version_of}
 use Rattle.ev_model.specs.Verdicts.{rule_of, is_taken, verdict_of, lives_after, lives_left}
 use Rattle.ev_model.specs.Requests.{refusal_text, message_of}
-use Rattle.ev_model.specs.Watching.{Dependency, dependency_of, is_watched}
+use Rattle.ev_model.specs.Watching.{dependencies_of, is_watched}
 use Rattle.ev_model.specs.Warming.{is_ready, value_of}
 use Rattle.ev_model.specs.Rows.{is_row_of}
 use Rattle.ev_model.specs.Picture.{has_number, is_shown}
 use Rattle.ev_model.specs.Runs.{world_at, IsRun}
-use Rattle.ev_model.specs.Entries.{MadeRow, made_of, names_row, has_arrived_for, is_accept, version_settled_by, last_settled, version_published, numbers_reaped, connection_of, closes}
+use Rattle.ev_model.specs.Entries.{MadeRow, made_of, names_row, has_ended_wait, is_accept, version_settled_by, last_settled, version_published, numbers_reaped, connection_of, closes}
 
 -- a journal, with its format, and the workers and the node of its machine
 pub record Told : Type 0 where
@@ -60,16 +60,11 @@ pub record IsServing (world : World) (number : ℕ) : Type 0 where
   pub active : row.status ≡ Active
   pub ready : IsTrue (is_ready world row)
 
--- one of these entries answers the wait of the generation, where it depends on something
-abbrev pub HasBeenAnswered : Option Dependency → MadeRow → List Entry → Type 0
-HasBeenAnswered None row entries = ⊤
-HasBeenAnswered (Some d) row entries = IsTrue (list_any (has_arrived_for row) entries)
-
--- the generation of this number was made, and answered by entries not after place q
+-- the generation of this number was made, and each of its waits was ended by an entry not after place q
 pub record WasAnswered (told : Told) (number q : ℕ) : Type 0 where
   pub row : MadeRow
   pub made : made_of told.journal number ≡ Some row
-  pub answered : HasBeenAnswered (dependency_of row.content) row (take (q + 1) told.journal)
+  pub answered : IsTrue (list_all (has_ended_wait (take (q + 1) told.journal)) (dependencies_of row.content))
 
 -- it served and was ready after some entry before place p
 pub record HadWarmed (told : Told) (number p : ℕ) : Type 0 where

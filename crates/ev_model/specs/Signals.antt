@@ -17,7 +17,7 @@ use Rattle.ev_types.specs.declared.rows.RowStatus.TheVariants.{Warming, Active, 
 use Rattle.ev_types.specs.declared.rows.GenRow.{GenRow}
 use Rattle.ev_model.specs.World.{World, Arrived, HealthResult}
 use Rattle.ev_model.specs.Versions.{is_bounded, without_version}
-use Rattle.ev_model.specs.Watching.{dependency_of, is_dependency, is_limited}
+use Rattle.ev_model.specs.Watching.{has_limited_dependency}
 use Rattle.ev_model.specs.Warming.{is_checked, assignment_by, is_told_by, is_timed_by}
 use Rattle.ev_model.specs.Phase.{is_clusters}
 use Rattle.ev_model.specs.Rows.{is_row_of, arrived, removed_status, with_statuses}
@@ -57,7 +57,7 @@ health name host healthy world = health_of host healthy (rows_meant world.arriva
 
 -- a live row whose wait is limited depends on the name
 abbrev pub is_waiting : Kind → List ℕ → GenRow → Bool
-is_waiting kind name row = is_live row.status && is_limited row.content && is_dependency kind name (dependency_of row.content)
+is_waiting kind name row = is_live row.status && has_limited_dependency kind name row.content
 
 -- the name is awaited within a limit: a row waits for it, and it was neither told of nor timed out
 abbrev pub is_awaited : List Arrived → List GenRow → Kind → List ℕ → Bool

@@ -19,7 +19,7 @@ use Rattle.ev_types.specs.declared.rows.Arrival.{Arrival}
 use Rattle.ev_types.specs.declared.rows.Arrival.TheVariants.{Value, Absent, Bad, TimedOut}
 use Rattle.ev_types.specs.declared.rows.GenRow.{GenRow}
 use Rattle.ev_model.specs.World.{World, Arrived, HealthResult}
-use Rattle.ev_model.specs.Watching.{Dependency, dependency_of, is_limited}
+use Rattle.ev_model.specs.Watching.{Dependency, dependencies_of}
 
 -- what came for a name of this kind, in order of coming
 abbrev pub came_for : List Arrived → Kind → List ℕ → List Arrival
@@ -72,13 +72,12 @@ abbrev pub is_timed : World → Kind → List ℕ → Bool
 is_timed world kind name = is_timed_by world.arrivals kind name
 
 -- what is depended on was told of, or timed out where the wait is limited
-abbrev pub has_answer : List Arrived → Bool → Option Dependency → Bool
-has_answer arrivals limited None = true
-has_answer arrivals limited (Some d) = is_told_by arrivals d.kind d.name || (is_timed_by arrivals d.kind d.name && limited)
+abbrev pub has_answer : List Arrived → Dependency → Bool
+has_answer arrivals d = is_told_by arrivals d.kind d.name || (is_timed_by arrivals d.kind d.name && d.limited)
 
--- a generation of this content is answered: it has no dependency, or that was told of, or it timed out and the wait is limited
+-- a generation of this content is answered: each of its dependencies is
 abbrev pub is_answered_by : List Arrived → Content → Bool
-is_answered_by arrivals content = has_answer arrivals (is_limited content) (dependency_of content)
+is_answered_by arrivals content = list_all (has_answer arrivals) (dependencies_of content)
 
 -- the row is answered
 abbrev pub is_answered : World → GenRow → Bool
