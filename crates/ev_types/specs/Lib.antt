@@ -16,3 +16,4 @@ pub mod Statuses
 pub mod SameAnswers
 pub mod Ips
 pub mod FilterChains
+pub mod SameMatchers

@@ -47,6 +47,7 @@ mod journals;
 mod limits;
 mod listeners;
 mod lists;
+mod matchers;
 mod reserved;
 mod routes;
 mod rows;
@@ -66,6 +67,10 @@ pub use journals::{Finding, Format, Row};
 pub use limits::{ITEM_LIMIT, LINE_LIMIT, MAX_NAME_LENGTH, MAX_WEIGHT_SUM, MAX_WORKERS, ROW_LIMIT};
 pub use listeners::{Listener, Serve};
 pub use lists::Seq;
+pub use matchers::{
+    HeaderMatcher, HeaderTest, PathSpecifier, RouteCondition, RouteMatch, StringMatcher,
+    StringPattern,
+};
 pub use reserved::Reserved;
 pub use routes::{
     Action, PathMatch, Route, RouteTable, Target, VirtualHost, WeightedCluster, WeightedClusters,
