@@ -1,7 +1,7 @@
 -- Where a connection goes, chosen in a picture by eight rules, of which the first that applies decides. Source: the Envoy v3
 -- API on virtual hosts, routes and weighted clusters, and on priorities and weights of hosts; the pick number is this
 -- project's own, for Envoy's load balancing policies.
-use Rattle.std.specs.Prelude.{ℕ, ◌-◌, ◌+◌, ◌/◌, ◌%◌, min, Bool, not, ◌&&◌, ◌||◌, ◌==◌, nat_lt, nat_le, if◌then◌else◌, List, [], ◌∷◌, ◌++◌, filter, find, map, take, drop, length, take_while, Option, Some, None, codes, option_map, slice_get}
+use Rattle.std.specs.Prelude.{ℕ, ◌-◌, ◌+◌, ◌/◌, ◌%◌, min, Bool, not, ◌&&◌, ◌==◌, nat_lt, if◌then◌else◌, List, [], ◌∷◌, ◌++◌, filter, find, map, take, drop, length, Option, Some, None, codes, option_map, slice_get}
 use Rattle.std.specs.List.{flat_map, range_with_len, sum}
 use Rattle.std.specs.Option.{option_or}
 use Rattle.std.specs.Str.{bytes_eq, str_to_ascii_lowercase}
@@ -12,14 +12,13 @@ use Rattle.ev_types.specs.declared.hosts.Host.{Host}
 use Rattle.ev_types.specs.declared.events.Ask.{Ask}
 use Rattle.ev_types.specs.declared.routes.Action.{Action}
 use Rattle.ev_types.specs.declared.routes.Action.TheVariants.{Forward, Redirect as redirect, Local as local}
-use Rattle.ev_types.specs.declared.routes.PathMatch.{PathMatch}
-use Rattle.ev_types.specs.declared.routes.PathMatch.TheVariants.{Prefix, Path, Separated}
 use Rattle.ev_types.specs.declared.routes.Route.{Route}
 use Rattle.ev_types.specs.declared.routes.RouteTable.{RouteTable}
 use Rattle.ev_types.specs.declared.routes.Target.{Target}
 use Rattle.ev_types.specs.declared.routes.Target.TheVariants.{One, Weighted}
 use Rattle.ev_types.specs.declared.routes.VirtualHost.{VirtualHost}
 use Rattle.ev_types.specs.declared.routes.WeightedCluster.{WeightedCluster}
+use Rattle.ev_model.specs.Paths.{begins_with, ends_with, is_path_taken}
 use Rattle.ev_model.specs.declared.pictures.Picture.{Picture}
 use Rattle.ev_model.specs.declared.pictures.Routing.{Routing}
 use Rattle.ev_model.specs.declared.pictures.Routing.TheVariants.{Table, Tcp}
@@ -27,14 +26,6 @@ use Rattle.ev_model.specs.declared.pictures.ServedCluster.{ServedCluster}
 use Rattle.ev_model.specs.declared.pictures.ServedListener.{ServedListener}
 use Rattle.ev_model.specs.declared.pictures.Choice.{Choice}
 use Rattle.ev_model.specs.declared.pictures.Choice.TheVariants.{NoListener, NoRoute, Local, Redirect, NoCluster, NoEndpoint, Served}
-
--- the text begins with the front
-abbrev pub begins_with : List ℕ → List ℕ → Bool
-begins_with text front = bytes_eq (take (length front) text) front
-
--- the text ends with the back
-abbrev pub ends_with : List ℕ → List ℕ → Bool
-ends_with text back = nat_le (length back) (length text) && bytes_eq (drop (length text - length back) text) back
 
 -- 1. the first listener of the picture at this address and port
 abbrev pub listener_at : List ServedListener → Host → Option ServedListener
@@ -99,16 +90,6 @@ domain_for ds host = option_or (find (is_domain host) ds) (option_or (by_suffix 
 -- 3. the virtual host that a host text goes to
 abbrev pub virtual_host_for : RouteTable → List ℕ → Option VirtualHost
 virtual_host_for table host = option_map (λ (d : HostDomain). d.host) (domain_for (domains_of table) (str_to_ascii_lowercase host))
-
--- a path without its query
-abbrev pub without_query : List ℕ → List ℕ
-without_query path = take_while (λ byte. not (byte == 63)) path
-
--- the path is taken by the match: by how it begins, by the whole of it, or up to a `/`, the query left aside in the last two
-abbrev pub is_path_taken : List ℕ → PathMatch → Bool
-is_path_taken path (Prefix front) = begins_with path front
-is_path_taken path (Path whole) = bytes_eq (without_query path) whole
-is_path_taken path (Separated front) = bytes_eq (without_query path) front || begins_with (without_query path) (front ++ codes "/")
 
 -- 4. the first route that takes the path
 abbrev pub route_for : VirtualHost → List ℕ → Option Route

@@ -10,6 +10,8 @@ pub mod Phase
 pub mod Tidy
 pub mod Picture
 pub mod Narrowing
+pub mod Paths
+pub mod Conditions
 pub mod Choice
 pub mod Dead
 pub mod Requests

@@ -8,4 +8,4 @@
 
 mod pictures;
 
-pub use pictures::{Choice, Picture, Routing, ServedChain, ServedCluster, ServedListener, Shown};
+pub use pictures::{Choice, Picture, Routing, ServedChain, ServedCluster, ServedListener, Shown, Taken};

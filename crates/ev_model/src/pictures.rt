@@ -215,6 +215,15 @@ impl TryCopy for Picture {
     }
 }
 
+/// What a route, or one of its conditions, says of a request.
+#[derive(Clone, Copy, Debug, PartialEq, Eq)]
+pub enum Taken {
+    No,
+    Yes,
+    /// That hangs on what no script tells.
+    Undecided,
+}
+
 /// Where a connection goes, as it is chosen in a picture.
 #[derive(Clone, Copy, Debug, PartialEq, Eq)]
 pub enum Choice {

@@ -22,3 +22,5 @@ pub mod TtlOfEndpoints
 pub mod DrainedListenersWait
 pub mod FullBatch
 pub mod Findings
+pub mod Narrowing
+pub mod Conditions

@@ -21,6 +21,8 @@ ghost use Rattle.ev_model_rows.specs.TtlOfEndpoints.{Answers as TtlOfEndpointsAn
 ghost use Rattle.ev_model_rows.specs.DrainedListenersWait.{Answers as DrainedListenersWaitAnswers, AnswersOfFormat1};
 ghost use Rattle.ev_model_rows.specs.FullBatch.{IsFull};
 ghost use Rattle.ev_model_rows.specs.Findings.{Found};
+ghost use Rattle.ev_model_rows.specs.Narrowing.{NoWayBack, Ranges, Names, Transports, Protocols};
+ghost use Rattle.ev_model_rows.specs.Conditions.{There, Missing, Paths};
 
 /// A content that returns: an update that never warmed is dropped, and the generation that served goes once nothing holds it. It does nothing.
 pub fn content_returns()
@@ -150,4 +152,20 @@ pub fn full_batch()
 /// What is found of the journal of the late batch: it is legal, and in three other forms it isn't. It does nothing.
 pub fn findings()
     ensures { Found }
+{}
+
+/// Filter chains are narrowed by port, address, server name, transport and application protocols, and nothing comes back. It does nothing.
+pub fn narrowing()
+    ensures no_way_back { NoWayBack }
+    ensures ranges { Ranges }
+    ensures names { Names }
+    ensures transports { Transports }
+    ensures protocols { Protocols }
+{}
+
+/// What routes ask of headers and paths, and what that says where a header is missing or nothing decides it. It does nothing.
+pub fn conditions()
+    ensures there { There }
+    ensures missing { Missing }
+    ensures paths { Paths }
 {}

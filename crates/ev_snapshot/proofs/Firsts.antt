@@ -10,7 +10,7 @@ use Rattle.std.specs.Str.{bytes_eq}
 use Rattle.ev_types.specs.declared.routes.PathMatch.{PathMatch}
 use Rattle.ev_types.specs.declared.routes.PathMatch.TheVariants.{Prefix, Path, Separated}
 use Rattle.ev_types.specs.declared.routes.Route.{Route}
-use Rattle.ev_model.specs.Choice.{begins_with, is_path_taken, without_query}
+use Rattle.ev_model.specs.Paths.{begins_with, is_path_taken, without_query}
 use Rattle.ev_snapshot.specs.Paths.{AreCovered, KeepsLengths, first_taken, is_covered, is_part, is_prefix_taken, is_separated_taken, match_key}
 
 -- tests that agree on each element have one first place

@@ -1,7 +1,7 @@
 -- How a text begins, one element further.
 use Rattle.std.proofs.Common.{◌≡◌, ℕ, ◌<◌, ◌≤◌, ◌&&◌, ◌++◌, List, [], ◌∷◌, length, false, refl, arith, nat_eq, slice_index_or}
 use Rattle.std.proofs.lemmas.Grind.{common_steps}
-use Rattle.ev_model.specs.Choice.{begins_with}
+use Rattle.ev_model.specs.Paths.{begins_with}
 
 -- a longer text goes on after the front with the byte that stands there
 pub begins_more : (text front : List ℕ) (byte : ℕ) → length front < length text

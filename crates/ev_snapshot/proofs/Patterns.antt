@@ -8,7 +8,8 @@ use Rattle.std.proofs.lemmas.Bool.Decides.{nat_tests}
 use Rattle.std.proofs.lemmas.Grind.{common_steps}
 use Rattle.std.proofs.lemmas.List.Elements.{All-append, All-cons, All-head, All-nil, All-tail, All-weaker}
 use Rattle.std.proofs.lemmas.List.Folds.{find-append}
-use Rattle.ev_model.specs.Choice.{HostDomain, begins_with, by_prefix, by_suffix, ends_with, domain_for, has_prefix, has_suffix, is_any, is_domain, is_prefix_form, is_suffix_form, longer_of, longest}
+use Rattle.ev_model.specs.Paths.{begins_with, ends_with}
+use Rattle.ev_model.specs.Choice.{HostDomain, by_prefix, by_suffix, domain_for, has_prefix, has_suffix, is_any, is_domain, is_prefix_form, is_suffix_form, longer_of, longest}
 use Rattle.ev_snapshot.specs.Domains.{AreListed, AreMeasured, KeepsLengths, find_beside, has_length, pattern_for}
 
 -- tests that agree on each domain find the same

@@ -7,7 +7,7 @@ use Rattle.ev_types.specs.declared.routes.PathMatch.{PathMatch}
 use Rattle.ev_types.specs.declared.routes.PathMatch.TheVariants.{Prefix, Path, Separated}
 use Rattle.ev_types.specs.declared.routes.Route.{Route}
 use Rattle.ev_types.specs.declared.routes.VirtualHost.{VirtualHost}
-use Rattle.ev_model.specs.Choice.{is_path_taken}
+use Rattle.ev_model.specs.Paths.{is_path_taken}
 
 -- a route for places beyond a list
 abbrev pub no_route : Route

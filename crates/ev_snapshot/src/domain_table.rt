@@ -2,7 +2,8 @@ ghost use Rattle.std.specs.Prelude.{◌≡◌, ◌≤◌, ◌<◌, ◌-◌, true
 ghost use Rattle.std.specs.Option.{option_copied};
 ghost use Rattle.std.specs.Str.{bytes_eq, str_to_ascii_lowercase};
 ghost use Rattle.indexmap.specs.IndexMap.{get};
-ghost use Rattle.ev_model.specs.Choice.{begins_with, by_prefix, by_suffix, domain_for, has_prefix, has_suffix};
+ghost use Rattle.ev_model.specs.Paths.{begins_with};
+ghost use Rattle.ev_model.specs.Choice.{by_prefix, by_suffix, domain_for, has_prefix, has_suffix};
 ghost use Rattle.ev_snapshot.specs.Domains.{GainsText, KeepsLengths, find_beside, has_length, pattern_for};
 
 use crate::domains::{Domain, is_prefix_form, is_suffix_form};

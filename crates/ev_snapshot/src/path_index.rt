@@ -4,7 +4,7 @@ ghost use Rattle.std.specs.Option.{option_copied};
 ghost use Rattle.std.specs.Str.{bytes_eq};
 ghost use Rattle.indexmap.specs.IndexMap.{get};
 ghost use Rattle.ev_types.specs.declared.routes.Route.{Route};
-ghost use Rattle.ev_model.specs.Choice.{is_path_taken, without_query};
+ghost use Rattle.ev_model.specs.Paths.{is_path_taken, without_query};
 ghost use Rattle.ev_snapshot.specs.Domains.{host_at};
 ghost use Rattle.ev_snapshot.specs.Indexed.{IsIndexed};
 ghost use Rattle.ev_snapshot.specs.Paths.{AreCovered, FindsFirst, KeepsLengths, first_taken, first_with, is_covered, is_part, is_prefix_taken, is_separated_taken};

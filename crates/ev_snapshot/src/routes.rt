@@ -1,7 +1,8 @@
 ghost use Rattle.std.specs.Prelude.{◌≡◌, ◌++◌, ◌||◌, codes};
 ghost use Rattle.std.specs.Str.{bytes_eq};
 ghost use Rattle.std.specs.Option.{option_copied};
-ghost use Rattle.ev_model.specs.Choice.{begins_with, is_path_taken, route_for};
+ghost use Rattle.ev_model.specs.Paths.{begins_with, is_path_taken};
+ghost use Rattle.ev_model.specs.Choice.{route_for};
 
 use crate::texts::{begins_with, without_query};
 use ev_types::{PathMatch, Route, VirtualHost};

@@ -1,6 +1,6 @@
 ghost use Rattle.std.specs.Prelude.{◌≡◌};
 ghost use Rattle.std.specs.Str.{bytes_eq, str_to_ascii_lowercase};
-ghost use Rattle.ev_model.specs.Choice.{begins_with, ends_with, without_query};
+ghost use Rattle.ev_model.specs.Paths.{begins_with, ends_with, without_query};
 
 /// Whether the text begins with the front.
 pub(crate) fn begins_with(text: &[u8], front: &[u8]) -> bool

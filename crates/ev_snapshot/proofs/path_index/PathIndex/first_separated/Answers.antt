@@ -1,7 +1,7 @@
 use Rattle.std.proofs.Common.{◌≡◌, ◌∷◌, false, true, take, sym, ap, ◌∙◌}
 use Rattle.std.specs.Str.{bytes_eq}
 use Rattle.ev_types.specs.declared.routes.Route.{Route}
-use Rattle.ev_model.specs.Choice.{without_query}
+use Rattle.ev_model.specs.Paths.{without_query}
 use Rattle.ev_snapshot.specs.Paths.{first_with, is_part, is_separated_taken, match_key}
 use Rattle.ev_snapshot.proofs.Firsts.{first_never, first_same, separated_key, separated_none}
 use Rattle.ev_snapshot.proofs.path_index.PathIndex.first_separated.Goals as goal

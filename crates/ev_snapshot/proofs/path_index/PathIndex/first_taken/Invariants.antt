@@ -1,7 +1,7 @@
 use Rattle.std.proofs.Common.{◌≡◌, ◌&&◌, take}
 use Rattle.std.specs.List.{position_or_len}
 use Rattle.ev_types.specs.declared.routes.Route.{Route}
-use Rattle.ev_model.specs.Choice.{is_path_taken}
+use Rattle.ev_model.specs.Paths.{is_path_taken}
 use Rattle.ev_snapshot.specs.Paths.{is_covered}
 use Rattle.ev_snapshot.proofs.path_index.PathIndex.first_taken.Given as goal
 

@@ -1,7 +1,7 @@
 use Rattle.std.proofs.Common.{sym, ap, ◌∙◌, slice_get}
 use Rattle.std.proofs.lemmas.List.Folds.{find_at}
 use Rattle.ev_types.specs.declared.routes.Route.{Route}
-use Rattle.ev_model.specs.Choice.{is_path_taken}
+use Rattle.ev_model.specs.Paths.{is_path_taken}
 use Rattle.ev_snapshot.proofs.path_index.PathIndex.route_for.Goals as goal
 
 pub returns : goal.returns

@@ -1,0 +1,91 @@
+-- What a route's match says of a request: no where one of its parts says no, else undecided where one of them is.
+use Rattle.std.specs.Prelude.{◌≡◌, ◌×◌, ℕ, Bool, true, false, List, [], ◌∷◌, codes, map}
+use Rattle.ev_types.specs.declared.routes.PathMatch.TheVariants.{Prefix as path_prefix, Path as whole_path}
+use Rattle.ev_types.specs.declared.matchers.StringPattern.{StringPattern}
+use Rattle.ev_types.specs.declared.matchers.StringPattern.TheVariants.{Exact, Prefix, Suffix, Contains}
+use Rattle.ev_types.specs.declared.matchers.HeaderTest.{HeaderTest}
+use Rattle.ev_types.specs.declared.matchers.HeaderTest.TheVariants.{Text as by_text, Present, Open as open_test}
+use Rattle.ev_types.specs.declared.matchers.RouteCondition.{RouteCondition}
+use Rattle.ev_types.specs.declared.matchers.RouteCondition.TheVariants.{Header, Grpc, Open as open_condition}
+use Rattle.ev_types.specs.declared.matchers.PathSpecifier.{PathSpecifier}
+use Rattle.ev_types.specs.declared.matchers.PathSpecifier.TheVariants.{Cased, Folded, Connect, Open as open_path}
+use Rattle.ev_types.specs.declared.matchers.RouteMatch.{RouteMatch}
+use Rattle.ev_model.specs.declared.pictures.Taken.{Taken}
+use Rattle.ev_model.specs.declared.pictures.Taken.TheVariants.{No, Yes, Undecided}
+use Rattle.ev_model.specs.Conditions.{Requested, condition_says, match_says}
+
+-- a request of a gRPC method, with a header of its own and one that is empty
+abbrev pub request : Requested
+request = record {
+  host = codes "a.com";
+  path = codes "/Shop/Cart?x=1";
+  headers =
+      (codes ":method", codes "POST")
+      ∷ (codes "content-type", codes "application/grpc+proto")
+      ∷ (codes "empty", [])
+      ∷ (codes "user", codes "Anna")
+      ∷ [];
+}
+
+-- a condition on a header
+abbrev pub on : List ℕ → HeaderTest → Bool → Bool → RouteCondition
+on name test invert empty = Header (record {
+  name = name;
+  test = test;
+  invert_match = invert;
+  treat_missing_header_as_empty = empty;
+})
+
+-- the test of a text, with its case or without
+abbrev pub text : Bool → StringPattern → HeaderTest
+text ignore pattern = by_text (record { pattern = pattern; ignore_case = ignore })
+
+-- headers that are there: each test, with its case and without, and turned over; the host is `:authority`, the path `:path`
+abbrev pub There : Type 0
+There = map (condition_says request)
+    (on (codes "user") (text false (Exact (codes "Anna"))) false false
+    ∷ on (codes "user") (text false (Exact (codes "anna"))) false false
+    ∷ on (codes "user") (text true (Exact (codes "aNNA"))) false false
+    ∷ on (codes "user") (text false (Prefix (codes "An"))) false false
+    ∷ on (codes "user") (text false (Suffix (codes "na"))) true false
+    ∷ on (codes "user") (text false (Contains (codes "nn"))) false false
+    ∷ on (codes "user") (text false (Contains (codes "nna "))) true false
+    ∷ on (codes "user") Present false false
+    ∷ on (codes "user") open_test true false
+    ∷ on (codes ":authority") (text false (Exact (codes "a.com"))) false false
+    ∷ on (codes ":path") (text false (Prefix (codes "/Shop"))) false false
+    ∷ Grpc
+    ∷ open_condition
+    ∷ [])
+    ≡ Yes ∷ No ∷ Yes ∷ Yes ∷ No ∷ Yes ∷ Yes ∷ Yes ∷ Undecided ∷ Yes ∷ Yes ∷ Yes ∷ Undecided ∷ []
+
+-- headers that are missing: only that they are there can be asked of them, unless they count as empty
+abbrev pub Missing : Type 0
+Missing = map (condition_says request)
+    (on (codes "role") Present false false
+    ∷ on (codes "role") Present true false
+    ∷ on (codes "role") (text false (Exact [])) false false
+    ∷ on (codes "role") (text false (Exact [])) true false
+    ∷ on (codes "role") open_test true false
+    ∷ on (codes "role") (text false (Exact [])) false true
+    ∷ on (codes "role") Present false true
+    ∷ on (codes "empty") Present false false
+    ∷ [])
+    ≡ No ∷ Yes ∷ No ∷ No ∷ No ∷ Yes ∷ Yes ∷ Yes ∷ []
+
+-- a match of a path alone
+abbrev pub at_path : PathSpecifier → List RouteCondition → RouteMatch
+at_path path conditions = record { path = path; conditions = conditions }
+
+-- a path with its case and without, a CONNECT, and what isn't decided: beside a no it is a no
+abbrev pub Paths : Type 0
+Paths = map (match_says request)
+    (at_path (Cased (path_prefix (codes "/Shop"))) []
+    ∷ at_path (Cased (whole_path (codes "/shop/cart"))) []
+    ∷ at_path (Folded (whole_path (codes "/shop/CART"))) []
+    ∷ at_path Connect []
+    ∷ at_path open_path (Grpc ∷ [])
+    ∷ at_path open_path (Grpc ∷ on (codes "role") Present false false ∷ [])
+    ∷ at_path (Cased (path_prefix (codes "/"))) (Grpc ∷ open_condition ∷ [])
+    ∷ [])
+    ≡ Yes ∷ No ∷ Yes ∷ No ∷ Undecided ∷ No ∷ Undecided ∷ []
