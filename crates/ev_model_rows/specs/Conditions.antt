@@ -1,5 +1,5 @@
 -- What a route's match says of a request: no where one of its parts says no, else undecided where one of them is.
-use Rattle.std.specs.Prelude.{◌≡◌, ◌×◌, ℕ, Bool, true, false, List, [], ◌∷◌, codes, map}
+use Rattle.std.specs.Prelude.{◌≡◌, ℕ, Bool, true, false, List, [], ◌∷◌, codes, map}
 use Rattle.ev_types.specs.declared.routes.PathMatch.TheVariants.{Prefix as path_prefix, Path as whole_path}
 use Rattle.ev_types.specs.declared.matchers.StringPattern.{StringPattern}
 use Rattle.ev_types.specs.declared.matchers.StringPattern.TheVariants.{Exact, Prefix, Suffix, Contains}
