@@ -78,7 +78,7 @@ def unpacked(data):
 
 
 def documents(text):
-    """The documents of a text in order: values a line, one behind the other, or in an array; and lines of logs."""
+    """The documents of a text in order: values a line, one after the other, or in an array; and lines of logs."""
     repeated = []
     decoder = json.JSONDecoder(object_pairs_hook=lambda pairs: object_of(pairs, repeated), parse_int=whole, parse_float=in_range,
                                parse_constant=no_number)
@@ -148,7 +148,7 @@ def next_document(decoder, text, place, line):
 
 
 def lines_before(text, place, token):
-    """How many lines stand between a place and the first such token behind it that is no text."""
+    """How many lines stand between a place and the first such token after it that is no text."""
     for found in TOKEN.finditer(text, place):
         if found.group() == token:
             return text.count('\n', place, found.start())

@@ -150,7 +150,7 @@ class Dump:
             self.failed[kind].append(wrapped(kind, body, get(state, 'version_info'), name))
             name = self.failed[kind][-1]['name']
         self.report.add('nack', kind, name, 'error_state', envoy='refuses', before=text_in(state, 'details') or 'without details',
-                        after='failed_configuration, sent behind all else' if is_there else 'no failed_configuration: nothing is sent')
+                        after='failed_configuration, sent after all else' if is_there else 'no failed_configuration: nothing is sent')
 
     def of_eds(self):
         """The clusters of type EDS of this state, as their resources."""

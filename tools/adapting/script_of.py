@@ -190,7 +190,7 @@ class ScriptOf:
             self.write({'op': 'health', 'cluster': name, 'address': address, 'port': port, 'healthy': True})
 
     def failure(self, kind, resource, kept, is_active):
-        """Sends what Envoy refused; where it breaks no rule here, what Envoy kept is sent again behind it. The first of that is a cluster
+        """Sends what Envoy refused; where it breaks no rule here, what Envoy kept is sent again after it. The first of that is a cluster
         that is active there, or it isn't."""
         name = resource['name']
         self.report.add('made', kind, name, before='failed_configuration', after='a response', turns=True)

@@ -9,7 +9,7 @@ class WholeOf:
         self.report, self.held = report, {'cds': {}, 'lds': {}}
 
     def response(self, kind, message, version):
-        """The response that has all of what holds behind an incremental one. With `version` that was one of the state of the world, which
+        """The response that has all of what holds after an incremental one. With `version` that was one of the state of the world, which
         has all there is."""
         resources, removed = list_in(message, 'resources'), list_in(message, 'removed_resources')
         bodies = [(self.name_of(kind, resource), resource['resource']) for resource in resources if self.has_body(kind, resource)]

@@ -13,7 +13,7 @@ REGRESSION, CHANGED, UNJUDGED = 'REGRESSION', 'CHANGED', 'UNJUDGED'
 ANSWERED = ('served', 'local', 'redirect')
 RESULTS = {'redirect': 'a redirect', 'noListener': 'no listener', 'noRoute': 'no route', 'noCluster': 'its cluster isn\'t there',
            'noEndpoint': 'its cluster has no host that may be chosen'}
-# The most places that are told of one pair of bodies.
+# The most places that are named of one pair of bodies.
 MOST_PLACES = 20
 
 

@@ -1,4 +1,4 @@
-"""What goes into a package: the checkout's files, and what is told of where they are from."""
+"""What goes into a package: the checkout's files, and a text that says where they are from."""
 import hashlib
 import os
 import re

@@ -53,15 +53,15 @@ def tell(page, tree):
 
 
 def refusal(reading, count):
-    """Why nothing is dumped behind the first entries of a legal journal, in words; None where something is."""
+    """Why nothing is dumped after the first entries of a legal journal, in words; None where something is."""
     if count > len(reading.rows):
         return f'the journal has {len(reading.rows)} entries, and {count} is above'
     row = reading.rows[count - 1] if count else None
-    return f'entry {count} is {row.op} of {row.actor}, whose batch goes on behind it' if row and row.op in ('accept', 'close') else None
+    return f'entry {count} is {row.op} of {row.actor}, whose batch goes on after it' if row and row.op in ('accept', 'close') else None
 
 
 def dumped(reading, count):
-    """What a dump tells behind the first entries of a legal journal where nothing refuses it: its object."""
+    """What a dump says after the first entries of a legal journal where nothing refuses it: its object."""
     walk, counters = Walk(reading), dict.fromkeys(COUNTERS, 0)
     for row in reading.rows[:count]:
         walk.step()

@@ -43,7 +43,7 @@ class Wait:
 
 
 class EnvoyWaits:
-    """`take` each entry behind the machine's step: `begun` are the waits and new generations that begin with it, `over` the waits that end.
+    """`take` each entry after the machine's step: `begun` are the waits and new generations that begin with it, `over` the waits that end.
     `waits` are those that go on, by the cluster's name."""
 
     def __init__(self, reading):

@@ -10,7 +10,7 @@ class Walk:
 
     `finding` is one of the three words; where it isn't LEGAL, `entry` is the entry's number from 1, or one above the last. `due` is
     the next operation of that entry's actor, None where it has none. `answer` is the machine's at an illegal entry, and `batch` the
-    worker whose accepts and closes it breaks into, or None. `left` has each actor with what it has left behind the last entry.
+    worker whose accepts and closes it breaks into, or None. `left` has each actor with what it has left after the last entry.
     """
 
     def __init__(self, reading):
@@ -41,7 +41,7 @@ class Walk:
         return self.finding == LEGAL
 
     def end(self):
-        """What is left behind the last entry."""
+        """What is left after the last entry."""
         for actor in self.operations:
             self.pass_idle(actor, None)
             rest = self.operations[actor][self.done.get(actor, 0):]
@@ -51,7 +51,7 @@ class Walk:
             self.finding, self.entry = NOT_THE_SCRIPT, len(self.rows) + 1
 
     def next_of(self, row):
-        """The next operation of the row's actor, behind the settles that may be left out before it."""
+        """The next operation of the row's actor, after the settles that may be left out before it."""
         if row.actor not in self.operations:
             return None
         self.done.setdefault(row.actor, 0)

@@ -108,10 +108,10 @@ class Told:
         ahead = keys.index(key) - done
         if ahead < 0:
             return 'this operation stands in the journal before, or was a settle that was left out: it stands twice or too late'
-        return f'{counted(ahead, "operation")} of {row.actor} before it {"is" if ahead == 1 else "are"} missing, or stand{"s" * (ahead == 1)} behind it'
+        return f'{counted(ahead, "operation")} of {row.actor} before it {"is" if ahead == 1 else "are"} missing, or stand{"s" * (ahead == 1)} after it'
 
     def too_short(self):
-        self.page.end(f'The journal ends too early: behind its last entry, {len(self.reading.rows)}, operations are left.')
+        self.page.end(f'The journal ends too early: after its last entry, {len(self.reading.rows)}, operations are left.')
         for actor, rest in self.walk.left[:MOST]:
             self.page.line(f'{actor}: {counted(len(rest), "operation")}, the next {self.operation(rest[0])}', 'bad')
         if len(self.walk.left) > MOST:
@@ -119,7 +119,7 @@ class Told:
 
     def operation(self, due):
         if due.line is None:
-            return 'settle, the last of each worker, behind all lines'
+            return 'settle, the last of each worker, after all lines'
         added = '' if due.step == 0 else ', its 256th accept or close since the last settle' if due.op == 'settle' else ', by auto'
         return f'{due.op}, line {due.at}{added}'
 
@@ -141,7 +141,7 @@ class Told:
                 self.page.line(f'why      {words}')
             self.page.line(f'rule     {RULES[row.op]}{FORMAT_2 * (row.op == "reap" and self.reading.format == 2)}')
         if walk.batch:
-            self.page.line(f'rule     behind an accept or a close stands an entry of the same worker, up to its settle; {walk.batch} had not settled')
+            self.page.line(f'rule     directly after an accept or a close stands an entry of the same worker, up to its settle; {walk.batch} had not settled')
 
     def reasons(self):
         """What tells the two answers apart, in words."""

@@ -1,4 +1,4 @@
-"""Clusters that wait for secrets: what stands behind the private names of a script that `warmgate tls` wrote, given its input. Not proved."""
+"""Clusters that wait for secrets: what the private names of a script that `warmgate tls` wrote stand for, given its input. Not proved."""
 from .fields import MAX_NAME, WRONG, Reader, size
 from .resources import TYPE, WORDS
 from .shown import quoted
@@ -56,7 +56,7 @@ class Guards:
         return found or [f'the line of {quoted(key[1])}, which follows']
 
     def endpoints_of(self, key):
-        """The name of the endpoints behind a private name, in words."""
+        """What a private name of endpoints stands for, in words."""
         _, name, cluster = self.of[key]
         return f'{WORDS["eds"]} {quoted(name)} have no value' if name is not None else f'cluster {quoted(cluster)} has none of its own'
 
@@ -111,7 +111,7 @@ def paired(before, after):
 
 
 def is_put_in(line, at):
-    """Whether a line is one that the command put behind line `at` of its input."""
+    """Whether a line is one that the command put after line `at` of its input."""
     response = line.response
     return bool(response) and response.kind == 'eds' and response.nonce == f'tls-{at}' and all(
         name.startswith(PREFIX) for name in [item.name for item in response.items] + response.removed)

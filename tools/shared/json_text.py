@@ -99,14 +99,14 @@ def refuse_lone_surrogates(text):
             unit = int(escape.group(1), 16) if escape.group(1) else 0
             if high is not None:
                 if not (0xDC00 <= unit < 0xE000 and escape.start() == high):
-                    raise NotJson('an escape \\uD800 to \\uDBFF has no partner \\uDC00 to \\uDFFF behind it')
+                    raise NotJson('an escape \\uD800 to \\uDBFF has no partner \\uDC00 to \\uDFFF after it')
                 high = None
             elif 0xD800 <= unit < 0xDC00:
                 high = escape.end()
             elif 0xDC00 <= unit < 0xE000:
                 raise NotJson('an escape \\uDC00 to \\uDFFF has no partner before it')
         if high is not None:
-            raise NotJson('an escape \\uD800 to \\uDBFF has no partner behind it')
+            raise NotJson('an escape \\uD800 to \\uDBFF has no partner after it')
 
 
 def words_of(error, text):
@@ -117,7 +117,7 @@ def words_of(error, text):
     if error.pos >= len(text.rstrip(' \t\r\n')):
         return 'the text ends before its JSON does'
     if error.msg == 'Extra data':
-        return 'something stands behind the end of the JSON'
+        return 'something stands after the end of the JSON'
     if error.msg == 'Expecting value':
         return f'no JSON value begins at {text[error.pos:error.pos + 12]!r}'
     return error.msg[:1].lower() + error.msg[1:]

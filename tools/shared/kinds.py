@@ -11,7 +11,7 @@ WORDS = {
     8: 'there is no input',
     9: 'the journal isn\'t one',
     11: 'a name that is this command\'s own is used',
-    12: 'nothing can be dumped behind this entry',
+    12: 'nothing can be dumped after this entry',
 }
 
 HINTS = {
@@ -24,7 +24,7 @@ HINTS = {
     6: [],
     7: ['raise "workers" in line 1, or use a number below it'],
     8: ['the file is empty, or the command before the pipe wrote nothing'],
-    9: ['write the journal behind its script as it is: cat SCRIPT JOURNAL'],
+    9: ['write the journal after its script as it is: cat SCRIPT JOURNAL'],
     11: ['give the endpoints another name'],
-    12: ['a batch of a worker is entered as a whole: dump behind the settle that ends it'],
+    12: ['a batch of a worker is entered as a whole: dump after the settle that ends it'],
 }

@@ -112,7 +112,7 @@ class Machine:
         self.picture_lines = [0]
         self.active, self.ended = {'cds': [], 'lds': []}, []
         self.unpublished, self.kept, self.dead_ones = set(), {}, set()
-        self.guards = None  # what stands behind private names of endpoints, where it is told (guarded.Guards)
+        self.guards = None  # what private names of endpoints stand for, where it is known (guarded.Guards)
         self.forget_changes()
 
     def forget_changes(self):

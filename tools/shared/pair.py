@@ -17,7 +17,7 @@ class NotTheJournal(WrongInput):
 
 
 class Entry:
-    """A row of a journal with its line of the script, None for what is added behind lines."""
+    """A row of a journal with its line of the script, None for what is added after lines."""
 
     def __init__(self, row, line, place):
         self.row, self.line, self.place = row, line, place
@@ -43,7 +43,7 @@ class Pair:
         for place, text in enumerate(self.texts[1:], 2):
             progress.at(place)
             if ended is not None:
-                raise NotTheJournal(f'line {place} of the journal stands behind its end line')
+                raise NotTheJournal(f'line {place} of the journal stands after its end line')
             ended = journal.read_end(text) if text[:1] == b'{' and b'"end"' in text[:8] else None
             if ended is not None:
                 continue
@@ -81,7 +81,7 @@ def open_pair(tool, script_path, journal_path, command=None):
 
 
 def line_of(reading, row, place):
-    """The script's line of an entry, or None for what is added behind lines."""
+    """The script's line of an entry, or None for what is added after lines."""
     line = reading.line_at(row.at)
     if row.op == 'settle' or (row.step > 0 and row.op in ('publish', 'reap')):
         if row.op == 'settle' and row.step == 0 and line is not None and line.op != 'settle':

@@ -1,4 +1,4 @@
-"""A built program, run with a small library before it that counts, and refuses memory or fails a device where it is told to. Not proved."""
+"""A built program, run with a small library before it that counts, and refuses memory or fails a device where it is asked to. Not proved."""
 import collections
 import hashlib
 import os
@@ -200,7 +200,7 @@ class Program:
 
 
 def with_journal(path, journal):
-    """The script of a file with a journal behind it."""
+    """The script of a file with a journal after it."""
     with open(path, 'rb') as file:
         script = file.read()
     return script + b'\n' * (not script.endswith(b'\n')) + journal

@@ -80,7 +80,7 @@ def read_lines(reading, data, audit, go_on, told):
             if number > 1:
                 reading.lines.append(None)
     if audit and not ended:
-        words = 'the journal\'s end line is missing' if reading.format else 'the journal behind the script is missing'
+        words = 'the journal\'s end line is missing' if reading.format else 'the journal after the script is missing'
         reading.faults.append(Fault(reading.count + 1, 9, [(None, words)]))
 
 
@@ -356,7 +356,7 @@ def journal_head(reading, number, text):
 
 def journal_line(reading, number, text, ended):
     if ended:
-        return Fault(number, 9, [(None, 'a line stands behind the journal\'s end line')]), ended
+        return Fault(number, 9, [(None, 'a line stands after the journal\'s end line')]), ended
     end = journal.read_end(text)
     if end is not None:
         if end != len(reading.rows):

@@ -21,7 +21,7 @@ LEVELS = {
     'consul.json': (1, 4, 4), 'delta_push.jsonl': (4, 4, 4),
 }
 FLAGS = ('--auto', '--stable', '--probe')
-# (capture, member) that is passed over and has to be told of.
+# (capture, member) that is passed over and has to be reported.
 PASSED = [('istio_sidecar.json', 'transport_socket'), ('istio_sidecar.json', 'rbac'), ('istio_sidecar.json', 'ignore_port_in_host_matching'),
           ('istio_sidecar.json', 'fault'), ('envoy_gateway.jsonl', 'ext_authz'), ('envoy_gateway.jsonl', 'ignore_port_in_host_matching'),
           ('consul.json', 'rbac'), ('consul.json', 'transport_socket'), ('consul.json', 'redacted')]
@@ -111,7 +111,7 @@ def encodings(check):
         status, found, _, errors = adapted(data=encode(data))
         check(found == wanted, f'adapt of {words}: status {status} {errors}')
     parts = json.loads(data)
-    for words, text in (('lines', '\n'.join(map(json.dumps, parts))), ('one behind the other', ''.join(json.dumps(part, indent=3) for part in parts))):
+    for words, text in (('lines', '\n'.join(map(json.dumps, parts))), ('one after the other', ''.join(json.dumps(part, indent=3) for part in parts))):
         check(adapted(data=text.encode())[1] == wanted, f'adapt of {words} gives another script')
 
 

@@ -97,7 +97,7 @@ def health_results(check):
 
 
 def refused_there(check):
-    """A NACK in a dump is told, and what was refused is sent behind all; what Envoy has comes again where nothing here refuses that."""
+    """A NACK in a dump is reported, and what was refused is sent after all; what Envoy has comes again where nothing here refuses that."""
     bad, taken = eds('a', path='x'), cluster('n', lb_policy='MAGLEV')
     failed = [{'version_info': '1', 'cluster': cluster('a'), 'error_state': {'failed_configuration': bad, 'details': 'no\x1b such', 'version_info': '2'}},
               {'error_state': {'failed_configuration': taken, 'details': 'bad policy', 'version_info': '3'}}]

@@ -1,4 +1,4 @@
-"""The program on each command's input cut behind each of its bytes."""
+"""The program on each command's input cut after each of its bytes."""
 from trials import cuts
 
 

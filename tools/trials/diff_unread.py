@@ -78,7 +78,7 @@ def without_listener(dump):
     part['dynamic_listeners'] = [entry for entry in part['dynamic_listeners'] if entry['name'] != 'virtualInbound']
 
 
-# Each change with what is told of it: without --project, and with it.
+# Each change with what is said of it: without --project, and with it.
 CHANGES = [
     (without_chains, (1, 'REGRESSION', 'lds', 'virtualInbound', 'V16 as before, which was (profile) and is (Envoy too)'),
      (1, 'REGRESSION', 'lds', 'virtualInbound', 'newly refused by V16 (Envoy too)')),

@@ -1,5 +1,5 @@
 """Dumps: the lines of the examples are those that the tools reckon, with the program too where it has the command; their table; and why
-nothing is dumped behind an entry."""
+nothing is dumped after an entry."""
 import io
 import json
 import os
@@ -28,7 +28,7 @@ def run(check):
 
 
 def each_entry(check, name, data, path):
-    """A dump behind each entry of a journal."""
+    """A dump after each entry of a journal."""
     reading = script.read_script(data, audit=True)
     for count in range(len(reading.rows) + 2):
         words = refusal(reading, count)

@@ -45,7 +45,7 @@ def agree(check, script, journal):
 
 def single_facts(check):
     facts = [json.loads(line) for line in called(EXPLAIN, '--json', *REALISTIC)[1].splitlines()]
-    check(facts[2]['waits'] == [{'type': 'cds', 'name': 'api', 'generation': 2, 'for': ['a health result of 10.0.0.2:80']}], f'what waits behind line 4: {facts[2]}')
+    check(facts[2]['waits'] == [{'type': 'cds', 'name': 'api', 'generation': 2, 'for': ['a health result of 10.0.0.2:80']}], f'what waits after line 4: {facts[2]}')
     check(facts[3]['became'] == [{'type': 'cds', 'name': 'api', 'generation': 2, 'status': 'active'}] and facts[3]['phase'] == 'listeners', f'line 5: {facts[3]}')
     refused = [json.loads(line) for line in called(EXPLAIN, '--json', *REFUSED)[1].splitlines()]
     broken = [resource for fact in refused for resource in fact.get('resources', ()) if 'broken' in resource]

@@ -1,4 +1,4 @@
-"""tools/fail on a stand-in for the program, which writes what it reads and ends otherwise than it should where it is told to."""
+"""tools/fail on a stand-in for the program, which writes what it reads and ends otherwise than it should where it is asked to."""
 import os
 
 from trials import TOP, content, loaded, on_stand_in, refuses_words
@@ -72,7 +72,7 @@ def tries(check, lines_of):
 
 
 def wrongs(check, told):
-    """What is told of a program that ends otherwise than it should."""
+    """What is said of a program that ends otherwise than it should."""
     for way, call, ended in (('hangs', 'read 2', 'hangs, 0 bytes written'), ('fails', 'read 2', 'status 1, 0 bytes written'),
                              ('writes', 'read 2', 'status 4, 1 bytes written'), ('retries', 'read 2', 'status 0, 6 bytes written'),
                              ('loses', 'write 2', 'status 0, 5 bytes written'), ('drops', 'write 2', 'status 0, 1 bytes written'),

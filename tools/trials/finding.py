@@ -1,5 +1,5 @@
 """What tools/explain tells of an audit's finding: journals of the worked rows are legal, and each with a line changed, moved, left out or
-doubled has the finding that the program has, where it is built, and is told in words."""
+doubled has the finding that the program has, where it is built, and is said in words."""
 import json
 import os
 import random
@@ -25,7 +25,7 @@ CASES = [
     (lambda rows: rows[:-1], 'legal', None, '1 settle of workers at rest is left out'),
     (lambda rows: rows[:-2] + rows[-1:], 'notTheScript', 15, 'main: 1 operation, the next reap, line 15'),
     (lambda rows: rows[:1] + rows, 'notTheScript', 2, 'it stands twice or too late'),
-    (lambda rows: rows[:8] + [rows[9], rows[8]] + rows[10:], 'notTheScript', 9, '1 operation of w0 before it is missing, or stands behind it'),
+    (lambda rows: rows[:8] + [rows[9], rows[8]] + rows[10:], 'notTheScript', 9, '1 operation of w0 before it is missing, or stands after it'),
     (lambda rows: rows[:9] + [rows[10], rows[9]] + rows[11:], 'illegal', 10, 'w0 had not settled'),
     (lambda rows: changed(rows, 2, '"new"', '"same"'), 'illegal', 2, "resource 1, 'c': same, and the machine says new"),
     (lambda rows: changed(rows, 14, '[1]', '[]'), 'illegal', 14, "cluster 'c' (generation 1) is destroyed here: nothing holds it"),

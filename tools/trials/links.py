@@ -171,7 +171,7 @@ def words_behind(text):
 # What a command prints
 
 def faults_of_printed(block):
-    """Lines that a page shows behind a command stand in the example's page, in this order."""
+    """Lines that a page shows after a command stand in the example's page, in this order."""
     shown = PRINTS.match(block[0].strip())
     if not shown:
         return

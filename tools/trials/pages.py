@@ -1,4 +1,4 @@
-"""The pages that are made of the sources are as the sources say, and what is told of a call that fails is what its clauses say."""
+"""The pages that are made of the sources are as the sources say, and what is said of a call that fails is what its clauses say."""
 import os
 import subprocess
 
@@ -7,7 +7,7 @@ from trials import loaded
 TOP = os.path.dirname(os.path.dirname(os.path.dirname(os.path.realpath(__file__))))
 SOURCE = '''
 impl<L: Ledger> Kept<L> {
-    /// Puts one more; behind it the text is longer.
+    /// Puts one more; after it the text is longer.
     pub fn put(&mut self, alloc: Global, text: &mut Vec<u8>, name: &Name) -> Result<(), AllocError>
         ghost here: { World }
         requires room { 0 < self.old.1 }
@@ -38,7 +38,7 @@ pub fn write_all<K: Sink>(sink: &mut K, bytes: &[u8]) -> Result<(), Failed>
     Ok(())
 }
 '''
-# Owner, name, and what stands of each of these behind a failure.
+# Owner, name, and what stands of each of these after a failure.
 WANTED = [('Kept', 'put', {'self': '`result`, always `count`', 'text': '*nothing*'}), ('Source', 'read', {'self': '*nothing*', 'buf': '*nothing*'}),
           ('Source', 'left', {}), ('', 'write_all', {'sink': '`prefix`'})]
 

@@ -1,4 +1,4 @@
-"""tools/refuse on a stand-in for the program, which makes a few allocations and ends otherwise than it should where it is told to."""
+"""tools/refuse on a stand-in for the program, which makes a few allocations and ends otherwise than it should where it is asked to."""
 import os
 from types import SimpleNamespace
 
@@ -6,7 +6,7 @@ from trials import TOP, content, loaded, on_stand_in, refuses_words
 
 SCRIPT = f'{TOP}/examples/run/publish_and_accept.jsonl'
 REPLAYED = f'{TOP}/crates/worked_rows/data/realistic.out'
-# Reads its input and makes ten blocks of memory; writes a line a block behind them. The word says what a refused third block does.
+# Reads its input and makes ten blocks of memory; writes a line a block after them. The word says what a refused third block does.
 PROGRAM = r'''
 #include <fcntl.h>
 #include <pthread.h>

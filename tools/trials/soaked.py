@@ -20,7 +20,7 @@ class Drawing:
         return self.state // 2 ** 33 % bound
 
     def line(self, number):
-        """The line of this number, behind the one that opens the stream. What is drawn is drawn from left to right."""
+        """The line of this number, after the one that opens the stream. What is drawn is drawn from left to right."""
         form = self.draw(14)
         if form == 0:
             body = {'name': f'c{self.draw(8)}', 'type': 'EDS', 'edsClusterConfig': {'edsConfig': {'ads': {}}}}

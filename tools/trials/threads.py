@@ -10,7 +10,7 @@ from shared import script
 from shared.finding import walked
 from trials import TOP, called, content, loaded, written
 
-# Answers `run` with one journal after the other, and `audit` with what a file says; hangs or fails where it is told to.
+# Answers `run` with one journal after the other, and `audit` with what a file says; hangs or fails where it is asked to.
 PROGRAM = r'''#!/bin/sh
 cd "$(dirname "$0")" || exit 9
 case $1 in

@@ -1,4 +1,3 @@
-use crate::tables::{Reader, assert_told};
 use ev_cluster_json::{read_assignment, read_cluster};
 use ev_types::{Assignment, Cluster, Discovery};
 use serde_json::Value;
@@ -6,7 +5,7 @@ use std::alloc::{AllocError, Global};
 use std::test::Fail;
 
 // Clusters, each after what it reads as: each rule alone, beside a lower and a higher one, and the fields that aren't looked at.
-const CLUSTERS: &str = r#"[
+pub(crate) const CLUSTERS: &str = r#"[
   ["V8", {"name":"a","type":"EDS"}],
   ["V6", {"name":"a","type":"EDS","edsClusterConfig":{},"eds_cluster_config":{}}],
   ["V10", {"name":"a","type":"EDS","edsClusterConfig":{}}],
@@ -38,7 +37,7 @@ const CLUSTERS: &str = r#"[
 ]"#;
 
 // The same of assignments: `address:port*weight@priority` of each host, with `+` where it is usable and `-` where it isn't.
-const ASSIGNMENTS: &str = r#"[
+pub(crate) const ASSIGNMENTS: &str = r#"[
   ["a:1*1@0- ", {"endpoints":[{"lbEndpoints":[{%,"healthStatus":"UNHEALTHY"}]}]}],
   ["a:1*1@128- a:1*1@128- ", {"clusterName":"","endpoints":[{"lb_endpoints":[{%,"healthStatus":"UNHEALTHY"},{%,"healthStatus":"UNHEALTHY"}],"priority":"128"}]}],
   ["", {}],
@@ -57,7 +56,7 @@ const ASSIGNMENTS: &str = r#"[
 ]"#;
 
 // Clusters as control planes write them; the profile passes over most of their fields.
-const CLUSTERS_OF_CONTROL_PLANES: &str = r#"[
+pub(crate) const CLUSTERS_OF_CONTROL_PLANES: &str = r#"[
   ["outbound|9080||reviews.default.svc.cluster.local by outbound|9080||reviews.default.svc.cluster.local, limited false, checked true", {"@type":"type.googleapis.com/envoy.config.cluster.v3.Cluster",
             "name":"outbound|9080||reviews.default.svc.cluster.local","type":"EDS",
             "edsClusterConfig":{"edsConfig":{"ads":{},"initialFetchTimeout":"0s","resourceApiVersion":"V3"},
@@ -71,7 +70,7 @@ const CLUSTERS_OF_CONTROL_PLANES: &str = r#"[
 ]"#;
 
 // The same of an assignment.
-const AN_ASSIGNMENT: &str = r#"[
+pub(crate) const AN_ASSIGNMENT: &str = r#"[
   ["10.244.0.9:9080*3@0- 10.244.0.9:9080*1@0+ ::1:0*1@1+ ", {"clusterName":"reviews","policy":{"overprovisioningFactor":140},"endpoints":[
             {"locality":{"region":"r","zone":"z"},"loadBalancingWeight":2,"lbEndpoints":[
             {"endpoint":{"address":{"socketAddress":{"address":"10.244.0.9","portValue":9080,"protocol":"TCP"}},
@@ -127,30 +126,4 @@ pub(crate) fn tell_assignment(alloc: Global, body: &Value) -> Result<String, Fai
         }
         Err(error) => Ok(format!(in alloc; "{error}")?),
     }
-}
-
-#[test]
-fn rules_of_clusters(rt: HostRuntime) -> Result<(), Fail> {
-    assert_told(&rt, rt.alloc(), Reader::Cluster, CLUSTERS, 28)
-}
-
-#[test]
-fn rules_of_assignments(rt: HostRuntime) -> Result<(), Fail> {
-    assert_told(&rt, rt.alloc(), Reader::Assignment, ASSIGNMENTS, 15)
-}
-
-#[test]
-fn clusters_of_control_planes(rt: HostRuntime) -> Result<(), Fail> {
-    assert_told(
-        &rt,
-        rt.alloc(),
-        Reader::Cluster,
-        CLUSTERS_OF_CONTROL_PLANES,
-        2,
-    )
-}
-
-#[test]
-fn an_assignment_of_a_control_plane(rt: HostRuntime) -> Result<(), Fail> {
-    assert_told(&rt, rt.alloc(), Reader::Assignment, AN_ASSIGNMENT, 1)
 }

@@ -1,4 +1,3 @@
-use crate::tables::{Reader, assert_told};
 use ev_tree::{
     BrokenRules, EnumTable, ReadError, Span, boolean, config_source, duration, enumeration, field,
     is_not_positive, list, member, number32, object, socket_address, text,
@@ -11,7 +10,7 @@ use std::test::Fail;
 const WRONG: ReadError = ReadError::Rule(6);
 
 // Fields, each after the number that it writes.
-const NUMBERS: &str = r#"[
+pub(crate) const NUMBERS: &str = r#"[
   ["7", {"load_balancing_weight":7}],
   ["7", {"loadBalancingWeight":7}],
   ["V6", {"loadBalancingWeight":7,"load_balancing_weight":7}],
@@ -37,7 +36,7 @@ const NUMBERS: &str = r#"[
 ]"#;
 
 // Durations, each after where it lies.
-const DURATIONS: &str = r#"[
+pub(crate) const DURATIONS: &str = r#"[
   ["zero", {"connectTimeout":"0s"}],
   ["zero", {"connectTimeout":"-0s"}],
   ["zero", {"connectTimeout":"000.000000000s"}],
@@ -63,7 +62,7 @@ const DURATIONS: &str = r#"[
 ]"#;
 
 // Holders of an address, each after whether it breaks V6 and V12.
-const ADDRESSES: &str = r#"[
+pub(crate) const ADDRESSES: &str = r#"[
   ["V6 false, V12 false", {"address":{"socketAddress":{"address":"10.0.0.1","portValue":80}}}],
   ["V6 false, V12 false", {"address":{"socket_address":{"address":"10.0.0.1","port_value":"65535"}}}],
   ["V6 false, V12 true", {"address":{"socketAddress":{"address":"10.0.0.1","portValue":65536}}}],
@@ -76,7 +75,7 @@ const ADDRESSES: &str = r#"[
 ]"#;
 
 // Config sources, each after whether its wait ends, and whether it breaks V6 and V10.
-const SOURCES: &str = r#"[
+pub(crate) const SOURCES: &str = r#"[
   ["limited true, V6 false, V10 false", {"ads":{}}],
   ["limited false, V6 false, V10 false", {"self":{},"initialFetchTimeout":"0s"}],
   ["limited true, V6 false, V10 false", {"ads":{},"initial_fetch_timeout":"15s","resourceApiVersion":"V3"}],
@@ -122,33 +121,20 @@ pub(crate) fn tell_source(alloc: Global, body: &Value) -> Result<String, Fail> {
     Ok(format!(in alloc; "limited {}, V6 {v6}, V10 {v10}", found.limited)?)
 }
 
-#[test]
-fn numbers_and_spellings(rt: HostRuntime) -> Result<(), Fail> {
-    assert_told(&rt, rt.alloc(), Reader::Number, NUMBERS, 22)
-}
+// An object with fields of each form.
+const FIELDS: &str =
+    r#"{"name":"a","caseSensitive":false,"type":"EDS","healthStatus":5,"protocol":"SCTP","status":6,
+    "connectTimeout":5,"drainTimeout":"-0s","ads":{},"endpoints":[{},{}],"domains":["*",null]}"#;
 
 #[test]
-fn durations(rt: HostRuntime) -> Result<(), Fail> {
+fn each_field_reads_as_its_form(rt: HostRuntime) -> Result<(), Fail> {
     let alloc = rt.alloc();
-    assert_told(&rt, alloc, Reader::Duration, DURATIONS, 22)?;
-    let value = Value::from_str(alloc, r#"{"connectTimeout":"-0s"}"#)?;
-    let timeout = member::duration(alloc, Some(&value), "connect_timeout");
-    drop(value);
-    assert!(rt; is_not_positive(timeout?));
-    Ok(())
-}
-
-#[test]
-fn texts_booleans_and_enums(rt: HostRuntime) -> Result<(), Fail> {
-    let alloc = rt.alloc();
-    let value = Value::from_str(
-        alloc,
-        r#"{"name":"a","caseSensitive":false,"type":"EDS","healthStatus":5,"protocol":"SCTP","status":6,
-            "ads":{},"connectTimeout":5}"#,
-    )?;
+    let value = Value::from_str(alloc, FIELDS)?;
     assert_plain_fields(&rt, alloc, &value);
+    let told = assert_inner_fields(&rt, alloc, &value);
     drop(value);
-    Ok(())
+    assert_least_rules(&rt);
+    told
 }
 
 // Asserts what texts, booleans and words of enums give.
@@ -177,19 +163,7 @@ fn assert_plain_fields(rt: &impl Abort, alloc: Global, value: &Value) {
     assert_eq!(rt; duration(alloc, value, "connect_timeout"), Err(WRONG));
 }
 
-#[test]
-fn objects_and_lists(rt: HostRuntime) -> Result<(), Fail> {
-    let alloc = rt.alloc();
-    let value = Value::from_str(
-        alloc,
-        r#"{"name":"a","endpoints":[{},{}],"domains":["*",null],"ads":{}}"#,
-    )?;
-    let told = assert_inner_fields(&rt, alloc, &value);
-    drop(value);
-    told
-}
-
-// Asserts what objects and lists give.
+// Asserts what objects, lists and members give.
 fn assert_inner_fields(rt: &impl Abort, alloc: Global, value: &Value) -> Result<(), Fail> {
     assert!(rt; object(alloc, value, "ads")?.is_some());
     assert!(rt; object(alloc, value, "name").is_err());
@@ -206,17 +180,12 @@ fn assert_inner_fields(rt: &impl Abort, alloc: Global, value: &Value) -> Result<
     assert!(rt; member::objects(alloc, Some(value), "endpoints")?.is_given());
     assert!(rt; member::objects(alloc, Some(value), "domains")?.is_wrong());
     assert!(rt; member::texts(alloc, Some(value), "domains")?.is_wrong());
+    assert!(rt; is_not_positive(member::duration(alloc, Some(value), "drain_timeout")?));
     Ok(())
 }
 
-#[test]
-fn what_addresses_and_sources_break(rt: HostRuntime) -> Result<(), Fail> {
-    assert_told(&rt, rt.alloc(), Reader::Address, ADDRESSES, 9)?;
-    assert_told(&rt, rt.alloc(), Reader::Source, SOURCES, 10)
-}
-
-#[test]
-fn the_least_of_all_rules(rt: HostRuntime) -> Result<(), Fail> {
+// Asserts which of several broken rules is the least.
+fn assert_least_rules(rt: &impl Abort) {
     let late = BrokenRules {
         v27: true,
         ..BrokenRules::none()
@@ -230,5 +199,4 @@ fn the_least_of_all_rules(rt: HostRuntime) -> Result<(), Fail> {
     assert_eq!(rt; late.least(), Some(27));
     assert_eq!(rt; late.or(early).least(), Some(9));
     assert_eq!(rt; late.or(early.only_if(false)), late);
-    Ok(())
 }

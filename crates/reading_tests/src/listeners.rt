@@ -1,4 +1,3 @@
-use crate::tables::{Reader, assert_told};
 use ev_listener_json::read_listener;
 use ev_types::{Listener, Serve, Target};
 use serde_json::Value;
@@ -88,7 +87,8 @@ pub(crate) fn tell_manager(alloc: Global, case: &Value) -> Result<String, Fail> 
     )
 }
 
-const LISTENERS: &str = r#"[
+// The members of a listener, each after what it reads as: each rule alone, and beside others.
+pub(crate) const LISTENERS: &str = r#"[
   ["in at 10.1.0.1:8080 serves cluster c", {"stat_prefix":0}],
   ["l at 10.1.0.1:8080 serves cluster c", {"name":"l","traffic_direction":"INBOUND","listener_filters":[{}],"access_log":{}}],
   ["V3", {"name":""}],
@@ -133,7 +133,8 @@ const LISTENERS: &str = r#"[
   ["V24", {"filter_chains":[{"filters":[{"typed_config":{"@type":"type.googleapis.com/envoy.extensions.filters.network.tcp_proxy.v3.TcpProxy","weighted_clusters":{"clusters":[{"name":"a"}]}}}]}]}]
 ]"#;
 
-const MANAGERS: &str = r#"[
+// The same of the members of its connection manager.
+pub(crate) const MANAGERS: &str = r#"[
   ["in at 10.1.0.1:8080 serves routes r, limited true", {"rds":{"config_source":{"ads":{}},"route_config_name":"r"}}],
   ["in at 10.1.0.1:8080 serves routes r, limited false", {"rds":{"configSource":{"self":{},"initial_fetch_timeout":"0s"},"routeConfigName":"r"},"route_config":null,"scoped_routes":null}],
   ["in at 10.1.0.1:8080 serves 0 hosts", {"route_config":{}}],
@@ -165,8 +166,8 @@ const MANAGERS: &str = r#"[
   ["V24", {"route_config":{"virtual_hosts":[{"name":"h","domains":["*"],"routes":[{"match":{"prefix":"/"},"route":{"weighted_clusters":{}}}]}]}}]
 ]"#;
 
-// Listeners as control planes write them, with what is told of each.
-const WHOLE: &str = r#"[
+// Listeners as control planes write them.
+pub(crate) const WHOLE_LISTENERS: &str = r#"[
   ["ingress at 0.0.0.0:8443 serves routes shop, limited false", {
     "@type": "type.googleapis.com/envoy.config.listener.v3.Listener",
     "name": "ingress",
@@ -209,14 +210,3 @@ const WHOLE: &str = r#"[
     "filter_chains": [{"filters": [{"typed_config": {"@type": "type.googleapis.com/envoy.extensions.filters.network.tcp_proxy.v3.TcpProxy", "cluster": "redis"}}]}]
   }]
 ]"#;
-
-#[test]
-fn each_rule_alone_and_beside_others(rt: HostRuntime) -> Result<(), Fail> {
-    assert_told(&rt, rt.alloc(), Reader::ListenerMembers, LISTENERS, 42)?;
-    assert_told(&rt, rt.alloc(), Reader::Manager, MANAGERS, 29)
-}
-
-#[test]
-fn whole_listeners(rt: HostRuntime) -> Result<(), Fail> {
-    assert_told(&rt, rt.alloc(), Reader::Listener, WHOLE, 4)
-}

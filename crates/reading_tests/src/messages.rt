@@ -1,12 +1,11 @@
-use crate::tables::{Reader, assert_told};
-use ev_types::{Body, Content, Kind, Name, Request, Response, Seq, Text};
-use ev_wire::{WireError, body_rule_is_least, read_response, request_value, write_request};
+use ev_types::{Body, Content, Kind, Response};
+use ev_wire::read_response;
 use serde_json::Value;
 use std::alloc::{AllocError, Global};
 use std::test::Fail;
 
 // Messages, each after what it reads as.
-const MESSAGES: &str = r#"[
+pub(crate) const MESSAGES: &str = r#"[
   ["cds 7: ", {"typeUrl":"~cluster.v3.Cluster","nonce":"7"}],
   ["cds 7: ", {"type_url":"~cluster.v3.Cluster","nonce":"7","resources":[],"removed_resources":[]}],
   ["cds 7: ", {"typeUrl":null,"type_url":"~cluster.v3.Cluster","nonce":"7","resources":null,"removedResources":null}],
@@ -61,7 +60,7 @@ const MESSAGES: &str = r#"[
 ]"#;
 
 // The row `one_refused_of_two`: the second of two clusters is refused, and stays in the message.
-const ONE_REFUSED_OF_TWO: &str = r#"[
+pub(crate) const ONE_REFUSED_OF_TWO: &str = r#"[
   ["cds 7: a@v1=cluster b@v1=V8 ", {"typeUrl":"~cluster.v3.Cluster","nonce":"7","resources":[{"name":"a","version":"v1","resource":{"@type":"~cluster.v3.Cluster","name":"a","type":"STATIC","loadAssignment":{"clusterName":"a","endpoints":[{"lbEndpoints":[{"endpoint":{"address":{"socketAddress":{"address":"10.0.0.1","portValue":80}}}}]}]}}},{"name":"b","version":"v1","resource":{"@type":"~cluster.v3.Cluster","name":"b","type":"EDS"}}]}]
 ]"#;
 
@@ -120,63 +119,4 @@ pub(crate) fn tell_message(alloc: Global, message: &Value) -> Result<String, Fai
         }
         Err(error) => Ok(format!(in alloc; "{error}")?),
     }
-}
-
-#[test]
-fn messages_read_as_told(rt: HostRuntime) -> Result<(), Fail> {
-    assert_told(&rt, rt.alloc(), Reader::Message, MESSAGES, 47)
-}
-
-#[test]
-fn one_refused_of_two(rt: HostRuntime) -> Result<(), Fail> {
-    let alloc = rt.alloc();
-    body_rule_is_least();
-    assert_told(&rt, alloc, Reader::Message, ONE_REFUSED_OF_TWO, 1)?;
-    assert_eq!(rt;
-        read_response(alloc, &Value::Null).err(),
-        Some(WireError::NotResponse)
-    );
-    Ok(())
-}
-
-// The versions of a first request, out of order.
-fn versions(alloc: Global) -> Result<Seq<(Name, Text)>, Fail> {
-    let mut versions = Vec::new(alloc);
-    versions.push((Name::new(alloc, "z")?, Text::new(alloc, "")?))?;
-    versions.push((Name::new(alloc, "B")?, Text::new(alloc, "2")?))?;
-    Ok(Seq::from_vec(versions))
-}
-
-// A request with these versions and an empty nonce.
-fn request(alloc: Global) -> Result<Request, Fail> {
-    let nonce = Text::new(alloc, "")?;
-    let versions = versions(alloc)?;
-    Ok(Request {
-        kind: Kind::Lds,
-        node: None,
-        subscribe: Seq::new(alloc),
-        unsubscribe: Seq::new(alloc),
-        versions,
-        nonce: Some(nonce),
-        error: None,
-    })
-}
-
-const WRITTEN: &str =
-    r#"{"initialResourceVersions":{"B":"2","z":""},"typeUrl":"type.googleapis.com/envoy.config.listener.v3.Listener"}"#;
-
-// Whether the text of a request is this, and its tree that of the text.
-fn is_written(alloc: Global, request: &Request, want: &str) -> Result<bool, Fail> {
-    let text = write_request(alloc, request)?;
-    let tree = request_value(alloc, request)?;
-    Ok(text.as_slice() == want.as_bytes() && tree == Value::from_str(alloc, want)?)
-}
-
-#[test]
-fn a_request_sorts_its_versions(rt: HostRuntime) -> Result<(), Fail> {
-    let request = request(rt.alloc())?;
-    let written = is_written(rt.alloc(), &request, WRITTEN);
-    drop(request);
-    assert_eq!(rt; written?, true);
-    Ok(())
 }

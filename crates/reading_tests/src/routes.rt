@@ -1,4 +1,3 @@
-use crate::tables::{Reader, assert_told};
 use ev_route_json::{read_routes, read_target};
 use ev_types::{Action, PathMatch, RouteTable, Target};
 use serde_json::Value;
@@ -22,7 +21,7 @@ fn describe_target(alloc: Global, text: &mut String, target: &Target) -> Result<
     }
 }
 
-// The path as text, behind its kind.
+// The path as text, after its kind.
 fn describe_path(text: &mut String, path: &PathMatch) -> Result<(), AllocError> {
     let (kind, path) = match path {
         PathMatch::Prefix(path) => ("prefix ", path),
@@ -108,7 +107,8 @@ pub(crate) fn tell_target(alloc: Global, body: &Value) -> Result<String, Fail> {
     }
 }
 
-const TABLES: &str = r#"[
+// Route configurations, each after what it reads as.
+pub(crate) const ROUTE_TABLES: &str = r#"[
   ["", {}],
   ["", {"name":"","virtual_hosts":[],"virtualHosts":null}],
   ["a * \n", {"virtualHosts":[{"name":"a","domains":["*",""]}],"vhds":{},"validate_clusters":7}],
@@ -139,7 +139,8 @@ const TABLES: &str = r#"[
   ["V24", {"virtual_hosts":[{"name":"a","domains":["*"]},{"name":"b","domains":["b"],"routes":[{"match":{"prefix":"/"},"redirect":{}},{"match":{"path":""},"route":{"weighted_clusters":{"clusters":[{"name":"x"}]}}}]}]}]
 ]"#;
 
-const ROUTES: &str = r#"[
+// The same of the one route of a configuration.
+pub(crate) const ROUTES: &str = r#"[
   ["h *; prefix  -> redirect\n", {"match":{"prefix":""},"redirect":{"host_redirect":7}}],
   ["h *; path  -> redirect\n", {"match":{"path":""},"redirect":{},"direct_response":null}],
   ["h *; separated /a -> redirect\n", {"match":{"path_separated_prefix":"/a","headers":[],"queryParameters":[],"grpc":null},"redirect":{}}],
@@ -192,7 +193,8 @@ const ROUTES: &str = r#"[
   ["V24", {"match":{"prefix":"/"},"route":{"weightedClusters":{"clusters":[]}}}]
 ]"#;
 
-const TARGETS: &str = r#"[
+// The same of targets.
+pub(crate) const TARGETS: &str = r#"[
   ["c", {"cluster":"c","cluster_header":null,"stat_prefix":3}],
   ["a*4294967294 a*1 ", {"weighted_clusters":{"clusters":[{"name":"a","weight":4294967294},{"name":"a","weight":"1"}],"total_weight":{}}}],
   ["a*0 b*1 ", {"weightedClusters":{"clusters":[{"name":"a","weight":0},{"name":"b","weight":1}]},"cluster":null}],
@@ -222,7 +224,7 @@ const TARGETS: &str = r#"[
 
 // A route configuration as control planes write them: retry policies, rewrites, rate limits, header
 // edits and the like are passed over.
-const BOOKSHOP: &str = r#"[
+pub(crate) const BOOKSHOP: &str = r#"[
   ["shop shop.example.com *.Shop.example.com; path /checkout -> pay-v1*90 pay-v2*10 ; prefix /old/ -> redirect; separated /api -> api; prefix / -> 404\nrest *\n", {
   "@type": "type.googleapis.com/envoy.config.route.v3.RouteConfiguration",
   "name": "bookshop",
@@ -266,23 +268,3 @@ const BOOKSHOP: &str = r#"[
   ]
 }]
 ]"#;
-
-#[test]
-fn each_rule_of_a_table(rt: HostRuntime) -> Result<(), Fail> {
-    assert_told(&rt, rt.alloc(), Reader::Routes, TABLES, 28)
-}
-
-#[test]
-fn each_rule_of_a_route(rt: HostRuntime) -> Result<(), Fail> {
-    assert_told(&rt, rt.alloc(), Reader::Route, ROUTES, 50)
-}
-
-#[test]
-fn each_rule_of_a_target(rt: HostRuntime) -> Result<(), Fail> {
-    assert_told(&rt, rt.alloc(), Reader::Target, TARGETS, 25)
-}
-
-#[test]
-fn a_real_route_configuration(rt: HostRuntime) -> Result<(), Fail> {
-    assert_told(&rt, rt.alloc(), Reader::Routes, BOOKSHOP, 1)
-}

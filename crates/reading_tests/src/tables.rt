@@ -1,16 +1,24 @@
-use crate::clusters::{tell_assignment, tell_cluster};
-use crate::fields::{tell_address, tell_duration, tell_number, tell_source};
-use crate::listeners::{tell_listener, tell_manager, tell_members};
-use crate::messages::tell_message;
-use crate::routes::{tell_route, tell_routes, tell_target};
+use crate::clusters::{
+    AN_ASSIGNMENT, ASSIGNMENTS, CLUSTERS, CLUSTERS_OF_CONTROL_PLANES, tell_assignment, tell_cluster,
+};
+use crate::fields::{
+    ADDRESSES, DURATIONS, NUMBERS, SOURCES, tell_address, tell_duration, tell_number, tell_source,
+};
+use crate::listeners::{
+    LISTENERS, MANAGERS, WHOLE_LISTENERS, tell_listener, tell_manager, tell_members,
+};
+use crate::messages::{MESSAGES, ONE_REFUSED_OF_TWO, tell_message};
+use crate::routes::{
+    BOOKSHOP, ROUTE_TABLES, ROUTES, TARGETS, tell_route, tell_routes, tell_target,
+};
 use serde_json::Value;
 use std::alloc::{AllocError, Global};
 use std::process::Abort;
 use std::test::Fail;
 
-/// What the bodies of a table are read as.
+// What the bodies of a table are read as.
 #[derive(Clone, Copy)]
-pub(crate) enum Reader {
+enum Reader {
     Number,
     Duration,
     Address,
@@ -24,6 +32,35 @@ pub(crate) enum Reader {
     ListenerMembers,
     Manager,
     Message,
+}
+
+// The tables, each with what its bodies are read as and how many rows it has. A row is a text and a body.
+const TABLES: [(Reader, usize, &str); 17] = [
+    (Reader::Number, 22, NUMBERS),
+    (Reader::Duration, 22, DURATIONS),
+    (Reader::Address, 9, ADDRESSES),
+    (Reader::Source, 10, SOURCES),
+    (Reader::Cluster, 28, CLUSTERS),
+    (Reader::Cluster, 2, CLUSTERS_OF_CONTROL_PLANES),
+    (Reader::Assignment, 15, ASSIGNMENTS),
+    (Reader::Assignment, 1, AN_ASSIGNMENT),
+    (Reader::Routes, 28, ROUTE_TABLES),
+    (Reader::Routes, 1, BOOKSHOP),
+    (Reader::Route, 50, ROUTES),
+    (Reader::Target, 25, TARGETS),
+    (Reader::ListenerMembers, 42, LISTENERS),
+    (Reader::Manager, 29, MANAGERS),
+    (Reader::Listener, 4, WHOLE_LISTENERS),
+    (Reader::Message, 47, MESSAGES),
+    (Reader::Message, 1, ONE_REFUSED_OF_TWO),
+];
+
+#[test]
+fn each_body_reads_as_its_row_tells(rt: HostRuntime) -> Result<(), Fail> {
+    for (reader, count, table) in TABLES {
+        assert_told(&rt, rt.alloc(), reader, table, count)?;
+    }
+    Ok(())
 }
 
 // What a body reads as, in words.
@@ -58,8 +95,8 @@ fn write_out(alloc: Global, table: &str) -> Result<String, AllocError> {
     )
 }
 
-/// Asserts that a table has so many rows, each a text and a body, and that each body reads as its text tells.
-pub(crate) fn assert_told(
+// Asserts that a table has so many rows, and that the body of each reads as its text tells.
+fn assert_told(
     rt: &impl Abort,
     alloc: Global,
     reader: Reader,

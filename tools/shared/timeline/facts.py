@@ -1,4 +1,4 @@
-"""The facts of a history as one object: what tools/timeline --json prints. Places are lines of the script, a quarter more for each step behind
+"""The facts of a history as one object: what tools/timeline --json prints. Places are lines of the script, a quarter more for each step after
 one; docs/TIMELINE.md lists the members. Not proved."""
 
 

@@ -1,6 +1,6 @@
 """What lived when: gathered from a script and its journal, entry by entry, for a picture of it. Not proved.
 
-A place on the axis is a line of the script, and a quarter more for each step behind it.
+A place on the axis is a line of the script, and a quarter more for each step after it.
 """
 import bisect
 import collections
@@ -119,7 +119,7 @@ class History:
             self.look_at_envoy(entry.row, teller.envoy.begun)
         for life in self.lives.values():
             if not life.spans:
-                # A journal whose answers aren't the machine's: the generation came and went, and nothing was told of it between.
+                # A journal whose answers aren't the machine's: the generation came and went, and no row speaks of it between.
                 life.spans.append(['warms', life.born, life.stop, ''])
             if life.spans[-1][2] is None:
                 life.spans[-1][2] = self.end

@@ -176,7 +176,7 @@ class Made:
         return {'address': address, 'cluster': found, 'listener': number, 'port': port, 'result': 'served'}
 
     def ended(self):
-        """(script, journal) as bytes, behind the last settles."""
+        """(script, journal) as bytes, after the last settles."""
         for worker in self.waiting:
             self.settle(worker, len(self.lines) + 1, None)
         head = compact({'format': 2, 'workers': len(self.waiting)})
