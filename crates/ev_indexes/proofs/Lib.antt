@@ -2,6 +2,7 @@ pub mod KeptLemmas
 pub mod NumberLemmas
 pub mod WhereLemmas
 pub mod SoundLemmas
+pub mod DependencyLemmas
 pub mod WorldLemmas
 pub mod NewLemmas
 pub mod SortLemmas

@@ -1,112 +1,33 @@
 -- What is read of a state that stands for a world is what the machine reads of the world.
-use Rattle.std.proofs.Common.{◌≡◌, ◌∙◌, ℕ, Bool, true, false, cond, not, ◌&&◌, ◌||◌, List, [], ◌∷◌, ◌++◌, Option, option_map, option_to_list, unwrap_or, map, filter, refl, sym, ap, true≢false}
+use Rattle.std.proofs.Common.{◌≡◌, ◌∙◌, ℕ, Bool, true, false, cond, not, ◌&&◌, ◌||◌, List, [], ◌∷◌, ◌++◌, Option, option_to_list, unwrap_or, map, filter, refl, sym, ap, true≢false}
 use Rattle.std.specs.List.{list_any, flat_map, AllByRecursion}
 use Rattle.std.specs.Map.{lookup}
 use Rattle.std.specs.Str.{bytes_eq}
 use Rattle.std.proofs.lemmas.Bool.{and_parts}
+use Rattle.std.proofs.Math.Bool.{and_assoc}
 use Rattle.ev_types.specs.Items.{content_kind}
 use Rattle.ev_types.specs.Kinds.{kind_same, kind_decides}
 use Rattle.ev_types.specs.Statuses.{is_live}
 use Rattle.ev_types.specs.declared.contents.Kind.{Kind}
-use Rattle.ev_types.specs.declared.contents.Kind.TheVariants.{Cds, Eds, Lds, Rds}
 use Rattle.ev_types.specs.declared.contents.Content.{Content}
-use Rattle.ev_types.specs.declared.contents.Content.TheVariants.{Cluster as a_cluster, Assignment as an_assignment, Listener as a_listener, Routes as routes}
-use Rattle.ev_types.specs.declared.clusters.Discovery.{Discovery}
-use Rattle.ev_types.specs.declared.clusters.Discovery.TheVariants.{Static, Eds as by_eds}
-use Rattle.ev_types.specs.declared.listeners.Serve.{Serve}
-use Rattle.ev_types.specs.declared.listeners.Serve.TheVariants.{Rds as by_rds, Inline, Tcp}
 use Rattle.ev_types.specs.declared.rows.GenRow.{GenRow}
 use Rattle.ev_types.specs.declared.rows.Live.{Live}
 use Rattle.ev_model.specs.World.{World}
 use Rattle.ev_model.specs.Live.{live_of, lives_of}
 use Rattle.ev_model.specs.Signals.{is_waiting, is_awaited}
-use Rattle.ev_model.specs.Watching.{Dependency, dependency_of, discovery_dependency, serve_dependency, is_by_name, is_dependency, is_limited, is_watched, name_awaited, sorted_names, watched_of}
+use Rattle.ev_model.specs.Watching.{dependencies_of, is_by_name, has_dependency, has_limited_dependency, is_watched, names_awaited, sorted_names, watched_of}
 use Rattle.ev_indexes.specs.declared.state.State.{State}
 use Rattle.ev_indexes.specs.declared.watches.Watch.{Watch}
 use Rattle.ev_indexes.specs.Due.{has_number}
 use Rattle.ev_indexes.specs.Watched.{unwatched, watch_in}
-use Rattle.ev_indexes.specs.Ready.{name_needed}
+use Rattle.ev_indexes.specs.Ready.{name_needed, is_limited_in}
 use Rattle.ev_indexes.specs.Indexes.{IsIndexed, is_needed, depends_on, waits_limited}
 use Rattle.ev_indexes.specs.Reads.{live_rows, names_needed, names_watched, is_timeout_due}
 use Rattle.ev_indexes.specs.Worlds.{needs_of, rows_of_kind, StandsFor}
 use Rattle.ev_indexes.proofs.RowLemmas.{any-some, any_agrees, all_then}
 use Rattle.ev_indexes.proofs.KeptLemmas.{kept_at-found}
 use Rattle.ev_indexes.proofs.SoundLemmas.{contents-of}
-
--- a row of a kind depends on a name of the kind that its kind needs
-dependency-same : (kind : Kind) (name : List ℕ) (content : Content) → content_kind content ≡ kind → is_dependency (needs_of kind) name (dependency_of content) ≡ is_needed name (name_needed content)
-dependency-same kind name (a_cluster cluster) k = by cluster.discovery
-  where
-    by : (d : Discovery) → is_dependency (needs_of kind) name (discovery_dependency d) ≡ is_needed name (option_map (λ (d : Dependency). d.name) (discovery_dependency d))
-    by (Static rows) = refl
-    by (by_eds service limited) = λ i. kind_same Eds (needs_of (sym k i)) && bytes_eq service name
-dependency-same kind name (an_assignment rows) k = refl
-dependency-same kind name (a_listener listener) k = by listener.serve
-  where
-    by : (v : Serve) → is_dependency (needs_of kind) name (serve_dependency v) ≡ is_needed name (option_map (λ (d : Dependency). d.name) (serve_dependency v))
-    by (by_rds service limited) = λ i. kind_same Rds (needs_of (sym k i)) && bytes_eq service name
-    by (Inline table) = refl
-    by (Tcp target) = refl
-dependency-same kind name (routes table) k = refl
-
--- and only rows of that kind do
-dependency-kind : (kind : Kind) (name : List ℕ) (content : Content) → is_by_name kind ≡ false → is_dependency (needs_of kind) name (dependency_of content) ≡ true → content_kind content ≡ kind
-dependency-kind Eds name content h dep = absurd (true≢false h)
-dependency-kind Rds name content h dep = absurd (true≢false h)
-dependency-kind Cds name (a_cluster cluster) h dep = refl
-dependency-kind Cds name (an_assignment rows) h dep = absurd (true≢false (sym dep))
-dependency-kind Cds name (a_listener listener) h dep = absurd (true≢false (sym dep ∙ by listener.serve))
-  where
-    by : (v : Serve) → is_dependency Eds name (serve_dependency v) ≡ false
-    by (by_rds service limited) = refl
-    by (Inline table) = refl
-    by (Tcp target) = refl
-dependency-kind Cds name (routes table) h dep = absurd (true≢false (sym dep))
-dependency-kind Lds name (a_cluster cluster) h dep = absurd (true≢false (sym dep ∙ by cluster.discovery))
-  where
-    by : (d : Discovery) → is_dependency Rds name (discovery_dependency d) ≡ false
-    by (Static rows) = refl
-    by (by_eds service limited) = refl
-dependency-kind Lds name (an_assignment rows) h dep = absurd (true≢false (sym dep))
-dependency-kind Lds name (a_listener listener) h dep = refl
-dependency-kind Lds name (routes table) h dep = absurd (true≢false (sym dep))
-
--- the names, each in its place
-awaited-same : (kind : Kind) (content : Content) → content_kind content ≡ kind → name_awaited (needs_of kind) (dependency_of content) ≡ option_to_list (name_needed content)
-awaited-same kind (a_cluster cluster) k = by cluster.discovery
-  where
-    by : (d : Discovery) → name_awaited (needs_of kind) (discovery_dependency d) ≡ option_to_list (option_map (λ (d : Dependency). d.name) (discovery_dependency d))
-    by (Static rows) = refl
-    by (by_eds service limited) = λ i. cond (kind_same Eds (needs_of (sym k i))) (service ∷ []) []
-awaited-same kind (an_assignment rows) k = refl
-awaited-same kind (a_listener listener) k = by listener.serve
-  where
-    by : (v : Serve) → name_awaited (needs_of kind) (serve_dependency v) ≡ option_to_list (option_map (λ (d : Dependency). d.name) (serve_dependency v))
-    by (by_rds service limited) = λ i. cond (kind_same Rds (needs_of (sym k i))) (service ∷ []) []
-    by (Inline table) = refl
-    by (Tcp target) = refl
-awaited-same kind (routes table) k = refl
-
-awaited-none : (kind : Kind) (content : Content) → is_by_name kind ≡ false → kind_same (content_kind content) kind ≡ false → name_awaited (needs_of kind) (dependency_of content) ≡ []
-awaited-none Eds content h other = absurd (true≢false h)
-awaited-none Rds content h other = absurd (true≢false h)
-awaited-none Cds (a_cluster cluster) h other = absurd (true≢false other)
-awaited-none Cds (an_assignment rows) h other = refl
-awaited-none Cds (a_listener listener) h other = by listener.serve
-  where
-    by : (v : Serve) → name_awaited Eds (serve_dependency v) ≡ []
-    by (by_rds service limited) = refl
-    by (Inline table) = refl
-    by (Tcp target) = refl
-awaited-none Cds (routes table) h other = refl
-awaited-none Lds (a_cluster cluster) h other = by cluster.discovery
-  where
-    by : (d : Discovery) → name_awaited Rds (discovery_dependency d) ≡ []
-    by (Static rows) = refl
-    by (by_eds service limited) = refl
-awaited-none Lds (an_assignment rows) h other = refl
-awaited-none Lds (a_listener listener) h other = absurd (true≢false other)
-awaited-none Lds (routes table) h other = refl
+use Rattle.ev_indexes.proofs.DependencyLemmas.{has_dependency-same, has_dependency-kind, has_limited_dependency-one, names_awaited-of}
 
 -- rows of other kinds pass no test that only rows of the kind pass
 any-of-kind : (kind : Kind) (f : GenRow → Bool) (rows : List GenRow) → AllByRecursion (λ (r : GenRow). f r ≡ true → kind_same r.kind kind ≡ true) rows → list_any f (rows_of_kind kind rows) ≡ list_any f rows
@@ -131,43 +52,32 @@ any-lives test (row ∷ rows) = by (is_live row.status) (any-lives test rows)
 
 module _ (s : State) (world : World) (stands : StandsFor s world) (rowed : is_by_name s.kind ≡ false) (name : List ℕ) where
   -- a test that rows pass only where they depend on the name is the same over the world
-  any-dependent : (f g : GenRow → Bool) → ((r : GenRow) → f r ≡ true → is_dependency (needs_of s.kind) name (dependency_of r.content) ≡ true)
+  any-dependent : (f g : GenRow → Bool) → ((r : GenRow) → f r ≡ true → has_dependency (needs_of s.kind) name r.content ≡ true)
       → ((r : GenRow) → content_kind r.content ≡ s.kind → f r ≡ g r) → list_any f world.rows ≡ list_any g s.table.rows
   any-dependent f g only same =
       sym (any-of-kind s.kind f world.rows
       (all_then (λ (r : GenRow). content_kind r.content ≡ r.kind) (λ (r : GenRow). f r ≡ true → kind_same r.kind s.kind ≡ true) world.rows
-      (λ r typed h. (kind_decides r.kind s.kind).1 (sym typed ∙ dependency-kind s.kind name r.content rowed (only r h))) stands.sound.typed))
+      (λ r typed h. (kind_decides r.kind s.kind).1 (sym typed ∙ has_dependency-kind s.kind name r.content rowed (only r h))) stands.sound.typed))
       ∙ ap (list_any f) (sym stands.rows)
       ∙ any_agrees f g s.table.rows (all_then (λ (r : GenRow). content_kind r.content ≡ s.kind) (λ (r : GenRow). f r ≡ g r) s.table.rows same (contents-of s world stands))
 
   pub watched-world : list_any (depends_on name) s.table.rows ≡ is_watched (lives_of world) (needs_of s.kind) name
   watched-world =
-      sym (any-lives (λ content. is_dependency (needs_of s.kind) name (dependency_of content)) world.rows
-      ∙ any-dependent (λ (r : GenRow). is_live r.status && is_dependency (needs_of s.kind) name (dependency_of r.content)) (depends_on name)
-      (λ r h. (and_parts (is_live r.status) (is_dependency (needs_of s.kind) name (dependency_of r.content)) h).1)
-      (λ r k. ap (λ b. is_live r.status && b) (dependency-same s.kind name r.content k)))
+      sym (any-lives (λ content. has_dependency (needs_of s.kind) name content) world.rows
+      ∙ any-dependent (λ (r : GenRow). is_live r.status && has_dependency (needs_of s.kind) name r.content) (depends_on name)
+      (λ r h. (and_parts (is_live r.status) (has_dependency (needs_of s.kind) name r.content) h).1)
+      (λ r k. ap (λ b. is_live r.status && b) (has_dependency-same s.kind name r.content k)))
 
   pub timeout-world : is_timeout_due s.watches s.table.rows name ≡ is_awaited world.arrivals world.rows (needs_of s.kind) name
   timeout-world = λ i. waiting i && not (stands.told name i || stands.timed name i)
     where
-      turned : (l d m : Bool) → ((l && m) && d) ≡ ((l && d) && m)
-      turned true true m = by m
-        where
-          by : (m : Bool) → (m && true) ≡ m
-          by true = refl
-          by false = refl
-      turned true false m = by m
-        where
-          by : (m : Bool) → (m && false) ≡ false
-          by true = refl
-          by false = refl
-      turned false d m = refl
-
       waiting : list_any (waits_limited name) s.table.rows ≡ list_any (is_waiting (needs_of s.kind) name) world.rows
       waiting = sym (any-dependent (is_waiting (needs_of s.kind) name) (waits_limited name)
-          (λ r h. (and_parts (is_live r.status && is_limited r.content) (is_dependency (needs_of s.kind) name (dependency_of r.content)) h).1)
-          (λ r k. turned (is_live r.status) (is_dependency (needs_of s.kind) name (dependency_of r.content)) (is_limited r.content)
-          ∙ (λ i. (is_live r.status && dependency-same s.kind name r.content k i) && is_limited r.content)))
+          (λ r h. (and_parts (has_dependency (needs_of s.kind) name r.content) (is_limited_in r.content)
+          (sym (has_limited_dependency-one (needs_of s.kind) name r.content) ∙ (and_parts (is_live r.status) (has_limited_dependency (needs_of s.kind) name r.content) h).1)).0)
+          (λ r k. ap (λ b. is_live r.status && b)
+          (has_limited_dependency-one (needs_of s.kind) name r.content ∙ ap (λ b. b && is_limited_in r.content) (has_dependency-same s.kind name r.content k))
+          ∙ sym (and_assoc (is_live r.status) (is_needed name (name_needed r.content)) (is_limited_in r.content))))
 
 -- what is seen of live rows of a kind
 pub lives-world : (kind : Kind) (rows : List GenRow) → map live_of (live_rows (rows_of_kind kind rows)) ≡ filter (λ (live : Live). kind_same live.kind kind) (map live_of (live_rows rows))
@@ -188,20 +98,23 @@ lives-world kind (row ∷ rows) = by (kind_same row.kind kind) refl (is_live row
 
 -- the names that live rows of a kind need
 pub needs-world : (kind : Kind) → is_by_name kind ≡ false → (rows : List GenRow) → AllByRecursion (λ (r : GenRow). content_kind r.content ≡ r.kind) rows
-    → names_needed (rows_of_kind kind rows) ≡ flat_map (λ (live : Live). name_awaited (needs_of kind) (dependency_of live.content)) (map live_of (live_rows rows))
+    → names_needed (rows_of_kind kind rows) ≡ flat_map (λ (live : Live). names_awaited (needs_of kind) (dependencies_of live.content)) (map live_of (live_rows rows))
 needs-world kind rowed [] all = refl
 needs-world kind rowed (row ∷ rows) all = by (kind_same row.kind kind) refl (is_live row.status) refl (needs-world kind rowed rows all.1)
   where
+    awaited : (k : Bool) → kind_same row.kind kind ≡ k → names_awaited (needs_of kind) (dependencies_of row.content) ≡ cond k (option_to_list (name_needed row.content)) []
+    awaited k e = names_awaited-of kind row.content rowed ∙ (λ i. cond (((λ j. kind_same (all.0 j) kind) ∙ e) i) (option_to_list (name_needed row.content)) [])
+
     by : (k : Bool) → kind_same row.kind kind ≡ k → (l : Bool) → is_live row.status ≡ l
-        → names_needed (rows_of_kind kind rows) ≡ flat_map (λ (live : Live). name_awaited (needs_of kind) (dependency_of live.content)) (map live_of (live_rows rows))
+        → names_needed (rows_of_kind kind rows) ≡ flat_map (λ (live : Live). names_awaited (needs_of kind) (dependencies_of live.content)) (map live_of (live_rows rows))
         → names_needed (cond k (row ∷ rows_of_kind kind rows) (rows_of_kind kind rows))
-        ≡ flat_map (λ (live : Live). name_awaited (needs_of kind) (dependency_of live.content)) (map live_of (cond l (row ∷ live_rows rows) (live_rows rows)))
+        ≡ flat_map (λ (live : Live). names_awaited (needs_of kind) (dependencies_of live.content)) (map live_of (cond l (row ∷ live_rows rows) (live_rows rows)))
     by true e true f rest =
         (λ i. flat_map (λ (r : GenRow). option_to_list (name_needed r.content)) (cond (f i) (row ∷ live_rows (rows_of_kind kind rows)) (live_rows (rows_of_kind kind rows))))
-        ∙ (λ i. sym (awaited-same kind row.content (all.0 ∙ (kind_decides row.kind kind).0 e)) i ++ rest i)
+        ∙ (λ i. sym (awaited true e) i ++ rest i)
     by true e false f rest = (λ i. flat_map (λ (r : GenRow). option_to_list (name_needed r.content)) (cond (f i) (row ∷ live_rows (rows_of_kind kind rows)) (live_rows (rows_of_kind kind rows)))) ∙ rest
     by false e true f rest =
-        rest ∙ (λ i. sym (awaited-none kind row.content rowed ((λ j. kind_same (all.0 j) kind) ∙ e)) i ++ flat_map (λ (live : Live). name_awaited (needs_of kind) (dependency_of live.content)) (map live_of (live_rows rows)))
+        rest ∙ (λ i. sym (awaited false e) i ++ flat_map (λ (live : Live). names_awaited (needs_of kind) (dependencies_of live.content)) (map live_of (live_rows rows)))
     by false e false f rest = rest
 
 pub names-world : (s : State) (world : World) → StandsFor s world → is_by_name s.kind ≡ false → names_watched s.table.rows ≡ watched_of world (needs_of s.kind)

@@ -1,29 +1,29 @@
 -- Rows of a kind under changes of statuses, and what a state that stands for a world has of it: the same hosts, and the same rows are ready.
-use Rattle.std.proofs.Common.{◌≡◌, ◌∙◌, ℕ, Bool, true, false, cond, not, ◌&&◌, ◌||◌, List, [], ◌∷◌, Some, IsSome, is_some, option_map, refl, sym, ap, true≢false}
-use Rattle.std.specs.List.{list_any}
+use Rattle.std.proofs.Common.{◌≡◌, ◌∙◌, ℕ, Bool, true, false, cond, not, ◌&&◌, ◌||◌, List, [], ◌∷◌, Option, None, Some, IsSome, is_some, option_map, option_to_list, unwrap_or, refl, sym, ap, true≢false}
+use Rattle.std.proofs.Math.Bool.{and-true}
+use Rattle.std.specs.List.{list_any, list_all}
 use Rattle.ev_types.specs.Hosts.{HostRowParts}
 use Rattle.ev_types.specs.Items.{content_kind}
 use Rattle.ev_types.specs.Kinds.{kind_same}
 use Rattle.ev_types.specs.declared.contents.Kind.{Kind}
-use Rattle.ev_types.specs.declared.contents.Kind.TheVariants.{Eds, Rds}
+use Rattle.ev_types.specs.declared.contents.Kind.TheVariants.{Eds}
 use Rattle.ev_types.specs.declared.contents.Content.{Content}
 use Rattle.ev_types.specs.declared.contents.Content.TheVariants.{Cluster as a_cluster, Assignment as an_assignment, Listener as a_listener, Routes as routes}
 use Rattle.ev_types.specs.declared.clusters.Discovery.{Discovery}
 use Rattle.ev_types.specs.declared.clusters.Discovery.TheVariants.{Static, Eds as by_eds}
-use Rattle.ev_types.specs.declared.listeners.Serve.{Serve}
-use Rattle.ev_types.specs.declared.listeners.Serve.TheVariants.{Rds as by_rds, Inline, Tcp}
 use Rattle.ev_types.specs.declared.rows.RowStatus.{RowStatus}
 use Rattle.ev_types.specs.declared.rows.GenRow.{GenRow}
 use Rattle.ev_model.specs.World.{World, Arrived, HealthResult}
-use Rattle.ev_model.specs.Watching.{Dependency, discovery_dependency, serve_dependency, is_limited}
-use Rattle.ev_model.specs.Warming.{has_answer, discovered, assignment_by, rows_in, has_result, has_all_results, value_by, is_answered_by, is_ready_by, is_checked}
+use Rattle.ev_model.specs.Watching.{Dependency}
+use Rattle.ev_model.specs.Warming.{is_told_by, is_timed_by, has_answer, discovered, assignment_by, rows_in, has_result, has_all_results, value_by, is_answered_by, is_ready_by, is_checked}
 use Rattle.ev_model.specs.Rows.{with_statuses}
 use Rattle.ev_endpoints.specs.Results.{ResultsKept, result_in}
 use Rattle.ev_generations.specs.Tables.{row_in}
 use Rattle.ev_indexes.specs.declared.state.State.{State}
 use Rattle.ev_indexes.specs.Watched.{WatchesKept, watch_in}
-use Rattle.ev_indexes.specs.Ready.{has_answer_in, discovered_in, assignment_in, are_results_in, is_answered_in, is_ready_in}
+use Rattle.ev_indexes.specs.Ready.{dependency_in, has_answer_in, discovered_in, assignment_in, are_results_in, is_answered_in, is_ready_in}
 use Rattle.ev_indexes.specs.Worlds.{needs_of, rows_of_kind, StandsFor}
+use Rattle.ev_indexes.proofs.DependencyLemmas.{dependencies_of-one, dependency-kind}
 
 pub rows_of_kind-with_statuses : (kind : Kind) (f : GenRow → RowStatus) (rows : List GenRow) → rows_of_kind kind (with_statuses f rows) ≡ with_statuses f (rows_of_kind kind rows)
 rows_of_kind-with_statuses kind f [] = refl
@@ -64,26 +64,20 @@ module _ (kind : Kind) (watches : WatchesKept) (arrivals : List Arrived) (values
   hosts-by (routes table) k = refl
 
 module _ (s : State) (world : World) (stands : StandsFor s world) where
-  discovery_answer : needs_of s.kind ≡ Eds → (limited : Bool) (d : Discovery)
-      → has_answer_in s.watches limited (option_map (λ (d : Dependency). d.name) (discovery_dependency d)) ≡ has_answer world.arrivals limited (discovery_dependency d)
-  discovery_answer k limited (Static rows) = refl
-  discovery_answer k limited (by_eds service l) =
-      (λ i. stands.told service i || (stands.timed service i && limited))
-      ∙ (λ i. has_answer world.arrivals limited (Some (record { kind = k i; name = service })))
-
-  serve_answer : needs_of s.kind ≡ Rds → (limited : Bool) (v : Serve)
-      → has_answer_in s.watches limited (option_map (λ (d : Dependency). d.name) (serve_dependency v)) ≡ has_answer world.arrivals limited (serve_dependency v)
-  serve_answer k limited (by_rds name l) =
-      (λ i. stands.told name i || (stands.timed name i && limited))
-      ∙ (λ i. has_answer world.arrivals limited (Some (record { kind = k i; name = name })))
-  serve_answer k limited (Inline table) = refl
-  serve_answer k limited (Tcp target) = refl
-
   answered : (content : Content) → content_kind content ≡ s.kind → is_answered_in s.watches content ≡ is_answered_by world.arrivals content
-  answered (a_cluster cluster) k = discovery_answer (ap needs_of (sym k)) (is_limited (a_cluster cluster)) cluster.discovery
-  answered (an_assignment rows) k = refl
-  answered (a_listener listener) k = serve_answer (ap needs_of (sym k)) (is_limited (a_listener listener)) listener.serve
-  answered (routes table) k = refl
+  answered content k = by (dependency_in content) refl ∙ sym (ap (list_all (has_answer world.arrivals)) (dependencies_of-one content))
+    where
+      by : (o : Option Dependency) → dependency_in content ≡ o
+          → has_answer_in s.watches (unwrap_or (option_map (λ (d : Dependency). d.limited) o) false) (option_map (λ (d : Dependency). d.name) o)
+          ≡ list_all (has_answer world.arrivals) (option_to_list o)
+      by None e = refl
+      by (Some d) e =
+          (λ i. stands.told d.name i || (stands.timed d.name i && d.limited))
+          ∙ (λ i. is_told_by world.arrivals (kind i) d.name || (is_timed_by world.arrivals (kind i) d.name && d.limited))
+          ∙ sym (and-true (has_answer world.arrivals d))
+        where
+          kind : needs_of s.kind ≡ d.kind
+          kind = sym (dependency-kind content d e ∙ ap needs_of k)
 
   pub hosts : (content : Content) → content_kind content ≡ s.kind → assignment_in s.watches content ≡ assignment_by world.arrivals content
   hosts = hosts-by s.kind s.watches world.arrivals stands.value

@@ -7,14 +7,13 @@ use Rattle.ev_types.specs.declared.rows.RowStatus.{RowStatus}
 use Rattle.ev_types.specs.declared.rows.RowStatus.TheVariants.{Dropped}
 use Rattle.ev_types.specs.declared.rows.GenRow.{GenRow}
 use Rattle.ev_types.specs.declared.hosts.Host.{Host}
-use Rattle.ev_model.specs.Watching.{is_limited}
 use Rattle.ev_endpoints.specs.Results.{result_in}
 use Rattle.ev_generations.specs.Tables.{IsTable, numbers_of}
 use Rattle.ev_indexes.specs.Addresses.{numbers_at, listens_at}
 use Rattle.ev_indexes.specs.Due.{is_among}
 use Rattle.ev_indexes.specs.Standings.{standing_in}
 use Rattle.ev_indexes.specs.Watched.{WatchesKept, watch_in}
-use Rattle.ev_indexes.specs.Ready.{name_needed, is_due_at}
+use Rattle.ev_indexes.specs.Ready.{name_needed, is_limited_in, is_due_at}
 use Rattle.ev_indexes.specs.declared.state.State.{State}
 
 -- the name is the one that is needed
@@ -28,7 +27,7 @@ depends_on name row = is_live row.status && is_needed name (name_needed row.cont
 
 -- a live row depends on the name, and its wait is limited
 abbrev pub waits_limited : List ℕ → GenRow → Bool
-waits_limited name row = depends_on name row && is_limited row.content
+waits_limited name row = depends_on name row && is_limited_in row.content
 
 -- the row serves the name
 abbrev pub serves : List ℕ → GenRow → Bool

@@ -1,6 +1,6 @@
 -- Which rows are due, by what is known of names and by the results that are kept: the machine's words, where what came is looked
 -- up. Source: cluster manager warming of Envoy's documentation.
-use Rattle.std.specs.Prelude.{◌≡◌, ⊤, ℕ, if◌then◌else◌, Bool, true, false, not, ◌&&◌, ◌||◌, List, [], Option, Some, None, is_some, option_map}
+use Rattle.std.specs.Prelude.{◌≡◌, ⊤, ℕ, if◌then◌else◌, Bool, true, false, not, ◌&&◌, ◌||◌, List, [], ◌∷◌, Option, Some, None, is_some, option_map, unwrap_or}
 use Rattle.std.specs.List.{list_all}
 use Rattle.ev_types.specs.Hosts.{HostRowParts}
 use Rattle.ev_types.specs.SameHosts.{has_host}
@@ -12,16 +12,29 @@ use Rattle.ev_types.specs.declared.clusters.Discovery.{Discovery}
 use Rattle.ev_types.specs.declared.clusters.Discovery.TheVariants.{Static, Eds as by_eds}
 use Rattle.ev_types.specs.declared.hosts.Host.{Host}
 use Rattle.ev_types.specs.declared.rows.GenRow.{GenRow}
-use Rattle.ev_model.specs.Watching.{Dependency, dependency_of, is_limited}
+use Rattle.ev_model.specs.Watching.{Dependency, dependencies_of}
 use Rattle.ev_model.specs.Warming.{rows_in, is_checked}
 use Rattle.ev_endpoints.specs.Results.{ResultsKept, result_in}
 use Rattle.ev_generations.specs.Tables.{row_in}
 use Rattle.ev_indexes.specs.Due.{is_among}
 use Rattle.ev_indexes.specs.Watched.{WatchesKept, watch_in}
 
+-- the first of these dependencies, where there is one
+abbrev pub first_dependency : List Dependency → Option Dependency
+first_dependency [] = None
+first_dependency (d ∷ ds) = Some d
+
+-- the dependency of a content that has one at most: so has each content, a cluster its service and a listener its routes
+abbrev pub dependency_in : Content → Option Dependency
+dependency_in content = first_dependency (dependencies_of content)
+
 -- the name that a generation of this content depends on
 abbrev pub name_needed : Content → Option (List ℕ)
-name_needed content = option_map (λ (d : Dependency). d.name) (dependency_of content)
+name_needed content = option_map (λ (d : Dependency). d.name) (dependency_in content)
+
+-- its wait ends at the initial fetch timeout
+abbrev pub is_limited_in : Content → Bool
+is_limited_in content = unwrap_or (option_map (λ (d : Dependency). d.limited) (dependency_in content)) false
 
 -- what is needed has 1 to 512 bytes
 abbrev pub IsNeedName : Option (List ℕ) → Type 0
@@ -35,7 +48,7 @@ has_answer_in watches limited (Some name) = (watch_in watches name).told || ((wa
 
 -- a generation of this content is answered
 abbrev pub is_answered_in : WatchesKept → Content → Bool
-is_answered_in watches content = has_answer_in watches (is_limited content) (name_needed content)
+is_answered_in watches content = has_answer_in watches (is_limited_in content) (name_needed content)
 
 -- the hosts that stand in a cluster, or the value of its service, or none
 abbrev pub discovered_in : WatchesKept → Discovery → List HostRowParts

@@ -3,10 +3,9 @@
 ghost use Rattle.std.specs.Prelude.{◌≡◌, ◌+◌, Some, length, OnOk};
 ghost use Rattle.std.specs.Option.{option_copied};
 ghost use Rattle.ev_types.specs.Texts.{IsName};
-ghost use Rattle.ev_model.specs.Watching.{is_limited};
 ghost use Rattle.ev_model.specs.Warming.{rows_in};
 ghost use Rattle.ev_indexes.specs.Watched.{watch_in};
-ghost use Rattle.ev_indexes.specs.Ready.{name_needed, IsNeedName, are_results_in, is_answered_in, is_round_done_in, is_ready_in, Refreshes};
+ghost use Rattle.ev_indexes.specs.Ready.{name_needed, is_limited_in, IsNeedName, are_results_in, is_answered_in, is_round_done_in, is_ready_in, Refreshes};
 
 use crate::{Due, Watches};
 use ev_endpoints::Endpoints;
@@ -44,7 +43,7 @@ fn given(name: &Name) -> Option<&Name>
 
 /// Whether the wait of a generation of this content ends at the initial fetch timeout.
 pub fn limited(content: &Content) -> bool
-    ensures { result ≡ is_limited content.now }
+    ensures { result ≡ is_limited_in content.now }
 {
     match content {
         Content::Cluster(cluster) => match &cluster.get().discovery {

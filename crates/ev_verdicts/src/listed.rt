@@ -1,6 +1,6 @@
 ghost use Rattle.std.specs.Prelude.{◌≡◌, ◌&&◌, ◌∷◌, ◌++◌, [], filter, option_map, IfOk, OnOk};
 ghost use Rattle.ev_model.specs.Live.{is_named, later_of, newest_of};
-ghost use Rattle.ev_model.specs.Watching.{is_watched, dependency_of, is_dependency};
+ghost use Rattle.ev_model.specs.Watching.{has_dependency, is_watched};
 ghost use Rattle.ev_model.specs.Verdicts.{listening_address, shares_address};
 ghost use Rattle.ev_model.specs.Versions.{is_kept, is_version_of};
 ghost use Rattle.ev_mentions.specs.Lives.{is_at};
@@ -150,7 +150,7 @@ fn later_of<'a, 'b>(
 
 // Whether a generation of this content depends on the name.
 fn depends_on(content: &Content, kind: Kind, name: &str) -> bool
-    ensures { result ≡ is_dependency kind name.now (dependency_of content.now) }
+    ensures { result ≡ has_dependency kind name.now content.now }
 {
     match content {
         Content::Cluster(cluster) => match &cluster.get().discovery {
