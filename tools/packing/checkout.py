@@ -42,7 +42,7 @@ def lacking(checkout, program, gate):
     if checkout.has_changes:
         yield 'the checkout has changes that no commit has'
     if gate is None:
-        yield 'it isn\'t told that the gate has passed (--gate LOG)'
+        yield 'no log says that the gate has passed (--gate LOG)'
     elif not PASSED.fullmatch(gate):
         yield f'the gate has not passed: its last line is {gate!r}'
     if not checkout.kit:

@@ -93,7 +93,7 @@ def names_of_change(tree):
 
 
 class Expected:
-    """The messages that the program says, stream by stream. For the state of the world they are reckoned: the version is the
+    """The messages that the program says, stream by stream. For the state of the world they are worked out: the version is the
     one last acknowledged for the type, the nonce the last of the type on the stream, the names all that are watched."""
 
     def __init__(self, reading, rows):

@@ -1,7 +1,7 @@
 """What a proxy sends after each line of a recording, as the lines come.
 
 The program reads a script as a whole, so it can't be asked after each response but by replaying all that came before. In its place
-the tools' own reckoning goes along (shared/answers.py): each line is read once. In the end the program replays the script, once, and
+the tools work out the answers themselves (shared/answers.py): each line is read once. In the end the program replays the script, once, and
 what it says is put beside what was sent.
 """
 import hashlib

@@ -1,4 +1,4 @@
-"""What the machine answers to each operation, reckoned from the script alone, for a person who looks at a journal that isn't legal.
+"""What the machine answers to each operation, worked out from the script alone, for a person who looks at a journal that isn't legal.
 
 It adds to `machine` what a journal's answers leave unsaid there: versions, times to live, verdicts, requests, and what a picture
 chooses for a connection. Not proved: the definitions in docs/DEFINITIONS.md and the program decide.

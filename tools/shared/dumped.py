@@ -1,4 +1,4 @@
-"""Dumps: the line that `warmgate dump K` writes, as a table, and the same reckoned from a journal. Not proved."""
+"""Dumps: the line that `warmgate dump K` writes, as a table, and the same worked out from a journal. Not proved."""
 from .finding import Walk
 from .journal import generation, has, list_of, name, u32, u64
 from .json_text import NotJson, compact, read_tree

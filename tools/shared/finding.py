@@ -1,4 +1,4 @@
-"""What an audit finds of a journal, and where: the walk over its entries, reckoned apart from the program. Not proved."""
+"""What an audit finds of a journal, and where: the walk over its entries, worked out apart from the program. Not proved."""
 from .answers import Answering
 from .operations import operations_of
 

@@ -1,7 +1,7 @@
 """What the managers know after each entry of a journal, for a person who reads it.
 
-It follows the journal's own verdicts and answers, and reckons from the script what they leave unsaid: which generation
-serves, what each warming one waits for, what drains. Where its reckoning and the journal disagree it says so. Nothing is
+It follows the journal's own verdicts and answers, and works out from the script what they leave unsaid: which generation
+serves, what each warming one waits for, what drains. Where it and the journal disagree it says so. Nothing is
 searched: who has a name, who waits for one, what a picture shows and what keeps a generation are kept as they change. Not
 proved: the definitions in docs/DEFINITIONS.md and the program decide.
 """

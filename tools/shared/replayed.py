@@ -1,4 +1,4 @@
-"""Replays of scripts and of state-of-the-world scripts, reckoned apart from the program, for trials. Not proved."""
+"""Replays of scripts and of state-of-the-world scripts, worked out apart from the program, for trials. Not proved."""
 from . import script
 from .answers import Answering
 from .json_text import compact

@@ -304,7 +304,7 @@ class Teller:
             self.page.line(f'{wait.title()}: Envoy would wait no longer than up to here, since line {wait.at}')
 
     def doubts(self, row):
-        """Where the journal's requests and this tool's reckoning differ."""
+        """Where the journal's requests and this tool's own differ."""
         if row.op in ('accept', 'close', 'settle', 'publish', 'reap') or not isinstance(row.answer, dict):
             return
         if row.op == 'connect' or not self.machine.open:
@@ -330,7 +330,7 @@ class Teller:
             self.doubt(f'a request for {WORDS[kind]} of {names}' if changed else f'no request for {WORDS[kind]}')
 
     def doubt(self, words):
-        self.page.line(f'(this tool reckoned with {shown(words, 300)}; the journal says otherwise)', 'bad', news=True)
+        self.page.line(f'(this tool expected {shown(words, 300)}; the journal says otherwise)', 'bad', news=True)
 
     def ending(self, entries):
         self.page.end(f'The end: {entries} entries.')

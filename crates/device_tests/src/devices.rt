@@ -1,13 +1,15 @@
+use crate::lines::assert_lines;
 use ev_io::{Failed, MemSink, MemSource, Sink, Source, StdSink, StdSource, write_all};
+use std::alloc::Global;
 use std::io;
 use std::io::{Read, Write};
+use std::process::Abort;
 use std::test::Fail;
 
-// The answers of five reads of two bytes: the count, or none where the read failed.
-#[test]
-fn reads_memory_in_pieces(rt: HostRuntime) -> Result<(), Fail> {
-    let bytes = b"abcde".to_vec(rt.alloc())?;
-    let mut source = MemSource::new(bytes, 3, vec![in rt.alloc(); 2, 4]?);
+// The answers of five reads of three bytes: the count, or none where the read failed.
+fn assert_reads(rt: &impl Abort, alloc: Global) -> Result<(), Fail> {
+    let bytes = b"abcde".to_vec(alloc)?;
+    let mut source = MemSource::new(bytes, 3, vec![in alloc; 2, 4]?);
     let mut buf = [b'-'; 4];
     let wants = [
         (Ok(3), b"abc-"),
@@ -23,9 +25,9 @@ fn reads_memory_in_pieces(rt: HostRuntime) -> Result<(), Fail> {
     Ok(())
 }
 
-#[test]
-fn writes_memory_in_pieces(rt: HostRuntime) -> Result<(), Fail> {
-    let mut sink = MemSink::new(rt.alloc(), 6, 4, vec![in rt.alloc(); 2]?)?;
+// The answers of writes of at most four bytes, of which the second fails, into room for six.
+fn assert_writes(rt: &impl Abort, alloc: Global) -> Result<(), Fail> {
+    let mut sink = MemSink::new(alloc, 6, 4, vec![in alloc; 2]?)?;
     let wants = [
         (Ok(4), "abcd"),
         (Err(Failed), "abcd"),
@@ -40,10 +42,10 @@ fn writes_memory_in_pieces(rt: HostRuntime) -> Result<(), Fail> {
     Ok(())
 }
 
-#[test]
-fn writes_all_or_a_prefix(rt: HostRuntime) -> Result<(), Fail> {
+// A text is written whole, or a prefix of it where a write fails.
+fn assert_writes_all(rt: &impl Abort, alloc: Global) -> Result<(), Fail> {
     let text = b"{\"format\":1}";
-    let mut sink = MemSink::new(rt.alloc(), 100, 10, vec![in rt.alloc(); 2]?)?;
+    let mut sink = MemSink::new(alloc, 100, 10, vec![in alloc; 2]?)?;
     assert_eq!(rt; write_all(&mut sink, text), Err(Failed));
     assert_eq!(rt; sink.as_bytes(), b"{\"format\":".as_slice());
     assert_eq!(rt; write_all(&mut sink, text), Ok(()));
@@ -85,8 +87,8 @@ impl Write for &mut Device {
     }
 }
 
-#[test]
-fn adapts_streams(rt: HostRuntime) {
+// A stream's failures are failures, and what it takes is taken.
+fn assert_adapts(rt: &impl Abort) {
     let mut device = Device {
         calls: 0,
         flushes: 0,
@@ -106,4 +108,13 @@ fn adapts_streams(rt: HostRuntime) {
     assert_eq!(rt; sink.write(b"ab"), Err(Failed));
     assert_eq!(rt; sink.write(b"ab"), Ok(2));
     assert_eq!(rt; device.flushes, 2);
+}
+
+#[test]
+fn devices_and_lines_in_pieces(rt: HostRuntime) -> Result<(), Fail> {
+    assert_reads(&rt, rt.alloc())?;
+    assert_writes(&rt, rt.alloc())?;
+    assert_writes_all(&rt, rt.alloc())?;
+    assert_adapts(&rt);
+    assert_lines(&rt, rt.alloc())
 }

@@ -388,7 +388,7 @@ fn each_seat_has_its_numbers_in_order(rt: HostRuntime) -> Result<(), Fail> {
 }
 
 #[test]
-fn newest_is_told_to_each_pass(rt: HostRuntime) -> Result<(), Fail> {
+fn each_pass_gets_the_newest_and_none_falls_back(rt: HostRuntime) -> Result<(), Fail> {
     let acts = [Act::Ask, Act::PublishAt(3), Act::Ask];
     let (numbers, told) = run_gate(&rt, rt.alloc(), 5, &acts)?;
     assert_eq!(rt; numbers.version(), 1);
@@ -397,11 +397,6 @@ fn newest_is_told_to_each_pass(rt: HostRuntime) -> Result<(), Fail> {
         assert_eq!(rt; answers.first, Some(0));
         assert_eq!(rt; answers.last, 1);
     }
-    Ok(())
-}
-
-#[test]
-fn answers_never_fall_while_others_publish(rt: HostRuntime) -> Result<(), Fail> {
     let acts = [Act::PublishAndAsk(300), Act::Ask];
     let (numbers, told) = run_gate(&rt, rt.alloc(), 3, &acts)?;
     assert_eq!(rt; numbers.version(), 600);

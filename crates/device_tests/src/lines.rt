@@ -5,7 +5,7 @@ use std::alloc::{AllocError, Global};
 use std::process::Abort;
 use std::test::Fail;
 
-// Reads lines up to another answer, which it gives twice, and puts the front of each behind `all`,
+// Reads lines up to another answer, which it gives twice, and puts the front of each after `all`,
 // with a bar.
 fn read_all<S: Source>(
     lines: &mut Lines,
@@ -91,12 +91,11 @@ fn assert_pieces(
     Ok(())
 }
 
-// The same lines in pieces of each size, and the lines before each read that fails.
-#[test]
-fn reads_lines(rt: HostRuntime) -> Result<(), Fail> {
+/// Asserts that the same lines are read in pieces of each size, and those before each read that fails.
+pub(crate) fn assert_lines(rt: &impl Abort, alloc: Global) -> Result<(), Fail> {
     for (text, piece, failing, all, number, answer) in PIECES {
         prove!(piece > 0);
-        assert_pieces(&rt, rt.alloc(), text, piece, failing, (all, number, answer))?;
+        assert_pieces(rt, alloc, text, piece, failing, (all, number, answer))?;
     }
     Ok(())
 }

@@ -48,15 +48,15 @@ is_batched_word Publish = false
 is_batched_word Reap = false
 is_batched_word Settle = false
 
--- whose batch is open behind a row: behind an accept or close that of its actor
+-- whose batch is open after a row: after an accept or close that of its actor
 abbrev pub batch_after : Row → Option Actor
 batch_after row = if is_batched_word row.op then Some row.actor else None
 
--- whose batch is open behind an entry
+-- whose batch is open after an entry
 abbrev pub batch_behind : Entry → Option Actor
 batch_behind entry = if is_batched entry.event then Some entry.actor else None
 
--- whose batch is open behind a journal
+-- whose batch is open after a journal
 abbrev pub open_batch : List Entry → Option Actor
 open_batch journal = option_and_then batch_behind (last_or None journal)
 
@@ -65,12 +65,12 @@ abbrev pub breaks_open : Option Actor → Actor → Bool
 breaks_open None actor = false
 breaks_open (Some of) actor = not (actor_same actor of)
 
--- the world behind the rows before this place
+-- the world after the rows before this place
 abbrev pub world_before : Format → ScriptParts → List Row → ℕ → World
 world_before format script rows place = world_behind format script (journal_before script rows place)
 
 -- the walk stands before this place of the rows: nothing is found so far, and it knows the machine, each actor's course and the
--- open batch behind the journal of the rows before
+-- open batch after the journal of the rows before
 pub record IsBefore (script : ScriptParts) (rows : List Row) (place : ℕ) (walk : Walk) : Type 0 where
   pub none : NothingFound walk.courses.format script rows place
   pub proxy : IsAt walk.proxy (world_before walk.courses.format script rows place)

@@ -28,7 +28,7 @@ pub fn audit(
     found
 }
 
-// Takes a walk from before the first row to where anything is found, or behind the last row.
+// Takes a walk from before the first row to where anything is found, or after the last row.
 fn walk_over(
     alloc: Global,
     walk: &mut Walk,

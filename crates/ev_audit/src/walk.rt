@@ -14,7 +14,7 @@ use ev_proxy::Proxy;
 use ev_types::{Actor, Finding, Format, Op, Row, Script, is_same_answer};
 use std::alloc::{AllocError, Global};
 
-/// A walk over a journal's rows: the machine behind the rows so far, how far each actor has come, and whose batch is open.
+/// A walk over a journal's rows: the machine after the rows so far, how far each actor has come, and whose batch is open.
 #[derive(Drop)]
 pub(crate) struct Walk {
     pub(crate) proxy: Proxy,
@@ -78,7 +78,7 @@ impl Walk {
         Ok(None)
     }
 
-    /// What is found behind the last row.
+    /// What is found after the last row.
     pub(crate) fn end(&self, script: &Script, rows: &[Row]) -> Finding
         requires few { length rows.now < u32.MAX }
         requires before { IsBefore script.now rows.now (length rows.now) self.now }
@@ -117,7 +117,7 @@ fn is_same_actor(one: Actor, other: Actor) -> bool
     }
 }
 
-// Whether settles may be left out of the row's actor behind the row, where the proxy is behind it.
+// Whether settles may be left out of the row's actor after the row, where the proxy has taken it.
 fn rests(proxy: &Proxy, format: Format, row: &Row) -> bool
     ensures { (world : World) → IsAt proxy.now world
         → result ≡ leaves_out format (is_settle_word row.now.op && not (list_any (is_held_by row.now.actor) world.opened)) }
@@ -135,7 +135,7 @@ fn is_settle(op: Op) -> bool
     matches!(op, Op::Settle)
 }
 
-// Whose batch is open behind a row.
+// Whose batch is open after a row.
 fn batch_after(row: &Row) -> Option<Actor>
     ensures { result ≡ batch_after row.now }
 {

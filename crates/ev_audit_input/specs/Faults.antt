@@ -1,4 +1,4 @@
--- Where an audit's input, a script with a journal behind it, stops being one. This project's own. Its faults are those of a
+-- Where an audit's input, a script with a journal after it, stops being one. This project's own. Its faults are those of a
 -- script's lines before the journal and of the limits everywhere, and one kind more (kind 9): that a line of the journal isn't
 -- one in its place, or that the journal or its end line is missing. A place counts bytes from 0, as of a script's faults.
 use Rattle.std.specs.Prelude.{◌≡◌, ◌≢◌, ℕ, zero, suc, ◌+◌, ◌-◌, ◌<◌, ◌≤◌, ◌⊎◌, IsTrue, List, [], length, slice_index_or, Some}
@@ -12,13 +12,13 @@ use Rattle.ev_journal_read.specs.Reading.{IsNoRow}
 
 -- ---- the lines of a journal
 
--- the journal begins at the place: its first line, which is the first behind the header with a member `format`, ends there
+-- the journal begins at the place: its first line, which is the first after the header with a member `format`, ends there
 pub record StartsJournal (input : Input) (start : ℕ) : Type 0 where
   pub begins : BeginsJournal input start
   pub first : (other : ℕ) → other < start → ¬ (BeginsJournal input other)
 
 -- a text isn't that of the line of a journal with so many lines before it: of its first line, which names its format and the
--- script's count of workers, or behind that and so many rows neither of a row nor of the end line, which names their number
+-- script's count of workers, or after that and so many rows neither of a row nor of the end line, which names their number
 abbrev pub IsNoText : ℕ → ℕ → List ℕ → Type 0
 IsNoText workers zero text = (format : Format) → text ≢ first_text format workers
 IsNoText workers (suc rows) text = IsNoRow text × (text ≢ end_text rows)
@@ -31,7 +31,7 @@ pub record HasEndBefore (texts : List (List ℕ)) (first index : ℕ) : Type 0 w
 
 -- ---- faults
 
--- a line of the journal ends at the place that isn't one in its place: it hasn't the text of one there, or stands behind the
+-- a line of the journal ends at the place that isn't one in its place: it hasn't the text of one there, or stands after the
 -- end line
 pub record IsMisplacedAt (input : Input) (place : ℕ) : Type 0 where
   pub start : ℕ

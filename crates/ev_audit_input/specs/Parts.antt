@@ -15,7 +15,7 @@ use Rattle.ev_journal_read.specs.Journals.{first_text, texts_of, AreMeant}
 use Rattle.ev_audit_input.specs.Faults.{IsFaultWithJournal, HasNoFaultWithJournal}
 use Rattle.ev_audit_input.specs.declared.audited.Audited.{Audited}
 
--- the bytes are this script and, behind its lines, a journal for its workers: the first line of this format, the texts of these
+-- the bytes are this script and, after its lines, a journal for its workers: the first line of this format, the texts of these
 -- rows, each of which is the one that is meant by its text, and the end line
 pub record IsParts (bytes : List ℕ) (format : Format) (script : ScriptParts) (rows : List Row) : Type 0 where
   pub reads : script_of true bytes ≡ Some script

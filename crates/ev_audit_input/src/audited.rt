@@ -8,7 +8,7 @@ use ev_script::read_audited_script;
 use ev_types::{Format, Row, Script};
 use std::alloc::Global;
 
-/// A script, and the rows of the journal behind it.
+/// A script, and the rows of the journal after it.
 #[derive(Drop)]
 pub struct Audited {
     /// Which rules the journal follows.

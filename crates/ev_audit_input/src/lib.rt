@@ -1,4 +1,4 @@
-//! Inputs of an audit: a script with a journal behind it, by their bytes.
+//! Inputs of an audit: a script with a journal after it, by their bytes.
 //!
 //! # Choices
 //!

@@ -85,7 +85,7 @@ abbrev pub events_from : List (List ℕ) → Option (List Event)
 events_from [] = Some []
 events_from (text ∷ texts) = option_and_then (λ event. option_map (λ events. event ∷ events) (events_from texts)) (option_and_then event_of (tree_of text))
 
--- the events of the lines behind the first
+-- the events of the lines after the first
 abbrev pub events_behind : List (List ℕ) → Option (List Event)
 events_behind [] = None
 events_behind (first ∷ texts) = events_from texts

@@ -1,4 +1,4 @@
--- The text that answers an input of filter chains: a line for each line behind the first, and one with their number.
+-- The text that answers an input of filter chains: a line for each line after the first, and one with their number.
 use Rattle.std.specs.Prelude.{ℕ, ◌+◌, Bool, true, false, List, [], ◌∷◌, ◌++◌, length, codes, decimal}
 use Rattle.serde_json.specs.Data.{Data, string, object, member, no_members}
 use Rattle.ev_chains.specs.declared.changes.Changed.{Changed}

@@ -17,7 +17,7 @@ use ev_trees::push_line;
 use serde_json::{Value, json};
 use std::alloc::{AllocError, Global};
 
-/// The text that answers events: a line for each, and one with their number. They are the events of an input's lines behind
+/// The text that answers events: a line for each, and one with their number. They are the events of an input's lines after
 /// the first.
 ///
 /// # Errors

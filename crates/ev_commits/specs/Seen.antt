@@ -29,7 +29,7 @@ began_as parts = record { format = parts.format; workers = parts.workers; node =
 abbrev pub journal_with : Began → List (ℕ × List Entry) → JournalParts
 journal_with began commits = record { format = began.format; workers = began.workers; node = began.node; journal = entries_in commits }
 
--- the version of the last picture behind these commits
+-- the version of the last picture after these commits
 abbrev pub version_after : Began → List (ℕ × List Entry) → ℕ
 version_after began commits = (last_picture (world_now (journal_with began commits))).version
 
@@ -58,7 +58,7 @@ module _ {J : Type 0} (shows : J → JournalParts) where
     abbrev pub heard_by : Gate (Kept J) Began (List Entry) → Pass (Kept J) Began (List Entry) g → JournalParts
     heard_by gate pass = journal_with (began_at gate) (pass_heard pass)
 
--- an operation of the main side is entered, behind entries of others
+-- an operation of the main side is entered, after entries of others
 pub record HasActed (o : Operation) (before after : JournalParts) : Type 0 where
   pub turn : JournalParts
   pub grows : GrowsByOthers (seat_of o.actor) before turn
@@ -74,14 +74,14 @@ abbrev pub NamesNothingGone : WorkerParts → JournalParts → Type 0
 NamesNothingGone worker turn =
     (number : ℕ) → is_named_by worker number ≡ true → has_number number (numbers_gone (turn.journal ++ entries_made worker)) ≡ false
 
--- a worker's batch and its settle are entered, behind entries of others, and nothing that it names was reaped before
+-- a worker's batch and its settle are entered, after entries of others, and nothing that it names was reaped before
 pub record HasCommitted (at step : ℕ) (before after : JournalParts) (old new : WorkerParts) : Type 0 where
   pub turn : JournalParts
   pub grows : GrowsByOthers (seat_of (Worker old.number)) before turn
   pub settled : HasSettled at step turn after old new
   pub alive : NamesNothingGone old turn
 
--- the version of the last picture behind this journal
+-- the version of the last picture after this journal
 abbrev pub version_shown : JournalParts → ℕ
 version_shown parts = (last_picture (world_now parts)).version
 
@@ -93,7 +93,7 @@ HasHeard seen heard = version_shown seen ≤ version_shown heard
 abbrev pub IsIdle : WorkerParts → Type 0
 IsIdle worker = (worker.lines ≡ []) × HasNoneOpen worker
 
--- where the worker is idle, its picture is older than the last one behind this journal
+-- where the worker is idle, its picture is older than the last one after this journal
 abbrev pub LearnsAtRest : JournalParts → WorkerParts → Type 0
 LearnsAtRest after worker = IsIdle worker → worker.picture.version < version_shown after
 

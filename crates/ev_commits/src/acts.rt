@@ -40,7 +40,7 @@ pub(crate) fn apply_in<J: Journaled>(
     Ok(kept.journaled.take_deferred())
 }
 
-// A worker that has taken its memory settles: its batch is entered with the settle behind, and it takes over the last picture.
+// A worker that has taken its memory settles: its batch is entered with the settle after it, and it takes over the last picture.
 pub(crate) fn settle_in<J: Journaled>(
     kept: &mut Kept<J>,
     worker: &mut Worker,

@@ -18,7 +18,7 @@ use std::mem::drop;
 use std::sync::Wait;
 use std::thread::Threads;
 
-/// An actor of the main side takes its turn and enters one event. The rows that it reaped are dropped behind the turn. Out of
+/// An actor of the main side takes its turn and enters one event. The rows that it reaped are dropped after the turn. Out of
 /// memory, the journal is as it was at the turn.
 pub fn enter<R: Threads + Wait + Sync, J: Journaled>(
     rt: &R,

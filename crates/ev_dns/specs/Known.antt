@@ -32,7 +32,7 @@ abbrev pub GivesOne : Answers → Answers → List ℕ → List (List ℕ) → T
 GivesOne old new name addresses = (other : List ℕ) → known_addresses new other
     ≡ (if bytes_eq name other then addresses else known_addresses old other)
 
--- the addresses behind what a resolution says: where it says nothing of them, those of before
+-- the addresses after what a resolution says: where it says nothing of them, those of before
 abbrev pub later_addresses : List (List ℕ) → Option (List (List ℕ)) → List (List ℕ)
 later_addresses before None = before
 later_addresses before (Some addresses) = each_once addresses
@@ -105,7 +105,7 @@ abbrev pub stands_named : Places → Option (List ℕ) → ℕ → Bool
 stands_named places None place = false
 stands_named places (Some name) place = stands_under places name place
 
--- one place comes to stand behind the others under a name
+-- one place comes to stand after the others under a name
 abbrev pub Enters : Places → Places → List ℕ → ℕ → Type 0
 Enters old new name place = (other : List ℕ) → places_under new other
     ≡ places_under old other ++ (if bytes_eq name other then place ∷ [] else [])

@@ -32,6 +32,6 @@ has_both first second place = contains nat_cmp first place && contains nat_cmp s
 abbrev pub passes_at : (Guarded → Bool) → List Guarded → ℕ → Bool
 passes_at test guarded place = unwrap_or (option_map test (slice_get guarded place)) false
 
--- whether a stream is open behind an event
+-- whether a stream is open after an event
 abbrev pub open_after : Bool → Option Event → Bool
 open_after connected event = unwrap_or (option_and_then stream_said event) connected

@@ -16,7 +16,7 @@ use Rattle.ev_dns.specs.Templates.{by_names, has_name}
 use Rattle.ev_dns.specs.Answers.{addresses_of, is_complete}
 use Rattle.ev_dns.specs.Hosts.{hosts_with, endpoints_tree}
 
--- the hosts of a template behind these lines
+-- the hosts of a template after these lines
 abbrev pub hosts_of : List Data → Key → List HostRowParts
 hosts_of lines key = hosts_with (addresses_of lines) key
 

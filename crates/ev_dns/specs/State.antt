@@ -1,4 +1,4 @@
--- What is known behind some lines.
+-- What is known after some lines.
 use Rattle.std.specs.Prelude.{◌≡◌, ◌&&◌, ◌||◌, ℕ, Bool, List, [], ◌∷◌, ◌++◌}
 use Rattle.std.specs.BTreeSet.{BTreeSet, contains}
 use Rattle.std.specs.Ordering.{nat_cmp}
@@ -28,11 +28,11 @@ pub record IsBehind (s : Resolutions) (lines : List Data) : Type 0 where
   pub waiting : AreWaiting s.answers (guarded_by by_names lines) s.waiting
   pub complete : AreComplete s.answers (guarded_by by_names lines) s.complete
 
--- what stands at a place behind these lines and one more passes the test
+-- what stands at a place after these lines and one more passes the test
 abbrev pub passes_now : List Data → Data → (Guarded → Bool) → ℕ → Bool
 passes_now before line test place = passes_at test (guarded_by by_names (before ++ line ∷ [])) place
 
--- the fact holds where the value is as it is behind some lines, and the numbers are those behind one line more
+-- the fact holds where the value is as it is after some lines, and the numbers are those after one line more
 abbrev pub FromBehind : Resolutions → Numbers → Data → (List Data → Type 0) → Type 0
 FromBehind s numbers line fact = (before : List Data) → IsBehind s before
     → guarded_so_far numbers ≡ guarded_by by_names (before ++ line ∷ []) → fact before

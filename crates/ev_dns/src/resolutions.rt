@@ -27,7 +27,7 @@ use serde_json::{Value, json};
 use std::alloc::{AllocError, Global};
 use std::collections::BTreeSet;
 
-// What is known behind the lines so far.
+// What is known after the lines so far.
 #[derive(Drop)]
 pub(crate) struct Resolutions {
     // Whether a stream is open.
@@ -83,7 +83,7 @@ impl Resolutions {
         touched_by(alloc, &self.complete.served, items, &name)
     }
 
-    // What is due behind a line that touches these places, by whether a stream was open before it.
+    // What is due after a line that touches these places, by whether a stream was open before it.
     fn find_due(
         &self,
         alloc: Global,
@@ -172,7 +172,7 @@ fn take_given(
     }
 }
 
-// Whether a stream is open behind an event.
+// Whether a stream is open after an event.
 fn open_after(connected: bool, event: &Option<Event>) -> bool
     ensures { result ≡ open_after connected event.now }
 {

@@ -115,7 +115,7 @@ fn take_up(alloc: Global, passed: &mut Vec<usize>, count: usize) -> Result<Vec<u
     Ok(places)
 }
 
-// Takes the places under a name out, where there is one, and puts them behind the others.
+// Takes the places under a name out, where there is one, and puts them after the others.
 fn take_named(
     under: &mut Places,
     name: &Option<Name>,
@@ -130,7 +130,7 @@ fn take_named(
     }
 }
 
-// Takes the places under a name out, and puts them behind the others.
+// Takes the places under a name out, and puts them after the others.
 fn take_under(under: &mut Places, name: &Name, woken: &mut Vec<usize>) -> Result<(), AllocError>
     ensures taken { OnOk result (woken.new.items ≡ woken.old.items ++ places_under under.old name.now) }
     ensures left { Leaves under.old under.new name.now }
@@ -160,7 +160,7 @@ fn set_passed(passed: &mut Vec<usize>, place: usize, count: usize)
     }
 }
 
-// Puts a place behind the others.
+// Puts a place after the others.
 fn push_place(places: &mut Vec<usize>, place: usize) -> Result<(), AllocError>
     ensures { OnOk result (places.new.items ≡ places.old.items ++ place ∷ []) }
 {

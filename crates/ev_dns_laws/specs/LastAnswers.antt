@@ -1,4 +1,4 @@
--- What is told of the private names of templates behind the last line that a line of the input gave.
+-- What is known of the private names of templates after the last line that a line of the input gave.
 use Rattle.std.specs.Prelude.{◌≡◌, ℕ, ◌+◌, ◌<◌, true, List, length, take, Some, None, slice_get, codes}
 use Rattle.serde_json.specs.Data.{Data}
 use Rattle.ev_types.specs.Scripts.{IsScript, ScriptParts}
@@ -26,7 +26,7 @@ use Rattle.ev_dns.specs.Templates.{by_names}
 abbrev pub answered_script : ScriptTrees → ScriptParts
 answered_script trees = expanded_script dns_rules trees
 
--- the world behind the entry at place k of a run of it
+-- the world after the entry at place k of a run of it
 abbrev pub world_behind : Format → ScriptTrees → List Entry → ℕ → World
 world_behind format trees journal k =
     world_at format (answered_script trees).workers (answered_script trees).node journal (k + 1)
@@ -36,7 +36,7 @@ abbrev pub last_number : List Data → ℕ
 last_number lines = length (given_lines dns_rules lines) + 1
 
 -- The entry at place k is one of the stream, by the last line that a line of the input gave. The lines of an input are counted
--- from 0, behind its header.
+-- from 0, after its header.
 pub record IsLastEntry (journal : List Entry) (k : ℕ) (lines : List Data) (index : ℕ) : Type 0 where
   pub entry : Entry
   pub there : slice_get journal k ≡ Some entry
@@ -48,13 +48,13 @@ pub record IsLastEntry (journal : List Entry) (k : ℕ) (lines : List Data) (ind
 abbrev pub name_of_place : ℕ → List ℕ
 name_of_place place = private_name (codes "dns/") place
 
--- the endpoints of a place are told of exactly where its template is complete by these lines, and are then its hosts
+-- the endpoints of a place have come exactly where its template is complete by these lines, and are then its hosts
 pub record HasLastAnswers (world : World) (lines : List Data) (place : ℕ) (key : Key) : Type 0 where
   pub told : is_told world Eds (name_of_place place) ≡ is_complete lines key
   pub hosts : is_complete lines key ≡ true
       → value_of world Eds (name_of_place place) ≡ Some (an_assignment (hosts_of lines key))
 
--- so it is of each place that is watched, behind an entry which leaves the stream open and is its input line's last
+-- so it is of each place that is watched, after an entry which leaves the stream open and is its input line's last
 abbrev pub AreLastAnswers : Format → ScriptTrees → List Entry → Type 0
 AreLastAnswers format trees journal =
     (k index place : ℕ) (guarded : Guarded)

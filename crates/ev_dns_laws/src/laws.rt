@@ -10,8 +10,8 @@
 
 ghost use Rattle.ev_dns_laws.specs.LastAnswers.{LastAnswers};
 
-/// A law of every run of a script in which templates wait for resolutions: behind each entry of the stream that leaves it open and
-/// is its input line's last, the endpoints of a watched place are told of exactly where its template is complete, and are its
+/// A law of every run of a script in which templates wait for resolutions: after each entry of the stream that leaves it open and
+/// is its input line's last, the endpoints of a watched place have come exactly where its template is complete, and are its
 /// hosts by the last answers. It does nothing.
 pub fn answers_are_last()
     ensures { LastAnswers }

@@ -1,4 +1,4 @@
--- The line of a dump: what is known behind the entries of a journal, and what these count up to. This project's own.
+-- The line of a dump: what is known after the entries of a journal, and what these count up to. This project's own.
 use Rattle.std.specs.Prelude.{ℕ, List, [], ◌∷◌, ◌++◌, codes, filter, length, map}
 use Rattle.serde_json.specs.Data.{Data, number, unsigned, string, array, object, member, no_members}
 use Rattle.serde_json.specs.View.{items_of}
@@ -59,7 +59,7 @@ counters_tree tally = object
     (member (codes "opened") (number_tree tally.opened)
     (member (codes "reaped") (number_tree tally.reaped) no_members))))
 
--- what is shown behind these entries
+-- what is shown after these entries
 abbrev pub dump_tree : View → List Entry → Data
 dump_tree shown entries = object
     (member (codes "clusters") (rows_tree Cds shown.rows)

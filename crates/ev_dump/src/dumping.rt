@@ -6,7 +6,7 @@ use ev_actors::Journaled;
 use ev_registry::Registry;
 use std::alloc::{AllocError, Global};
 
-/// Writes the line that tells what is known behind a registry's journal: the generations of clusters and of listeners, each with its
+/// Writes the line that tells what is known after a registry's journal: the generations of clusters and of listeners, each with its
 /// status and how many connections are open on it, what the journal counts up to, how many entries it has, how far the proxy has
 /// booted, and the version of the last picture.
 #[tactic(auto, using(crate::proofs::FloatLemmas::dump_whole), unfolding(crate::specs::Texts::dump_text))]

@@ -8,7 +8,7 @@ use ev_types::{Entry, Kind, Phase, RowStatus};
 use serde_json::{Value, json};
 use std::alloc::{AllocError, Global};
 
-/// The tree of what is shown behind these entries.
+/// The tree of what is shown after these entries.
 pub(crate) fn dump_value(
     alloc: Global,
     shown: &View,
@@ -40,7 +40,7 @@ fn rows_value(alloc: Global, kind: Kind, rows: &[ViewRow]) -> Result<Value, Allo
     Ok(Value::Array(values))
 }
 
-// Puts the tree of a generation behind others, where it is of the kind.
+// Puts the tree of a generation after others, where it is of the kind.
 fn put_row(
     values: &mut Vec<Value>,
     alloc: Global,

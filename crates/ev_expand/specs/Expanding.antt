@@ -1,4 +1,4 @@
--- The text that a command makes of the lines of a script: each line, guarded resources in it as they wait, and behind it the line
+-- The text that a command makes of the lines of a script: each line, guarded resources in it as they wait, and after it the line
 -- that follows it, where some number is due.
 use Rattle.std.specs.Prelude.{◌≡◌, ℕ, ◌+◌, ◌-◌, ◌<◌, ◌≤◌, Bool, List, [], ◌∷◌, ◌++◌, map, filter, flat_map, length, take, Option, Some, None, Result, Ok, Err, if◌then◌else◌, decimal, All, Vec, ⊤}
 use Rattle.std.specs.List.{enumerate_from}
@@ -15,7 +15,7 @@ use Rattle.ev_expand.specs.Private.{first_use}
 
 -- What a command does. `prefix` begins its private names, and `nonce` the nonces of the lines that it adds. `guard`: which
 -- resources wait. `is_written`: whether a line itself is written. `is_due`: whether something guarded is due at a line.
--- `endpoints_of`: its endpoints behind these lines, where there are some.
+-- `endpoints_of`: its endpoints after these lines, where there are some.
 pub record Rules : Type 0 where
   pub prefix : List ℕ
   pub nonce : List ℕ
@@ -24,7 +24,7 @@ pub record Rules : Type 0 where
   pub is_due : Front → Guarded → Bool
   pub endpoints_of : List Data → Guarded → Option Data
 
--- what is guarded behind the line
+-- what is guarded after the line
 abbrev pub guarded_at : Rules → Front → List Guarded
 guarded_at rules front = guarded_by rules.guard (up_to front)
 
@@ -43,7 +43,7 @@ abbrev pub lines_due : List ℕ → List ℕ → ℕ → List DueParts → List 
 lines_due prefix nonce at [] = []
 lines_due prefix nonce at (first ∷ others) = following_line prefix nonce (decimal at) (first ∷ others) ∷ []
 
--- the number of the line, from 2 on for those behind the header
+-- the number of the line, from 2 on for those after the header
 abbrev pub place_of : Front → ℕ
 place_of front = length front.before + 2
 

@@ -30,13 +30,13 @@ fronts (first ∷ lines) = record { before = []; line = first } ∷ map (behind 
 abbrev pub event_of : Data → Option Event
 event_of line = option_map (λ (l : Line). l.event) (line_of 0 line)
 
--- whether a stream is open behind an event, where the event says so
+-- whether a stream is open after an event, where the event says so
 abbrev pub stream_said : Event → Option Bool
 stream_said Connect = Some true
 stream_said Disconnect = Some false
 stream_said event = None
 
--- a stream is open behind these lines: the last connect or disconnect among them is a connect
+-- a stream is open after these lines: the last connect or disconnect among them is a connect
 abbrev pub stream_at : List Data → Bool
 stream_at lines = unwrap_or (last_or None (filter_map (λ line. option_and_then stream_said (event_of line)) lines)) false
 

@@ -30,7 +30,7 @@ guarded_so_far numbers = seen_in numbers.firsts.entries
 abbrev pub AreNumbersOf : Guard → List Data → Numbers → Type 0
 AreNumbersOf guard lines numbers = guarded_so_far numbers ≡ guarded_by guard lines
 
--- one more behind these, unless its key is there
+-- one more after these, unless its key is there
 abbrev pub added : List Guarded → Guarded → List Guarded
 added guarded one = if list_any (guarded_same one) guarded then guarded else guarded ++ one ∷ []
 
@@ -43,12 +43,12 @@ taken_up guarded (Some one) = added guarded one
 abbrev pub guarded_with : Option Key → Data → Option Guarded
 guarded_with key own = option_map (λ k. guarded_as k own) key
 
--- behind a resource of this key, where it is guarded, the table has it too
+-- after a resource of this key, where it is guarded, the table has it too
 abbrev pub TakesUp : Guard → Option Key → Data → Numbers → Numbers → Type 0
 TakesUp guard key entry old new =
     guarded_so_far new ≡ taken_up (guarded_so_far old) (guarded_with key (guard.own_of entry))
 
--- behind a line the table has what is guarded in it too
+-- after a line the table has what is guarded in it too
 abbrev pub TakesUpLine : Guard → Data → Numbers → Numbers → Type 0
 TakesUpLine guard line old new =
     (before : List Data) → AreNumbersOf guard before old → AreNumbersOf guard (before ++ line ∷ []) new

@@ -35,7 +35,7 @@ pub trait Expansion {
     // What the command does.
     ghost rules: { Rules };
 
-    // The value is as it is behind these lines.
+    // The value is as it is after these lines.
     ghost is_behind: { Self → List Data → Type 0 };
 
     /// What begins a private name.
@@ -65,8 +65,8 @@ pub trait Expansion {
     fn own(&self, alloc: Global, entry: &Value) -> Result<Value, AllocError>
         ensures { IfOk result (λ own. view own ≡ rules.guard.own_of (view entry.now)) };
 
-    /// Takes the next line, and tells which places are due behind it, with their endpoints. The event is what the line is read
-    /// as, the numbers are those behind the line, and `items` are the places of the keys of its guarded resources.
+    /// Takes the next line, and tells which places are due after it, with their endpoints. The event is what the line is read
+    /// as, the numbers are those after the line, and `items` are the places of the keys of its guarded resources.
     ///
     /// # Errors
     /// `AllocError` where there is no memory for it; nothing is promised of what the command knows then.
@@ -84,7 +84,7 @@ pub trait Expansion {
         ensures behind { TakesLine rules is_behind self.old self.new numbers.now (view line.now) result };
 }
 
-// The lines of an input behind the first are fewer.
+// The lines of an input after the first are fewer.
 const MOST_LINES: usize = 4_294_967_290;
 
 /// The text that a command makes of the header and the lines of a script.
@@ -122,7 +122,7 @@ pub fn expand_with<E: Expansion + Drop>(
     Ok(text.bytes)
 }
 
-// Puts what the next line gives behind the text, and answers whether it had room there.
+// Puts what the next line gives after the text, and answers whether it had room there.
 fn push_line<E: Expansion>(
     alloc: Global,
     expansion: &mut E,
@@ -162,7 +162,7 @@ fn push_read<E: Expansion>(
     push_due(alloc, expansion.prefix(), expansion.nonce(), text, at, due)
 }
 
-// Puts a line itself behind the text, where it is written, by the places of its keys.
+// Puts a line itself after the text, where it is written, by the places of its keys.
 fn push_written<E: Expansion>(
     alloc: Global,
     expansion: &E,
@@ -184,7 +184,7 @@ fn push_written<E: Expansion>(
     }
 }
 
-// Puts the line that follows line `at` behind the text, where some are due.
+// Puts the line that follows line `at` after the text, where some are due.
 fn push_due(
     alloc: Global,
     prefix: &str,

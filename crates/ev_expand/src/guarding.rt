@@ -229,7 +229,7 @@ fn kind_items<'a>(line: &Value, response: &'a Response, kind: Kind) -> &'a [Item
     }
 }
 
-// The places of the keys of a line's resources of clusters, where they are guarded. A new key goes behind the others.
+// The places of the keys of a line's resources of clusters, where they are guarded. A new key goes after the others.
 pub(crate) fn places_in<E: Expansion>(
     alloc: Global,
     expansion: &E,
@@ -251,7 +251,7 @@ pub(crate) fn places_in<E: Expansion>(
     Ok(places)
 }
 
-// The place of a resource of this key, where it is guarded. A new key goes behind the others.
+// The place of a resource of this key, where it is guarded. A new key goes after the others.
 fn place_entry<E: Expansion>(
     alloc: Global,
     expansion: &E,

@@ -12,7 +12,7 @@ use Rattle.ev_script.specs.ReadScript.{script_made}
 use Rattle.ev_expand.specs.Fronts.{fronts}
 use Rattle.ev_expand.specs.Expanding.{Rules, gives}
 
--- the trees of the lines behind the header
+-- the trees of the lines after the header
 abbrev pub lines_in : ScriptTrees → List Data
 lines_in trees = map view trees.lines.items
 

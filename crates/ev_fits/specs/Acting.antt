@@ -32,7 +32,7 @@ HasNews Timer parts = ⊤
 HasNews Main parts = ⊤
 HasNews (Worker worker) parts = SettlesForNews parts.format worker true (opening parts.workers parts.node) parts.journal
 
--- A worker has these operations of the script left, behind those of its batch. Where it did nothing since it settled and has nothing
+-- A worker has these operations of the script left, after those of its batch. Where it did nothing since it settled and has nothing
 -- open, it rests.
 pub record IsWorking (script : ScriptParts) (worker : WorkerParts) (left : List Operation) (parts : JournalParts) : Type 0 where
   pub own : AreOwn script.workers (Worker worker.number) left
@@ -75,7 +75,7 @@ pub record IsNextWork (script : ScriptParts) (worker : WorkerParts) (due : Due) 
   pub works : WorksIn worker (world_now parts)
   pub room : is_batched operation.event ≡ true → length worker.lines < batch_limit
 
--- a worker has gone through an operation: whatever it had left behind it is left now
+-- a worker has gone through an operation: whatever it had left after it is left now
 abbrev pub GoesThrough : ScriptParts → Operation → JournalParts → JournalParts → WorkerParts → WorkerParts → Type 0
 GoesThrough script o before after old new = (left : List Operation) → IsWorking script old (o ∷ left) before → IsWorking script new left after
 

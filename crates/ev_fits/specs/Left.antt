@@ -1,4 +1,4 @@
--- What an actor has left to do, behind what it did in a journal. This project's own.
+-- What an actor has left to do, after what it did in a journal. This project's own.
 use Rattle.std.specs.Prelude.{ℕ, ◌≡◌, ◌+◌, ◌<◌, ◌^◌, Bool, true, if◌then◌else◌, List, [], ◌∷◌, ◌++◌, filter}
 use Rattle.std.specs.List.{AllByRecursion as ByRecursion}
 use Rattle.ev_types.specs.Events.{IsStream, MayMake}
@@ -15,7 +15,7 @@ deeds_in parts actor =
     filter (λ (d : Deed). actor_same d.operation.actor actor) (deeds_from parts.format (opening parts.workers parts.node) parts.journal)
 
 -- Once deeds do what is left, the actor's deeds in the journal and these do all of its operations. It is said whether the actor
--- rests behind those in the journal.
+-- rests after those in the journal.
 abbrev pub FitsSoFar : List Operation → Actor → Bool → List Operation → JournalParts → Type 0
 FitsSoFar all actor rests left parts = (deeds : List Deed) → AreDone rests left deeds → AreDone true all (deeds_in parts actor ++ deeds)
 
@@ -32,11 +32,11 @@ items_left (o ∷ os) = items_in o.event + items_left os
 abbrev pub SufficeForAll : Actor → List Operation → JournalParts → Type 0
 SufficeForAll actor left parts = IsStream actor → (world_now parts).made + items_left left < 2 ^ 32
 
--- how many accepts and closes wait behind a worker's operation, where so many did before it
+-- how many accepts and closes wait after a worker's operation, where so many did before it
 abbrev pub waiting_past : ℕ → Operation → ℕ
 waiting_past waiting o = if is_batched o.event then waiting + 1 else 0
 
--- Where so many accepts and closes wait, no more than a batch may have come together, and behind the last operation none waits.
+-- Where so many accepts and closes wait, no more than a batch may have come together, and after the last operation none waits.
 abbrev pub KeepToBatches : ℕ → List Operation → Type 0
 KeepToBatches waiting [] = waiting ≡ 0
 KeepToBatches waiting (o ∷ os) = (is_batched o.event ≡ true → waiting < batch_limit) × KeepToBatches (waiting_past waiting o) os

@@ -1,7 +1,7 @@
 ghost use Rattle.ev_fits.specs.Laws.{ActsOn, BeginsActing, BeginsWorking, CommitsAsDue, EndsActing, EndsWorking, JoinsAsDue, LeavesOutAsDue, MayActNext, MayWorkNext, WorksOn};
 
 /// Laws of an actor of the main side: it begins with all its operations, may make what is due next, goes on by each entry of its
-/// own, also behind entries of others, and has done all where nothing is left. It does nothing.
+/// own, also after entries of others, and has done all where nothing is left. It does nothing.
 pub fn main_side_fits()
     ensures begins { BeginsActing }
     ensures next { MayActNext }

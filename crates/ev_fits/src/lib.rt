@@ -1,4 +1,4 @@
-//! What an actor of a threaded run has left to do, behind what it did in a journal.
+//! What an actor of a threaded run has left to do, after what it did in a journal.
 //!
 //! # Choices
 //!

@@ -26,11 +26,11 @@ use Rattle.ev_journal_read.specs.Reading.{IsNoRow}
 abbrev pub first_text : Format → ℕ → List ℕ
 first_text format workers = compact_text (first_tree format workers)
 
--- the text of the end line behind so many rows
+-- the text of the end line after so many rows
 abbrev pub end_text : ℕ → List ℕ
 end_text rows = compact_text (end_tree rows)
 
--- the texts behind a journal's first line: those of the rows, and of the end line where it stands
+-- the texts after a journal's first line: those of the rows, and of the end line where it stands
 abbrev pub texts_of : List Row → Bool → List (List ℕ)
 texts_of rows false = map row_text rows
 texts_of rows true = map row_text rows ++ end_text (length rows) ∷ []
@@ -39,24 +39,24 @@ texts_of rows true = map row_text rows ++ end_text (length rows) ∷ []
 abbrev pub AreMeant : List Row → Type 0
 AreMeant rows = All (λ (row : Row). IsTextOf (row_text row) row) rows
 
--- the first text and those behind it are a journal's up to there: its first line, rows, and the end line or not yet
+-- the first text and those after it are a journal's up to there: its first line, rows, and the end line or not yet
 pub record IsJournalTo (workers : ℕ) (first : List ℕ) (texts : List (List ℕ)) (format : Format) (rows : List Row) (ended : Bool) : Type 0 where
   pub head : first ≡ first_text format workers
   pub meant : AreMeant rows
   pub lines : texts ≡ texts_of rows ended
 
--- behind these rows, and behind the end line or not, the text is in no place of a journal: nothing stands behind the end
+-- after these rows, and after the end line or not, the text is in no place of a journal: nothing stands after the end
 -- line, and before it a row or the end line with the number of the rows
 abbrev pub IsMisplaced : List Row → Bool → List ℕ → Type 0
 IsMisplaced rows true text = ⊤
 IsMisplaced rows false text = IsNoRow text × (text ≢ end_text (length rows))
 
--- what is told of a first line: its format, or none where it is the first of no journal with so many workers
+-- what is found of a first line: its format, or none where it is the first of no journal with so many workers
 abbrev pub IsFirstAnswer : List ℕ → ℕ → Option Format → Type 0
 IsFirstAnswer first workers (Some format) = first ≡ first_text format workers
 IsFirstAnswer first workers None = (format : Format) → first ≢ first_text format workers
 
--- what is told of a line more: it is in its place and joins those that were read, or it is misplaced and nothing changes
+-- what is found of one line more: it is in its place and joins those that were read, or it is misplaced and nothing changes
 abbrev pub IsAdded : Body → Body → List ℕ → Bool → Type 0
 IsAdded old new text true = (AreMeant old.rows.items → AreMeant new.rows.items) × (texts_of new.rows.items new.ended ≡ texts_of old.rows.items old.ended ++ text ∷ [])
 IsAdded old new text false = IsMisplaced old.rows.items old.ended text
@@ -121,7 +121,7 @@ LimitNumber limit.TooLarge kind = kind ≡ fault_number TooLarge
 LimitNumber limit.Failed kind = ⊥
 LimitNumber limit.OutOfMemory kind = ⊥
 
--- the first fault of the limits stands in the line behind those given, which are a journal up to there
+-- the first fault of the limits stands in the line after those given, which are a journal up to there
 pub record IsPastLimit (workers : ℕ) (first : List ℕ) (old new : LinesState) (bytes : List ℕ) (line kind : ℕ) : Type 0 where
   pub format : Format
   pub rows : List Row
@@ -134,7 +134,7 @@ pub record IsPastLimit (workers : ℕ) (first : List ℕ) (old new : LinesState)
   pub here : line ≡ new.given + 1
   pub numbered : LimitNumber fault kind
 
--- a read failed before the next line's end, behind a journal up to there
+-- a read failed before the next line's end, after a journal up to there
 pub record IsCutOff (workers : ℕ) (first : List ℕ) (old new : LinesState) (bytes : List ℕ) : Type 0 where
   pub format : Format
   pub rows : List Row

@@ -14,7 +14,7 @@ use Rattle.ev_types.specs.declared.events.Answer.TheVariants.{Ignored, Done, Unc
 use Rattle.ev_tree.specs.Scalars.{u32_text}
 use Rattle.ev_wire.specs.Requests.{type_url}
 
--- the number behind a letter
+-- the number after a letter
 abbrev pub number_behind : ℕ → List ℕ → Option ℕ
 number_behind letter [] = None
 number_behind letter (first ∷ digits) = if first == letter then u32_text digits else None

@@ -16,7 +16,7 @@ use ev_script::FaultKind;
 use ev_types::{Format, Row};
 use std::alloc::{AllocError, Global};
 
-/// Reads the rows of a journal behind its first line, whose text is `first`, to its end line, which is the last line of
+/// Reads the rows of a journal after its first line, whose text is `first`, to its end line, which is the last line of
 /// the input. The first line has to name so many workers.
 ///
 /// # Errors
@@ -66,7 +66,7 @@ pub fn read_rows<S: Source>(
     }
 }
 
-// What was read behind the first line: rows, and the end line or not yet.
+// What was read after the first line: rows, and the end line or not yet.
 #[derive(Drop)]
 pub(crate) struct Body {
     pub rows: Vec<Row>,

@@ -33,7 +33,7 @@ fn are_digits(bytes: &[u8]) -> bool
     bytes.iter().all(|byte| byte.is_ascii_digit())
 }
 
-// The number behind a letter.
+// The number after a letter.
 fn number_behind(letter: char, word: &str) -> Option<u32>
     requires { letter < 128 }
     ensures { result ≡ number_behind letter word.now }

@@ -48,7 +48,7 @@ pub fn resources_are_limited()
     ensures eds_type { EDS ≡ 3 }
 {}
 
-/// A number of 32 bits has at most 10 digits; a duration at most 12 digits of seconds and 9 behind the point, and at most
+/// A number of 32 bits has at most 10 digits; a duration at most 12 digits of seconds and 9 after the point, and at most
 /// 315,576,000,000 seconds, ten thousand years. It does nothing.
 pub fn numbers_are_limited()
     ensures digits { MAX_U32_DIGITS ≡ 10 }

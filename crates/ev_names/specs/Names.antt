@@ -25,6 +25,6 @@ with_names new names = sorted_names (new ++ names)
 abbrev pub without_name : List ℕ → List (List ℕ) → List (List ℕ)
 without_name name names = other_than (name ∷ []) names
 
--- the name is put behind the values as a JSON text, where it isn't one of these names
+-- the name is put after the values as a JSON text, where it isn't one of these names
 abbrev pub PutsOther : List (List ℕ) → List ℕ → List Value → List Value → Type 0
 PutsOther names name before after = map view after ≡ map view before ++ map string (other_than names (name ∷ []))

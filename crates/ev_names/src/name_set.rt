@@ -123,7 +123,7 @@ impl NameSet {
         Ok(values)
     }
 
-    // Puts a name behind the values, where it isn't in the set.
+    // Puts a name after the values, where it isn't in the set.
     fn push_other(
         &self,
         alloc: Global,

@@ -1,4 +1,4 @@
--- How far the actors of a script have come behind a journal. This project's own.
+-- How far the actors of a script have come after a journal. This project's own.
 use Rattle.std.specs.Prelude.{ℕ, ◌≡◌, ◌+◌, ◌≤◌, ◌&&◌, Bool, true, false, not, List, drop, length, Some, option_map, slice_get, slice_set, unwrap_or}
 use Rattle.ev_types.specs.Scripts.{ScriptParts}
 use Rattle.ev_types.specs.declared.events.Actor.{Actor}
@@ -39,7 +39,7 @@ pub record HasBegun (format : Format) (script : ScriptParts) (actor : Actor) (co
   pub place : course.place ≡ 0
   pub rests : course.rests ≡ leaves_out format true
 
--- what is due of an actor is what is left of its operations behind the journal, and it is marked where settles may be left out
+-- what is due of an actor is what is left of its operations after the journal, and it is marked where settles may be left out
 pub record HasCome (format : Format) (script : ScriptParts) (journal : List Entry) (actor : Actor) (course : Course) : Type 0 where
   pub within : course.place ≤ length course.dues
   pub due : AreDue script actor (drop course.place course.dues) (operations_left script journal actor)
@@ -62,13 +62,13 @@ seat_of Timer = 2
 seat_of Main = 3
 seat_of (Worker worker) = 4 + worker
 
--- behind the journal each actor has come so far, at its seat, and no one else has a seat
+-- after the journal each actor has come so far, at its seat, and no one else has a seat
 pub record HaveCome (script : ScriptParts) (journal : List Entry) (courses : Courses) : Type 0 where
   pub count : length courses.seats.items ≡ 4 + script.workers
   pub each : (actor : Actor) (course : Course) → slice_get courses.seats.items (seat_of actor) ≡ Some course
       → HasCome courses.format script journal actor course
 
--- at the seat of the row's actor stands what the row tells of, and it comes next behind the journal
+-- at the seat of the row's actor stands what the row tells of, and it comes next after the journal
 pub record IsFound (script : ScriptParts) (journal : List Entry) (row : Row) (courses : Courses) (found : Found) : Type 0 where
   pub seat : found.seat ≡ seat_of row.actor
   pub course : Course
@@ -79,7 +79,7 @@ pub record IsFound (script : ScriptParts) (journal : List Entry) (row : Row) (co
   pub next : IsNextFor courses.format script journal row operation
   pub left : AreDue script row.actor (drop (found.place + 1) course.dues) next.behind
 
--- the course at the seat goes on behind what was found, with this mark, and no other changes
+-- the course at the seat goes on after what was found, with this mark, and no other changes
 pub record HaveMoved (found : Found) (rests : Bool) (before after : Courses) : Type 0 where
   pub format : after.format ≡ before.format
   pub moved : (course : Course) → slice_get before.seats.items found.seat ≡ Some course

@@ -37,13 +37,13 @@ dues_at auto place line waiting =
     by_line place ∷ (if auto && is_automatic line.actor then Publish place ∷ Reap place ∷ []
     else (if makes_full line waiting then Settle place ∷ [] else []))
 
--- how many accepts and closes of the line's actor wait behind it
+-- how many accepts and closes of the line's actor wait after it
 abbrev pub waiting_after : Line → ℕ → ℕ
 waiting_after line waiting =
     if is_batched line.event then (if makes_full line waiting then 0 else waiting + 1)
     else (if is_settle line.event then 0 else waiting)
 
--- what an actor is to do behind the last line, where there are so many workers: each of these settles
+-- what an actor is to do after the last line, where there are so many workers: each of these settles
 abbrev pub last_dues : ℕ → Actor → List Due
 last_dues workers Stream = []
 last_dues workers Health = []

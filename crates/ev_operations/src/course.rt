@@ -17,7 +17,7 @@ use std::alloc::{AllocError, Global};
 pub struct Course {
     /// All that it is to do, in order.
     pub dues: Seq<Due>,
-    /// How much of it stands behind: the place of what is due next.
+    /// How much of it is done: the place of what is due next.
     pub place: usize,
     /// Whether settles may be left out: in format 2, where the actor rests.
     pub rests: bool,

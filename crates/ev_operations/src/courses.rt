@@ -80,7 +80,7 @@ impl Courses {
         Some(Found { seat, place, due })
     }
 
-    /// An actor's course goes on behind what was found, and the actor is marked where settles may be left out then.
+    /// An actor's course goes on after what was found, and the actor is marked where settles may be left out then.
     pub fn move_on(&mut self, found: Found, rests: bool)
         requires seat { found.seat < length self.old.seats.items }
         requires place { found.place < u64.MAX }

@@ -3,12 +3,12 @@
 pub enum Due {
     /// The line at this place.
     Line(u32),
-    /// The publication behind it.
+    /// The publication after it.
     Publish(u32),
-    /// The reaping behind that.
+    /// The reaping after that.
     Reap(u32),
-    /// The settle behind an accept or close that makes its worker's batch full.
+    /// The settle after an accept or close that makes its worker's batch full.
     Settle(u32),
-    /// The worker's settle behind the script's last line.
+    /// The worker's settle after the script's last line.
     LastSettle,
 }

@@ -9,8 +9,8 @@ use std::alloc::{AllocError, Global};
 // How many accepts and closes a worker may make between two settles.
 const BATCH_LIMIT: u32 = 256;
 
-/// What an actor of a script is to do, in order: its lines and, with `auto`, a publication and a reaping behind each; for a worker
-/// a settle behind each accept or close that makes a batch of 256, and one behind the last line. An actor that the script doesn't
+/// What an actor of a script is to do, in order: its lines and, with `auto`, a publication and a reaping after each; for a worker
+/// a settle after each accept or close that makes a batch of 256, and one after the last line. An actor that the script doesn't
 /// have has nothing to do. It goes over the script's lines once.
 pub fn operations(alloc: Global, script: &Script, actor: Actor) -> Result<Seq<Due>, AllocError>
     ensures { IfOk result (λ dues. AreDue script.now actor dues (operations_of script.now actor)) }
@@ -83,7 +83,7 @@ fn makes_full(line: &Line, waiting: u32) -> bool
     matches!(line.event, Event::Accept(_) | Event::Close(_)) && waiting + 1 == BATCH_LIMIT
 }
 
-// How many accepts and closes of the line's actor wait behind it.
+// How many accepts and closes of the line's actor wait after it.
 fn waiting_after(line: &Line, waiting: u32) -> u32
     requires few { waiting < batch_limit }
     ensures after { result ≡ waiting_after line.now waiting }
@@ -102,7 +102,7 @@ fn waiting_after(line: &Line, waiting: u32) -> u32
     }
 }
 
-// A worker's settle behind the last line.
+// A worker's settle after the last line.
 fn put_last(dues: &mut Seq<Due>, workers: u32, actor: Actor) -> Result<(), AllocError>
     ensures { OnOk result (dues.new ≡ dues.old ++ last_dues workers actor) }
 {

@@ -42,7 +42,7 @@ fn note_row(alloc: Global, holders: &mut Holders, row: Option<&GenRow>) -> Resul
     holders.note(alloc, row)
 }
 
-/// Takes out the generations of these numbers that drain or were dropped, and puts their rows behind those that are deferred,
+/// Takes out the generations of these numbers that drain or were dropped, and puts their rows after those that are deferred,
 /// where there is room for as many. It takes no memory.
 pub(crate) fn remove_each(state: &mut State, numbers: &[Gen], deferred: &mut Deferred)
     requires kept { AreKept state.old.managers }
@@ -58,7 +58,7 @@ pub(crate) fn remove_each(state: &mut State, numbers: &[Gen], deferred: &mut Def
     }
 }
 
-// Puts a row, where there is one, behind those that are deferred.
+// Puts a row, where there is one, after those that are deferred.
 fn defer(deferred: &mut Deferred, row: Option<GenRow>)
     requires room { 0 < deferred.old.1 }
     ensures rows { deferred.new.0 ≡ deferred.old.0 ++ option_to_list row }

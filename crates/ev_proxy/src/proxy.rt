@@ -29,7 +29,7 @@ use std::sync::Arc;
 use std::sync::ledger::{Blank, Ledger};
 
 /// What the managers know, and what holds generations: the pictures that workers serve from, their open connections, and what drains.
-/// After want of memory nothing is promised of it.
+/// After running out of memory nothing is promised of it.
 #[derive(Drop)]
 pub struct Proxy {
     pub state: State,

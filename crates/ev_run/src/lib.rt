@@ -1,5 +1,5 @@
-//! The threaded run: each actor of a script in a thread of its own, and the pace of it: who is told before each turn of an actor, and
-//! may hold the actor up.
+//! The threaded run: each actor of a script in a thread of its own, and its pace, which is called before each turn of an actor and may
+//! hold the actor up.
 //!
 //! # Choices
 //!

@@ -18,7 +18,7 @@ use std::alloc::{AllocError, Global};
 use std::sync::Wait;
 use std::thread::Threads;
 
-// An actor of the main side enters one event in a turn, behind a call of the pace.
+// An actor of the main side enters one event in a turn, after a call of the pace.
 fn take_turn<R: Threads + Wait + Sync, J: Journaled, P: Pace>(
     rt: &R,
     gate: &Gate<Kept<J>>,

@@ -24,7 +24,7 @@ use std::alloc::{AllocError, Global};
 use std::sync::Wait;
 use std::thread::Threads;
 
-// A worker settles, behind a call of the pace with its batch: in a turn, or, where it rests and nothing newer was published, in none.
+// A worker settles, after a call of the pace with its batch: in a turn, or, where it rests and nothing newer was published, in none.
 fn settle_at<R: Threads + Wait + Sync, J: Journaled, P: Pace>(
     rt: &R,
     gate: &Gate<Kept<J>>,

@@ -65,7 +65,7 @@ pub record IsKeptOf {A : Type 0} (keeps : ℕ → Data → A → Type 0) (at : �
   pub is : found ≡ Some tree
   pub holds : keeps at tree kept
 
--- what a line behind the first is, by its tree: a line of the script, of which this is kept, a fault, or, in an audit's
+-- what a line after the first is, by its tree: a line of the script, of which this is kept, a fault, or, in an audit's
 -- input, the begin of the journal
 abbrev pub IsContent : {A : Type 0} → LineForms → (ℕ → Data → A → Type 0) → Bool → ℕ → ℕ → Option Data → Content A → Type 0
 IsContent forms keeps audit workers at found (is.Line kept) = IsLineOf forms audit workers at found × IsKeptOf keeps at found kept

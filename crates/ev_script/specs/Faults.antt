@@ -1,5 +1,5 @@
 -- Where an input stops being a script. This project's own. A place counts bytes from 0; the end of the
--- input is the place behind its last byte. Of all faults, each said by a fact of its own, the first
+-- input is the place after its last byte. Of all faults, each said by a fact of its own, the first
 -- counts: the one at the first place, and at one place the first in the order of kinds.
 use Rattle.std.specs.Prelude.{◌≡◌, ℕ, ◌+◌, ◌<◌, ◌≤◌, ◌⊎◌, Bool, IsTrue, List, [], length, take, slice_index, slice_index_or, is_some, codes, Option, None, Some, option_map, option_and_then}
 use Rattle.serde_json.specs.Data.{Data}
@@ -77,7 +77,7 @@ tree_at input place = tree_of (slice_index_or (lines_of input.bytes) (index_at i
 abbrev pub workers_in : LineForms → List (List ℕ) → Option ℕ
 workers_in forms texts = option_and_then forms.heads (tree_of (slice_index_or texts 0 []))
 
--- ---- the journal behind a script
+-- ---- the journal after a script
 
 -- an object with a member `format`
 abbrev pub has_format : Data → Bool

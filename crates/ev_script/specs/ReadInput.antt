@@ -41,7 +41,7 @@ pub record IsWhole (forms : LineForms) (input : Input) (count : ℕ) : Type 0 wh
   pub sound : HasNoFault forms input
   pub lines : length (lines_of input.bytes) ≡ count
 
--- behind so many lines the journal begins, by a line of this text, and no fault stands up to that line's end
+-- after so many lines the journal begins, by a line of this text, and no fault stands up to that line's end
 pub record IsUpToJournal (forms : LineForms) (input : Input) (count : ℕ) (text : List ℕ) : Type 0 where
   pub place : ℕ
   pub begins : BeginsJournal input place
@@ -55,12 +55,12 @@ abbrev pub EndsBefore : LineForms → Input → ℕ → Option (Vec ℕ Global) 
 EndsBefore forms input count None = IsWhole forms input count
 EndsBefore forms input count (Some text) = IsUpToJournal forms input count text.items
 
--- how many lines are given besides those behind the header: it, and the journal's first
+-- how many lines are given besides those after the header: it, and the journal's first
 abbrev pub through_journal : Option (Vec ℕ Global) → ℕ
 through_journal None = 1
 through_journal (Some text) = 2
 
--- how many workers the header names, the text of its line, what is kept of the lines behind it, and where they end
+-- how many workers the header names, the text of its line, what is kept of the lines after it, and where they end
 pub record IsReadOf {A : Type 0} (forms : LineForms) (keeps : ℕ → Data → A → Type 0) (input : Input) (read : ReadLines A) : Type 0 where
   pub heading : slice_index_or (lines_of input.bytes) 0 [] ≡ read.heading.items
   pub lines : AreRead forms input.audit (lines_of input.bytes) read.workers (length read.kept.items + 1)

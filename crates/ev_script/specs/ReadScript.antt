@@ -26,7 +26,7 @@ KeepsLines forms keeps = (at : ℕ) (tree : Data) (line : Line) → keeps at tre
 abbrev pub IsHeaderOf : List ℕ → Header → Type 0
 IsHeaderOf text header = option_and_then header_of (tree_of text) ≡ Some header
 
--- the script of a header and the lines behind it
+-- the script of a header and the lines after it
 abbrev pub script_made : Header → List Line → ScriptParts
 script_made header lines = record { workers = header.workers; auto = header.auto; node = header.node; lines = lines; count = length lines + 1 }
 

@@ -19,7 +19,7 @@ KeepsTrees keeps = (at : ℕ) (tree : Data) (kept : Value) → keeps at tree kep
 abbrev pub IsTreeOf : List ℕ → Value → Type 0
 IsTreeOf text tree = tree_of text ≡ Some (view tree)
 
--- the trees of these lines: the header's, which says this, and those of the lines behind it, in order
+-- the trees of these lines: the header's, which says this, and those of the lines after it, in order
 pub record AreTrees (texts : List (List ℕ)) (trees : ScriptTrees) : Type 0 where
   pub head : IsTreeOf (slice_index_or texts 0 []) trees.head
   pub header : header_of (view trees.head) ≡ Some trees.header

@@ -26,7 +26,7 @@ pub(crate) enum Content<T> {
     Line(T),
     /// No line, with this fault.
     Fault(FaultKind),
-    /// The first line of the journal behind the script.
+    /// The first line of the journal after the script.
     Journal,
 }
 

@@ -20,7 +20,7 @@ pub enum FaultKind {
     NoSuchWorker,
     /// Kind 8: there is no byte.
     NoByte,
-    /// Kind 9: in an audit's input the journal behind the script isn't one, or is missing.
+    /// Kind 9: in an audit's input the journal after the script isn't one, or is missing.
     NotJournal,
 }
 

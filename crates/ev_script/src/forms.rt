@@ -9,14 +9,14 @@ use ev_types::{Actor, Line};
 use serde_json::Value;
 use std::alloc::{AllocError, Global};
 
-/// A line behind the first: what is kept of it, and the worker that it names, where it names one.
+/// A line after the first: what is kept of it, and the worker that it names, where it names one.
 #[derive(Drop)]
 pub struct FormedLine<T> {
     pub kept: T,
     pub worker: Option<u32>,
 }
 
-/// Which lines an input may have, and what is kept of each behind the first.
+/// Which lines an input may have, and what is kept of each after the first.
 pub trait Forms {
     /// What is kept of a line.
     type Kept: Drop;

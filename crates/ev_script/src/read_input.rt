@@ -19,14 +19,14 @@ pub struct ReadLines<T> {
     pub workers: u32,
     /// The text of the first line, without its line feed.
     pub heading: Vec<u8>,
-    /// What is kept of each line behind it.
+    /// What is kept of each line after it.
     pub kept: Vec<T>,
     /// The first line of the journal, without its line feed, where one follows.
     pub journal: Option<Vec<u8>>,
 }
 
-/// Reads an input's header and the lines behind it, by these forms, to the end of the input or, in an audit's input, to the
-/// first line of the journal. The reader of lines is a fresh one; behind a script with a journal it goes on with the journal's
+/// Reads an input's header and the lines after it, by these forms, to the end of the input or, in an audit's input, to the
+/// first line of the journal. The reader of lines is a fresh one; after a script with a journal it goes on with the journal's
 /// second line.
 ///
 /// # Errors

@@ -82,7 +82,7 @@ pub fn read_script_with<S: Source, F: Forms<Kept = Line>>(
     }
 }
 
-/// A script with a journal behind it.
+/// A script with a journal after it.
 #[derive(Drop)]
 pub struct AuditedScript {
     pub script: Script,
@@ -147,7 +147,7 @@ pub(crate) fn read_heading(alloc: Global, text: &[u8]) -> Result<Header, AllocEr
     }
 }
 
-// The script of a header and the lines behind it.
+// The script of a header and the lines after it.
 fn made_script(header: Header, lines: Vec<Line>) -> Result<Script, AllocError>
     requires header { IsHeader header }
     requires numbered { AreNumbered header.workers lines.items }
@@ -165,7 +165,7 @@ fn made_script(header: Header, lines: Vec<Line>) -> Result<Script, AllocError>
 }
 
 // Counts the resources of the lines' responses, which are fewer than 2^32 - 1 together. More, which no input has room
-// for, would be want of memory.
+// for, would be out of memory.
 fn count_items(lines: &[Line]) -> Result<u32, AllocError>
     ensures count { IfOk result (λ count. count ≡ items_of lines.now) }
     ensures few { IfOk result (λ count. count < 4294967295) }

@@ -60,7 +60,7 @@ pub struct ScriptTrees {
     pub header: Header,
     /// The tree of the first line.
     pub head: Value,
-    /// The trees of the lines behind it, in order.
+    /// The trees of the lines after it, in order.
     pub lines: Vec<Value>,
 }
 

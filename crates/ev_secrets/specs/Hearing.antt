@@ -9,7 +9,7 @@ use Rattle.ev_expand.specs.Fronts.{stream_said}
 abbrev pub heard_now : Bool → Data → List Data
 heard_now connected line = if connected then line ∷ [] else []
 
--- whether a stream is open behind an event
+-- whether a stream is open after an event
 abbrev pub open_after : Bool → Option Event → Bool
 open_after connected event = unwrap_or (option_and_then stream_said event) connected
 

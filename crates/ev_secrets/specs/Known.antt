@@ -13,32 +13,32 @@ use Rattle.ev_secrets.specs.declared.known.Told.{Told}
 use Rattle.ev_secrets.specs.declared.known.Values.{Values}
 use Rattle.ev_secrets.specs.Awaited.{awaited_same, awaited_by}
 
--- it was told of
+-- it has come
 abbrev pub has_told : Told → Awaited → Bool
 has_told told (Secret name) = contains bytes_eq told.secrets name
 has_told told (Endpoints name) = contains bytes_eq told.endpoints name
 
--- one is told of more
+-- one more has come
 abbrev pub Adds : Told → Told → Awaited → Type 0
 Adds old new one = (other : Awaited) → has_told new other ≡ (awaited_same other one || has_told old other)
 
--- all of these are told of more
+-- all of these have come too
 abbrev pub AddsAll : Told → Told → List Awaited → Type 0
 AddsAll old new all = (other : Awaited) → has_told new other ≡ (has_told old other || list_any (awaited_same other) all)
 
--- all of these secrets were told of
+-- all of these secrets have come
 abbrev pub are_told : Told → List (List ℕ) → Bool
 are_told told secrets = list_all (contains bytes_eq told.secrets) secrets
 
--- how many of these secrets, from the first on, were told of
+-- how many of these secrets, from the first on, have come
 abbrev pub first_told : Told → List (List ℕ) → ℕ
 first_told told secrets = prefix_len (contains bytes_eq told.secrets) secrets
 
--- the first of these that wasn't told of
+-- the first of these that hasn't come
 abbrev pub first_untold : Told → List Awaited → Option Awaited
 first_untold told all = find (λ (a : Awaited). not (has_told told a)) all
 
--- the first of what the clusters of a key wait for that wasn't told of
+-- the first of what the clusters of a key wait for that hasn't come
 abbrev pub next_of : Told → Key → Option Awaited
 next_of told key = first_untold told (awaited_by key)
 

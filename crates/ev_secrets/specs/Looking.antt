@@ -94,7 +94,7 @@ abbrev pub WereServed : Complete → List Guarded → Type 0
 WereServed complete guarded = (place : ℕ) (g : Guarded) → slice_get guarded place ≡ Some g
     → contains nat_eq complete.places place ≡ true → is_served complete.served place g.key.cluster.discovery ≡ true
 
--- these are the marks of a line, by whether a stream was open before it and is behind it, the places of its guarded resources and
+-- these are the marks of a line, by whether a stream was open before it and is after it, the places of its guarded resources and
 -- the names that it gives a value
 pub record AreMarks (was_open connected : Bool) (places : List (Option ℕ)) (names : List ℕ → Bool) (marked : Marked)
     : Type 0 where

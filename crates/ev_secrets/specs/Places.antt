@@ -21,7 +21,7 @@ has_place places place = list_any (nat_eq place) places
 abbrev pub stands_under : PlacesKept → Awaited → ℕ → Bool
 stands_under kept awaited place = has_place (places_under kept awaited) place
 
--- the place stands behind the others under this, and the same as before under all else
+-- the place stands after the others under this, and the same as before under all else
 abbrev pub Enters : Awaited → ℕ → PlacesKept → PlacesKept → Type 0
 Enters awaited place before after = (other : Awaited)
     → places_under after other ≡ places_under before other ++ (if awaited_same awaited other then place ∷ [] else [])

@@ -1,4 +1,4 @@
--- The text of the command: each cluster that names secrets waits until all of them, and its endpoints, were told of.
+-- The text of the command: each cluster that names secrets waits until all of them, and its endpoints, have come.
 use Rattle.std.specs.Prelude.{ℕ, Bool, true, not, ◌&&◌, ◌||◌, List, Option, Some, codes}
 use Rattle.std.specs.List.{list_any}
 use Rattle.std.specs.Str.{bytes_eq}

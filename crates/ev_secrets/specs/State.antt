@@ -1,4 +1,4 @@
--- What is known behind some lines.
+-- What is known after some lines.
 use Rattle.std.specs.Prelude.{◌≡◌, ℕ, List}
 use Rattle.serde_json.specs.Data.{Data}
 use Rattle.ev_expand.specs.Fronts.{stream_at}

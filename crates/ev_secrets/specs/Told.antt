@@ -1,4 +1,4 @@
--- What the control plane has told of, by the lines that stand where a stream is open.
+-- What the control plane has spoken of, by the lines that stand where a stream is open.
 use Rattle.std.specs.Prelude.{ℕ, Bool, true, false, not, ◌&&◌, nat_le, List, [], ◌++◌, length, map, filter, filter_map, flat_map, Option, Some, None, option_and_then, if◌then◌else◌, codes}
 use Rattle.std.specs.List.{list_any, list_all, last_or}
 use Rattle.std.specs.Str.{bytes_eq}
@@ -33,7 +33,7 @@ secret_type = codes "type.googleapis.com/envoy.extensions.transport_sockets.tls.
 abbrev pub removed_name : Data → Option (List ℕ)
 removed_name name = option_and_then name_in (as_str name)
 
--- the secrets that a message of secrets tells of: those of its resources, and the removed ones
+-- the secrets that come with a message of secrets: those of its resources, and the removed ones
 abbrev pub secrets_in : Data → List (List ℕ)
 secrets_in message =
     filter_map own_name (listed (list_of (codes "resources") message))
@@ -43,7 +43,7 @@ secrets_in message =
 abbrev pub secrets_told : Data → List (List ℕ)
 secrets_told message = if bytes_eq (given_or [] (text_of (codes "type_url") message)) secret_type then secrets_in message else []
 
--- a resource tells of its name, unless it is a heartbeat
+-- the name of a resource comes with it, unless it is a heartbeat
 abbrev pub name_told : ItemParts → Body → Option (List ℕ)
 name_told item (Good content) = name_in item.name
 name_told item (Bad rule) = name_in item.name
@@ -53,11 +53,11 @@ name_told item Beat = None
 abbrev pub item_told : ItemParts → Option (List ℕ)
 item_told item = name_told item item.body
 
--- the names of endpoints that a response of endpoints tells of: those of its resources, and the removed ones
+-- the names of endpoints that come with a response of endpoints: those of its resources, and the removed ones
 abbrev pub endpoints_told : ResponseParts → List (List ℕ)
 endpoints_told response = filter_map item_told response.items ++ filter_map name_in response.removed
 
--- what a response tells of, by its kind
+-- what comes with a response, by its kind
 abbrev pub told_as : Option Kind → ResponseParts → Data → List Awaited
 told_as None response message = map Secret (secrets_told message)
 told_as (Some Eds) response message = map Endpoints (endpoints_told response)
@@ -67,15 +67,15 @@ abbrev pub told_with : Option Event → Data → List Awaited
 told_with (Some (Response response)) message = told_as response.kind response message
 told_with event message = []
 
--- what a line tells of
+-- what comes with a line
 abbrev pub told_by : Data → List Awaited
 told_by line = told_with (event_of line) (message_of line)
 
--- it was told of in these lines, where a stream was open
+-- it has come in these lines, where a stream was open
 abbrev pub is_told : List Data → Awaited → Bool
 is_told lines awaited = list_any (awaited_same awaited) (flat_map told_by (heard lines))
 
--- all that the clusters of the key wait for was told of
+-- all that the clusters of the key wait for has come
 abbrev pub is_complete : List Data → Key → Bool
 is_complete lines key = list_all (is_told lines) (awaited_by key)
 

@@ -13,7 +13,7 @@ use Rattle.ev_secrets.specs.Awaited.{awaited_same, awaited_by, services_of}
 use Rattle.ev_secrets.specs.Known.{are_told, has_told}
 use Rattle.ev_secrets.specs.Places.{PlacesKept, places_under, has_place, stands_under}
 
--- all that it waits for was told of
+-- all that it waits for has come
 abbrev pub completed : Told → Guarded → Bool
 completed told g = list_all (has_told told) (awaited_by g.key)
 
@@ -21,7 +21,7 @@ completed told g = list_all (has_told told) (awaited_by g.key)
 abbrev pub complete_at : Told → List Guarded → ℕ → Bool
 complete_at told guarded place = unwrap_or (option_map (completed told) (slice_get guarded place)) false
 
--- more stand behind these
+-- more stand after these
 pub record Grows (guarded all : List Guarded) : Type 0 where
   pub longer : length guarded ≤ length all
   pub first : (place : ℕ) → place < length guarded → slice_get all place ≡ slice_get guarded place
@@ -32,12 +32,12 @@ KeepsUnder before after = (a : Awaited) (n : ℕ) → stands_under before a n �
 
 -- ---- what isn't complete
 
--- a place stands under something that its key waits for and that wasn't told of
+-- a place stands under something that its key waits for and that hasn't come
 abbrev pub is_waiting : Told → PlacesKept → ℕ → Guarded → Bool
 is_waiting told under place g =
     list_any (λ (a : Awaited). not (has_told told a) && stands_under under a place) (awaited_by g.key)
 
--- as many of the secrets of each place as are counted, from the first on, were told of
+-- as many of the secrets of each place as are counted, from the first on, have come
 abbrev pub HavePassed : Told → List Guarded → List ℕ → Type 0
 HavePassed told guarded passed = (place : ℕ) (g : Guarded) → slice_get guarded place ≡ Some g
     → are_told told (take (slice_index_or passed place 0) g.key.names) ≡ true
@@ -84,7 +84,7 @@ pub record Finishes (was_complete is_complete is_finished : ℕ → Bool) : Type
   pub sound : (place : ℕ) → is_finished place ≡ true → is_complete place ≡ true
   pub whole : (place : ℕ) → is_complete place ≡ true → was_complete place ≡ false → is_finished place ≡ true
 
--- what waits goes on: behind it all waits that isn't complete, and what was completed is finished
+-- what waits goes on: after it all waits that isn't complete, and what was completed is finished
 pub record GoesOn {S : Type 0} (old new : Told) (guarded all : List Guarded) (after : Waiting)
     (finished : IndexSet ℕ S) : Type 0 where
   pub waits : IsWaiting new all after

@@ -11,14 +11,14 @@ use ev_types::{Event, Name};
 use serde_json::Value;
 use std::alloc::{AllocError, Global};
 
-/// What a line tells of, and the values that it gives.
+/// What comes with a line, and the values that it gives.
 #[derive(Drop)]
 pub(crate) struct News {
     pub told: Vec<Awaited>,
     pub values: Vec<(Name, Value)>,
 }
 
-// What a line tells of, and the values that it gives, where a stream is open.
+// What comes with a line, and the values that it gives, where a stream is open.
 pub(crate) fn hear(
     alloc: Global,
     connected: bool,
@@ -54,7 +54,7 @@ pub(crate) fn is_quiet(event: &Option<Event>) -> bool
     }
 }
 
-// Whether a stream is open behind an event.
+// Whether a stream is open after an event.
 pub(crate) fn open_after(connected: bool, event: &Option<Event>) -> bool
     ensures { result ≡ open_after connected event.now }
 {

@@ -14,7 +14,7 @@ use indexmap::{IndexMap, IndexSet};
 use serde_json::Value;
 use std::alloc::{AllocError, Global};
 
-/// What was told of: each name is found by a look-up.
+/// What has come: each name is found by a look-up.
 #[derive(Drop)]
 pub(crate) struct Told {
     pub secrets: IndexSet<Name>,
@@ -22,7 +22,7 @@ pub(crate) struct Told {
 }
 
 impl Told {
-    /// Nothing was told of. It takes no memory.
+    /// Nothing has come. It takes no memory.
     pub(crate) fn new(alloc: Global) -> Told
         ensures { (awaited : Awaited) → has_told result awaited ≡ false }
     {
@@ -32,7 +32,7 @@ impl Told {
         }
     }
 
-    /// This was told of too.
+    /// This has come too.
     pub(crate) fn add(&mut self, awaited: Awaited) -> Result<(), AllocError>
         ensures { OnOk result (Adds self.old self.new awaited) }
     {
@@ -42,7 +42,7 @@ impl Told {
         }
     }
 
-    /// All of these were told of too.
+    /// All of these have come too.
     pub(crate) fn add_all(&mut self, all: Vec<Awaited>) -> Result<(), AllocError>
         ensures { OnOk result (AddsAll self.old self.new all.items) }
     {
@@ -52,7 +52,7 @@ impl Told {
         Ok(())
     }
 
-    /// How many of these secrets, from the first on, were told of. As many as have passed need no look-up.
+    /// How many of these secrets, from the first on, have come. As many as have passed need no look-up.
     pub(crate) fn first_told(&self, secrets: &[Name], passed: usize) -> usize
         ensures { are_told self.now (take passed secrets.now) ≡ true → result ≡ first_told self.now secrets.now }
     {
@@ -64,8 +64,8 @@ impl Told {
         secrets.len()
     }
 
-    /// The first of what the clusters of a key wait for that wasn't told of, where so many of its secrets, from the first on,
-    /// were told of.
+    /// The first of what the clusters of a key wait for that hasn't come, where so many of its secrets, from the first on,
+    /// have come.
     pub(crate) fn next_of(
         &self,
         alloc: Global,
@@ -80,7 +80,7 @@ impl Told {
         }
     }
 
-    // The endpoints that a cluster asks for, where they weren't told of.
+    // The endpoints that a cluster asks for, where they haven't come.
     fn next_service(
         &self,
         alloc: Global,

@@ -1,11 +1,11 @@
 //! Clusters that wait for their secrets: a script in which each cluster that names remote secrets waits for endpoints by a
-//! private name, which are sent when all of its secrets, and its own endpoints, were told of.
+//! private name, which are sent when all of its secrets, and its own endpoints, have come.
 //!
 //! - A cluster names secrets by its transport socket alone, and only where that is the context of TLS towards upstream hosts. A
 //!   member of a wrong form, or in both spellings, names nothing, and the others still count.
-//! - Secrets are told of on an open stream alone, by a resource or a removed name, whatever else stands in it.
-//! - A line costs look-ups by what it says and what is sent behind it, however much is guarded: each place that isn't complete
-//!   stands under the first that it still waits for, and goes on from where it was when that is told of. The complete ones stand
+//! - Secrets come on an open stream alone, by a resource or a removed name, whatever else stands in it.
+//! - A line costs look-ups by what it says and what is sent after it, however much is guarded: each place that isn't complete
+//!   stands under the first that it still waits for, and goes on from where it was when that comes. The complete ones stand
 //!   in a set, and under the endpoints that they ask for.
 #![tactic(auto)]
 

@@ -120,7 +120,7 @@ fn put(places: &mut BTreeSet<usize>, place: usize) -> Result<(), AllocError>
     Ok(())
 }
 
-// Puts what stands at a place behind these, where it is due.
+// Puts what stands at a place after these, where it is due.
 fn push_due(
     due: &mut Vec<Due>,
     numbers: &Numbers,

@@ -20,12 +20,12 @@ use indexmap::IndexSet;
 use serde_json::Value;
 use std::alloc::{AllocError, Global};
 
-// What is known behind the lines so far.
+// What is known after the lines so far.
 #[derive(Drop)]
 pub(crate) struct Secrets {
     // Whether a stream is open.
     pub connected: bool,
-    // What was told of.
+    // What has come.
     pub told: Told,
     // The last value of each name of endpoints.
     pub values: Values,

@@ -19,7 +19,7 @@ use std::alloc::{AllocError, Global};
 /// The type of secrets.
 const SECRETS: &str = "type.googleapis.com/envoy.extensions.transport_sockets.tls.v3.Secret";
 
-// What a line tells of. The event is what it is read as.
+// What comes with a line. The event is what it is read as.
 pub(crate) fn told_by(
     alloc: Global,
     line: &Value,
@@ -34,7 +34,7 @@ pub(crate) fn told_by(
     }
 }
 
-// What a response tells of, by its kind.
+// What comes with a response, by its kind.
 fn told_as(
     alloc: Global,
     response: &Response,
@@ -51,7 +51,7 @@ fn told_as(
     }
 }
 
-// The secrets that a message tells of, where it is one of secrets.
+// The secrets that come with a message, where it is one of secrets.
 fn secrets_told(alloc: Global, message: Option<&Value>) -> Result<Vec<Name>, AllocError>
     ensures { IfOk result (λ names. names.items ≡ secrets_told (tree_of message.entry)) }
 {
@@ -62,7 +62,7 @@ fn secrets_told(alloc: Global, message: Option<&Value>) -> Result<Vec<Name>, All
     secrets_in(alloc, message)
 }
 
-// The secrets that a message of secrets tells of.
+// The secrets that come with a message of secrets.
 fn secrets_in(alloc: Global, message: Option<&Value>) -> Result<Vec<Name>, AllocError>
     ensures { IfOk result (λ names. names.items ≡ secrets_in (tree_of message.entry)) }
 {
@@ -74,7 +74,7 @@ fn secrets_in(alloc: Global, message: Option<&Value>) -> Result<Vec<Name>, Alloc
     Ok(names)
 }
 
-// Puts the names of these resources behind these.
+// Puts the names of these resources after these.
 fn push_own(alloc: Global, names: &mut Vec<Name>, resources: &[Value]) -> Result<(), AllocError>
     ensures { OnOk result (names.new.items ≡ names.old.items ++ filter_map own_name (map view resources.now)) }
 {
@@ -84,7 +84,7 @@ fn push_own(alloc: Global, names: &mut Vec<Name>, resources: &[Value]) -> Result
     Ok(())
 }
 
-// Puts the removed names behind these.
+// Puts the removed names after these.
 fn push_removed(alloc: Global, names: &mut Vec<Name>, removed: &[Value]) -> Result<(), AllocError>
     ensures { OnOk result (names.new.items ≡ names.old.items ++ filter_map removed_name (map view removed.now)) }
 {
@@ -104,7 +104,7 @@ fn removed_name(alloc: Global, name: &Value) -> Result<Option<Name>, AllocError>
     }
 }
 
-// The names of endpoints that a response of endpoints tells of.
+// The names of endpoints that come with a response of endpoints.
 fn endpoints_told(alloc: Global, response: &Response) -> Result<Vec<Name>, AllocError>
     ensures { IfOk result (λ names. names.items ≡ endpoints_told response.now) }
 {
@@ -114,7 +114,7 @@ fn endpoints_told(alloc: Global, response: &Response) -> Result<Vec<Name>, Alloc
     Ok(names)
 }
 
-// Puts the names that these resources tell of behind these.
+// Puts the names that come with these resources after these.
 fn push_items(alloc: Global, names: &mut Vec<Name>, items: &[Item]) -> Result<(), AllocError>
     ensures { OnOk result (names.new.items ≡ names.old.items ++ filter_map item_told items.now) }
 {
@@ -124,7 +124,7 @@ fn push_items(alloc: Global, names: &mut Vec<Name>, items: &[Item]) -> Result<()
     Ok(())
 }
 
-// Puts those of these texts that are names behind these.
+// Puts those of these texts that are names after these.
 fn push_texts(alloc: Global, names: &mut Vec<Name>, texts: &[Text]) -> Result<(), AllocError>
     ensures { OnOk result (names.new.items ≡ names.old.items ++ filter_map name_in texts.now) }
 {
@@ -134,7 +134,7 @@ fn push_texts(alloc: Global, names: &mut Vec<Name>, texts: &[Text]) -> Result<()
     Ok(())
 }
 
-// The name that a resource tells of, unless it is a heartbeat.
+// The name that comes with a resource, unless it is a heartbeat.
 fn name_told(alloc: Global, item: &Item) -> Result<Option<Name>, AllocError>
     ensures { IfOk result (λ name. name ≡ item_told item.now) }
 {

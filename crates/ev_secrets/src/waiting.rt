@@ -19,7 +19,7 @@ use std::alloc::{AllocError, Global};
 /// What the places that aren't complete wait for.
 #[derive(Drop)]
 pub(crate) struct Waiting {
-    /// By place how many of its secrets, from the first on, are known to have been told of.
+    /// By place how many of its secrets, from the first on, are known to have come.
     pub passed: Vec<usize>,
     /// Each place that isn't complete, under the first that it still waits for.
     pub under: Places,
@@ -36,7 +36,7 @@ impl Waiting {
         }
     }
 
-    /// Takes what was told of and the places that are new, goes on with each place that can, and gives those that are complete
+    /// Takes what has come and the places that are new, goes on with each place that can, and gives those that are complete
     /// now.
     pub(crate) fn go_on(
         &mut self,
@@ -111,7 +111,7 @@ fn take_up(alloc: Global, passed: &mut Vec<usize>, count: usize) -> Result<Vec<u
     Ok(places)
 }
 
-// Takes the places that wait for one of these out, and puts them behind the others.
+// Takes the places that wait for one of these out, and puts them after the others.
 fn wake(
     alloc: Global,
     under: &mut Places,
@@ -127,7 +127,7 @@ fn wake(
     Ok(())
 }
 
-// Counts on how many of the secrets of a place, from the first on, were told of.
+// Counts on how many of the secrets of a place, from the first on, have come.
 fn count_on(passed: &mut Vec<usize>, told: &Told, place: usize, secrets: &[Name]) -> usize
     ensures counted { are_told told.now (take (slice_index_or passed.old.items place 0) secrets.now) ≡ true
         → result ≡ first_told told.now secrets.now }

@@ -30,11 +30,11 @@ soak_tree lines journal version = object
 unfoldable pub soak_line : ℕ → List Entry → ℕ → List ℕ
 soak_line lines journal version = compact_text (soak_tree lines journal version) ++ 10 ∷ []
 
--- the version of the last picture behind a script's journal, by the rules of format 2
+-- the version of the last picture after a script's journal, by the rules of format 2
 abbrev pub version_behind : ScriptParts → List Entry → ℕ
 version_behind script journal = (last_picture (world_after Two (opening script.workers script.node) journal)).version
 
--- the text is the line of this seed's script, which has so many lines behind its header
+-- the text is the line of this seed's script, which has so many lines after its header
 pub record IsSoakText (seed count : ℕ) (text : List ℕ) : Type 0 where
   pub journal : List Entry
   pub replay : IsReplay Two (soak_script seed count) journal

@@ -138,7 +138,7 @@ form_of d =
     else (if nat_lt d 12 then Accepts
     else Closes)))))))))
 
--- how many draws a line of a form takes behind that of its form
+-- how many draws a line of a form takes after that of its form
 abbrev pub draws_of : Form → ℕ
 draws_of Clusters = 2
 draws_of Endpoints = 2
@@ -152,7 +152,7 @@ draws_of Settles = 1
 draws_of Accepts = 4
 draws_of Closes = 2
 
--- a line of a form, by its number and the state behind the draw of its form
+-- a line of a form, by its number and the state after the draw of its form
 abbrev pub line_drawn : Form → ℕ → ℕ → Line
 line_drawn Clusters at x =
     resource_line at Cds (cluster_name (drawn 8 x)) (cluster_content (drawn 8 x) (drawn 2 (behind 1 x) == 1))

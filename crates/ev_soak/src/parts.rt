@@ -12,7 +12,7 @@ use ev_types::{
 };
 use std::alloc::{AllocError, Global};
 
-// A text with a number behind a word.
+// A text with a number after a word.
 pub(crate) fn numbered_text(alloc: Global, word: &str, number: u32) -> Result<Text, AllocError>
     ensures { IfOk result (λ text. text ≡ numbered word.now number) }
 {
@@ -20,7 +20,7 @@ pub(crate) fn numbered_text(alloc: Global, word: &str, number: u32) -> Result<Te
     Text::new(alloc, text.as_str())
 }
 
-// A name with a number behind a short word.
+// A name with a number after a short word.
 #[tactic(auto, using(crate::proofs::NameLemmas::never_long))]
 pub(crate) fn numbered_name(alloc: Global, word: &str, number: u32) -> Result<Name, AllocError>
     requires given { 1 ≤ length word.now }

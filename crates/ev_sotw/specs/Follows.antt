@@ -82,7 +82,7 @@ pub record FollowsEntries (entries : List Stated) (state : SotwState) : Type 0 w
 abbrev pub GoesOnBy : Stated → SotwState → SotwState → Type 0
 GoesOnBy stated before after = (entries : List Stated) → FollowsEntries entries before → FollowsEntries (entries ++ stated ∷ []) after
 
--- the bytes are the line of an entry behind those that were
+-- the bytes are the line of an entry after those that were
 abbrev pub IsLineBy : SotwState → Stated → List ℕ → Type 0
 IsLineBy state stated line = (entries : List Stated) → FollowsEntries entries state → line ≡ sotw_line entries stated
 

@@ -90,7 +90,7 @@ asked kind stated = flat_map (asked_by kind) (requests_in stated.entry.answer)
 abbrev pub given_up : Kind → Stated → List (List ℕ)
 given_up kind stated = flat_map (given_up_by kind) (requests_in stated.entry.answer)
 
--- whether a name is asked for behind an entry, where it says so: an entry that opens a stream says it of each name
+-- whether a name is asked for after an entry, where it says so: an entry that opens a stream says it of each name
 abbrev pub asked_said : Kind → List ℕ → Stated → Option Bool
 asked_said kind name stated =
     if opens stated.entry then Some (is_among name (asked kind stated))
@@ -98,11 +98,11 @@ asked_said kind name stated =
     else if is_among name (given_up kind stated) then Some false
     else None
 
--- a name is asked for behind these entries
+-- a name is asked for after these entries
 abbrev pub is_asked : Kind → List Stated → List ℕ → Bool
 is_asked kind entries name = unwrap_or (last_or None (filter_map (asked_said kind name) entries)) false
 
--- the names that are asked for behind these entries, in the order of their bytes, each once
+-- the names that are asked for after these entries, in the order of their bytes, each once
 abbrev pub names_asked : Kind → List Stated → List (List ℕ)
 names_asked kind entries = sorted_names (filter (is_asked kind entries) (flat_map (asked kind) entries))
 
@@ -117,7 +117,7 @@ pub record Known : Type 0 where
 abbrev pub nothing_known : Known
 nothing_known = record { version = []; nonce = []; names = [] }
 
--- what is known of a type behind these entries
+-- what is known of a type after these entries
 abbrev pub known_of : Kind → List Stated → Known
 known_of kind entries = record { version = last_version kind entries; nonce = last_nonce kind entries; names = names_asked kind entries }
 
@@ -156,6 +156,6 @@ answer_told entries answer = answer_tree answer
 abbrev pub entry_told : List Stated → Entry → Data
 entry_told entries entry = row_object entry.actor entry.at entry.step (op_of entry.event) (answer_told entries entry.answer)
 
--- the line of an entry behind others
+-- the line of an entry after others
 abbrev pub sotw_line : List Stated → Stated → List ℕ
 sotw_line before stated = line_text (entry_told (before ++ stated ∷ []) stated.entry)

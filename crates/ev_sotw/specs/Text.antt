@@ -11,7 +11,7 @@ use Rattle.ev_sotw_lines.specs.Searches.{with_before}
 use Rattle.ev_sotw_lines.specs.Lines.{version_in}
 use Rattle.ev_sotw.specs.Stated.{Stated, stated_with, sotw_line}
 
--- ---- versions, by the lines behind the header
+-- ---- versions, by the lines after the header
 
 abbrev pub is_response : Event → Bool
 is_response (Response response) = true
@@ -31,7 +31,7 @@ stated_in lines entry = stated_with entry (version_at lines entry)
 
 -- ---- the text
 
--- the lines of entries, each behind those before it
+-- the lines of entries, each after those before it
 abbrev pub lines_told : List Stated → List ℕ
 lines_told entries = flat_map (λ (placed : List Stated × Stated). sotw_line placed.0 placed.1) (with_before [] entries)
 

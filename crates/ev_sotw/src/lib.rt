@@ -2,7 +2,7 @@
 //!
 //! - The replay itself is that of the incremental script: what the requests of the state of the world say more, or in another
 //!   way, is found in the entries so far. The version of a response is given with its entry, since an entry doesn't have it.
-//! - A line first takes in all that its entry says, and then writes: so a reply counts for the requests behind it.
+//! - A line first takes in all that its entry says, and then writes: so a reply counts for the requests after it.
 //! - Versions that were acknowledged outlive a stream, and nonces and lists of names don't. A stream begins with a connect that
 //!   is answered with requests. Which names are listed follows from what the incremental requests ask for and give up.
 //! - The words of actors, operations and verdicts, and the object of a row, are written here again, since `ev_journal` writes an

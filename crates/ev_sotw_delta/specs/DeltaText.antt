@@ -50,15 +50,15 @@ pub record IsWritten (trees : List Data) (text : TextSoFar) : Type 0 where
   pub fits : FitsInput trees
   pub read_back : All ReadsBack trees
 
--- a tree is written behind those that were
+-- a tree is written after those that were
 abbrev pub WritesOn : Data → TextSoFar → TextSoFar → Type 0
 WritesOn tree before after = (trees : List Data) → IsWritten trees before → IsWritten (trees ++ tree ∷ []) after
 
--- why a tree isn't written behind these: with it they make no input
+-- why a tree isn't written after these: with it they make no input
 abbrev pub IsTooLarge : List Data → Data → DeltaError → Type 0
 IsTooLarge trees tree (Large line) = (line ≡ length trees + 1) × (¬ (FitsInput (trees ++ tree ∷ [])))
 IsTooLarge trees tree OutOfMemory = ⊤
 
--- why a tree isn't written behind a text
+-- why a tree isn't written after a text
 abbrev pub IsTooLargeFor : TextSoFar → Data → DeltaError → Type 0
 IsTooLargeFor text tree error = (trees : List Data) → IsWritten trees text → IsTooLarge trees tree error

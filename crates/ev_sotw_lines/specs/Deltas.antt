@@ -15,11 +15,11 @@ use Rattle.ev_sotw_lines.specs.Lines.{response_in}
 
 -- ---- searches of the lines so far
 
--- whether a stream is open behind a line, where the line says so
+-- whether a stream is open after a line, where the line says so
 abbrev pub stream_said : Data → Option Bool
 stream_said line = if is_op (codes "connect") line then Some true else if is_op (codes "disconnect") line then Some false else None
 
--- a stream is open behind these lines, by the last connect or disconnect among them
+-- a stream is open after these lines, by the last connect or disconnect among them
 abbrev pub is_open_after : List Data → Bool
 is_open_after lines = unwrap_or (last_or None (filter_map stream_said lines)) false
 
@@ -31,7 +31,7 @@ is_of_kind kind (Some other) = kind_same other kind
 abbrev pub names_for : Kind → DiscoveryParts → Option (List (List ℕ))
 names_for kind response = if is_of_kind kind response.kind then Some (names_in kind response) else None
 
--- the names that a line brings behind those before it: of a response of this kind on an open stream
+-- the names that a line brings after those before it: of a response of this kind on an open stream
 abbrev pub names_brought : Kind → List Data × Data → Option (List (List ℕ))
 names_brought kind placed = if is_open_after placed.0 then option_and_then (names_for kind) (response_in placed.1) else None
 
@@ -41,7 +41,7 @@ last_names kind lines = unwrap_or (last_or None (filter_map (names_brought kind)
 
 -- ---- the lines
 
--- the names that a response of this kind removes, behind these lines: of clusters and listeners those of the last response that
+-- the names that a response of this kind removes, after these lines: of clusters and listeners those of the last response that
 -- it hasn't itself
 abbrev pub removed_of_kind : Option Kind → List Data → DiscoveryParts → List (List ℕ)
 removed_of_kind None lines response = []
@@ -58,7 +58,7 @@ delta_line message = object (member (codes "message") message (member (codes "op
 abbrev pub delta_in : List Data → Data → Option Data
 delta_in lines line = option_map (λ response. delta_line (delta_message response (map string (removed_at lines response)))) (response_in line)
 
--- what a line becomes, behind those before it: all other lines stay
+-- what a line becomes, after those before it: all other lines stay
 abbrev pub delta_of : List Data → Data → Data
 delta_of lines line = unwrap_or (delta_in lines line) line
 

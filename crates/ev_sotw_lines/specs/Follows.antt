@@ -40,7 +40,7 @@ removed_by_kind (Some Rds) names response = []
 abbrev pub removed_by : NamesSoFar → DiscoveryParts → List (List ℕ)
 removed_by names response = removed_by_kind response.kind names response
 
--- behind a response
+-- after a response
 abbrev pub after_kind : Option Kind → DiscoveryParts → NamesSoFar → NamesSoFar
 after_kind None response names = names
 after_kind (Some Cds) response names = record names { clusters = if names.connected then names_in Cds response else names.clusters }
@@ -51,7 +51,7 @@ after_kind (Some Rds) response names = names
 abbrev pub after_response : DiscoveryParts → NamesSoFar → NamesSoFar
 after_response response names = after_kind response.kind response names
 
--- behind a line without a response
+-- after a line without a response
 abbrev pub after_other : Data → NamesSoFar → NamesSoFar
 after_other line names =
     if is_op (codes "connect") line then record names { connected = true }

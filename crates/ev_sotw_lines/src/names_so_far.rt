@@ -15,7 +15,7 @@ use ev_types::Kind;
 use serde_json::{Value, json};
 use std::alloc::{AllocError, Global};
 
-/// What the lines so far say: whether the stream is open behind them, and which names the last responses of clusters and of
+/// What the lines so far say: whether the stream is open after them, and which names the last responses of clusters and of
 /// listeners had that came on an open stream.
 #[derive(Drop)]
 pub struct NamesSoFar {

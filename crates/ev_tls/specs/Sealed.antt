@@ -27,7 +27,7 @@ use Rattle.ev_secrets.specs.Told.{told_by}
 abbrev pub sealed_script : ScriptTrees → ScriptParts
 sealed_script trees = expanded_script tls_rules trees
 
--- ---- the input. Its lines are counted from 0, behind its header.
+-- ---- the input. Its lines are counted from 0, after its header.
 
 -- a resource of clusters, by its place among those of a line, names the secret
 pub record NamesSecret (lines : List Data) (index item : ℕ) (secret : List ℕ) : Type 0 where
@@ -37,7 +37,7 @@ pub record NamesSecret (lines : List Data) (index item : ℕ) (secret : List ℕ
   pub stands : slice_get (clusters_in line) item ≡ Some resource
   pub named : Contains (references_of (body_in resource)) secret
 
--- the line tells of the secret, where a stream is open
+-- the secret comes with the line, where a stream is open
 pub record TellsOf (lines : List Data) (index : ℕ) (secret : List ℕ) : Type 0 where
   pub line : Data
   pub there : slice_get lines index ≡ Some line
@@ -75,7 +75,7 @@ pub record StandsBefore (journal : List Entry) (k : ℕ) (lines : List Data) (in
   pub by : IsByLine journal place lines index
   pub says : option_and_then event_of (slice_get lines index) ≡ Some by.entry.event
 
--- the secret was told of before place k of the journal, by a line of the input
+-- the secret has come before place k of the journal, by a line of the input
 pub record WasTold (journal : List Entry) (k : ℕ) (lines : List Data) (secret : List ℕ) : Type 0 where
   pub index : ℕ
   pub told : TellsOf lines index secret
@@ -83,7 +83,7 @@ pub record WasTold (journal : List Entry) (k : ℕ) (lines : List Data) (secret 
 
 -- ---- the law
 
--- where a generation is accepted, each secret was told of that the resource names which made it
+-- where a generation is accepted, each secret has come that the resource names which made it
 abbrev pub IsSealed : Format → ScriptTrees → List Entry → Type 0
 IsSealed format trees journal =
     (k : ℕ) (worker : Actor) (number index item : ℕ) (secret : List ℕ)

@@ -29,7 +29,7 @@ abbrev pub leaves_out : Format → Bool → Bool
 leaves_out One rests = false
 leaves_out Two rests = rests
 
--- behind the journal settles of the actor may be left out
+-- after the journal settles of the actor may be left out
 abbrev pub may_leave_out : Format → ScriptParts → List Entry → Actor → Bool
 may_leave_out format script journal actor = leaves_out format (is_resting format script journal actor)
 
@@ -41,23 +41,23 @@ pub record ComesNext (row : Row) (rests : Bool) (os : List Operation) (o : Opera
   pub whole : skipped ++ o ∷ behind ≡ os
   pub settles : AllByRecursion (λ (p : Operation). IsTrue (is_settle p.event && rests)) skipped
 
--- what comes next for the row's actor behind the journal
+-- what comes next for the row's actor after the journal
 abbrev pub IsNextFor : Format → ScriptParts → List Entry → Row → Operation → Type 0
 IsNextFor format script journal row o =
     ComesNext row (may_leave_out format script journal row.actor) (operations_left script journal row.actor) o
 
--- the world behind the journal
+-- the world after the journal
 abbrev pub world_behind : Format → ScriptParts → List Entry → World
 world_behind format script journal = world_after format (opening script.workers script.node) journal
 
--- what is found of a journal is what is found at the first place where there is anything, or behind the last row
+-- what is found of a journal is what is found at the first place where there is anything, or after the last row
 pub record FindsTheFirst : Type 0 where
   pub place : (format : Format) (script : ScriptParts) (rows : List Row) (place : ℕ) (found : Finding) → place < length rows
       → NothingFound format script rows place → finding_at format script rows place ≡ Some found → finding_of format script rows ≡ found
   pub end : (format : Format) (script : ScriptParts) (rows : List Row) → NothingFound format script rows (length rows)
       → finding_of format script rows ≡ end_finding format script rows
 
--- the operations that may come next of these: the first, and each behind settles that may be left out
+-- the operations that may come next of these: the first, and each after settles that may be left out
 abbrev pub next_of : Bool → List Operation → List Operation
 next_of rests os = take ((if rests then prefix_len (λ (o : Operation). is_settle o.event) os else 0) + 1) os
 

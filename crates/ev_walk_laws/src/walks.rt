@@ -1,6 +1,6 @@
 ghost use Rattle.ev_walk_laws.specs.Walks.{FindsStrays, FindsTheFirst, GoesOn, MovesOn, NumbersLast, TakesNext};
 
-/// A law of the definitions: what is found of a journal is what is found at the first place where there is anything, or behind the
+/// A law of the definitions: what is found of a journal is what is found at the first place where there is anything, or after the
 /// last row. It does nothing.
 pub fn finds_the_first()
     ensures { FindsTheFirst }
@@ -17,7 +17,7 @@ pub fn takes_next()
     ensures { TakesNext }
 {}
 
-/// A law of the definitions: behind such a row the journal has its entry more. It does nothing.
+/// A law of the definitions: after such a row the journal has its entry more. It does nothing.
 pub fn goes_on()
     ensures { GoesOn }
 {}

@@ -19,7 +19,7 @@ use std::mem::drop;
 use std::sync::ledger::{Blank, Ledger};
 use survey::{Counts, survey};
 
-/// Prints how many clusters came to serve, and what is told of all of them.
+/// Prints how many clusters came to serve, and what is said of all of them.
 ///
 /// # Errors
 /// Those of printing, and out of memory.
@@ -37,7 +37,7 @@ pub(crate) fn print_run<R: Print + AllocGlobal>(rt: &R, size: u16, arrivals: u16
     Ok(())
 }
 
-// How many of so many clusters come to serve as the endpoints of so many come, and what the manager tells of all of them then.
+// How many of so many clusters come to serve as the endpoints of so many come, and what the manager says of all of them then.
 fn measured(alloc: Global, size: u16, arrivals: u16) -> Result<(u32, Counts)> {
     run::<Brand>(alloc, Blank::new(1), size, arrivals)
 }

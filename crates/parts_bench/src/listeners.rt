@@ -30,7 +30,7 @@ pub(crate) struct Plan {
     pub(crate) arrivals: u16,
 }
 
-/// What a run tells: at how many addresses a listener was found, how many came to serve, what is told of all of them, and whether
+/// What a run tells: at how many addresses a listener was found, how many came to serve, what is said of all of them, and whether
 /// the first one goes once its time to live has ended.
 #[derive(Clone, Copy)]
 struct Told {
@@ -40,7 +40,7 @@ struct Told {
     goes: bool,
 }
 
-/// Prints how many hold an address that was asked, how many came to serve, what is told of all, and whether the first goes.
+/// Prints how many hold an address that was asked, how many came to serve, what is said of all, and whether the first goes.
 ///
 /// # Errors
 /// Those of printing, and out of memory.

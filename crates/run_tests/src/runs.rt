@@ -58,7 +58,7 @@ pub(crate) fn read(alloc: Global, text: &str) -> Result<Script, Fail> {
     read.map_err(|_| Fail::new("no script"))
 }
 
-// The registry behind a run at this pace.
+// The registry after a run at this pace.
 fn run_at<R: Threads + Wait + Sync, P: Pace + Sync>(
     rt: &R,
     alloc: Global,

@@ -10,7 +10,7 @@ use std::alloc::Global;
 use std::mem::drop;
 use std::test::Fail;
 
-/// The seed of the script that is soaked in, and its lines behind the header.
+/// The seed of the script that is soaked in, and its lines after the header.
 const SEED: u64 = 7;
 
 const COUNT: u32 = 20_000;

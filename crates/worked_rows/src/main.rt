@@ -170,7 +170,7 @@ fn tells_failure<R: Threads + Wait + Sync>(
     Ok(told && nothing)
 }
 
-// Whether the program, which reads one byte at once, ends a row as it has to where each read behind the end of the input fails.
+// Whether the program, which reads one byte at once, ends a row as it has to where each read after the end of the input fails.
 fn reads_no_further<R: Threads + Wait + Sync>(
     rt: &R,
     alloc: Global,

@@ -33,7 +33,7 @@ pub(crate) fn trees_end(alloc: Global, input: &[u8]) -> io::Result<String> {
     }
 }
 
-/// How the reading of an input as a script with a journal behind it ends, as a text.
+/// How the reading of an input as a script with a journal after it ends, as a text.
 pub(crate) fn audited_end(alloc: Global, input: &[u8]) -> io::Result<String> {
     let mut source = MemSource::new(input.to_vec(alloc)?, PIECE, Vec::new(alloc));
     let mut lines = Lines::new(alloc)?;

@@ -1,6 +1,6 @@
 //! Inputs of scripts, as files. Each line of `inputs` says whether the input is `plain` or an `audit`'s, how the reading has to
 //! end (`whole:WORKERS:AUTO:NODE:LINES`, `journal:WORKERS:AUTO:NODE:LINES:BYTES` or `bad:LINE:KIND`), and the input, with `~` for
-//! a line feed. A plain one is read as a script and as trees. Then the input in `realistic.in` is cut behind each of its bytes.
+//! a line feed. A plain one is read as a script and as trees. Then the input in `realistic.in` is cut after each of its bytes.
 
 use crate::cuts::is_told;
 use crate::script_ends::{audited_end, script_end, trees_end};
@@ -27,7 +27,7 @@ pub(crate) fn try_inputs<R: Files + Print + AllocGlobal>(rt: &R) -> io::Result<(
     println!(rt; "{passed} inputs passed, {failed} failed")
 }
 
-/// Cuts a script behind each of its bytes, and prints of which cuts the reading ended as it has to.
+/// Cuts a script after each of its bytes, and prints of which cuts the reading ended as it has to.
 ///
 /// # Errors
 /// Those of reading the file, and of printing.
