@@ -1,25 +1,24 @@
--- What a generation waits for was answered by an entry, where the generation is answered.
-use Rattle.std.proofs.Common.{◌≡◌, ℕ, Bool, true, false, not, ◌&&◌, ◌||◌, cond, List, filter, Option, Some, None, refl, sym, ap, ◌∙◌, ap₂}
-use Rattle.std.specs.Prelude.{unwrap_or, option_map}
+-- Each thing that a generation waits for was answered by an entry, where the generation is answered.
+use Rattle.std.proofs.Common.{◌≡◌, ℕ, Bool, true, false, not, ◌&&◌, ◌||◌, cond, List, filter, refl, sym, ◌∙◌, ap₂}
 use Rattle.std.specs.Cmp.{first_so, second_so}
-use Rattle.std.specs.List.{Contains, list_any}
+use Rattle.std.specs.List.{Contains, list_any, list_all}
 use Rattle.std.specs.Str.{bytes_eq}
 use Rattle.std.proofs.lemmas.Bool.{false≢true, and_from, or_left, or_right}
 use Rattle.std.proofs.lemmas.List.Elements.{All-contains}
 use Rattle.ev_types.specs.Kinds.{kind_same, kind_decides}
 use Rattle.ev_types.specs.Same.{bytes_decide}
+use Rattle.ev_types.specs.declared.contents.Content.{Content}
 use Rattle.ev_types.specs.declared.contents.Kind.{Kind}
 use Rattle.ev_types.specs.declared.events.Entry.{Entry}
 use Rattle.ev_types.specs.declared.rows.Arrival.{Arrival}
 use Rattle.ev_types.specs.declared.rows.Arrival.TheVariants.{Value, Absent, Bad as bad, TimedOut}
 use Rattle.ev_types.specs.declared.rows.GenRow.{GenRow}
 use Rattle.ev_model.specs.World.{World, Arrived}
-use Rattle.ev_model.specs.Watching.{Dependency, dependency_of, is_limited}
+use Rattle.ev_model.specs.Watching.{Dependency, dependencies_of}
 use Rattle.ev_model.specs.Warming.{came_for, is_word, is_timeout, is_told_by, is_timed_by, has_answer, is_answered_by, is_checked, has_all_results, assignment_by, is_ready}
-use Rattle.ev_model.specs.Entries.{MadeRow, answers_wait, has_arrived_for, tells_of_name, times_out}
-use Rattle.ev_model.specs.Laws.{HasBeenAnswered}
+use Rattle.ev_model.specs.Entries.{answers_wait, has_ended_wait, tells_of_name, times_out}
 use Rattle.ev_model_laws.specs.Kept.{was_told, was_timed, has_come_by, ComesByEntries}
-use Rattle.ev_model_laws.proofs.AnyLemmas.{or_so, any_so, any_mapped, any_found}
+use Rattle.ev_model_laws.proofs.AnyLemmas.{or_so, any_so, all_so, any_mapped, any_found}
 use Rattle.ev_model_laws.proofs.ExpiredLemmas.{passed}
 use Rattle.ev_model_laws.proofs.PromotionLemmas.{each_left}
 
@@ -72,30 +71,30 @@ module _ (entries : List Entry) (world : World) (come : ComesByEntries world ent
       ∙ timeout_timed (is_word one.0.arrival) (was_told entries one.0.kind one.0.name) (was_timed entries one.0.kind one.0.name) (no_word one.0.arrival one.3)
       (All-contains (λ (a : Arrived). has_come_by entries a ≡ true) world.arrivals one.0 come.arrivals one.1)
 
--- an entry has arrived for a generation that is answered
-pub answered_by : (entries : List Entry) (world : World) (row : MadeRow) (dependency : Option Dependency) → ComesByEntries world entries
-    → dependency_of row.content ≡ dependency → has_answer world.arrivals (is_limited row.content) dependency ≡ true
-    → HasBeenAnswered dependency row entries
-answered_by entries world row None come is h = tt
-answered_by entries world row (Some d) come is h =
-    let arrives : (entry : Entry) → answers_wait (is_limited row.content) d entry ≡ true → has_arrived_for row entry ≡ true =
-    λ (entry : Entry) waits.
-    ap (λ (o : Option Dependency). unwrap_or (option_map (λ (d : Dependency). answers_wait (is_limited row.content) d entry) o) false) is ∙ waits in
-    or_so (is_told_by world.arrivals d.kind d.name) (is_timed_by world.arrivals d.kind d.name && is_limited row.content)
+-- an entry has ended the wait for a dependency that has its answer
+wait_ended : (entries : List Entry) (world : World) → ComesByEntries world entries
+    → (d : Dependency) → has_answer world.arrivals d ≡ true → has_ended_wait entries d ≡ true
+wait_ended entries world come d h =
+    or_so (is_told_by world.arrivals d.kind d.name) (is_timed_by world.arrivals d.kind d.name && d.limited)
     (λ told.
-    any_so (λ (entry : Entry). tells_of_name d.kind d.name entry.event entry.answer) (has_arrived_for row) entries
+    any_so (λ (entry : Entry). tells_of_name d.kind d.name entry.event entry.answer) (answers_wait d) entries
     (λ (entry : Entry) tells.
-    arrives entry (or_left (tells_of_name d.kind d.name entry.event entry.answer) (is_limited row.content && times_out d.kind d.name entry.event entry.answer) tells))
+    or_left (tells_of_name d.kind d.name entry.event entry.answer) (d.limited && times_out d.kind d.name entry.event entry.answer) tells)
     (told_entries entries world come d.kind d.name told))
     (λ timed.
-    any_so (λ (entry : Entry). times_out d.kind d.name entry.event entry.answer) (has_arrived_for row) entries
+    any_so (λ (entry : Entry). times_out d.kind d.name entry.event entry.answer) (answers_wait d) entries
     (λ (entry : Entry) comes.
-    arrives entry
-    (or_right (tells_of_name d.kind d.name entry.event entry.answer) (is_limited row.content && times_out d.kind d.name entry.event entry.answer)
-    (and_from (is_limited row.content) (times_out d.kind d.name entry.event entry.answer)
-    (second_so (is_timed_by world.arrivals d.kind d.name) (is_limited row.content) timed) comes)))
-    (timed_entries entries world come d.kind d.name (first_so (is_timed_by world.arrivals d.kind d.name) (is_limited row.content) timed)))
+    or_right (tells_of_name d.kind d.name entry.event entry.answer) (d.limited && times_out d.kind d.name entry.event entry.answer)
+    (and_from d.limited (times_out d.kind d.name entry.event entry.answer)
+    (second_so (is_timed_by world.arrivals d.kind d.name) d.limited timed) comes))
+    (timed_entries entries world come d.kind d.name (first_so (is_timed_by world.arrivals d.kind d.name) d.limited timed)))
     h
+
+-- entries have ended each wait of a generation that is answered
+pub answered_by : (entries : List Entry) (world : World) (content : Content) → ComesByEntries world entries
+    → is_answered_by world.arrivals content ≡ true → list_all (has_ended_wait entries) (dependencies_of content) ≡ true
+answered_by entries world content come h =
+    all_so (has_answer world.arrivals) (has_ended_wait entries) (dependencies_of content) (wait_ended entries world come) h
 
 -- a generation that is ready is answered
 pub ready_answered : (world : World) (row : GenRow) → is_ready world row ≡ true → is_answered_by world.arrivals row.content ≡ true

@@ -1,8 +1,8 @@
--- Whether some element of a list passes a test.
+-- Whether some element of a list passes a test, or each does.
 use Rattle.std.proofs.Common.{◌≡◌, ℕ, zero, suc, Bool, true, false, not, ◌&&◌, ◌||◌, List, [], ◌∷◌, ◌++◌, map, filter, refl, sym, ap, ◌∙◌, subst, inl, inr}
 use Rattle.std.specs.Prelude.{slice_set}
 use Rattle.std.specs.Cmp.{first_so, second_so}
-use Rattle.std.specs.List.{list_any, flat_map, Contains}
+use Rattle.std.specs.List.{list_any, list_all, flat_map, Contains}
 use Rattle.std.proofs.lemmas.List.Elements.{Contains-append_left, Contains-append_right, Contains-push}
 use Rattle.std.proofs.lemmas.Bool.{false≢true, cond_both, cond-true, cases_Bool, and_from, or_left, or_right, not_from_false}
 use Rattle.std.proofs.lemmas.List.Folds.{list_any-append}
@@ -19,6 +19,12 @@ any_so p q [] so h = h
 any_so p q (x ∷ xs) so h =
     or_so (p x) (list_any p xs) (λ first. or_left (q x) (list_any q xs) (so x first))
     (λ rest. or_right (q x) (list_any q xs) (any_so p q xs so rest)) h
+
+-- where each element passes one test, and what passes it passes another, each passes the other
+pub all_so : {X : Type 0} (p q : X → Bool) (xs : List X) → ((x : X) → p x ≡ true → q x ≡ true) → list_all p xs ≡ true → list_all q xs ≡ true
+all_so p q [] so h = h
+all_so p q (x ∷ xs) so h =
+    and_from (q x) (list_all q xs) (so x (first_so (p x) (list_all p xs) h)) (all_so p q xs so (second_so (p x) (list_all p xs) h))
 
 -- what passes one test passes another, or something else is so
 pub any_unless : {X : Type 0} (p q : X → Bool) (other : Bool) (xs : List X) → ((x : X) → p x ≡ true → (q x || other) ≡ true)

@@ -1,5 +1,5 @@
 -- Chains of which no two collide are narrowed to one at most: any two that one criterion leaves overlap in it, and go on doing so.
-use Rattle.std.proofs.Common.{◌≡◌, ◌≤◌, ℕ, Bool, true, false, not, ◌&&◌, ◌||◌, ◌==◌, List, [], ◌∷◌, length, map, filter, find, refl, sym, ap, ◌∙◌, subst, inl, inr, ◌⊎◌, Option, Some, None, ne_eqb, arith, cond}
+use Rattle.std.proofs.Common.{◌≡◌, ◌≤◌, ℕ, Bool, true, false, not, ◌||◌, ◌==◌, List, [], ◌∷◌, length, map, filter, find, refl, sym, ◌∙◌, subst, inl, inr, ◌⊎◌, Option, Some, None, ne_eqb, arith}
 use Rattle.std.specs.List.{list_any, AllByRecursion as ByRecursion}
 use Rattle.std.specs.Str.{bytes_eq, str_to_ascii_lowercase}
 use Rattle.std.proofs.lemmas.Bool.{false≢true, cond_both, and_from, or_left, or_right}

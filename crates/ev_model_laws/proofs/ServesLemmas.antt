@@ -27,7 +27,7 @@ use Rattle.ev_types.specs.declared.rows.RowStatus.TheVariants.{Warming, Active, 
 use Rattle.ev_model.specs.World.{World, Arrived}
 use Rattle.ev_model.specs.Live.{lives_of}
 use Rattle.ev_model.specs.Verdicts.{verdicts_for, is_removed}
-use Rattle.ev_model.specs.Watching.{dependency_of, is_watched}
+use Rattle.ev_model.specs.Watching.{is_watched}
 use Rattle.ev_model.specs.Warming.{is_ready_by, is_ready}
 use Rattle.ev_model.specs.Rows.{is_row_of, with_statuses, status_left, with_removals, replaced_status, new_row, add_row, keep_value, keep_version, with_content, told_of_refusal, refuse, add_item, add_items, made_names, with_first}
 use Rattle.ev_model.specs.Tidy.{has_successor, status_by, promoted_status, promoted, arrivals_watched, tidy}
@@ -256,7 +256,7 @@ serving_warmed told k number made come serving =
       answered = record {
         row = made_as row;
         made = ap (λ (journal : List Entry). made_of journal number) (sym whole) ∙ made_more entries (drop (k + 1) told.journal) number (made_as row) of;
-        answered = answered_by entries world (made_as row) (dependency_of row.content) come refl (ready_answered world row serving.ready);
+        answered = answered_by entries world row.content come (ready_answered world row serving.ready);
       };
     }
 

@@ -1,11 +1,11 @@
 -- Why tidying a world that was tidied changes nothing: no row that warms is ready any more, since neither what goes with names
 -- that aren't watched nor the results that go are of a live row, and what is filtered was filtered by the same tests.
-use Rattle.std.proofs.Common.{◌≡◌, ℕ, Bool, true, false, not, ◌&&◌, ◌||◌, ◌==◌, List, map, filter, filter_map, Option, Some, None, refl, ap, sym, ◌∙◌}
-use Rattle.std.specs.Bool.{⊤}
-use Rattle.std.specs.List.{Contains, list_any, last_or}
+use Rattle.std.proofs.Common.{◌≡◌, ℕ, Bool, true, false, not, ◌&&◌, ◌||◌, ◌==◌, List, [], map, filter, filter_map, None, refl, ap, sym, ◌∙◌}
+use Rattle.std.specs.List.{Contains, list_any, list_all, last_or}
 use Rattle.std.specs.Str.{bytes_eq}
 use Rattle.std.specs.Cmp.{first_so, second_so}
-use Rattle.std.proofs.lemmas.List.Elements.{All-map, All-contains}
+use Rattle.std.proofs.lemmas.Bool.{and_from}
+use Rattle.std.proofs.lemmas.List.Elements.{All-map, All-contains, Contains-push}
 use Rattle.std.proofs.lemmas.Map.Views.{any-filter_same}
 use Rattle.ev_types.specs.Hosts.{HostRowParts}
 use Rattle.ev_types.specs.Kinds.{kind_same, kind_decides}
@@ -27,7 +27,7 @@ use Rattle.ev_types.specs.declared.rows.GenRow.{GenRow}
 use Rattle.ev_types.specs.declared.rows.Live.{Live}
 use Rattle.ev_model.specs.World.{World, Arrived, HealthResult}
 use Rattle.ev_model.specs.Live.{lives_of, live_of}
-use Rattle.ev_model.specs.Watching.{Dependency, dependency_of, discovery_dependency, is_dependency, is_watched, is_limited}
+use Rattle.ev_model.specs.Watching.{Dependency, dependencies_of, discovery_dependencies, has_dependency, is_dependency, is_watched}
 use Rattle.ev_model.specs.Warming.{came_for, content_in, rows_in, is_word, is_timeout, has_answer, is_answered_by, discovered, assignment_by, is_checked, is_result_of, has_result, has_all_results, is_ready_by}
 use Rattle.ev_model.specs.Rows.{is_row_of}
 use Rattle.ev_model.specs.Phase.{phase_from, phase_after, clusters_have_come, listeners_have_come}
@@ -37,25 +37,20 @@ use Rattle.ev_model_laws.specs.Tidying.{TidiesOnce}
 use Rattle.ev_model_laws.proofs.TidyLists.{all_of, any_at, any_none, all_agree, map_same, filter_within, filter_twice, any_of_map}
 
 -- what is depended on is watched
-abbrev pub IsKept : List Live → Option Dependency → Type 0
-IsKept lives None = ⊤
-IsKept lives (Some d) = is_watched lives d.kind d.name ≡ true
+abbrev pub IsKept : List Live → List Dependency → Type 0
+IsKept lives ds = (d : Dependency) → Contains ds d → is_watched lives d.kind d.name ≡ true
 
 -- a dependency is of its own kind and name
-own_dependency : (d : Dependency) → is_dependency d.kind d.name (Some d) ≡ true
+own_dependency : (d : Dependency) → is_dependency d.kind d.name d ≡ true
 own_dependency d = simp ((kind_decides d.kind d.kind).1 refl, (bytes_decide d.name d.name).1 refl) refl
 
-kept_by : (world : World) (row : GenRow) (dependency : Option Dependency) → dependency_of row.content ≡ dependency
-    → Contains world.rows row → is_live row.status ≡ true → IsKept (lives_of world) dependency
-kept_by world row None is there live = tt
-kept_by world row (Some d) is there live =
-    any_of_map (λ (l : Live). is_dependency d.kind d.name (dependency_of l.content)) live_of (λ (r : GenRow). is_live r.status) world.rows
-    ∙ any_at (λ (r : GenRow). is_live r.status && is_dependency d.kind d.name (dependency_of r.content)) world.rows row there
-    (simp (live, is) (own_dependency d))
-
 -- what a live row depends on is watched
-pub kept : (world : World) (row : GenRow) → Contains world.rows row → is_live row.status ≡ true → IsKept (lives_of world) (dependency_of row.content)
-kept world row there live = kept_by world row (dependency_of row.content) refl there live
+pub kept : (world : World) (row : GenRow) → Contains world.rows row → is_live row.status ≡ true → IsKept (lives_of world) (dependencies_of row.content)
+kept world row there live = λ d among.
+    any_of_map (λ (l : Live). has_dependency d.kind d.name l.content) live_of (λ (r : GenRow). is_live r.status) world.rows
+    ∙ any_at (λ (r : GenRow). is_live r.status && has_dependency d.kind d.name r.content) world.rows row there
+    (and_from (is_live row.status) (has_dependency d.kind d.name row.content) live
+    (any_at (is_dependency d.kind d.name) (dependencies_of row.content) d among (own_dependency d)))
 
 -- what came for a watched name stays, in order
 pub came_same : (lives : List Live) (arrivals : List Arrived) (kind : Kind) (name : List ℕ) → is_watched lives kind name ≡ true
@@ -69,35 +64,36 @@ came_same lives arrivals kind name watched =
     ∙ watched)
     arrivals)
 
--- so whether the control plane has answered for it
-answer_same : (lives : List Live) (arrivals : List Arrived) (limited : Bool) (dependency : Option Dependency) → IsKept lives dependency
-    → has_answer (arrivals_watched lives arrivals) limited dependency ≡ has_answer arrivals limited dependency
-answer_same lives arrivals limited None watched = refl
-answer_same lives arrivals limited (Some d) watched =
-    ap (λ came. list_any is_word came || (list_any is_timeout came && limited)) (came_same lives arrivals d.kind d.name watched)
+-- so whether the control plane has answered for each dependency
+answers_same : (lives : List Live) (arrivals : List Arrived) (ds : List Dependency) → IsKept lives ds
+    → list_all (has_answer (arrivals_watched lives arrivals)) ds ≡ list_all (has_answer arrivals) ds
+answers_same lives arrivals ds watched =
+    all_agree (has_answer (arrivals_watched lives arrivals)) (has_answer arrivals) ds
+    (λ d among. ap (λ came. list_any is_word came || (list_any is_timeout came && d.limited)) (came_same lives arrivals d.kind d.name (watched d among)))
 
--- and so the hosts of a content whose dependency is watched
-discovered_same : (lives : List Live) (arrivals : List Arrived) (discovery : Discovery) → IsKept lives (discovery_dependency discovery)
+-- and so the hosts of a content whose dependencies are watched
+discovered_same : (lives : List Live) (arrivals : List Arrived) (discovery : Discovery) → IsKept lives (discovery_dependencies discovery)
     → discovered (arrivals_watched lives arrivals) discovery ≡ discovered arrivals discovery
 discovered_same lives arrivals (Static rows) watched = refl
 discovered_same lives arrivals (by_eds service limited) watched =
-    ap (λ came. rows_in (last_or None (filter_map content_in came))) (came_same lives arrivals Eds service watched)
+    let d : Dependency = record { kind = Eds; name = service; limited = limited } in
+    ap (λ came. rows_in (last_or None (filter_map content_in came))) (came_same lives arrivals Eds service (watched d (Contains-push [] d)))
 
-hosts_same : (lives : List Live) (arrivals : List Arrived) (content : Content) → IsKept lives (dependency_of content)
+hosts_same : (lives : List Live) (arrivals : List Arrived) (content : Content) → IsKept lives (dependencies_of content)
     → assignment_by (arrivals_watched lives arrivals) content ≡ assignment_by arrivals content
 hosts_same lives arrivals (a_cluster cluster) watched = discovered_same lives arrivals cluster.discovery watched
 hosts_same lives arrivals (an_assignment rows) watched = refl
 hosts_same lives arrivals (a_listener listener) watched = refl
 hosts_same lives arrivals (routes table) watched = refl
 
--- a row whose dependency is watched is ready without what isn't watched where it is ready with it
+-- a row whose dependencies are watched is ready without what isn't watched where it is ready with it
 pub watched_ready : (lives : List Live) (arrivals : List Arrived) (results : List HealthResult) (row : GenRow)
-    → IsKept lives (dependency_of row.content)
+    → IsKept lives (dependencies_of row.content)
     → is_ready_by (arrivals_watched lives arrivals) results row ≡ is_ready_by arrivals results row
 watched_ready lives arrivals results row watched =
     ap (λ answered. answered && (not (is_checked row.content)
     || has_all_results results row.number (assignment_by (arrivals_watched lives arrivals) row.content)))
-    (answer_same lives arrivals (is_limited row.content) (dependency_of row.content) watched)
+    (answers_same lives arrivals (dependencies_of row.content) watched)
     ∙ ap (λ hosts. is_answered_by arrivals row.content && (not (is_checked row.content) || has_all_results results row.number hosts))
     (hosts_same lives arrivals row.content watched)
 

@@ -29,7 +29,7 @@ use Rattle.ev_types.specs.declared.rows.RowStatus.{RowStatus}
 use Rattle.ev_types.specs.declared.rows.RowStatus.TheVariants.{Warming, Active, Draining, Dropped}
 use Rattle.ev_model.specs.World.{World}
 use Rattle.ev_model.specs.Live.{lives_of, live_of, is_named}
-use Rattle.ev_model.specs.Watching.{dependency_of, is_dependency, is_by_name, is_watched}
+use Rattle.ev_model.specs.Watching.{has_dependency, is_by_name, is_watched}
 use Rattle.ev_model.specs.Verdicts.{is_removed, verdicts_by, verdicts_for}
 use Rattle.ev_model.specs.Rows.{arrived, is_row_of, removed_status, with_statuses, status_left, rows_left, with_removals, replaced_status, new_row, keep_version, add_row, keep_value, with_content, refuse, add_item, add_items, made_names, with_first}
 use Rattle.ev_model.specs.Tidy.{has_successor, status_by, promoted_status, tidy}
@@ -189,13 +189,13 @@ module _ (test : GenRow → Bool) (blind : (row : GenRow) (status : RowStatus) �
 
 module _ (kind : Kind) (name : List ℕ) where
   abbrev awaits : GenRow → Bool
-  awaits row = is_dependency kind name (dependency_of row.content)
+  awaits row = has_dependency kind name row.content
 
   awaits_blind : (row : GenRow) (status : RowStatus) → awaits (record row { status = status }) ≡ awaits row
   awaits_blind row status = refl
 
   watched_is : (world : World) → is_watched (lives_of world) kind name ≡ has_one awaits awaits_blind world.rows
-  watched_is world = any_of_map (λ (l : Live). is_dependency kind name (dependency_of l.content)) live_of (λ (r : GenRow). is_live r.status) world.rows
+  watched_is world = any_of_map (λ (l : Live). has_dependency kind name l.content) live_of (λ (r : GenRow). is_live r.status) world.rows
 
   module _ (format : Format) (world : World) (actor : Actor) (event : Event) (none : has_one awaits awaits_blind world.rows ≡ false) where
     -- what an event did has made a generation that waits for the name, where the name is watched behind it
@@ -221,7 +221,7 @@ module _ (kind : Kind) (name : List ℕ) where
         ∙ any_flat (waits_for kind name) made judged
         ∙ any_at (λ (other : Verdict × ItemParts). list_any (waits_for kind name) (made other)) judged one there
         (ap₂ (λ (v : Verdict) (b : Body). list_any (waits_for kind name) (made_by of v one.1.name b)) new good
-        ∙ or_left (is_dependency kind name (dependency_of content)) false waits))
+        ∙ or_left (has_dependency kind name content) false waits))
         (λ h. absurd (both_ways (has_one awaits awaits_blind world.rows) none (left_by awaits awaits_blind of response world h)))
 
     begins : Begins (step format world actor event)

@@ -10,16 +10,16 @@ use Rattle.ev_types.specs.declared.events.Event.TheVariants.{Response}
 use Rattle.ev_types.specs.declared.journals.Format.{Format}
 use Rattle.ev_model.specs.World.{World}
 use Rattle.ev_model.specs.Live.{lives_of, is_named}
-use Rattle.ev_model.specs.Watching.{dependency_of, is_dependency, is_by_name, is_watched}
+use Rattle.ev_model.specs.Watching.{has_dependency, is_by_name, is_watched}
 use Rattle.ev_model.specs.Verdicts.{is_removed}
 use Rattle.ev_model.specs.Entries.{MadeRow, made_in}
 use Rattle.ev_model.specs.Step.{step}
 
 -- the generation that a resource made depends on this name
 abbrev pub waits_for : Kind → List ℕ → MadeRow → Bool
-waits_for kind name made = is_dependency kind name (dependency_of made.content)
+waits_for kind name made = has_dependency kind name made.content
 
--- a name that is watched behind an event, and wasn't before it, is what a generation depends on that the event has made
+-- on each name that is watched after an event, and wasn't before it, a generation depends that the event has made
 abbrev pub WatchesBeginWithNew : Type 0
 WatchesBeginWithNew =
     (format : Format) (world : World) (actor : Actor) (event : Event) (kind : Kind) (name : List ℕ)

@@ -1,7 +1,7 @@
 ghost use Rattle.ev_stream_laws.specs.Watches.{LiveAreNamed, WatchesBeginWithNew};
 
-/// A law of the machine: a name that is watched behind an event, and wasn't before it, is what a generation depends on that the
-/// event has made. It does nothing.
+/// A law of the machine: on each name that is watched after an event, and wasn't before it, a generation depends that the event
+/// has made. It does nothing.
 pub fn watches_begin_with_new()
     ensures { WatchesBeginWithNew }
 {}
