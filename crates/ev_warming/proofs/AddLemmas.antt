@@ -15,7 +15,6 @@ use Rattle.ev_types.specs.declared.rows.RowStatus.{RowStatus}
 use Rattle.ev_types.specs.declared.rows.RowStatus.TheVariants.{Warming, Active, Draining, Dropped}
 use Rattle.ev_types.specs.declared.rows.GenRow.{GenRow}
 use Rattle.ev_model.specs.Rows.{removed_status, replaced_status, is_row_of, with_statuses, new_row}
-use Rattle.ev_model.specs.Watching.{is_limited}
 use Rattle.ev_generations.specs.Tables.{GenerationsParts, IsTable, is_number, row_in, status_with, with_status, numbers_of}
 use Rattle.ev_indexes.specs.declared.watches.Watch.{Watch}
 use Rattle.ev_indexes.specs.declared.state.State.{State}
@@ -24,7 +23,7 @@ use Rattle.ev_indexes.specs.Due.{is_among}
 use Rattle.ev_indexes.specs.Kept.{Sets}
 use Rattle.ev_indexes.specs.Standings.{NamesKept, nobody, standing_in}
 use Rattle.ev_indexes.specs.Watched.{WatchesKept, watch_in, watched_too, numbers_without}
-use Rattle.ev_indexes.specs.Ready.{name_needed, is_due_found, is_due_at}
+use Rattle.ev_indexes.specs.Ready.{name_needed, is_limited_in, is_due_found, is_due_at}
 use Rattle.ev_indexes.specs.Indexes.{IsIndexed, is_needed, depends_on, waits_limited, serves, warms, holds, numbers_where, status_in}
 use Rattle.ev_indexes.proofs.WhereLemmas.{where-left, where-members, found-where, flipped, emptied, without-one}
 use Rattle.ev_warming.proofs.ReadyLemmas.{Agrees}
@@ -118,7 +117,7 @@ module _ (s : State) (x : IsIndexed s) (name : List ℕ) (content : Content) (al
     (table : GenerationsParts) (rows : table.rows ≡ s.table.rows ++ new_row s.kind s.table.made name content ∷ []) (made : table.made ≡ s.table.made + 1) (tabled : IsTable table)
     (names : NamesKept) (stands : Sets nobody s.names names name (record { active = (standing_in s.names name).active; warming = Some (s.table.made + 1) }))
     (watches : WatchesKept)
-    (more : (q : List ℕ) → watch_in watches q ≡ cond (is_needed q (name_needed content)) (watched_too (s.table.made + 1) (is_limited content) (watch_in s.watches q)) (watch_in s.watches q))
+    (more : (q : List ℕ) → watch_in watches q ≡ cond (is_needed q (name_needed content)) (watched_too (s.table.made + 1) (is_limited_in content) (watch_in s.watches q)) (watch_in s.watches q))
     (addresses : AddressesKept) (held : HoldsAddress s.addresses addresses (s.table.made + 1) content)
     (due : List ℕ) (looked : (n : ℕ) → is_among due n ≡ cond (is_among ((s.table.made + 1) ∷ []) n) (is_due_at watches s.results n table.rows) (is_among s.due n)) where
   pushed : (test : GenRow → Bool) → numbers_where test table.rows ≡ numbers_where test s.table.rows ++ cond (test (new_row s.kind s.table.made name content)) ((s.table.made + 1) ∷ []) []
@@ -131,8 +130,8 @@ module _ (s : State) (x : IsIndexed s) (name : List ℕ) (content : Content) (al
     value = ap (λ (w : Watch). w.value) (more q) ∙ by (λ (w : Watch). w.value) (λ w. refl) (is_needed q (name_needed content));
   }
     where
-      by : {A : Type 0} (f : Watch → A) → ((w : Watch) → f (watched_too (s.table.made + 1) (is_limited content) w) ≡ f w) → (b : Bool)
-          → f (cond b (watched_too (s.table.made + 1) (is_limited content) (watch_in s.watches q)) (watch_in s.watches q)) ≡ f (watch_in s.watches q)
+      by : {A : Type 0} (f : Watch → A) → ((w : Watch) → f (watched_too (s.table.made + 1) (is_limited_in content) w) ≡ f w) → (b : Bool)
+          → f (cond b (watched_too (s.table.made + 1) (is_limited_in content) (watch_in s.watches q)) (watch_in s.watches q)) ≡ f (watch_in s.watches q)
       by f stays true = stays (watch_in s.watches q)
       by f stays false = refl
 
@@ -150,7 +149,7 @@ module _ (s : State) (x : IsIndexed s) (name : List ℕ) (content : Content) (al
       λ i. sym none i ++ (s.table.made + 1) ∷ []
   warming_too q false e = x.warming q ∙ sym (append-nil (numbers_where (warms q) s.table.rows))
 
-  watchers_too : (q : List ℕ) (b : Bool) → (cond b (watched_too (s.table.made + 1) (is_limited content) (watch_in s.watches q)) (watch_in s.watches q)).rows
+  watchers_too : (q : List ℕ) (b : Bool) → (cond b (watched_too (s.table.made + 1) (is_limited_in content) (watch_in s.watches q)) (watch_in s.watches q)).rows
       ≡ numbers_where (depends_on q) s.table.rows ++ cond b ((s.table.made + 1) ∷ []) []
   watchers_too q true = ap (λ ns. ns ++ (s.table.made + 1) ∷ []) (x.watchers q)
   watchers_too q false = x.watchers q ∙ sym (append-nil (numbers_where (depends_on q) s.table.rows))
@@ -182,7 +181,7 @@ module _ (s : State) (x : IsIndexed s) (name : List ℕ) (content : Content) (al
     active = λ q. (λ i. option_to_list (stands q i).active) ∙ active_too q (bytes_eq name q) refl ∙ sym (pushed (serves q));
     warming = λ q. (λ i. option_to_list (stands q i).warming) ∙ warming_too q (bytes_eq name q) refl ∙ sym (pushed (warms q));
     watchers = λ q. (λ i. (more q i).rows) ∙ watchers_too q (is_needed q (name_needed content)) ∙ sym (pushed (depends_on q));
-    limited = λ q. (λ i. (more q i).limited) ∙ limited_too q (is_needed q (name_needed content)) (is_limited content) ∙ sym (pushed (waits_limited q));
+    limited = λ q. (λ i. (more q i).limited) ∙ limited_too q (is_needed q (name_needed content)) (is_limited_in content) ∙ sym (pushed (waits_limited q));
     holders = λ a. held a ∙ (λ i. x.holders a i ++ cond (listens_at a content) ((s.table.made + 1) ∷ []) []) ∙ sym (pushed (holds a));
     due = λ n. looked n ∙ due_too n (nat_eq n (s.table.made + 1)) refl;
     drawn = λ n h above. x.drawn n h (omega (arith, made, above));

@@ -1,5 +1,5 @@
 -- A state that stands for a world stands for it once both have forgotten what nobody needs any more.
-use Rattle.std.proofs.Common.{◌≡◌, ◌∙◌, ℕ, Bool, true, false, cond, not, ◌&&◌, ◌||◌, nat_eq, List, [], ◌∷◌, Option, None, Some, IsSome, is_some, option_map, unwrap_or, map, filter, refl, sym, ap, subst, true≢false}
+use Rattle.std.proofs.Common.{◌≡◌, ◌∙◌, ℕ, Bool, true, false, cond, not, ◌&&◌, ◌||◌, nat_eq, List, [], ◌∷◌, Option, None, Some, IsSome, is_some, unwrap_or, map, filter, refl, sym, ap, subst, true≢false}
 use Rattle.std.specs.List.{list_any, last_or, filter_map, AllByRecursion, IsDistinct}
 use Rattle.std.specs.Str.{bytes_eq}
 use Rattle.std.proofs.lemmas.Bool.{eqb-true, eq-eqb, and_parts}
@@ -9,20 +9,13 @@ use Rattle.ev_types.specs.Same.{bytes_decide}
 use Rattle.ev_types.specs.SameHosts.{host_same, host_decides, has_host}
 use Rattle.ev_types.specs.Statuses.{is_live}
 use Rattle.ev_types.specs.declared.contents.Kind.{Kind}
-use Rattle.ev_types.specs.declared.contents.Kind.TheVariants.{Cds, Eds, Lds, Rds}
-use Rattle.ev_types.specs.declared.contents.Content.{Content}
-use Rattle.ev_types.specs.declared.contents.Content.TheVariants.{Cluster as a_cluster, Assignment as an_assignment, Listener as a_listener, Routes as routes}
-use Rattle.ev_types.specs.declared.clusters.Discovery.{Discovery}
-use Rattle.ev_types.specs.declared.clusters.Discovery.TheVariants.{Static, Eds as by_eds}
-use Rattle.ev_types.specs.declared.listeners.Serve.{Serve}
-use Rattle.ev_types.specs.declared.listeners.Serve.TheVariants.{Rds as by_rds, Inline, Tcp}
 use Rattle.ev_types.specs.declared.hosts.Host.{Host}
 use Rattle.ev_types.specs.declared.rows.Arrival.{Arrival}
 use Rattle.ev_types.specs.declared.rows.Live.{Live}
 use Rattle.ev_types.specs.declared.rows.GenRow.{GenRow}
 use Rattle.ev_model.specs.World.{World, Arrived, HealthResult}
 use Rattle.ev_model.specs.Live.{live_of, lives_of}
-use Rattle.ev_model.specs.Watching.{Dependency, dependency_of, discovery_dependency, serve_dependency, is_dependency, is_watched, is_by_name}
+use Rattle.ev_model.specs.Watching.{has_dependency, is_watched, is_by_name}
 use Rattle.ev_model.specs.Warming.{came_for, content_in, is_word, is_timeout, is_told_by, is_timed_by, value_by, has_result, is_healthy, is_result_of, assignment_by}
 use Rattle.ev_model.specs.Tidy.{arrivals_watched, without_unwatched, is_result_due, without_old_results}
 use Rattle.ev_endpoints.specs.Results.{ResultsKept, result_in}
@@ -38,6 +31,7 @@ use Rattle.ev_warming.specs.Forgetting.{is_need_of, is_idle, keeps_result, loses
 use Rattle.ev_indexes.proofs.WhereLemmas.{any-found, all-found}
 use Rattle.ev_indexes.proofs.RowLemmas.{any_agrees, all_then, found-of_kind, all-at}
 use Rattle.ev_indexes.proofs.SoundLemmas.{contents-of}
+use Rattle.ev_indexes.proofs.DependencyLemmas.{has_dependency-of}
 use Rattle.ev_indexes.proofs.WorldLemmas.{hosts-by}
 use Rattle.ev_warming.proofs.ForgettingLemmas.{busy-same, loses-same, tidy-forgot}
 
@@ -62,37 +56,6 @@ any-of_kind kind f (row ∷ rows) = by (kind_same row.kind kind) (any-of_kind ki
     by true h = ap (λ b. f row || b) h
     by false h = h
 
-discovery-needs : (kind : Kind) → is_by_name kind ≡ false → (q : List ℕ) (d : Discovery)
-    → is_dependency (needs_of kind) q (discovery_dependency d) ≡ (kind_same Cds kind && is_needed q (option_map (λ (d : Dependency). d.name) (discovery_dependency d)))
-discovery-needs Cds k q (Static rows) = refl
-discovery-needs Cds k q (by_eds service limited) = refl
-discovery-needs Lds k q (Static rows) = refl
-discovery-needs Lds k q (by_eds service limited) = refl
-discovery-needs Eds k q d = absurd (true≢false k)
-discovery-needs Rds k q d = absurd (true≢false k)
-
-serve-needs : (kind : Kind) → is_by_name kind ≡ false → (q : List ℕ) (v : Serve)
-    → is_dependency (needs_of kind) q (serve_dependency v) ≡ (kind_same Lds kind && is_needed q (option_map (λ (d : Dependency). d.name) (serve_dependency v)))
-serve-needs Cds k q (by_rds name limited) = refl
-serve-needs Cds k q (Inline table) = refl
-serve-needs Cds k q (Tcp target) = refl
-serve-needs Lds k q (by_rds name limited) = refl
-serve-needs Lds k q (Inline table) = refl
-serve-needs Lds k q (Tcp target) = refl
-serve-needs Eds k q v = absurd (true≢false k)
-serve-needs Rds k q v = absurd (true≢false k)
-
-nothing : (b : Bool) → false ≡ (b && false)
-nothing true = refl
-nothing false = refl
-
-needs-same : (kind : Kind) → is_by_name kind ≡ false → (q : List ℕ) (content : Content)
-    → is_dependency (needs_of kind) q (dependency_of content) ≡ (kind_same (content_kind content) kind && is_needed q (name_needed content))
-needs-same kind k q (a_cluster cluster) = discovery-needs kind k q cluster.discovery
-needs-same kind k q (an_assignment rows) = nothing (kind_same Eds kind)
-needs-same kind k q (a_listener listener) = serve-needs kind k q listener.serve
-needs-same kind k q (routes table) = nothing (kind_same Rds kind)
-
 swapped : (a b c : Bool) → (a && (b && c)) ≡ (b && (a && c))
 swapped true b c = refl
 swapped false true c = refl
@@ -100,11 +63,11 @@ swapped false false c = refl
 
 pub watched-same : (s : State) (world : World) → StandsFor s world → is_by_name s.kind ≡ false → (q : List ℕ) → is_watched (lives_of world) (needs_of s.kind) q ≡ list_any (depends_on q) s.table.rows
 watched-same s world stands k q =
-    any-lives (λ (live : Live). is_dependency (needs_of s.kind) q (dependency_of live.content)) world.rows
-    ∙ any_agrees (λ (r : GenRow). is_live r.status && is_dependency (needs_of s.kind) q (dependency_of r.content)) (λ (r : GenRow). kind_same r.kind s.kind && depends_on q r) world.rows
+    any-lives (λ (live : Live). has_dependency (needs_of s.kind) q live.content) world.rows
+    ∙ any_agrees (λ (r : GenRow). is_live r.status && has_dependency (needs_of s.kind) q r.content) (λ (r : GenRow). kind_same r.kind s.kind && depends_on q r) world.rows
     (all_then (λ (r : GenRow). content_kind r.content ≡ r.kind)
-    (λ (r : GenRow). (is_live r.status && is_dependency (needs_of s.kind) q (dependency_of r.content)) ≡ (kind_same r.kind s.kind && depends_on q r)) world.rows
-    (λ r typed. (λ i. is_live r.status && needs-same s.kind k q r.content i) ∙ (λ i. is_live r.status && (kind_same (typed i) s.kind && is_needed q (name_needed r.content)))
+    (λ (r : GenRow). (is_live r.status && has_dependency (needs_of s.kind) q r.content) ≡ (kind_same r.kind s.kind && depends_on q r)) world.rows
+    (λ r typed. (λ i. is_live r.status && has_dependency-of s.kind q r.content k i) ∙ (λ i. is_live r.status && (kind_same (typed i) s.kind && is_needed q (name_needed r.content)))
     ∙ swapped (is_live r.status) (kind_same r.kind s.kind) (is_needed q (name_needed r.content)))
     stands.sound.typed)
     ∙ sym (any-of_kind s.kind (depends_on q) world.rows)

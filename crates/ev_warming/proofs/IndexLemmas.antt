@@ -12,7 +12,6 @@ use Rattle.ev_types.specs.declared.rows.RowStatus.{RowStatus}
 use Rattle.ev_types.specs.declared.rows.RowStatus.TheVariants.{Warming, Active, Draining, Dropped}
 use Rattle.ev_types.specs.declared.hosts.Host.{Host}
 use Rattle.ev_types.specs.declared.rows.GenRow.{GenRow}
-use Rattle.ev_model.specs.Watching.{is_limited}
 use Rattle.ev_model.specs.Rows.{removed_status}
 use Rattle.ev_endpoints.specs.Results.{ResultsKept}
 use Rattle.ev_generations.specs.Tables.{GenerationsParts, IsTable, row_in, status_with, with_status}
@@ -25,7 +24,7 @@ use Rattle.ev_indexes.specs.Due.{is_among}
 use Rattle.ev_indexes.specs.Kept.{Sets}
 use Rattle.ev_indexes.specs.Standings.{NamesKept, nobody, standing_in}
 use Rattle.ev_indexes.specs.Watched.{WatchesKept, unwatched, watch_in, watched_less, with_arrival, numbers_without}
-use Rattle.ev_indexes.specs.Ready.{name_needed, is_ready_in, is_due_found, is_due_at}
+use Rattle.ev_indexes.specs.Ready.{name_needed, is_limited_in, is_ready_in, is_due_found, is_due_at}
 use Rattle.ev_indexes.specs.Indexes.{IsIndexed, is_needed, depends_on, waits_limited, serves, warms, holds, numbers_where}
 use Rattle.ev_indexes.proofs.KeptLemmas.{kept_at-found}
 use Rattle.ev_indexes.proofs.WhereLemmas.{kinds-with_statuses, row_with, among-where, where-left, where-absent, where-kept, where-one, where-some, without-one}
@@ -244,8 +243,8 @@ module _ (s : State) (number : ℕ) (row : GenRow) (status : RowStatus) (x : IsI
           (λ h. (λ i. (stands q i).warming) ∙ a.0 h) (λ h. (λ i. (stands q i).warming) ∙ a.1 h);
       watchers = fewer (λ (w : Watch). w.rows) (λ w. refl) depends_on (λ q r. ap (λ b. b && is_needed q (name_needed r.content)) ended)
           (λ q e. (λ i. live i && e i)) x.watchers;
-      limited = fewer (λ (w : Watch). w.limited) (λ w. refl) waits_limited (λ q r. ap (λ b. (b && is_needed q (name_needed r.content)) && is_limited r.content) ended)
-          (λ q e. (λ i. (live i && e i) && is_limited row.content)) x.limited;
+      limited = fewer (λ (w : Watch). w.limited) (λ w. refl) waits_limited (λ q r. ap (λ b. (b && is_needed q (name_needed r.content)) && is_limited_in r.content) ended)
+          (λ q e. (λ i. (live i && e i) && is_limited_in row.content)) x.limited;
       holders = holders_less;
       due = λ n.
           dues n ∙ ap (λ b. not (nat_eq number n) && b) (x.due n)
@@ -283,7 +282,7 @@ module _ (s : State) (number : ℕ) (row : GenRow) (x : IsIndexed s) (found : ro
         (λ h. (λ i. (stands q i).warming) ∙ (λ i. (cond ((and_parts (is_warming row.status) (bytes_eq row.name q) h).1 i) (record { active = Some number; warming = None }) (standing_in s.names q)).warming))
         (λ h. (λ i. (stands q i).warming) ∙ (λ i. (cond (((λ j. sym warm j && bytes_eq row.name q) ∙ h) i) (record { active = Some number; warming = None }) (standing_in s.names q)).warming));
     watchers = λ q. waits (depends_on q) (watch_in s.watches q).rows (x.watchers q) (λ i. sym (live-warming row.status warm) i && is_needed q (name_needed row.content));
-    limited = λ q. waits (waits_limited q) (watch_in s.watches q).limited (x.limited q) (λ i. (sym (live-warming row.status warm) i && is_needed q (name_needed row.content)) && is_limited row.content);
+    limited = λ q. waits (waits_limited q) (watch_in s.watches q).limited (x.limited q) (λ i. (sym (live-warming row.status warm) i && is_needed q (name_needed row.content)) && is_limited_in row.content);
     holders = λ a. waits (holds a) (numbers_at s.addresses a) (x.holders a) (λ i. sym (live-warming row.status warm) i && listens_at a row.content);
     due = λ n.
         dues n ∙ ap (λ b. not (nat_eq number n) && b) (x.due n)

@@ -19,7 +19,7 @@ use Rattle.ev_model.specs.World.{World}
 use Rattle.ev_model.specs.Live.{live_of, lives_of}
 use Rattle.ev_model.specs.Verdicts.{is_removed, lives_left, rule_of, good_verdict, body_verdict, verdict_by, verdict_of, lives_after, verdicts_from, verdicts_by, verdicts_of}
 use Rattle.ev_model.specs.Versions.{is_kept}
-use Rattle.ev_model.specs.Watching.{is_by_name, is_watched, is_dependency, dependency_of}
+use Rattle.ev_model.specs.Watching.{is_by_name, is_watched, has_dependency}
 use Rattle.ev_indexes.specs.declared.state.State.{State}
 use Rattle.ev_warming.specs.Arrivals.{IsOnValue, AreOnValues}
 use Rattle.ev_indexes.specs.Indexes.{depends_on}
@@ -84,7 +84,7 @@ all-on kind response versions lives rows named watched (item ∷ items) =
     )
 
 -- the names that live rows depend on are the same once rows of endpoints or routes are left out: there are none that depend on any
-none-needed : (kind : Kind) (name : List ℕ) (content : Content) → is_by_name (content_kind content) ≡ true → is_dependency kind name (dependency_of content) ≡ false
+none-needed : (kind : Kind) (name : List ℕ) (content : Content) → is_by_name (content_kind content) ≡ true → has_dependency kind name content ≡ false
 none-needed kind name (a_cluster cluster) h = absurd (true≢false (sym h))
 none-needed kind name (an_assignment rows) h = refl
 none-needed kind name (a_listener listener) h = absurd (true≢false (sym h))
@@ -97,9 +97,9 @@ watched-left kind response name (row ∷ rows) named all = over (is_live row.sta
   where
     by : (a b : Bool) → kind_same row.kind kind ≡ a → is_watched (lives_left kind response (map live_of (live_rows rows))) kind name ≡ is_watched (map live_of (live_rows rows)) kind name
         → is_watched (cond (not (a && b)) (live_of row ∷ lives_left kind response (map live_of (live_rows rows))) (lives_left kind response (map live_of (live_rows rows)))) kind name
-        ≡ (is_dependency kind name (dependency_of row.content) || is_watched (map live_of (live_rows rows)) kind name)
-    by false b e rest = ap (λ w. is_dependency kind name (dependency_of row.content) || w) rest
-    by true false e rest = ap (λ w. is_dependency kind name (dependency_of row.content) || w) rest
+        ≡ (has_dependency kind name row.content || is_watched (map live_of (live_rows rows)) kind name)
+    by false b e rest = ap (λ w. has_dependency kind name row.content || w) rest
+    by true false e rest = ap (λ w. has_dependency kind name row.content || w) rest
     by true true e rest =
         rest ∙ (λ i. sym (none-needed kind name row.content ((λ j. is_by_name ((all.0 ∙ (kind_decides row.kind kind).0 e) j)) ∙ named)) i || is_watched (map live_of (live_rows rows)) kind name)
 

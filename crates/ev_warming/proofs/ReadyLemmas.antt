@@ -7,13 +7,13 @@ use Rattle.ev_types.specs.declared.clusters.Discovery.TheVariants.{Static, Eds a
 use Rattle.ev_types.specs.Statuses.{is_warming}
 use Rattle.ev_types.specs.declared.rows.RowStatus.{RowStatus}
 use Rattle.ev_types.specs.declared.rows.GenRow.{GenRow}
-use Rattle.ev_model.specs.Watching.{Dependency, discovery_dependency, is_limited}
+use Rattle.ev_model.specs.Watching.{Dependency, discovery_dependencies}
 use Rattle.ev_model.specs.Warming.{is_checked, rows_in}
 use Rattle.ev_endpoints.specs.Results.{ResultsKept}
 use Rattle.ev_generations.specs.Tables.{row_in, status_with, with_status}
 use Rattle.ev_generations.proofs.TableLemmas.{row_in-with_statuses, number-row_in}
 use Rattle.ev_indexes.specs.Watched.{WatchesKept, watch_in}
-use Rattle.ev_indexes.specs.Ready.{name_needed, has_answer_in, discovered_in, assignment_in, are_results_in, is_ready_in, is_due_in, is_due_found, is_due_at}
+use Rattle.ev_indexes.specs.Ready.{first_dependency, name_needed, is_limited_in, has_answer_in, discovered_in, assignment_in, are_results_in, is_ready_in, is_due_in, is_due_found, is_due_at}
 
 -- what came for the name is the same
 pub record Agrees (old new : WatchesKept) (name : List ℕ) : Type 0 where
@@ -27,7 +27,7 @@ has_answer_in-agrees old new limited (Some name) agrees =
     let a = agrees name refl in
     λ i. a.told i || (a.timed i && limited)
 
-discovered_in-agrees : (old new : WatchesKept) (d : Discovery) → ((name : List ℕ) → option_map (λ (d : Dependency). d.name) (discovery_dependency d) ≡ Some name → Agrees old new name)
+discovered_in-agrees : (old new : WatchesKept) (d : Discovery) → ((name : List ℕ) → option_map (λ (d : Dependency). d.name) (first_dependency (discovery_dependencies d)) ≡ Some name → Agrees old new name)
     → discovered_in new d ≡ discovered_in old d
 discovered_in-agrees old new (Static rows) agrees = refl
 discovered_in-agrees old new (by_eds service limited) agrees = ap rows_in (agrees service refl).value
@@ -42,7 +42,7 @@ assignment_in-agrees old new (routes table) agrees = refl
 pub is_ready_in-agrees : (old new : WatchesKept) (results : ResultsKept) (row : GenRow) → ((name : List ℕ) → name_needed row.content ≡ Some name → Agrees old new name)
     → is_ready_in new results row ≡ is_ready_in old results row
 is_ready_in-agrees old new results row agrees =
-    let answered = has_answer_in-agrees old new (is_limited row.content) (name_needed row.content) agrees in
+    let answered = has_answer_in-agrees old new (is_limited_in row.content) (name_needed row.content) agrees in
     let hosts = assignment_in-agrees old new row.content agrees in
     λ i. answered i && (not (is_checked row.content) || are_results_in results row.number (hosts i))
 

@@ -12,10 +12,9 @@ use Rattle.ev_types.specs.declared.rows.RowStatus.{RowStatus}
 use Rattle.ev_types.specs.declared.rows.RowStatus.TheVariants.{Warming, Active, Draining, Dropped}
 use Rattle.ev_types.specs.declared.rows.GenRow.{GenRow}
 use Rattle.ev_model.specs.World.{World}
-use Rattle.ev_model.specs.Watching.{is_limited}
 use Rattle.ev_generations.specs.Tables.{GenerationsParts, IsTable, is_number, row_in, numbers_of, without_row}
 use Rattle.ev_warming.specs.declared.manager.Manager.{Manager}
-use Rattle.ev_indexes.specs.Ready.{name_needed, is_ready_in, is_due_found, is_due_at, IsNeedName}
+use Rattle.ev_indexes.specs.Ready.{name_needed, is_limited_in, is_ready_in, is_due_found, is_due_at, IsNeedName}
 use Rattle.ev_indexes.specs.Addresses.{listens_at}
 use Rattle.ev_indexes.specs.Indexes.{depends_on, waits_limited, serves, warms, is_needed, numbers_where, holds}
 use Rattle.ev_indexes.specs.Worlds.{rows_of_kind, StandsFor}
@@ -176,7 +175,7 @@ module _ (m : Manager) (number : ℕ) (kept : IsKept m) (forgotten : m.stale ≡
       active = λ q. kept.indexed.active q ∙ sym (fails (serves q) (λ i. (cold gone.0.status gone.2).1 i && bytes_eq gone.0.name q));
       warming = λ q. kept.indexed.warming q ∙ sym (fails (warms q) (λ i. (cold gone.0.status gone.2).0 i && bytes_eq gone.0.name q));
       watchers = λ q. kept.indexed.watchers q ∙ sym (fails (depends_on q) (dependent q));
-      limited = λ q. kept.indexed.limited q ∙ sym (fails (waits_limited q) (λ i. dependent q i && is_limited gone.0.content));
+      limited = λ q. kept.indexed.limited q ∙ sym (fails (waits_limited q) (λ i. dependent q i && is_limited_in gone.0.content));
       holders = λ a. kept.indexed.holders a ∙ sym (fails (holds a) (λ i. gone.2 i && listens_at a gone.0.content));
       due = λ n. kept.indexed.due n ∙ due n;
       drawn = λ n h above. kept.indexed.drawn n h (subst (λ k. k < n) made above);

@@ -10,10 +10,9 @@ use Rattle.ev_types.specs.declared.rows.Arrival.{Arrival}
 use Rattle.ev_types.specs.declared.rows.GenRow.{GenRow}
 use Rattle.ev_model.specs.World.{World}
 use Rattle.ev_model.specs.Rows.{arrived}
-use Rattle.ev_model.specs.Watching.{is_limited}
 use Rattle.ev_indexes.specs.Indexes.{is_needed, depends_on}
 use Rattle.ev_indexes.specs.Kept.{Sets}
-use Rattle.ev_indexes.specs.Ready.{name_needed}
+use Rattle.ev_indexes.specs.Ready.{name_needed, is_limited_in}
 use Rattle.ev_indexes.specs.Watched.{WatchesKept, unwatched, watch_in, watched_too, watched_less, with_arrival}
 
 -- a verdict on endpoints or routes makes no generation, and only a resource of a watched name is kept
@@ -46,7 +45,7 @@ Hears old new name arrival = Sets unwatched old new name (with_arrival arrival (
 -- the generation of this number depends on what its content needs, and nothing else of what is known changes
 abbrev pub WatchesNeed : WatchesKept → WatchesKept → ℕ → Content → Type 0
 WatchesNeed old new number content = (name : List ℕ) → watch_in new name
-    ≡ (if is_needed name (name_needed content) then watched_too number (is_limited content) (watch_in old name) else watch_in old name)
+    ≡ (if is_needed name (name_needed content) then watched_too number (is_limited_in content) (watch_in old name) else watch_in old name)
 
 -- the generation of this number no longer depends on what its content needs, and nothing else of what is known changes
 abbrev pub UnwatchesNeed : WatchesKept → WatchesKept → ℕ → Content → Type 0
