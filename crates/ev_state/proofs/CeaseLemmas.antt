@@ -1,5 +1,5 @@
 -- Which generations ceased to be live: those that retired, of either kind.
-use Rattle.std.proofs.Common.{◌≡◌, ◌∙◌, ℕ, Bool, true, false, cond, not, ◌&&◌, ◌||◌, List, Option, None, Some, refl, sym, ap}
+use Rattle.std.proofs.Common.{◌≡◌, ◌∙◌, ℕ, Bool, false, cond, not, ◌&&◌, ◌||◌, List, Option, None, Some, refl, sym, ap}
 use Rattle.std.proofs.Math.Bool.{or-false}
 use Rattle.std.proofs.lemmas.Bool.{false≢true}
 use Rattle.ev_types.specs.Kinds.{kind_same}

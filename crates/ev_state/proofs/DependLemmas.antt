@@ -1,9 +1,9 @@
 -- Of which generations a picture may show something else behind a response, and behind the end of a resource: those that retired, and
 -- those that depend on a name that something came for.
-use Rattle.std.proofs.Common.{◌≡◌, ◌∙◌, ℕ, Bool, true, false, cond, ◌&&◌, ◌||◌, nat_eq, List, [], ◌++◌, ◌∷◌, Option, None, Some, option_map, refl, sym, ap, subst}
+use Rattle.std.proofs.Common.{◌≡◌, ◌∙◌, ℕ, Bool, true, false, cond, ◌&&◌, ◌||◌, nat_eq, List, [], ◌++◌, ◌∷◌, None, Some, refl, sym, ap, subst}
 use Rattle.std.specs.List.{AllByRecursion, IsDistinct, flat_map}
 use Rattle.std.specs.Str.{bytes_eq}
-use Rattle.std.proofs.lemmas.Bool.{false≢true, and_parts}
+use Rattle.std.proofs.lemmas.Bool.{false≢true}
 use Rattle.std.proofs.lemmas.List.Folds.{list_any-append}
 use Rattle.ev_types.specs.Items.{ItemParts, ResponseParts}
 use Rattle.ev_types.specs.Kinds.{kind_same}
@@ -16,14 +16,15 @@ use Rattle.ev_model.specs.World.{World}
 use Rattle.ev_model.specs.Rows.{with_removals, add_items, with_first}
 use Rattle.ev_model.specs.Signals.{with_end, forget_version}
 use Rattle.ev_model.specs.Warming.{value_by, assignment_by}
-use Rattle.ev_model.specs.Watching.{Dependency, dependency_of, is_dependency}
+use Rattle.ev_model.specs.Watching.{has_dependency}
 use Rattle.ev_generations.specs.Tables.{row_in, numbers_of}
 use Rattle.ev_indexes.specs.declared.state.State.{State}
 use Rattle.ev_indexes.specs.Due.{is_among}
 use Rattle.ev_warming.specs.Changes.{has_retired}
-use Rattle.ev_indexes.specs.Indexes.{is_needed, depends_on, numbers_where}
+use Rattle.ev_indexes.specs.Indexes.{depends_on, numbers_where}
 use Rattle.ev_indexes.specs.Worlds.{needs_of, rows_of_kind}
 use Rattle.ev_indexes.proofs.WhereLemmas.{among-where}
+use Rattle.ev_indexes.proofs.DependencyLemmas.{has_dependency-needs}
 use Rattle.ev_state.specs.Changed.{dependents_in, dependents_of}
 use Rattle.ev_state.proofs.FindLemmas.{only, found-only}
 use Rattle.ev_state.proofs.StillLemmas.{serving, still-kind}
@@ -52,17 +53,13 @@ served-at kind n row rows mine apart are at =
     (λ i. row_in n (are i)) ∙ found-only kind n rows apart
     ∙ ap (only kind) served.at ∙ (λ i. cond (served.same i) (Some row) None)
 
-needed : (kind : Kind) (q : List ℕ) (depended : Option Dependency) → is_dependency kind q depended ≡ true → is_needed q (option_map (λ (d : Dependency). d.name) depended) ≡ true
-needed kind q None h = absurd (false≢true h)
-needed kind q (Some d) h = (and_parts (kind_same d.kind kind) (bytes_eq d.name q) h).1
-
 -- and its number is among those of what depends on a name
 depended : (kind : Kind) (n : ℕ) (row : GenRow) (rows mine : List GenRow) (q : List ℕ) → IsDistinct nat_eq (numbers_of rows) → mine ≡ rows_of_kind kind rows
-    → serving kind (row_in n rows) ≡ Some row → is_dependency (needs_of kind) q (dependency_of row.content) ≡ true → is_among (numbers_where (depends_on q) mine) n ≡ true
+    → serving kind (row_in n rows) ≡ Some row → has_dependency (needs_of kind) q row.content ≡ true → is_among (numbers_where (depends_on q) mine) n ≡ true
 depended kind n row rows mine q apart are at needs =
     let served = served-is kind (row_in n rows) row at in
     among-where (depends_on q) n row mine (served-at kind n row rows mine apart are at)
-    (λ i. active-live row.status served.active i && needed (needs_of kind) q (dependency_of row.content) needs i)
+    (λ i. active-live row.status served.active i && has_dependency-needs (needs_of kind) q row.content needs i)
 
 -- so it depends on no name whose dependents don't have its number
 apart_from : (name q : List ℕ) (n : ℕ) (rows : List GenRow) → is_among (numbers_where (depends_on q) rows) n ≡ true → is_among (numbers_where (depends_on name) rows) n ≡ false → bytes_eq name q ≡ false

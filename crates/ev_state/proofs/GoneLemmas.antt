@@ -13,7 +13,6 @@ use Rattle.ev_model.specs.Live.{live_of}
 use Rattle.ev_generations.specs.Tables.{is_number, row_in, numbers_of, without_row}
 use Rattle.ev_generations.proofs.TableLemmas.{without_row-absent}
 use Rattle.ev_warming.specs.Changes.{is_over}
-use Rattle.ev_indexes.specs.Worlds.{rows_of_kind}
 use Rattle.ev_indexes.proofs.RowLemmas.{found-of_kind}
 use Rattle.ev_managers.specs.declared.managers.Managers.{Managers}
 use Rattle.ev_managers.specs.Managers.{AreForgotten, AreKept, StandFor, manager_of, rows_of}

@@ -19,7 +19,7 @@ use Rattle.ev_types.specs.declared.rows.RowStatus.TheVariants.{Warming, Active, 
 use Rattle.ev_types.specs.declared.rows.GenRow.{GenRow}
 use Rattle.ev_model.specs.World.{World, Arrived, HealthResult}
 use Rattle.ev_model.specs.Live.{live_of, lives_of}
-use Rattle.ev_model.specs.Watching.{dependency_of, is_dependency, is_watched}
+use Rattle.ev_model.specs.Watching.{has_dependency, is_watched}
 use Rattle.ev_model.specs.Warming.{content_in, assignment_by, is_result_of, is_healthy, is_ready_by}
 use Rattle.ev_model.specs.Signals.{is_draining}
 use Rattle.ev_model.specs.Tidy.{status_by, has_successor, promoted_status, promoted, arrivals_watched, without_unwatched, is_result_due, without_old_results}
@@ -102,7 +102,7 @@ watched_values : (kind : Kind) (world : World) (n : ℕ) (row : GenRow) → serv
 watched_values kind world n row at q needs =
     let served = served-is kind (row_in n world.rows) row at in
     let watched : is_watched (lives_of world) (needs_of kind) q ≡ true =
-    any_live (λ (live : Live). is_dependency (needs_of kind) q (dependency_of live.content)) n row world.rows served.at (active-live row.status served.active) needs in
+    any_live (λ (live : Live). has_dependency (needs_of kind) q live.content) n row world.rows served.at (active-live row.status served.active) needs in
     ap (λ (came : List Arrived). last_or None (filter_map content_in (map (λ (a : Arrived). a.arrival) came)))
     (filter_through (λ (a : Arrived). is_watched (lives_of world) a.kind a.name) (λ (a : Arrived). kind_same a.kind (needs_of kind) && bytes_eq a.name q)
     (λ a is.

@@ -2,26 +2,24 @@
 use Rattle.std.proofs.Common.{◌≡◌, ℕ, Bool, true, false, ◌&&◌, ◌||◌, cond, List, [], ◌∷◌, map, filter, None, refl, sym, ap, ◌∙◌}
 use Rattle.std.specs.List.{AllByRecursion as ByRecursion}
 use Rattle.std.specs.Str.{bytes_eq}
-use Rattle.std.proofs.lemmas.Bool.{false≢true, cond_both, both_ways}
+use Rattle.std.proofs.lemmas.Bool.{cond_both, both_ways}
+use Rattle.ev_types.specs.Items.{content_kind}
 use Rattle.ev_types.specs.Kinds.{kind_same, kind_decides}
 use Rattle.ev_types.specs.Statuses.{is_live}
 use Rattle.ev_types.specs.declared.contents.Kind.{Kind}
 use Rattle.ev_types.specs.declared.contents.Kind.TheVariants.{Cds, Eds, Lds, Rds}
 use Rattle.ev_types.specs.declared.contents.Content.{Content}
-use Rattle.ev_types.specs.declared.contents.Content.TheVariants.{Cluster as a_cluster, Assignment as an_assignment, Listener as a_listener, Routes as routes}
-use Rattle.ev_types.specs.declared.clusters.Discovery.{Discovery}
-use Rattle.ev_types.specs.declared.clusters.Discovery.TheVariants.{Static, Eds as by_eds}
-use Rattle.ev_types.specs.declared.listeners.Serve.{Serve}
-use Rattle.ev_types.specs.declared.listeners.Serve.TheVariants.{Rds as by_rds, Inline, Tcp}
 use Rattle.ev_types.specs.declared.rows.GenRow.{GenRow}
 use Rattle.ev_types.specs.declared.rows.Live.{Live}
 use Rattle.ev_model.specs.World.{World}
 use Rattle.ev_model.specs.Live.{live_of, lives_of, is_named, latest, newest_of}
-use Rattle.ev_model.specs.Watching.{is_by_name, is_watched, is_dependency, dependency_of, discovery_dependency, serve_dependency}
+use Rattle.ev_model.specs.Watching.{is_by_name, is_watched, has_dependency}
 use Rattle.ev_indexes.specs.declared.state.State.{State}
-use Rattle.ev_indexes.specs.Indexes.{IsIndexed}
+use Rattle.ev_indexes.specs.Indexes.{IsIndexed, is_needed}
+use Rattle.ev_indexes.specs.Ready.{name_needed}
 use Rattle.ev_indexes.specs.Reads.{live_rows}
 use Rattle.ev_indexes.specs.Worlds.{StandsFor as HasRows, needs_of}
+use Rattle.ev_indexes.proofs.DependencyLemmas.{has_dependency-one}
 use Rattle.ev_indexes.proofs.HolderLemmas.{holders-world}
 use Rattle.ev_indexes.proofs.NewestLemmas.{newest-world}
 use Rattle.ev_indexes.proofs.ReadLemmas.{watched-world}
@@ -67,26 +65,19 @@ newest_none kind world whole by_name name =
     named (live ∷ lives) all = (ap (λ b. b && bytes_eq live.name name) all.0, named lives all.1)
 
 -- nothing depends on a cluster or a listener
-no_dependency : (kind : Kind) (name : List ℕ) (content : Content) → is_by_name kind ≡ false → is_dependency kind name (dependency_of content) ≡ false
-no_dependency kind name (a_cluster cluster) whole = by kind whole cluster.discovery
+no_dependency : (kind : Kind) (name : List ℕ) (content : Content) → is_by_name kind ≡ false → has_dependency kind name content ≡ false
+no_dependency kind name content whole =
+    has_dependency-one kind name content ∙ ap (λ b. b && is_needed name (name_needed content)) (by (kind_same (needs_of (content_kind content)) kind) refl)
   where
-    by : (kind : Kind) → is_by_name kind ≡ false → (discovery : Discovery) → is_dependency kind name (discovery_dependency discovery) ≡ false
-    by kind whole (Static rows) = refl
-    by Cds whole (by_eds service limited) = refl
-    by Lds whole (by_eds service limited) = refl
-    by Eds whole (by_eds service limited) = absurd (false≢true (sym whole))
-    by Rds whole (by_eds service limited) = refl
-no_dependency kind name (an_assignment rows) whole = refl
-no_dependency kind name (a_listener listener) whole = by kind whole listener.serve
-  where
-    by : (kind : Kind) → is_by_name kind ≡ false → (serve : Serve) → is_dependency kind name (serve_dependency serve) ≡ false
-    by Cds whole (by_rds name limited) = refl
-    by Lds whole (by_rds name limited) = refl
-    by Eds whole (by_rds name limited) = refl
-    by Rds whole (by_rds name limited) = absurd (false≢true (sym whole))
-    by kind whole (Inline table) = refl
-    by kind whole (Tcp target) = refl
-no_dependency kind name (routes table) whole = refl
+    named : (k : Kind) → is_by_name (needs_of k) ≡ true
+    named Cds = refl
+    named Eds = refl
+    named Lds = refl
+    named Rds = refl
+
+    by : (b : Bool) → kind_same (needs_of (content_kind content)) kind ≡ b → b ≡ false
+    by true same = absurd (both_ways (is_by_name kind) whole (sym (ap is_by_name ((kind_decides (needs_of (content_kind content)) kind).0 same)) ∙ named (content_kind content)))
+    by false same = refl
 
 unwatched : (kind : Kind) (name : List ℕ) (lives : List Live) → is_by_name kind ≡ false → false ≡ is_watched lives kind name
 unwatched kind name [] whole = refl

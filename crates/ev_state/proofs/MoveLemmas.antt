@@ -16,7 +16,6 @@ use Rattle.ev_generations.specs.Tables.{IsTable, row_in}
 use Rattle.ev_indexes.specs.declared.state.State.{State as Part}
 use Rattle.ev_indexes.specs.Due.{is_among}
 use Rattle.ev_warming.specs.Changes.{is_over, has_retired, began_to_drain}
-use Rattle.ev_indexes.specs.Indexes.{IsIndexed}
 use Rattle.ev_indexes.specs.Moved.{names_lost, names_gained}
 use Rattle.ev_indexes.specs.Reads.{names_watched}
 use Rattle.ev_indexes.specs.Worlds.{IsSound, StandsFor as HasRows, needs_of, rows_of_kind}
@@ -27,7 +26,7 @@ use Rattle.ev_indexes.proofs.WorldLemmas.{rows_of_kind-with_statuses}
 use Rattle.ev_types.specs.Kinds.{kind_same}
 use Rattle.ev_managers.proofs.RetiredLemmas.{drained-retired, none-retired}
 use Rattle.ev_managers.specs.declared.managers.Managers.{Managers}
-use Rattle.ev_managers.specs.Managers.{AreKept, StandFor, manager_of, rows_of, others_of}
+use Rattle.ev_managers.specs.Managers.{AreKept, StandFor, manager_of, rows_of}
 use Rattle.ev_managers.specs.Moved.{AreRetired, Grows, of_either}
 use Rattle.ev_managers.specs.declared.moved.Moved.{Moved}
 use Rattle.ev_managers.proofs.FrameLemmas.{kept-of, needs-back, stand-of}

@@ -1,7 +1,9 @@
 -- What a picture shows of a number is the same where its generation, the values that it depends on and its results are.
 use Rattle.std.proofs.Common.{◌≡◌, ◌∙◌, ℕ, Bool, true, false, cond, not, ◌&&◌, ◌||◌, List, [], ◌∷◌, Option, None, Some, option_map, filter, refl, sym, ap}
 use Rattle.std.specs.Option.{option_and_then}
-use Rattle.std.specs.List.{AllByRecursion}
+use Rattle.std.specs.List.{list_any, AllByRecursion}
+use Rattle.std.specs.Str.{bytes_eq}
+use Rattle.std.proofs.Math.Bool.{or-false}
 use Rattle.ev_types.specs.Hosts.{HostRowParts}
 use Rattle.ev_types.specs.Kinds.{kind_same}
 use Rattle.ev_types.specs.Same.{bytes_decide}
@@ -21,7 +23,7 @@ use Rattle.ev_model.specs.World.{World, Arrived, HealthResult}
 use Rattle.ev_model.specs.Phase.{is_serving}
 use Rattle.ev_model.specs.Picture.{served_cluster, served_listener, routing_of, table_in}
 use Rattle.ev_model.specs.Warming.{value_by, rows_in, discovered, assignment_by, is_healthy, is_eligible_by, is_checked}
-use Rattle.ev_model.specs.Watching.{dependency_of, discovery_dependency, serve_dependency, is_dependency}
+use Rattle.ev_model.specs.Watching.{discovery_dependencies, serve_dependencies, is_dependency, has_dependency}
 use Rattle.ev_generations.specs.Tables.{row_in}
 use Rattle.ev_indexes.specs.Due.{is_among}
 use Rattle.ev_indexes.specs.Worlds.{needs_of}
@@ -53,13 +55,13 @@ listener-served arrivals (Some row) = by (kind_same row.kind Lds && is_active ro
 
 -- the values of what a content depends on are the same
 abbrev pub SameNeeds : Kind → List Arrived → List Arrived → Content → Type 0
-SameNeeds kind before after content = (q : List ℕ) → is_dependency kind q (dependency_of content) ≡ true → value_by after kind q ≡ value_by before kind q
+SameNeeds kind before after content = (q : List ℕ) → has_dependency kind q content ≡ true → value_by after kind q ≡ value_by before kind q
 
 discovered_same : (before after : List Arrived) (d : Discovery)
-    → ((q : List ℕ) → is_dependency Eds q (discovery_dependency d) ≡ true → value_by after Eds q ≡ value_by before Eds q)
+    → ((q : List ℕ) → list_any (is_dependency Eds q) (discovery_dependencies d) ≡ true → value_by after Eds q ≡ value_by before Eds q)
     → discovered after d ≡ discovered before d
 discovered_same before after (Static rows) same = refl
-discovered_same before after (by_eds service limited) same = ap rows_in (same service ((bytes_decide service service).1 refl))
+discovered_same before after (by_eds service limited) same = ap rows_in (same service (or-false (bytes_eq service service) ∙ (bytes_decide service service).1 refl))
 
 assignment_same : (before after : List Arrived) (content : Content) → SameNeeds Eds before after content → assignment_by after content ≡ assignment_by before content
 assignment_same before after (a_cluster cluster) same = discovered_same before after cluster.discovery same
@@ -68,9 +70,9 @@ assignment_same before after (a_listener listener) same = refl
 assignment_same before after (routes table) same = refl
 
 routing_same : (before after : List Arrived) (serve : Serve)
-    → ((q : List ℕ) → is_dependency Rds q (serve_dependency serve) ≡ true → value_by after Rds q ≡ value_by before Rds q)
+    → ((q : List ℕ) → list_any (is_dependency Rds q) (serve_dependencies serve) ≡ true → value_by after Rds q ≡ value_by before Rds q)
     → routing_of after serve ≡ routing_of before serve
-routing_same before after (by_rds name limited) same = ap (λ v. Table (table_in v)) (same name ((bytes_decide name name).1 refl))
+routing_same before after (by_rds name limited) same = ap (λ v. Table (table_in v)) (same name (or-false (bytes_eq name name) ∙ (bytes_decide name name).1 refl))
 routing_same before after (Inline table) same = refl
 routing_same before after (Tcp target) same = refl
 

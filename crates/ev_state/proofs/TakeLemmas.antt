@@ -3,16 +3,15 @@ use Rattle.std.proofs.Common.{◌≡◌, ◌||◌, ℕ, List, Some, sym, ap, ◌
 use Rattle.std.specs.List.{All}
 use Rattle.ev_types.specs.Items.{ResponseParts}
 use Rattle.ev_types.specs.declared.contents.Kind.{Kind}
-use Rattle.ev_types.specs.declared.contents.Kind.TheVariants.{Cds, Eds, Lds, Rds}
+use Rattle.ev_types.specs.declared.contents.Kind.TheVariants.{Cds, Lds}
 use Rattle.ev_types.specs.declared.events.Verdict.{Verdict}
 use Rattle.ev_types.specs.declared.rows.KeptVersion.{KeptVersion}
 use Rattle.ev_model.specs.World.{World}
 use Rattle.ev_model.specs.Live.{lives_of}
 use Rattle.ev_model.specs.Verdicts.{verdicts_of, verdicts_for, verdicts_by}
-use Rattle.ev_model.specs.Watching.{is_by_name}
 use Rattle.ev_model.specs.Rows.{with_removals, add_items, made_names, with_first}
 use Rattle.ev_warming.specs.Arrivals.{AreOnValues}
-use Rattle.ev_indexes.specs.Worlds.{needs_of, rows_of_kind}
+use Rattle.ev_indexes.specs.Worlds.{rows_of_kind}
 use Rattle.ev_warming.proofs.JudgedLemmas.{values-judged}
 use Rattle.ev_managers.specs.declared.managers.Managers.{Managers}
 use Rattle.ev_managers.specs.Managers.{AreKept, StandFor, MayBeGiven, manager_of}

@@ -1,6 +1,5 @@
 -- The names that are watched, as a sorted list and by a test.
-use Rattle.std.proofs.Common.{◌≡◌, ℕ, Bool, true, false, not, ◌||◌, ◌&&◌, cond, List, [], ◌∷◌, filter, Option, Some, None, refl, sym, ap, ◌∙◌}
-use Rattle.std.proofs.Math.Bool.{or-false}
+use Rattle.std.proofs.Common.{◌≡◌, ℕ, Bool, true, false, not, ◌||◌, ◌&&◌, cond, List, [], ◌∷◌, filter, map, refl, sym, ap, ◌∙◌}
 use Rattle.std.specs.List.{list_any, flat_map, dedup, dedup_from}
 use Rattle.std.specs.Str.{bytes_eq}
 use Rattle.std.proofs.lemmas.Bool.{cond_both}
@@ -12,7 +11,7 @@ use Rattle.ev_types.specs.declared.rows.Live.{Live}
 use Rattle.ev_model.specs.Sorted.{put_by, sorted_by}
 use Rattle.ev_model.specs.Versions.{is_before}
 use Rattle.ev_model.specs.Verdicts.{is_among}
-use Rattle.ev_model.specs.Watching.{Dependency, dependency_of, is_dependency, is_watched, name_awaited, sorted_names, watched_by}
+use Rattle.ev_model.specs.Watching.{Dependency, dependencies_of, is_dependency, is_watched, names_awaited, sorted_names, watched_by}
 use Rattle.ev_model.specs.Requests.{other_than}
 
 or_turn : (a b c : Bool) → (a || (b || c)) ≡ (b || (a || c))
@@ -49,20 +48,24 @@ module _ {X : Type 0} (p : X → Bool) (same : X → X → Bool) (alike : (x y :
 or_same : (a b c d : Bool) → a ≡ b → c ≡ d → (a || c) ≡ (b || d)
 or_same a b c d p q = λ i. p i || q i
 
-awaited_is : (kind : Kind) (name : List ℕ) (dependency : Option Dependency) → is_among name (name_awaited kind dependency) ≡ is_dependency kind name dependency
-awaited_is kind name None = refl
-awaited_is kind name (Some dependency) = by (kind_same dependency.kind kind)
+awaited_is : (kind : Kind) (name : List ℕ) (ds : List Dependency) → is_among name (names_awaited kind ds) ≡ list_any (is_dependency kind name) ds
+awaited_is kind name [] = refl
+awaited_is kind name (d ∷ ds) = by (kind_same d.kind kind) (awaited_is kind name ds)
   where
-    by : (b : Bool) → is_among name (cond b (dependency.name ∷ []) []) ≡ (b && bytes_eq dependency.name name)
-    by true = or-false (bytes_eq dependency.name name)
-    by false = refl
+    others : List Dependency
+    others = filter (λ (d : Dependency). kind_same d.kind kind) ds
+
+    by : (b : Bool) → is_among name (names_awaited kind ds) ≡ list_any (is_dependency kind name) ds
+        → is_among name (map (λ (d : Dependency). d.name) (cond b (d ∷ others) others)) ≡ ((b && bytes_eq d.name name) || list_any (is_dependency kind name) ds)
+    by true rest = ap (λ w. bytes_eq d.name name || w) rest
+    by false rest = rest
 
 any_awaited : (kind : Kind) (name : List ℕ) (lives : List Live)
-    → is_among name (flat_map (λ (live : Live). name_awaited kind (dependency_of live.content)) lives) ≡ is_watched lives kind name
+    → is_among name (flat_map (λ (live : Live). names_awaited kind (dependencies_of live.content)) lives) ≡ is_watched lives kind name
 any_awaited kind name [] = refl
 any_awaited kind name (live ∷ lives) =
-    list_any-append (λ n. bytes_eq n name) (name_awaited kind (dependency_of live.content)) (flat_map (λ (live : Live). name_awaited kind (dependency_of live.content)) lives)
-    ∙ or_same _ _ _ _ (awaited_is kind name (dependency_of live.content)) (any_awaited kind name lives)
+    list_any-append (λ n. bytes_eq n name) (names_awaited kind (dependencies_of live.content)) (flat_map (λ (live : Live). names_awaited kind (dependencies_of live.content)) lives)
+    ∙ or_same _ _ _ _ (awaited_is kind name (dependencies_of live.content)) (any_awaited kind name lives)
 
 -- a name stands among sorted ones where it stands among them
 pub among_sorted : (names : List (List ℕ)) (name : List ℕ) → is_among name (sorted_names names) ≡ is_among name names
@@ -73,7 +76,7 @@ among_sorted names name =
 -- a name stands among those that are watched where it is watched
 pub among_watched : (lives : List Live) (kind : Kind) (name : List ℕ) → is_among name (watched_by lives kind) ≡ is_watched lives kind name
 among_watched lives kind name =
-    among_sorted (flat_map (λ (live : Live). name_awaited kind (dependency_of live.content)) lives) name
+    among_sorted (flat_map (λ (live : Live). names_awaited kind (dependencies_of live.content)) lives) name
     ∙ any_awaited kind name lives
 
 -- a name that stands among those that fail a test

@@ -1,7 +1,6 @@
-use Rattle.std.proofs.Common.{◌≡◌, sym, ap, subst, ◌∙◌}
+use Rattle.std.proofs.Common.{sym, ap, subst, ◌∙◌}
 use Rattle.ev_indexes.specs.Indexes.{IsIndexed}
 use Rattle.ev_indexes.specs.Moved.{names_lost, names_gained}
-use Rattle.ev_indexes.specs.declared.state.State.{State as Part}
 use Rattle.ev_model.specs.Requests.{other_than}
 use Rattle.ev_warming.specs.declared.manager.Manager.{Manager}
 use Rattle.ev_managers.proofs.FrameLemmas.{kept-of}
