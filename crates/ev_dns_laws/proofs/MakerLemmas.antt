@@ -24,7 +24,8 @@ use Rattle.ev_types.specs.declared.events.Verdict.TheVariants.{New, Same, Kept, 
 use Rattle.ev_types.specs.declared.listeners.Serve.{Serve}
 use Rattle.ev_types.specs.declared.listeners.Serve.TheVariants.{Rds as by_rds, Inline, Tcp}
 use Rattle.ev_model.specs.Entries.{MadeRow, made_by, made_in, made_in_response}
-use Rattle.ev_model.specs.Watching.{dependency_of, discovery_dependency, is_dependency, serve_dependency}
+use Rattle.ev_model.specs.Watching.{Dependency, discovery_dependencies, has_dependency, is_dependency, serve_dependencies}
+use Rattle.ev_model_laws.proofs.AnyLemmas.{any_only}
 use Rattle.ev_model_laws.proofs.OperationLists.{IsIn}
 use Rattle.ev_stream_laws.specs.Watches.{waits_for}
 use Rattle.ev_wire.specs.Bodies.{body_of, body_with, breaks_v1, content_of, content_with, is_heartbeat, own_broken, resource_of}
@@ -42,17 +43,23 @@ pub record IsAsking (name : List ℕ) (content : Content) : Type 0 where
   pub asks : cluster.discovery ≡ by_name name limited
 
 discovery_asks : (name : List ℕ) (cluster : Cluster) (discovery : Discovery) → cluster.discovery ≡ discovery
-    → is_dependency Eds name (discovery_dependency discovery) ≡ true → IsAsking name (a_cluster cluster)
+    → list_any (is_dependency Eds name) (discovery_dependencies discovery) ≡ true → IsAsking name (a_cluster cluster)
 discovery_asks name cluster (Static rows) is h = absurd (false≢true h)
 discovery_asks name cluster (by_name service limited) is h =
-    record { cluster = cluster; is = refl; limited = limited; asks = is ∙ ap (λ n. by_name n limited) ((bytes_decide service name).0 h) }
+    let d : Dependency = record { kind = Eds; name = service; limited = limited } in
+    record {
+      cluster = cluster;
+      is = refl;
+      limited = limited;
+      asks = is ∙ ap (λ n. by_name n limited) ((bytes_decide service name).0 (any_only (is_dependency Eds name) d h));
+    }
 
-serve_asks : (name : List ℕ) (serve : Serve) → is_dependency Eds name (serve_dependency serve) ≡ true → ⊥
+serve_asks : (name : List ℕ) (serve : Serve) → list_any (is_dependency Eds name) (serve_dependencies serve) ≡ true → ⊥
 serve_asks name (by_rds other limited) h = false≢true h
 serve_asks name (Inline table) h = false≢true h
 serve_asks name (Tcp target) h = false≢true h
 
-pub content_asks : (name : List ℕ) (content : Content) → is_dependency Eds name (dependency_of content) ≡ true → IsAsking name content
+pub content_asks : (name : List ℕ) (content : Content) → has_dependency Eds name content ≡ true → IsAsking name content
 content_asks name (a_cluster cluster) h = discovery_asks name cluster cluster.discovery refl h
 content_asks name (an_assignment rows) h = absurd (false≢true h)
 content_asks name (a_listener listener) h = absurd (serve_asks name listener.serve h)

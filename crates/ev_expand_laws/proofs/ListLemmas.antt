@@ -1,7 +1,8 @@
 -- Where the elements of joined lists stand, and which of two elements of a rising list stands first.
 use Rattle.std.proofs.Common.{◌≡◌, ◌∙◌, ◌⊎◌, inl, inr, ℕ, zero, suc, ◌+◌, ◌<◌, ◌≤◌, Bool, true, false, cond, ◌||◌, List, [], ◌∷◌, ◌++◌, length, take, map, filter, filter_map, flat_map, Option, Some, None, refl, sym, ap, subst, arith, length-append}
 use Rattle.std.specs.Prelude.{slice_get, Contains}
-use Rattle.std.specs.List.{cons_option, list_any}
+use Rattle.std.specs.Cmp.{first_so, second_so}
+use Rattle.std.specs.List.{cons_option, list_any, list_all}
 use Rattle.std.proofs.lemmas.Option.{slice_get_within, get_or_from_slice_get}
 use Rattle.ev_model_laws.proofs.OperationLists.{IsIn}
 
@@ -173,6 +174,12 @@ in_any p (x ∷ xs) h = by p x xs (p x) refl h (λ any. in_any p xs any)
         → (list_any p xs ≡ true → (z : X) × IsIn z xs × (p z ≡ true)) → (z : X) × IsIn z (x ∷ xs) × (p z ≡ true)
     by p x xs true is any more = (x, inl refl, is)
     by p x xs false is any more = let rest = more any in (rest.0, inr rest.1, rest.2)
+
+-- where all pass, each does
+pub all_in : {X : Type 0} (p : X → Bool) (xs : List X) (x : X) → list_all p xs ≡ true → IsIn x xs → p x ≡ true
+all_in p [] x all is = absurd is
+all_in p (y ∷ xs) x all (inl e) = sym (ap p e) ∙ first_so (p y) (list_all p xs) all
+all_in p (y ∷ xs) x all (inr is) = all_in p xs x (second_so (p y) (list_all p xs) all) is
 
 pub in_contains : {X : Type 0} (xs : List X) (x : X) → IsIn x xs → Contains xs x
 in_contains xs x is = let place = get_in xs x is in (place.0, slice_get_within xs place.0 x place.1, get_or_from_slice_get xs place.0 x x place.1)

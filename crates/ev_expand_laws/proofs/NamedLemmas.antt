@@ -1,8 +1,8 @@
 -- What a generation that asks for endpoints by a name waited for is an event that names them.
-use Rattle.std.proofs.Common.{◌≡◌, ◌∙◌, ℕ, ◌+◌, ◌<◌, Bool, true, false, ◌&&◌, ◌||◌, List, [], ◌∷◌, take, Option, Some, None, sym, ap, subst, arith}
+use Rattle.std.proofs.Common.{◌≡◌, ◌∙◌, ℕ, ◌+◌, ◌<◌, Bool, true, false, ◌&&◌, ◌||◌, List, [], ◌∷◌, take, Option, Some, None, sym, ap, ap₂, subst, arith}
 use Rattle.std.specs.Prelude.{slice_get, unwrap_or, option_map}
 use Rattle.std.specs.Cmp.{first_so, second_so}
-use Rattle.std.specs.List.{list_any}
+use Rattle.std.specs.List.{list_any, list_all}
 use Rattle.std.specs.Str.{bytes_eq}
 use Rattle.std.proofs.lemmas.Bool.{false≢true, or_left, or_right}
 use Rattle.ev_types.specs.Items.{ItemParts, ResponseParts}
@@ -18,12 +18,12 @@ use Rattle.ev_types.specs.declared.events.Event.{Event}
 use Rattle.ev_types.specs.declared.events.Event.TheVariants.{Response, FetchTimeout}
 use Rattle.ev_types.specs.declared.events.Verdict.{Verdict}
 use Rattle.ev_types.specs.declared.events.Verdict.TheVariants.{New, Same, Kept, Unasked, Renewed, Refused}
-use Rattle.ev_model.specs.Entries.{MadeRow, answers_wait, has_arrived_for, has_word_on, is_response_of, is_word_on, made_of, tells_of_name, times_out}
-use Rattle.ev_model.specs.Laws.{Told, HasBeenAnswered, WasWarm}
+use Rattle.ev_model.specs.Entries.{MadeRow, answers_wait, has_ended_wait, has_word_on, is_response_of, is_word_on, made_of, tells_of_name, times_out}
+use Rattle.ev_model.specs.Laws.{Told, WasWarm}
 use Rattle.ev_model.specs.Verdicts.{is_among, is_removed}
-use Rattle.ev_model.specs.Watching.{Dependency, dependency_of, is_limited}
+use Rattle.ev_model.specs.Watching.{Dependency, dependencies_of, has_dependency, is_dependency}
 use Rattle.ev_model_laws.proofs.AnyLemmas.{or_so}
-use Rattle.ev_expand_laws.proofs.ListLemmas.{get_in, in_any, some_same, taken_get}
+use Rattle.ev_expand_laws.proofs.ListLemmas.{all_in, get_in, in_any, some_same, taken_get}
 
 -- a resource of the response has the name, or it is one of the removed names
 abbrev pub is_named : List ℕ → ResponseParts → Bool
@@ -85,13 +85,23 @@ times_named : (name : List ℕ) (event : Event) (answer : Answer) → times_out 
 times_named name (FetchTimeout timeout) answer h = moved_named name timeout answer h
 times_named name event answer h = absurd (false≢true h)
 
--- what answers the wait for endpoints names them
-pub wait_named : (name : List ℕ) (limited : Bool) (entry : Entry) → answers_wait limited (record { kind = Eds; name = name }) entry ≡ true
+-- what ends the wait for endpoints names them
+pub wait_named : (name : List ℕ) (limited : Bool) (entry : Entry) → answers_wait (record { kind = Eds; name = name; limited = limited }) entry ≡ true
     → NamesEndpoints name entry.event
 wait_named name limited entry h =
     or_so (tells_of_name Eds name entry.event entry.answer) (limited && times_out Eds name entry.event entry.answer)
     (λ tells. tells_named name entry.event entry.answer tells)
     (λ timed. times_named name entry.event entry.answer (second_so limited _ timed)) h
+
+-- so does what ends the wait for a dependency on them
+dependency_named : (name : List ℕ) (d : Dependency) (entry : Entry) → is_dependency Eds name d ≡ true → answers_wait d entry ≡ true
+    → NamesEndpoints name entry.event
+dependency_named name d entry is h =
+    wait_named name d.limited entry
+    (sym (ap₂ (λ (kind : Kind) (n : List ℕ). answers_wait (record { kind = kind; name = n; limited = d.limited }) entry)
+    ((kind_decides d.kind Eds).0 (first_so (kind_same d.kind Eds) (bytes_eq d.name name) is))
+    ((bytes_decide d.name name).0 (second_so (kind_same d.kind Eds) (bytes_eq d.name name) is)))
+    ∙ h)
 
 -- an entry before place k names the endpoints
 pub record NamedBefore (journal : List Entry) (k : ℕ) (name : List ℕ) : Type 0 where
@@ -101,28 +111,23 @@ pub record NamedBefore (journal : List Entry) (k : ℕ) (name : List ℕ) : Type
   pub there : slice_get journal place ≡ Some entry
   pub names : NamesEndpoints name entry.event
 
-arrived_named : (name : List ℕ) (row : MadeRow) (entry : Entry) → dependency_of row.content ≡ Some (record { kind = Eds; name = name })
-    → has_arrived_for row entry ≡ true → NamesEndpoints name entry.event
-arrived_named name row entry depends h =
-    wait_named name (is_limited row.content) entry
-    (sym (ap (λ (o : Option Dependency). unwrap_or (option_map (λ (d : Dependency). answers_wait (is_limited row.content) d entry) o) false) depends) ∙ h)
-
 -- a generation that waits for endpoints by a name, and was warm before place k, had them named before it
 pub warmed_named : (told : Told) (k number version : ℕ) (row : MadeRow) (name : List ℕ) → WasWarm told number version k
-    → made_of told.journal number ≡ Some row → dependency_of row.content ≡ Some (record { kind = Eds; name = name }) → NamedBefore told.journal k name
+    → made_of told.journal number ≡ Some row → has_dependency Eds name row.content ≡ true → NamedBefore told.journal k name
 warmed_named told k number version row name warm made depends =
     let answered = warm.warmed.answered in
     let same : answered.row ≡ row = some_same (sym answered.made ∙ made) in
-    let waits : HasBeenAnswered (Some (record { kind = Eds; name = name })) row (take (warm.warmed.place + 1) told.journal) =
-    subst (λ d. HasBeenAnswered d row (take (warm.warmed.place + 1) told.journal)) depends
-    (subst (λ (r : MadeRow). HasBeenAnswered (dependency_of r.content) r (take (warm.warmed.place + 1) told.journal)) same answered.answered) in
-    let one = in_any (has_arrived_for row) (take (warm.warmed.place + 1) told.journal) waits in
-    let found = get_in (take (warm.warmed.place + 1) told.journal) one.0 one.1 in
+    let entries : List Entry = take (warm.warmed.place + 1) told.journal in
+    let ended : list_all (has_ended_wait entries) (dependencies_of row.content) ≡ true =
+    subst (λ (r : MadeRow). list_all (has_ended_wait entries) (dependencies_of r.content) ≡ true) same answered.answered in
+    let d = in_any (is_dependency Eds name) (dependencies_of row.content) depends in
+    let one = in_any (answers_wait d.0) entries (all_in (has_ended_wait entries) (dependencies_of row.content) d.0 ended d.1) in
+    let found = get_in entries one.0 one.1 in
     let there = taken_get told.journal (warm.warmed.place + 1) found.0 one.0 found.1 in
     record {
       place = found.0;
       earlier = omega (arith, there.0, warm.warmed.earlier, warm.earlier);
       entry = one.0;
       there = there.1;
-      names = arrived_named name row one.0 depends one.2;
+      names = dependency_named name d.0 one.0 d.2 one.2;
     }

@@ -1,8 +1,7 @@
 -- What requests ask for and give up of a kind.
-use Rattle.std.proofs.Common.{◌≡◌, ◌∙◌, ℕ, Bool, true, false, cond, ◌&&◌, ◌||◌, List, [], ◌∷◌, ◌++◌, Option, None, Some, refl, ap}
-use Rattle.std.specs.List.{flat_map}
+use Rattle.std.proofs.Common.{◌≡◌, ◌∙◌, ℕ, Bool, true, false, cond, ◌||◌, List, [], ◌∷◌, ◌++◌, refl, ap}
+use Rattle.std.specs.List.{flat_map, list_any}
 use Rattle.std.specs.Str.{bytes_eq}
-use Rattle.std.proofs.Math.Bool.{or-false}
 use Rattle.std.proofs.lemmas.Bool.{false≢true}
 use Rattle.std.proofs.lemmas.List.{append-nil}
 use Rattle.std.proofs.lemmas.List.Folds.{list_any-append}
@@ -16,9 +15,10 @@ use Rattle.ev_types.specs.declared.rows.Live.{Live}
 use Rattle.ev_model.specs.Live.{lives_of}
 use Rattle.ev_model.specs.Requests.{Watched, names_request, whole_request, listeners_asked, clusters_request, connect_requests_by, other_than, watch_change, changes_asked}
 use Rattle.ev_model.specs.Verdicts.{is_among}
-use Rattle.ev_model.specs.Watching.{Dependency, dependency_of, is_dependency, is_by_name, is_watched, name_awaited, watched_of}
+use Rattle.ev_model.specs.Watching.{Dependency, dependencies_of, is_dependency, is_by_name, is_watched, names_awaited, watched_of}
 use Rattle.ev_model.specs.Versions.{versions_of}
 use Rattle.ev_model.specs.World.{World}
+use Rattle.ev_model_laws.proofs.TidyLists.{any_of_map}
 use Rattle.ev_names.proofs.NameLemmas.{among_sorted}
 
 -- what a request asks for, or gives up, of a kind
@@ -112,22 +112,17 @@ connect_parts kind by_name node watched asked versions =
 or_same : (a b c d : Bool) → a ≡ b → c ≡ d → (a || c) ≡ (b || d)
 or_same a b c d p q = λ i. p i || q i
 
-awaited_is : (kind : Kind) (name : List ℕ) (dependency : Option Dependency) → is_among name (name_awaited kind dependency) ≡ is_dependency kind name dependency
-awaited_is kind name None = refl
-awaited_is kind name (Some dependency) = by (kind_same dependency.kind kind)
-  where
-    by : (b : Bool) → is_among name (cond b (dependency.name ∷ []) []) ≡ (b && bytes_eq dependency.name name)
-    by true = or-false (bytes_eq dependency.name name)
-    by false = refl
+awaited_is : (kind : Kind) (name : List ℕ) (ds : List Dependency) → is_among name (names_awaited kind ds) ≡ list_any (is_dependency kind name) ds
+awaited_is kind name ds = any_of_map (λ n. bytes_eq n name) (λ (d : Dependency). d.name) (λ (d : Dependency). kind_same d.kind kind) ds
 
 any_awaited : (kind : Kind) (name : List ℕ) (lives : List Live)
-    → is_among name (flat_map (λ (live : Live). name_awaited kind (dependency_of live.content)) lives) ≡ is_watched lives kind name
+    → is_among name (flat_map (λ (live : Live). names_awaited kind (dependencies_of live.content)) lives) ≡ is_watched lives kind name
 any_awaited kind name [] = refl
 any_awaited kind name (live ∷ lives) =
-    list_any-append (λ n. bytes_eq n name) (name_awaited kind (dependency_of live.content)) (flat_map (λ (live : Live). name_awaited kind (dependency_of live.content)) lives)
-    ∙ or_same _ _ _ _ (awaited_is kind name (dependency_of live.content)) (any_awaited kind name lives)
+    list_any-append (λ n. bytes_eq n name) (names_awaited kind (dependencies_of live.content)) (flat_map (λ (live : Live). names_awaited kind (dependencies_of live.content)) lives)
+    ∙ or_same _ _ _ _ (awaited_is kind name (dependencies_of live.content)) (any_awaited kind name lives)
 
 -- a name stands among those that are watched where it is watched
 pub among_watched : (world : World) (kind : Kind) (name : List ℕ) → is_among name (watched_of world kind) ≡ is_watched (lives_of world) kind name
 among_watched world kind name =
-    among_sorted (flat_map (λ (live : Live). name_awaited kind (dependency_of live.content)) (lives_of world)) name ∙ any_awaited kind name (lives_of world)
+    among_sorted (flat_map (λ (live : Live). names_awaited kind (dependencies_of live.content)) (lives_of world)) name ∙ any_awaited kind name (lives_of world)

@@ -10,7 +10,7 @@ use Rattle.ev_types.specs.declared.rows.Live.{Live}
 use Rattle.ev_model.specs.Live.{lives_of}
 use Rattle.ev_model.specs.Runs.{RunsFrom, world_after, world_at}
 use Rattle.ev_model.specs.Step.{step}
-use Rattle.ev_model.specs.Watching.{is_by_name, is_watched, name_awaited, dependency_of, watched_of}
+use Rattle.ev_model.specs.Watching.{is_by_name, is_watched, names_awaited, dependencies_of, watched_of}
 use Rattle.ev_model.specs.World.{World, opening}
 use Rattle.ev_model_laws.specs.Kept.{NothingIsDue}
 use Rattle.ev_model_laws.proofs.PromotionLemmas.{opens_due, step-due}
@@ -49,7 +49,7 @@ pub tell_watches : RequestsTellWatches
 tell_watches format workers node stated kind k run by_name streams =
     same-names (names_asked kind (take k stated)) (watched_of (world_at format workers node (entries_in stated) k) kind)
     (sorted-in_order (filter (is_asked kind (take k stated)) (flat_map (asked kind) (take k stated))))
-    (sorted-in_order (flat_map (λ (live : Live). name_awaited kind (dependency_of live.content)) (lives_of (world_at format workers node (entries_in stated) k))))
+    (sorted-in_order (flat_map (λ (live : Live). names_awaited kind (dependencies_of live.content)) (lives_of (world_at format workers node (entries_in stated) k))))
     (λ name.
     among_asked kind (take k stated) name
     ∙ told_from format workers kind by_name name [] stated (opening workers node) (opens_due workers node) (λ opened. absurd (false≢true opened)) run.answers k streams

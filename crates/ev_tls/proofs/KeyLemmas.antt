@@ -2,12 +2,16 @@
 -- key of the place names.
 use Rattle.std.proofs.Common.{◌≡◌, ◌∙◌, ℕ, ◌+◌, ◌<◌, ◌≤◌, ◌==◌, nat_lt, Bool, true, false, ◌&&◌, List, length, take, decimal, Some, None, codes, refl, sym, ap, subst, arith}
 use Rattle.std.specs.Prelude.{Contains, slice_get, option_and_then}
+use Rattle.std.specs.List.{list_any}
+use Rattle.std.specs.Str.{bytes_eq}
 use Rattle.std.proofs.lemmas.Bool.{or_left}
 use Rattle.std.proofs.lemmas.Bool.Decides.{nat_tests}
 use Rattle.serde_json.specs.Data.{Data}
 use Rattle.ev_types.specs.Events.{IsMainSide, IsStream, MayMake}
+use Rattle.ev_types.specs.Same.{bytes_decide}
 use Rattle.ev_types.specs.Scripts.{IsScript}
 use Rattle.ev_types.specs.declared.clusters.Cluster.{Cluster}
+use Rattle.ev_types.specs.declared.clusters.Discovery.{Discovery}
 use Rattle.ev_types.specs.declared.clusters.Discovery.TheVariants.{Eds as by_name}
 use Rattle.ev_types.specs.declared.contents.Content.TheVariants.{Cluster as a_cluster}
 use Rattle.ev_types.specs.declared.contents.Kind.TheVariants.{Eds}
@@ -22,7 +26,7 @@ use Rattle.ev_types.specs.declared.limits.TheConstants.{ITEM_LIMIT}
 use Rattle.ev_model.specs.Entries.{MadeRow, last_settled, made_of}
 use Rattle.ev_model.specs.Laws.{Accepts, Told, WasWarm}
 use Rattle.ev_model.specs.Operations.{IsRunOf, Operation, is_earlier, line_operation, operation_of, operations_of, entries_of}
-use Rattle.ev_model.specs.Watching.{dependency_of, discovery_dependency}
+use Rattle.ev_model.specs.Watching.{discovery_dependencies, has_dependency, is_dependency}
 use Rattle.ev_model_laws.proofs.PlaceLemmas.{entry_answered}
 use Rattle.ev_model_laws.proofs.WarmedLemmas.{runs_warmed}
 use Rattle.ev_stream_laws.proofs.HoldLemmas.{side_holds}
@@ -178,8 +182,10 @@ module _ (trees : ScriptTrees) (format : Format) (journal : List Entry) (kept : 
       let told : Told = run_told format (sealed_script trees) journal in
       let warm : WasWarm told number (last_settled (take k journal) worker) k = runs_warmed told run.run.answers k worker number accepts in
       let name : List ℕ = private_name (codes "tls/") place in
-      let depends : dependency_of asks.row.content ≡ Some (record { kind = Eds; name = name }) =
-      ap dependency_of asks.content ∙ ap discovery_dependency asks.asks in
+      let depends : has_dependency Eds name asks.row.content ≡ true =
+      ap (has_dependency Eds name) asks.content
+      ∙ ap (λ (discovery : Discovery). list_any (is_dependency Eds name) (discovery_dependencies discovery)) asks.asks
+      ∙ or_left (bytes_eq name name) false ((bytes_decide name name).1 refl) in
       let named : NamedBefore journal k name =
       warmed_named told k number (last_settled (take k journal) worker) asks.row name warm asks.made depends in
       let by_line : IsNamedBy name named.entry = named_by k name named in

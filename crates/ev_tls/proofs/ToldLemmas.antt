@@ -1,8 +1,7 @@
 -- What was told of in some lines is told of by one of them, and so is all that a key names where it is due.
-use Rattle.std.proofs.Common.{◌≡◌, ◌∙◌, inl, inr, ℕ, ◌<◌, Bool, true, ◌&&◌, ◌||◌, not, List, [], ◌∷◌, map, take, filter, flat_map, Some, sym, ap, subst}
+use Rattle.std.proofs.Common.{◌≡◌, ◌∙◌, ℕ, ◌<◌, Bool, true, ◌&&◌, ◌||◌, not, List, map, take, filter, flat_map, Some, sym, ap, subst}
 use Rattle.std.specs.Prelude.{slice_get, Contains}
 use Rattle.std.specs.Cmp.{first_so, second_so}
-use Rattle.std.specs.List.{list_all}
 use Rattle.serde_json.specs.Data.{Data}
 use Rattle.ev_model_laws.proofs.OperationLists.{IsIn, in_filter, in_front}
 use Rattle.ev_expand.specs.declared.keys.Key.{Key}
@@ -14,7 +13,7 @@ use Rattle.ev_secrets.specs.Awaited.{awaited_by, awaited_decides, awaited_same, 
 use Rattle.ev_secrets.specs.Sealing.{gives_endpoints, has_guarded, is_due}
 use Rattle.ev_secrets.specs.Told.{is_complete, is_told, told_by}
 use Rattle.ev_expand_laws.proofs.FrontLemmas.{fronts_taken}
-use Rattle.ev_expand_laws.proofs.ListLemmas.{contains_in, get_in, in_any, in_flat, in_map, map_in, taken_get}
+use Rattle.ev_expand_laws.proofs.ListLemmas.{all_in, contains_in, get_in, in_any, in_flat, in_map, map_in, taken_get}
 
 -- one of the first n lines tells of it, where a stream is open
 pub record IsToldAt (lines : List Data) (n : ℕ) (awaited : Awaited) : Type 0 where
@@ -42,11 +41,6 @@ told_at lines n awaited told =
       connected = passed.1;
       tells = subst (λ line. IsIn awaited (told_by line)) (sym front.2) (subst (λ a. IsIn a (told_by among.0)) same among.2);
     }
-
-all_in : {X : Type 0} (p : X → Bool) (xs : List X) (x : X) → list_all p xs ≡ true → IsIn x xs → p x ≡ true
-all_in p [] x all is = absurd is
-all_in p (y ∷ xs) x all (inl e) = sym (ap p e) ∙ first_so (p y) (list_all p xs) all
-all_in p (y ∷ xs) x all (inr is) = all_in p xs x (second_so (p y) (list_all p xs) all) is
 
 -- where a key is complete each secret that it names was told of
 pub complete_told : (lines : List Data) (key : Key) (secret : List ℕ) → is_complete lines key ≡ true → Contains key.names secret → is_told lines (Secret secret) ≡ true
