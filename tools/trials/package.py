@@ -59,7 +59,7 @@ def refusals(check, module, folder, program):
     for name, text in logs.items():
         logs[name] = written(f'{folder}/{name}.log', text)
     cases = [(old, 'good', 1, 'is newer than the program'), (program, None, 1, 'no log says that the gate has passed'),
-             (program, 'failed', 1, '1 failed'), (program, 'cut', 1, 'ev_io proved'), (program, 'empty', 1, 'isn\'t told'), (program, 'part', 1, 'not the gate'),
+             (program, 'failed', 1, '1 failed'), (program, 'cut', 1, 'ev_io proved'), (program, 'empty', 1, 'no log says'), (program, 'part', 1, 'not the gate'),
              (f'{folder}/none', 'good', 1, 'is missing')]
     for given, log, status, words in cases:
         found = called(module.main, '--program', given, '--out', folder, *(['--gate', logs[log]] if log else []))
