@@ -68,8 +68,8 @@ string_matcher_broken tree = record none_broken {
       || is_wrong (boolean_of (codes "ignore_case") tree);
   v21 =
       not (exactly_one (
-        is_given (text_of (codes "exact") tree) ∷ is_given (text_of (codes "prefix") tree) ∷ is_given (text_of (codes "suffix") tree)
-        ∷ is_given (text_of (codes "contains") tree) ∷ is_given (object_of (codes "safe_regex") tree) ∷ is_given (object_of (codes "custom") tree) ∷ []))
+      is_given (text_of (codes "exact") tree) ∷ is_given (text_of (codes "prefix") tree) ∷ is_given (text_of (codes "suffix") tree)
+      ∷ is_given (text_of (codes "contains") tree) ∷ is_given (object_of (codes "safe_regex") tree) ∷ is_given (object_of (codes "custom") tree) ∷ []))
       || is_empty_text (text_of (codes "prefix") tree)
       || is_empty_text (text_of (codes "suffix") tree)
       || is_empty_text (text_of (codes "contains") tree);
@@ -110,9 +110,9 @@ header_test_broken header = either_broken (broken_where (is_given (object_of (co
       || is_wrong (object_of (codes "range_match") header);
   v21 =
       more_than_one (
-        is_given (text_of (codes "exact_match") header) ∷ is_given (text_of (codes "prefix_match") header) ∷ is_given (text_of (codes "suffix_match") header)
-        ∷ is_given (text_of (codes "contains_match") header) ∷ is_given (boolean_of (codes "present_match") header) ∷ is_given (object_of (codes "string_match") header)
-        ∷ is_given (object_of (codes "safe_regex_match") header) ∷ is_given (object_of (codes "range_match") header) ∷ [])
+      is_given (text_of (codes "exact_match") header) ∷ is_given (text_of (codes "prefix_match") header) ∷ is_given (text_of (codes "suffix_match") header)
+      ∷ is_given (text_of (codes "contains_match") header) ∷ is_given (boolean_of (codes "present_match") header) ∷ is_given (object_of (codes "string_match") header)
+      ∷ is_given (object_of (codes "safe_regex_match") header) ∷ is_given (object_of (codes "range_match") header) ∷ [])
       || is_empty_text (text_of (codes "prefix_match") header)
       || is_empty_text (text_of (codes "suffix_match") header)
       || is_empty_text (text_of (codes "contains_match") header);
@@ -222,8 +222,8 @@ path_specifier_broken tree = record none_broken {
       || is_wrong (boolean_of (codes "case_sensitive") tree);
   v21 =
       not (exactly_one (
-        is_given (text_of (codes "prefix") tree) ∷ is_given (text_of (codes "path") tree) ∷ is_given (text_of (codes "path_separated_prefix") tree)
-        ∷ is_given (object_of (codes "safe_regex") tree) ∷ is_given (object_of (codes "connect_matcher") tree) ∷ is_given (object_of (codes "path_match_policy") tree) ∷ []))
+      is_given (text_of (codes "prefix") tree) ∷ is_given (text_of (codes "path") tree) ∷ is_given (text_of (codes "path_separated_prefix") tree)
+      ∷ is_given (object_of (codes "safe_regex") tree) ∷ is_given (object_of (codes "connect_matcher") tree) ∷ is_given (object_of (codes "path_match_policy") tree) ∷ []))
       || separated_is_bad (text_of (codes "path_separated_prefix") tree);
 }
 

@@ -153,10 +153,7 @@ fn lower(alloc: Global, text: &str) -> Result<Text, AllocError>
 }
 
 // Inspects what is asked of a header's value.
-fn inspect_header_test(
-    alloc: Global,
-    header: &Value,
-) -> Result<Inspection<HeaderTest>, AllocError>
+fn inspect_header_test(alloc: Global, header: &Value) -> Result<Inspection<HeaderTest>, AllocError>
     ensures value { IfOk result (λ found. found.value ≡ header_test_of (view header.now)) }
     ensures broken { IfOk result (λ found. found.broken ≡ header_test_broken (view header.now)) }
 {

@@ -25,20 +25,20 @@ returns-clause-broken c =
     let below = c.only_if.ensures ∙ (λ i. broken_where (by_string i) ((c.in_ok-matcher.ensures.broken ∙ ap string_matcher_broken tree) i)) in
     c.or.ensures ∙ (λ i. either_broken (below i) (record (c.none.ensures i) {
       v6 = or_same (or_same (or_same (or_same (or_same (or_same (or_same
-      (c.is_wrong.ensures ∙ c.in_ok-exact.ensures.wrong)
-      (c.is_wrong-2.ensures ∙ c.in_ok-prefix.ensures.wrong))
-      (c.is_wrong-3.ensures ∙ c.in_ok-suffix.ensures.wrong))
-      (c.is_wrong-4.ensures ∙ c.in_ok-contains.ensures.wrong))
-      (c.is_wrong-5.ensures ∙ ap is_wrong c.in_ok-present.ensures))
-      (c.is_wrong-6.ensures ∙ c.in_ok-string.ensures.wrong))
-      (c.is_wrong-7.ensures ∙ c.in_ok-regex.ensures.wrong))
-      (c.is_wrong-8.ensures ∙ c.in_ok-range.ensures.wrong) i;
+          (c.is_wrong.ensures ∙ c.in_ok-exact.ensures.wrong)
+          (c.is_wrong-2.ensures ∙ c.in_ok-prefix.ensures.wrong))
+          (c.is_wrong-3.ensures ∙ c.in_ok-suffix.ensures.wrong))
+          (c.is_wrong-4.ensures ∙ c.in_ok-contains.ensures.wrong))
+          (c.is_wrong-5.ensures ∙ ap is_wrong c.in_ok-present.ensures))
+          (c.is_wrong-6.ensures ∙ c.in_ok-string.ensures.wrong))
+          (c.is_wrong-7.ensures ∙ c.in_ok-regex.ensures.wrong))
+          (c.is_wrong-8.ensures ∙ c.in_ok-range.ensures.wrong) i;
       v21 = or_same (or_same (or_same
-      (c.more_than_one.ensures ∙ (λ j. more_than_one (
-      (c.is_given.ensures ∙ c.in_ok-exact.ensures.given) j ∷ (c.is_given-2.ensures ∙ c.in_ok-prefix.ensures.given) j ∷ (c.is_given-3.ensures ∙ c.in_ok-suffix.ensures.given) j
-      ∷ (c.is_given-4.ensures ∙ c.in_ok-contains.ensures.given) j ∷ (c.is_given-5.ensures ∙ ap is_given c.in_ok-present.ensures) j ∷ (c.is_given-6.ensures ∙ c.in_ok-string.ensures.given) j
-      ∷ (c.is_given-7.ensures ∙ c.in_ok-regex.ensures.given) j ∷ (c.is_given-8.ensures ∙ c.in_ok-range.ensures.given) j ∷ [])))
-      (c.is_empty_text.ensures ∙ ap is_empty_text c.in_ok-prefix.ensures.value))
-      (c.is_empty_text-2.ensures ∙ ap is_empty_text c.in_ok-suffix.ensures.value))
-      (c.is_empty_text-3.ensures ∙ ap is_empty_text c.in_ok-contains.ensures.value) i;
+          (c.more_than_one.ensures ∙ (λ j. more_than_one (
+          (c.is_given.ensures ∙ c.in_ok-exact.ensures.given) j ∷ (c.is_given-2.ensures ∙ c.in_ok-prefix.ensures.given) j ∷ (c.is_given-3.ensures ∙ c.in_ok-suffix.ensures.given) j
+          ∷ (c.is_given-4.ensures ∙ c.in_ok-contains.ensures.given) j ∷ (c.is_given-5.ensures ∙ ap is_given c.in_ok-present.ensures) j ∷ (c.is_given-6.ensures ∙ c.in_ok-string.ensures.given) j
+          ∷ (c.is_given-7.ensures ∙ c.in_ok-regex.ensures.given) j ∷ (c.is_given-8.ensures ∙ c.in_ok-range.ensures.given) j ∷ [])))
+          (c.is_empty_text.ensures ∙ ap is_empty_text c.in_ok-prefix.ensures.value))
+          (c.is_empty_text-2.ensures ∙ ap is_empty_text c.in_ok-suffix.ensures.value))
+          (c.is_empty_text-3.ensures ∙ ap is_empty_text c.in_ok-contains.ensures.value) i;
     }))
