@@ -64,14 +64,14 @@ pub fn inspect_match(
 }
 
 // Whether `false` is given.
-fn is_false(found: Found<bool>) -> bool
+pub(crate) fn is_false(found: Found<bool>) -> bool
     ensures { result ≡ is_false found }
 {
     matches!(found, Found::Given(false))
 }
 
 // Whether a prefix of whole segments is given that can't be one.
-fn separated_is_bad(separated: Found<&str>) -> bool
+pub(crate) fn separated_is_bad(separated: Found<&str>) -> bool
     ensures { result ≡ separated_is_bad (found_map (λ s. s.now) separated.entry) }
 {
     match separated {
@@ -98,7 +98,7 @@ fn has_path_end(text: &[u8]) -> bool
 }
 
 // The match of what is given.
-fn make_path(
+pub(crate) fn make_path(
     alloc: Global,
     prefix: Found<&str>,
     path: Found<&str>,

@@ -75,7 +75,7 @@ pub fn inspect_target(alloc: Global, tree: Option<&Value>) -> Result<Inspection<
 }
 
 // Whether a text is given that is empty.
-fn is_empty_text(text: Found<&str>) -> bool
+pub(crate) fn is_empty_text(text: Found<&str>) -> bool
     ensures { result ≡ is_empty_text (found_map (λ s. s.now) text.entry) }
 {
     match text {

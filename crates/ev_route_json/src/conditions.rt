@@ -1,0 +1,178 @@
+ghost use Rattle.std.specs.Prelude.{◌≡◌, IfOk, map};
+ghost use Rattle.serde_json.specs.View.{view};
+ghost use Rattle.ev_tree.specs.Forms.{tree_of, found_map};
+ghost use Rattle.ev_route_json.specs.Conditions.{has_elements, is_open, open_wrong, with_condition, conditions_with, conditions_of, conditions_broken, specifier_with, path_specifier_of, path_specifier_broken, route_match_of, route_match_broken};
+
+use crate::matches::{is_false, make_path, separated_is_bad};
+use crate::parts::inspect_all;
+use crate::presence::exactly_one;
+use ev_tree::{BrokenRules, Found, Inspection, member};
+use ev_types::{PathMatch, PathSpecifier, RouteCondition, RouteMatch, Seq};
+use serde_json::Value;
+use std::alloc::{AllocError, Global};
+
+// What is found of the conditions that aren't decided here.
+#[derive(Clone, Copy)]
+struct OpenConditions {
+    // One of them is given.
+    given: bool,
+    // One of them has the wrong form.
+    wrong: bool,
+}
+
+// Inspects the conditions that aren't decided here.
+fn inspect_open(alloc: Global, tree: Option<&Value>) -> Result<OpenConditions, AllocError>
+    ensures given { IfOk result (λ found. found.given ≡ is_open (tree_of tree.entry)) }
+    ensures wrong { IfOk result (λ found. found.wrong ≡ open_wrong (tree_of tree.entry)) }
+{
+    let fraction = member::object(alloc, tree, "runtime_fraction")?;
+    let certificate = member::object(alloc, tree, "tls_context")?;
+    let query = member::objects(alloc, tree, "query_parameters")?;
+    let metadata = member::objects(alloc, tree, "dynamic_metadata")?;
+    let state = member::objects(alloc, tree, "filter_state")?;
+    Ok(OpenConditions {
+        given: fraction.is_given()
+            | certificate.is_given()
+            | has_elements(query)
+            | has_elements(metadata)
+            | has_elements(state),
+        wrong: fraction.is_wrong()
+            | certificate.is_wrong()
+            | query.is_wrong()
+            | metadata.is_wrong()
+            | state.is_wrong(),
+    })
+}
+
+// Whether a list is given that has elements.
+fn has_elements(found: Found<&[Value]>) -> bool
+    ensures { result ≡ has_elements (found_map (λ vs. map view vs.now) found.entry) }
+{
+    !member::elements(found).is_empty()
+}
+
+// These conditions, and after them the one where it is given.
+fn with_condition(
+    conditions: Vec<RouteCondition>,
+    asked: bool,
+    condition: RouteCondition,
+) -> Result<Vec<RouteCondition>, AllocError>
+    ensures { IfOk result (λ made. made.items ≡ with_condition conditions.items asked condition) }
+{
+    if !asked {
+        return Ok(conditions);
+    }
+    let mut more = conditions;
+    more.push(condition)?;
+    Ok(more)
+}
+
+// Those on headers, then that it is a gRPC request, then one for all that aren't decided here.
+fn conditions_with(
+    headers: Vec<RouteCondition>,
+    grpc: bool,
+    undecided: bool,
+) -> Result<Vec<RouteCondition>, AllocError>
+    ensures { IfOk result (λ made. made.items ≡ conditions_with headers.items grpc undecided) }
+{
+    let decided = with_condition(headers, grpc, RouteCondition::Grpc)?;
+    with_condition(decided, undecided, RouteCondition::Open)
+}
+
+// Inspects what a match asks beside the path.
+fn inspect_conditions(
+    alloc: Global,
+    tree: Option<&Value>,
+) -> Result<Inspection<Vec<RouteCondition>>, AllocError>
+    ensures value { IfOk result (λ found. found.value.items ≡ conditions_of (tree_of tree.entry)) }
+    ensures broken { IfOk result (λ found. found.broken ≡ conditions_broken (tree_of tree.entry)) }
+{
+    let headers = member::objects(alloc, tree, "headers")?;
+    let grpc = member::object(alloc, tree, "grpc")?;
+    let undecided = inspect_open(alloc, tree)?;
+    let below = inspect_all::<RouteCondition>(alloc, member::elements(headers))?;
+    let own = BrokenRules {
+        v6: headers.is_wrong() | grpc.is_wrong() | undecided.wrong,
+        ..BrokenRules::none()
+    };
+    Ok(Inspection {
+        broken: below.broken.or(own),
+        value: conditions_with(below.value, grpc.is_given(), undecided.given)?,
+    })
+}
+
+// The path specifier of what is given.
+fn specifier_with(connects: bool, undecided: bool, folds: bool, path: PathMatch) -> PathSpecifier
+    ensures { result ≡ specifier_with connects undecided folds path }
+{
+    if connects {
+        PathSpecifier::Connect
+    } else if undecided {
+        PathSpecifier::Open
+    } else if folds {
+        PathSpecifier::Folded(path)
+    } else {
+        PathSpecifier::Cased(path)
+    }
+}
+
+// Inspects which paths a match takes.
+fn inspect_path_specifier(
+    alloc: Global,
+    tree: Option<&Value>,
+) -> Result<Inspection<PathSpecifier>, AllocError>
+    ensures value { IfOk result (λ found. found.value ≡ path_specifier_of (tree_of tree.entry)) }
+    ensures broken { IfOk result (λ found. found.broken ≡ path_specifier_broken (tree_of tree.entry)) }
+{
+    let prefix = member::text(alloc, tree, "prefix")?;
+    let path = member::text(alloc, tree, "path")?;
+    let separated = member::text(alloc, tree, "path_separated_prefix")?;
+    let regex = member::object(alloc, tree, "safe_regex")?;
+    let connect = member::object(alloc, tree, "connect_matcher")?;
+    let policy = member::object(alloc, tree, "path_match_policy")?;
+    let sensitive = member::boolean(alloc, tree, "case_sensitive")?;
+    let kinds = [
+        prefix.is_given(),
+        path.is_given(),
+        separated.is_given(),
+        regex.is_given(),
+        connect.is_given(),
+        policy.is_given(),
+    ];
+    let broken = BrokenRules {
+        v6: prefix.is_wrong()
+            | path.is_wrong()
+            | separated.is_wrong()
+            | regex.is_wrong()
+            | connect.is_wrong()
+            | policy.is_wrong()
+            | sensitive.is_wrong(),
+        v21: !exactly_one(&kinds) | separated_is_bad(separated),
+        ..BrokenRules::none()
+    };
+    let undecided = regex.is_given() | policy.is_given();
+    let made = make_path(alloc, prefix, path, separated)?;
+    Ok(Inspection {
+        value: specifier_with(connect.is_given(), undecided, is_false(sensitive), made),
+        broken,
+    })
+}
+
+/// Inspects the match of a route, which may be missing, as Envoy reads it: its path and its conditions.
+pub fn inspect_route_match(
+    alloc: Global,
+    tree: Option<&Value>,
+) -> Result<Inspection<RouteMatch>, AllocError>
+    ensures value { IfOk result (λ found. found.value ≡ route_match_of (tree_of tree.entry)) }
+    ensures broken { IfOk result (λ found. found.broken ≡ route_match_broken (tree_of tree.entry)) }
+{
+    let path = inspect_path_specifier(alloc, tree)?;
+    let conditions = inspect_conditions(alloc, tree)?;
+    Ok(Inspection {
+        broken: path.broken.or(conditions.broken),
+        value: RouteMatch {
+            path: path.value,
+            conditions: Seq::from_vec(conditions.value),
+        },
+    })
+}
