@@ -14,4 +14,3 @@ pub mod ExpandLemmas
 pub mod TlsLemmas
 pub mod DnsLemmas
 pub mod SotwLemmas
-pub mod NumberLemmas

@@ -15,4 +15,3 @@ pub mod Chains
 pub mod Texts
 pub mod Status
 pub mod Exit
-pub mod Numbers

@@ -1,4 +1,3 @@
 pub mod FloatLemmas
 pub mod AlikeLemmas
 pub mod PrefixLemmas
-pub mod StepLemmas
