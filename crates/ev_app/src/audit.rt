@@ -5,10 +5,12 @@ ghost use Rattle.ev_app.specs.Audits.{IsAuditText, status_found};
 ghost use Rattle.ev_app.specs.Texts.{IsMadeBy};
 
 use crate::made::Made;
+use crate::run::workers_of;
 use crate::status::Status;
 use ev_audit::{audit, write_finding};
 use ev_audit_input::{Audited, read_audited};
 use ev_io::{MAX_LINES, ScriptFault, Source};
+use ev_model_laws::legal_exactly;
 use ev_types::Finding;
 use std::alloc::{AllocError, Global};
 
@@ -21,6 +23,9 @@ pub(crate) fn make_audit<S: Source>(alloc: Global, source: &mut S) -> Result<Mad
     ensures count { S.faults source.old ≤ S.faults source.new }
 {
     let audited = read_audited(alloc, source)?;
+    // what a script keeps, and when rows are found legal
+    let _workers = workers_of(&audited.script);
+    legal_exactly();
     match audit_made(alloc, &audited) {
         Ok(made) => Ok(made),
         Err(_) => Err(ScriptFault::OutOfMemory),
