@@ -15,3 +15,4 @@ pub mod TlsLemmas
 pub mod DnsLemmas
 pub mod SotwLemmas
 pub mod NumberLemmas
+pub mod ClaimLemmas

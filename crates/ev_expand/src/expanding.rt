@@ -84,8 +84,8 @@ pub trait Expansion {
         ensures behind { TakesLine rules is_behind self.old self.new numbers.now (view line.now) result };
 }
 
-// The lines of an input after the first are fewer.
-const MOST_LINES: usize = 4_294_967_290;
+/// The lines of an input after the first are fewer.
+pub const MOST_LINES: usize = 4_294_967_290;
 
 /// The text that a command makes of the header and the lines of a script.
 ///
