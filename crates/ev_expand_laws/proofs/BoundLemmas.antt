@@ -225,8 +225,15 @@ items_within at [] = omega arith
 items_within at (tree ∷ trees) =
     let sum : items_of (option_to_list (line_of at tree) ++ lines_said (at + 1) trees) ≡ items_of (option_to_list (line_of at tree)) + items_of (lines_said (at + 1) trees) =
     sum_by-append (λ (l : Line). items_in l.event) (option_to_list (line_of at tree)) (lines_said (at + 1) trees) in
-    omega (arith, sum, one_item (elements tree) (line_of at tree) (line_few tree at), text_elements (whole tree), whole_elements tree,
-    text_first (whole tree) (map whole trees), items_within (at + 1) trees)
+    omega (
+      arith,
+      sum,
+      one_item (elements tree) (line_of at tree) (line_few tree at),
+      text_elements (whole tree),
+      whole_elements tree,
+      text_first (whole tree) (map whole trees),
+      items_within (at + 1) trees,
+    )
 
 -- ---- the bounds
 

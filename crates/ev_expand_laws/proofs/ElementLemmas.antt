@@ -56,9 +56,14 @@ mutual
   members_there : (later : Bool) (ms : Members) → members_elements ms ≤ length (members_text later ms)
   members_there later no_members = omega arith
   members_there later (member k d ms) =
-      omega (arith, length-append (comma_if later) (quoted k ++ 58 ∷ (compact_text d ++ members_text true ms)),
-      length-append (quoted k) (58 ∷ (compact_text d ++ members_text true ms)),
-      length-append (compact_text d) (members_text true ms), text_elements d, members_there true ms)
+      omega (
+        arith,
+        length-append (comma_if later) (quoted k ++ 58 ∷ (compact_text d ++ members_text true ms)),
+        length-append (quoted k) (58 ∷ (compact_text d ++ members_text true ms)),
+        length-append (compact_text d) (members_text true ms),
+        text_elements d,
+        members_there true ms,
+      )
 
 -- floats are no elements
 mutual

@@ -8,4 +8,6 @@
 
 mod pictures;
 
-pub use pictures::{Choice, Picture, Routing, ServedChain, ServedCluster, ServedListener, Shown, Taken};
+pub use pictures::{
+    Choice, Picture, Routing, ServedChain, ServedCluster, ServedListener, Shown, Taken,
+};
