@@ -1,3 +1,4 @@
 pub mod Unions
 pub mod Present
 pub mod Leasts
+pub mod Overlaps

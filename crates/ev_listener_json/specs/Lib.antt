@@ -3,3 +3,7 @@ pub mod Members
 pub mod Managers
 pub mod Filters
 pub mod Listeners
+pub mod ServerNames
+pub mod CidrRanges
+pub mod SourceCriteria
+pub mod ChainMatches

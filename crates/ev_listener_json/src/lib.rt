@@ -15,14 +15,25 @@
 //!   isn't text is V6.
 //! - A chain without a filter that serves stands for a table with no hosts in the definition of the value; it breaks
 //!   V16 or V17, so this never shows.
+//! - A match with all its criteria is read by `inspect_filter_chain_match`. Of the source it keeps only whether it is
+//!   asked for, since no script tells where a connection comes from. A range that is none stands for all IPv4
+//!   addresses in the definition of the value; it breaks V16, so this never shows.
+//! - `source_ports` and `source_type` have readers here, since ev_tree has none for a list of numbers, nor this enum.
 //! - A TCP proxy's other specifiers (`cluster_header` and the like) break V22 as in a route: it is the same reader.
 #![tactic(auto)]
 
+mod chain_matches;
 mod chains;
+mod cidr_ranges;
+mod collisions;
 mod filters;
 mod listeners;
 mod managers;
 mod objects;
+mod server_names;
+mod source_criteria;
 
+pub use chain_matches::inspect_filter_chain_match;
 pub use chains::{chain_rule_is_least, inspect_chain, read_chain};
+pub use collisions::has_collision;
 pub use listeners::{listener_rule_is_least, read_listener};
