@@ -119,7 +119,8 @@ any_awaited : (kind : Kind) (name : List ℕ) (lives : List Live)
     → is_among name (flat_map (λ (live : Live). names_awaited kind (dependencies_of live.content)) lives) ≡ is_watched lives kind name
 any_awaited kind name [] = refl
 any_awaited kind name (live ∷ lives) =
-    list_any-append (λ n. bytes_eq n name) (names_awaited kind (dependencies_of live.content)) (flat_map (λ (live : Live). names_awaited kind (dependencies_of live.content)) lives)
+    list_any-append (λ n. bytes_eq n name) (names_awaited kind (dependencies_of live.content))
+    (flat_map (λ (live : Live). names_awaited kind (dependencies_of live.content)) lives)
     ∙ or_same _ _ _ _ (awaited_is kind name (dependencies_of live.content)) (any_awaited kind name lives)
 
 -- a name stands among those that are watched where it is watched
