@@ -45,3 +45,6 @@ returns-clause-replayed g c =
     (subst (IsUnderWay c.args.script.now parts c.loop-line.workers.items) (drop_all c.loop-line.line-index c.as_slice-line-items.result.now c.loop-line-test.false) c.loop-line.invariant.way)
     (subst (HaveSettled (c.script.inside.count + 1) parts after) c.as_mut_slice-2.ensures.value c.in_ok-settle_all.ensures.settled)
     c.journal.ensures.run
+
+pub returns-clause-let_go : goal.returns-clause-let_go
+returns-clause-let_go g c = λ none. c.in_ok-settle_all.ensures.deferred ∙ c.loop-line.invariant.let_go none
