@@ -32,9 +32,9 @@ few_by worker full says most is =
     let no : length worker.lines ≡ 256 → ⊥ = λ same. both_ways full is (says.1 same) in
     omega (arith, no)
 
-pub returns-else-joined-clause-worked : goal.returns-else-joined-clause-worked
-returns-else-joined-clause-worked g c =
-    let other : is_batched c.args.line.now.event ≡ false = sym c.in_ok-joined.ensures.answer ∙ c.if-joined.false in
+pub returns-then-not-joined-clause-worked : goal.returns-then-not-joined-clause-worked
+returns-then-not-joined-clause-worked g c =
+    let other : is_batched c.args.line.now.event ≡ false = sym c.in_ok-joined.ensures.answer ∙ c.if-not-joined.true in
     IfOk-weaker c.settle.result
     (λ u. HasSettled c.args.line.now.at 0 (g.R.Journaled.shows c.args.journaled.now) (g.R.Journaled.shows c.settle.new.journaled) c.join.new.worker c.settle.new.worker)
     (λ u. HasWorked c.args.line.now (g.R.Journaled.shows c.args.journaled.now) (g.R.Journaled.shows c.settle.new.journaled) c.args.worker.now c.settle.new.worker)
@@ -57,8 +57,8 @@ returns-then-full-clause-worked g c =
     c.requires.own c.requires.working.works
     (below (g.R.Journaled.shows c.args.journaled.now).workers c.args.worker.now.number c.args.line.now c.requires.own c.requires.allowed)
     c.join.new.worker
-    (sym c.in_ok-joined.ensures.answer ∙ c.if-joined.true)
-    (c.in_ok-joined.ensures.joined (sym c.in_ok-joined.ensures.answer ∙ c.if-joined.true))
+    (sym c.in_ok-joined.ensures.answer ∙ c.if-not-joined.false)
+    (c.in_ok-joined.ensures.joined (sym c.in_ok-joined.ensures.answer ∙ c.if-not-joined.false))
     (full_by c.join.new.worker c.is_full-full.result c.is_full-full.ensures.full c.if-full.true) settled)
     c.settle-then-full.ensures.settled
 
@@ -69,6 +69,6 @@ returns-else-full-clause-worked g c =
     c.requires.own c.requires.working.works
     (below (g.R.Journaled.shows c.args.journaled.now).workers c.args.worker.now.number c.args.line.now c.requires.own c.requires.allowed)
     c.join.new.worker
-    (sym c.in_ok-joined.ensures.answer ∙ c.if-joined.true)
-    (c.in_ok-joined.ensures.joined (sym c.in_ok-joined.ensures.answer ∙ c.if-joined.true))
+    (sym c.in_ok-joined.ensures.answer ∙ c.if-not-joined.false)
+    (c.in_ok-joined.ensures.joined (sym c.in_ok-joined.ensures.answer ∙ c.if-not-joined.false))
     (ap (λ n. n == 256) (length-map c.join.new.worker.lines (operation_made c.join.new.worker.number)) ∙ not_full (length c.join.new.worker.lines) few) few
