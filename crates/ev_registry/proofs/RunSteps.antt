@@ -19,7 +19,7 @@ use Rattle.ev_actors.specs.Journals.{JournalParts, SufficeFor, answer_now, entry
 use Rattle.ev_actors.proofs.WorldLemmas.{after_append}
 use Rattle.ev_proxy.specs.Proxies.{AreRowsOf, IsAt, numbers_reaped}
 use Rattle.ev_proxy.specs.declared.proxy.Proxy.{Proxy}
-use Rattle.ev_run_laws.proofs.NumberLemmas.{entry_made}
+use Rattle.ev_run_laws.proofs.NumberLemmas.{entry_made as entry_draws}
 use Rattle.ev_registry.proofs.EventLemmas.{main_alone}
 use Rattle.ev_registry.specs.Registries.{DefersReaped, MayStep, HaveStepped, StandsFor}
 
@@ -141,7 +141,7 @@ draws parts now pushed entry event view pushes same =
     subst (λ (es : List Entry). (world_after parts.format begun es).made ≤ (world_now now).made + items_in event) (sym pushes)
     (subst (λ (p : JournalParts). (world_after parts.format begun (parts.journal ++ entry ∷ [])).made ≤ (world_now p).made + items_in event) view
     (subst (λ n. (world_after parts.format begun (parts.journal ++ entry ∷ [])).made ≤ (world_now parts).made + n) same
-    (entry_made parts.format begun parts.journal entry)))
+    (entry_draws parts.format begun parts.journal entry)))
 
 -- the rows that it reaped wait behind those that waited
 pub defers : (parts now given : JournalParts) (event : Event) (waiting before taken after : List GenRow) → parts ≡ now → given ≡ parts → waiting ≡ before
