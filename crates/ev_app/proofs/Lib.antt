@@ -15,4 +15,3 @@ pub mod TlsLemmas
 pub mod DnsLemmas
 pub mod SotwLemmas
 pub mod NumberLemmas
-pub mod ClaimLemmas
