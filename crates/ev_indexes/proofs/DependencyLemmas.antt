@@ -1,9 +1,8 @@
--- What the machine says of the list of dependencies, by the one dependency that a content has at most.
-use Rattle.std.proofs.Common.{◌≡◌, ◌∙◌, ℕ, Bool, true, false, ◌&&◌, ◌||◌, List, [], Option, None, Some, option_map, option_to_list, unwrap_or, cond, refl, sym, ap, subst, true≢false}
-use Rattle.std.specs.Bool.{⊤}
-use Rattle.std.specs.List.{list_any}
+-- What the machine says of the list of dependencies, by names alone: a content of a kind depends on names of one kind.
+use Rattle.std.proofs.Common.{◌≡◌, ◌∙◌, ℕ, Bool, true, false, ◌&&◌, ◌||◌, List, [], ◌∷◌, map, cond, refl, sym, ap, true≢false}
+use Rattle.std.specs.List.{list_any, AllByRecursion}
 use Rattle.std.specs.Str.{bytes_eq}
-use Rattle.std.proofs.Math.Bool.{and-false, or-false}
+use Rattle.std.proofs.Math.Bool.{and-false}
 use Rattle.std.proofs.lemmas.Bool.{and_parts}
 use Rattle.ev_types.specs.Items.{content_kind}
 use Rattle.ev_types.specs.Kinds.{kind_same, kind_decides}
@@ -16,127 +15,140 @@ use Rattle.ev_types.specs.declared.clusters.Discovery.TheVariants.{Static, Eds a
 use Rattle.ev_types.specs.declared.listeners.Serve.{Serve}
 use Rattle.ev_types.specs.declared.listeners.Serve.TheVariants.{Rds as by_rds, Inline, Tcp}
 use Rattle.ev_model.specs.Watching.{Dependency, discovery_dependencies, serve_dependencies, dependencies_of, is_by_name, is_dependency, has_dependency, has_limited_dependency, names_awaited}
-use Rattle.ev_indexes.specs.Ready.{first_dependency, dependency_in, name_needed, is_limited_in}
-use Rattle.ev_indexes.specs.Indexes.{is_needed}
+use Rattle.ev_indexes.specs.Ready.{names_of}
+use Rattle.ev_indexes.specs.Indexes.{is_needed, is_needed_limited}
 use Rattle.ev_indexes.specs.Worlds.{needs_of}
 
--- a content has one dependency at most
-pub dependencies_of-one : (content : Content) → dependencies_of content ≡ option_to_list (dependency_in content)
-dependencies_of-one (a_cluster cluster) = by cluster.discovery
+-- what a content depends on is of the kind that its own kind needs
+pub dependency-kinds : (content : Content) → AllByRecursion (λ (d : Dependency). d.kind ≡ needs_of (content_kind content)) (dependencies_of content)
+dependency-kinds (a_cluster cluster) = by cluster.discovery
   where
-    by : (d : Discovery) → discovery_dependencies d ≡ option_to_list (first_dependency (discovery_dependencies d))
-    by (Static rows) = refl
-    by (by_eds service limited) = refl
-dependencies_of-one (an_assignment rows) = refl
-dependencies_of-one (a_listener listener) = by listener.serve
+    by : (d : Discovery) → AllByRecursion (λ (d : Dependency). d.kind ≡ Eds) (discovery_dependencies d)
+    by (Static rows) = tt
+    by (by_eds service limited) = (refl, tt)
+dependency-kinds (an_assignment rows) = tt
+dependency-kinds (a_listener listener) = by listener.serve
   where
-    by : (v : Serve) → serve_dependencies v ≡ option_to_list (first_dependency (serve_dependencies v))
-    by (by_rds name limited) = refl
-    by (Inline table) = refl
-    by (Tcp target) = refl
-dependencies_of-one (routes table) = refl
-
--- and it is of the kind that the content's kind needs
-pub dependency-kind : (content : Content) (d : Dependency) → dependency_in content ≡ Some d → d.kind ≡ needs_of (content_kind content)
-dependency-kind content d e = subst (OfKind content) e (kinds content)
-  where
-    OfKind : Content → Option Dependency → Type 0
-    OfKind content None = ⊤
-    OfKind content (Some d) = d.kind ≡ needs_of (content_kind content)
-
-    kinds : (content : Content) → OfKind content (dependency_in content)
-    kinds (a_cluster cluster) = by cluster.discovery
-      where
-        by : (d : Discovery) → OfKind (a_cluster cluster) (first_dependency (discovery_dependencies d))
-        by (Static rows) = tt
-        by (by_eds service limited) = refl
-    kinds (an_assignment rows) = tt
-    kinds (a_listener listener) = by listener.serve
-      where
-        by : (v : Serve) → OfKind (a_listener listener) (first_dependency (serve_dependencies v))
-        by (by_rds name limited) = refl
-        by (Inline table) = tt
-        by (Tcp target) = tt
-    kinds (routes table) = tt
+    by : (v : Serve) → AllByRecursion (λ (d : Dependency). d.kind ≡ Rds) (serve_dependencies v)
+    by (by_rds name limited) = (refl, tt)
+    by (Inline table) = tt
+    by (Tcp target) = tt
+dependency-kinds (routes table) = tt
 
 -- a content depends on a name where the name is its own, and the kind the one that its kind needs
 pub has_dependency-one : (kind : Kind) (name : List ℕ) (content : Content)
-    → has_dependency kind name content ≡ (kind_same (needs_of (content_kind content)) kind && is_needed name (name_needed content))
-has_dependency-one kind name content = ap (list_any (is_dependency kind name)) (dependencies_of-one content) ∙ by (dependency_in content) refl
+    → has_dependency kind name content ≡ (kind_same (needs_of (content_kind content)) kind && is_needed name content)
+has_dependency-one kind name content = over (dependencies_of content) (dependency-kinds content)
   where
-    by : (o : Option Dependency) → dependency_in content ≡ o
-        → list_any (is_dependency kind name) (option_to_list o) ≡ (kind_same (needs_of (content_kind content)) kind && is_needed name (option_map (λ (d : Dependency). d.name) o))
-    by None e = sym (and-false (kind_same (needs_of (content_kind content)) kind))
-    by (Some d) e = or-false (is_dependency kind name d) ∙ (λ i. kind_same (dependency-kind content d e i) kind && bytes_eq d.name name)
+    needs : Kind
+    needs = needs_of (content_kind content)
 
--- its wait for the name is limited where it depends on it and its wait is limited
+    factor : (a b c : Bool) → ((a && b) || (a && c)) ≡ (a && (b || c))
+    factor true b c = refl
+    factor false b c = refl
+
+    over : (ds : List Dependency) → AllByRecursion (λ (d : Dependency). d.kind ≡ needs) ds
+        → list_any (is_dependency kind name) ds ≡ (kind_same needs kind && list_any (λ (d : Dependency). bytes_eq d.name name) ds)
+    over [] all = sym (and-false (kind_same needs kind))
+    over (d ∷ ds) all =
+        (λ i. (kind_same (all.0 i) kind && bytes_eq d.name name) || over ds all.1 i)
+        ∙ factor (kind_same needs kind) (bytes_eq d.name name) (list_any (λ (d : Dependency). bytes_eq d.name name) ds)
+
+-- the same where its wait is limited
 pub has_limited_dependency-one : (kind : Kind) (name : List ℕ) (content : Content)
-    → has_limited_dependency kind name content ≡ (has_dependency kind name content && is_limited_in content)
-has_limited_dependency-one kind name content =
-    ap (list_any (λ (d : Dependency). d.limited && is_dependency kind name d)) (dependencies_of-one content)
-    ∙ by (dependency_in content)
-    ∙ (λ i. list_any (is_dependency kind name) (sym (dependencies_of-one content) i) && is_limited_in content)
+    → has_limited_dependency kind name content ≡ (kind_same (needs_of (content_kind content)) kind && is_needed_limited name content)
+has_limited_dependency-one kind name content = over (dependencies_of content) (dependency-kinds content)
   where
-    by : (o : Option Dependency) → list_any (λ (d : Dependency). d.limited && is_dependency kind name d) (option_to_list o)
-        ≡ (list_any (is_dependency kind name) (option_to_list o) && unwrap_or (option_map (λ (d : Dependency). d.limited) o) false)
-    by None = refl
-    by (Some d) = over d.limited (is_dependency kind name d)
-      where
-        over : (l b : Bool) → ((l && b) || false) ≡ ((b || false) && l)
-        over true true = refl
-        over true false = refl
-        over false true = refl
-        over false false = refl
+    needs : Kind
+    needs = needs_of (content_kind content)
 
--- only clusters need endpoints, and only listeners routes: what rows of a kind need, contents of that kind alone depend on
+    factor : (l a b c : Bool) → ((l && (a && b)) || (a && c)) ≡ (a && ((l && b) || c))
+    factor true true b c = refl
+    factor true false b c = refl
+    factor false true b c = refl
+    factor false false b c = refl
+
+    over : (ds : List Dependency) → AllByRecursion (λ (d : Dependency). d.kind ≡ needs) ds
+        → list_any (λ (d : Dependency). d.limited && is_dependency kind name d) ds
+        ≡ (kind_same needs kind && list_any (λ (d : Dependency). d.limited && bytes_eq d.name name) ds)
+    over [] all = sym (and-false (kind_same needs kind))
+    over (d ∷ ds) all =
+        (λ i. (d.limited && (kind_same (all.0 i) kind && bytes_eq d.name name)) || over ds all.1 i)
+        ∙ factor d.limited (kind_same needs kind) (bytes_eq d.name name) (list_any (λ (d : Dependency). d.limited && bytes_eq d.name name) ds)
+
+-- what is asked for by name depends on nothing
+pub none-needed : (content : Content) → is_by_name (content_kind content) ≡ true → dependencies_of content ≡ []
+none-needed (a_cluster cluster) h = absurd (true≢false (sym h))
+none-needed (an_assignment rows) h = refl
+none-needed (a_listener listener) h = absurd (true≢false (sym h))
+none-needed (routes table) h = refl
+
+-- only clusters need endpoints, and only listeners routes
+needing : (k kind : Kind) (b : Bool) → is_by_name kind ≡ false → (is_by_name k ≡ true → b ≡ false)
+    → (kind_same (needs_of k) (needs_of kind) && b) ≡ (kind_same k kind && b)
+needing k Eds b rowed none = absurd (true≢false rowed)
+needing k Rds b rowed none = absurd (true≢false rowed)
+needing Cds Cds b rowed none = refl
+needing Cds Lds b rowed none = refl
+needing Eds Cds b rowed none = none refl
+needing Eds Lds b rowed none = refl
+needing Lds Cds b rowed none = refl
+needing Lds Lds b rowed none = refl
+needing Rds Cds b rowed none = refl
+needing Rds Lds b rowed none = none refl
+
+-- what rows of a kind need, contents of that kind alone depend on
 pub has_dependency-of : (kind : Kind) (name : List ℕ) (content : Content) → is_by_name kind ≡ false
-    → has_dependency (needs_of kind) name content ≡ (kind_same (content_kind content) kind && is_needed name (name_needed content))
-has_dependency-of kind name content rowed = has_dependency-one (needs_of kind) name content ∙ by content
-  where
-    cluster : (kind : Kind) → is_by_name kind ≡ false → kind_same Eds (needs_of kind) ≡ kind_same Cds kind
-    cluster Cds h = refl
-    cluster Eds h = absurd (true≢false h)
-    cluster Lds h = refl
-    cluster Rds h = absurd (true≢false h)
+    → has_dependency (needs_of kind) name content ≡ (kind_same (content_kind content) kind && is_needed name content)
+has_dependency-of kind name content rowed =
+    has_dependency-one (needs_of kind) name content
+    ∙ needing (content_kind content) kind (is_needed name content) rowed
+    (λ named. ap (list_any (λ (d : Dependency). bytes_eq d.name name)) (none-needed content named))
 
-    listener : (kind : Kind) → is_by_name kind ≡ false → kind_same Rds (needs_of kind) ≡ kind_same Lds kind
-    listener Cds h = refl
-    listener Eds h = absurd (true≢false h)
-    listener Lds h = refl
-    listener Rds h = absurd (true≢false h)
-
-    by : (content : Content) → (kind_same (needs_of (content_kind content)) (needs_of kind) && is_needed name (name_needed content))
-        ≡ (kind_same (content_kind content) kind && is_needed name (name_needed content))
-    by (a_cluster c) = ap (λ b. b && is_needed name (name_needed (a_cluster c))) (cluster kind rowed)
-    by (an_assignment rows) = and-false (kind_same Eds (needs_of kind)) ∙ sym (and-false (kind_same Eds kind))
-    by (a_listener l) = ap (λ b. b && is_needed name (name_needed (a_listener l))) (listener kind rowed)
-    by (routes table) = and-false (kind_same Rds (needs_of kind)) ∙ sym (and-false (kind_same Rds kind))
+pub has_limited_dependency-of : (kind : Kind) (name : List ℕ) (content : Content) → is_by_name kind ≡ false
+    → has_limited_dependency (needs_of kind) name content ≡ (kind_same (content_kind content) kind && is_needed_limited name content)
+has_limited_dependency-of kind name content rowed =
+    has_limited_dependency-one (needs_of kind) name content
+    ∙ needing (content_kind content) kind (is_needed_limited name content) rowed
+    (λ named. ap (list_any (λ (d : Dependency). d.limited && bytes_eq d.name name)) (none-needed content named))
 
 -- a row of a kind depends on a name of the kind that its kind needs
-pub has_dependency-same : (kind : Kind) (name : List ℕ) (content : Content) → content_kind content ≡ kind → has_dependency (needs_of kind) name content ≡ is_needed name (name_needed content)
+pub has_dependency-same : (kind : Kind) (name : List ℕ) (content : Content) → content_kind content ≡ kind → has_dependency (needs_of kind) name content ≡ is_needed name content
 has_dependency-same kind name content k =
     has_dependency-one (needs_of kind) name content
-    ∙ ap (λ b. b && is_needed name (name_needed content)) ((kind_decides (needs_of (content_kind content)) (needs_of kind)).1 (ap needs_of k))
+    ∙ ap (λ b. b && is_needed name content) ((kind_decides (needs_of (content_kind content)) (needs_of kind)).1 (ap needs_of k))
+
+pub has_limited_dependency-same : (kind : Kind) (name : List ℕ) (content : Content) → content_kind content ≡ kind
+    → has_limited_dependency (needs_of kind) name content ≡ is_needed_limited name content
+has_limited_dependency-same kind name content k =
+    has_limited_dependency-one (needs_of kind) name content
+    ∙ ap (λ b. b && is_needed_limited name content) ((kind_decides (needs_of (content_kind content)) (needs_of kind)).1 (ap needs_of k))
 
 -- and only rows of that kind do
 pub has_dependency-kind : (kind : Kind) (name : List ℕ) (content : Content) → is_by_name kind ≡ false → has_dependency (needs_of kind) name content ≡ true → content_kind content ≡ kind
 has_dependency-kind kind name content rowed h =
     (kind_decides (content_kind content) kind).0
-    (and_parts (kind_same (content_kind content) kind) (is_needed name (name_needed content)) (sym (has_dependency-of kind name content rowed) ∙ h)).0
+    (and_parts (kind_same (content_kind content) kind) (is_needed name content) (sym (has_dependency-of kind name content rowed) ∙ h)).0
+
+pub has_limited_dependency-kind : (kind : Kind) (name : List ℕ) (content : Content) → is_by_name kind ≡ false
+    → has_limited_dependency (needs_of kind) name content ≡ true → content_kind content ≡ kind
+has_limited_dependency-kind kind name content rowed h =
+    (kind_decides (content_kind content) kind).0
+    (and_parts (kind_same (content_kind content) kind) (is_needed_limited name content) (sym (has_limited_dependency-of kind name content rowed) ∙ h)).0
 
 -- what a content depends on is its own name
-pub has_dependency-needs : (kind : Kind) (name : List ℕ) (content : Content) → has_dependency kind name content ≡ true → is_needed name (name_needed content) ≡ true
+pub has_dependency-needs : (kind : Kind) (name : List ℕ) (content : Content) → has_dependency kind name content ≡ true → is_needed name content ≡ true
 has_dependency-needs kind name content h =
-    (and_parts (kind_same (needs_of (content_kind content)) kind) (is_needed name (name_needed content)) (sym (has_dependency-one kind name content) ∙ h)).1
+    (and_parts (kind_same (needs_of (content_kind content)) kind) (is_needed name content) (sym (has_dependency-one kind name content) ∙ h)).1
 
 -- the names that a content of a kind awaits
 pub names_awaited-of : (kind : Kind) (content : Content) → is_by_name kind ≡ false
-    → names_awaited (needs_of kind) (dependencies_of content) ≡ cond (kind_same (content_kind content) kind) (option_to_list (name_needed content)) []
+    → names_awaited (needs_of kind) (dependencies_of content) ≡ cond (kind_same (content_kind content) kind) (names_of content) []
 names_awaited-of Eds content h = absurd (true≢false h)
 names_awaited-of Rds content h = absurd (true≢false h)
 names_awaited-of Cds (a_cluster cluster) h = by cluster.discovery
   where
-    by : (d : Discovery) → names_awaited Eds (discovery_dependencies d) ≡ option_to_list (option_map (λ (d : Dependency). d.name) (first_dependency (discovery_dependencies d)))
+    by : (d : Discovery) → names_awaited Eds (discovery_dependencies d) ≡ map (λ (d : Dependency). d.name) (discovery_dependencies d)
     by (Static rows) = refl
     by (by_eds service limited) = refl
 names_awaited-of Cds (an_assignment rows) h = refl
@@ -155,7 +167,7 @@ names_awaited-of Lds (a_cluster cluster) h = by cluster.discovery
 names_awaited-of Lds (an_assignment rows) h = refl
 names_awaited-of Lds (a_listener listener) h = by listener.serve
   where
-    by : (v : Serve) → names_awaited Rds (serve_dependencies v) ≡ option_to_list (option_map (λ (d : Dependency). d.name) (first_dependency (serve_dependencies v)))
+    by : (v : Serve) → names_awaited Rds (serve_dependencies v) ≡ map (λ (d : Dependency). d.name) (serve_dependencies v)
     by (by_rds service limited) = refl
     by (Inline table) = refl
     by (Tcp target) = refl

@@ -3,6 +3,7 @@ pub mod NumberLemmas
 pub mod WhereLemmas
 pub mod SoundLemmas
 pub mod DependencyLemmas
+pub mod NeedLemmas
 pub mod WorldLemmas
 pub mod NewLemmas
 pub mod SortLemmas

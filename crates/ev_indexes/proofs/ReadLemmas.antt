@@ -1,10 +1,9 @@
 -- What is read of a state that stands for a world is what the machine reads of the world.
-use Rattle.std.proofs.Common.{◌≡◌, ◌∙◌, ℕ, Bool, true, false, cond, not, ◌&&◌, ◌||◌, List, [], ◌∷◌, ◌++◌, Option, option_to_list, unwrap_or, map, filter, refl, sym, ap, true≢false}
+use Rattle.std.proofs.Common.{◌≡◌, ◌∙◌, ℕ, Bool, true, false, cond, not, ◌&&◌, ◌||◌, List, [], ◌∷◌, ◌++◌, Option, unwrap_or, map, filter, refl, sym, ap, true≢false}
 use Rattle.std.specs.List.{list_any, flat_map, AllByRecursion}
 use Rattle.std.specs.Map.{lookup}
 use Rattle.std.specs.Str.{bytes_eq}
 use Rattle.std.proofs.lemmas.Bool.{and_parts}
-use Rattle.std.proofs.Math.Bool.{and_assoc}
 use Rattle.ev_types.specs.Items.{content_kind}
 use Rattle.ev_types.specs.Kinds.{kind_same, kind_decides}
 use Rattle.ev_types.specs.Statuses.{is_live}
@@ -20,14 +19,14 @@ use Rattle.ev_indexes.specs.declared.state.State.{State}
 use Rattle.ev_indexes.specs.declared.watches.Watch.{Watch}
 use Rattle.ev_indexes.specs.Due.{has_number}
 use Rattle.ev_indexes.specs.Watched.{unwatched, watch_in}
-use Rattle.ev_indexes.specs.Ready.{name_needed, is_limited_in}
-use Rattle.ev_indexes.specs.Indexes.{IsIndexed, is_needed, depends_on, waits_limited}
+use Rattle.ev_indexes.specs.Ready.{names_of}
+use Rattle.ev_indexes.specs.Indexes.{IsIndexed, depends_on, waits_limited}
 use Rattle.ev_indexes.specs.Reads.{live_rows, names_needed, names_watched, is_timeout_due}
 use Rattle.ev_indexes.specs.Worlds.{needs_of, rows_of_kind, StandsFor}
 use Rattle.ev_indexes.proofs.RowLemmas.{any-some, any_agrees, all_then}
 use Rattle.ev_indexes.proofs.KeptLemmas.{kept_at-found}
 use Rattle.ev_indexes.proofs.SoundLemmas.{contents-of}
-use Rattle.ev_indexes.proofs.DependencyLemmas.{has_dependency-same, has_dependency-kind, has_limited_dependency-one, names_awaited-of}
+use Rattle.ev_indexes.proofs.DependencyLemmas.{has_dependency-same, has_dependency-kind, has_limited_dependency-same, has_limited_dependency-kind, names_awaited-of}
 
 -- rows of other kinds pass no test that only rows of the kind pass
 any-of-kind : (kind : Kind) (f : GenRow → Bool) (rows : List GenRow) → AllByRecursion (λ (r : GenRow). f r ≡ true → kind_same r.kind kind ≡ true) rows → list_any f (rows_of_kind kind rows) ≡ list_any f rows
@@ -52,12 +51,12 @@ any-lives test (row ∷ rows) = by (is_live row.status) (any-lives test rows)
 
 module _ (s : State) (world : World) (stands : StandsFor s world) (rowed : is_by_name s.kind ≡ false) (name : List ℕ) where
   -- a test that rows pass only where they depend on the name is the same over the world
-  any-dependent : (f g : GenRow → Bool) → ((r : GenRow) → f r ≡ true → has_dependency (needs_of s.kind) name r.content ≡ true)
+  any-dependent : (f g : GenRow → Bool) → ((r : GenRow) → f r ≡ true → content_kind r.content ≡ s.kind)
       → ((r : GenRow) → content_kind r.content ≡ s.kind → f r ≡ g r) → list_any f world.rows ≡ list_any g s.table.rows
   any-dependent f g only same =
       sym (any-of-kind s.kind f world.rows
       (all_then (λ (r : GenRow). content_kind r.content ≡ r.kind) (λ (r : GenRow). f r ≡ true → kind_same r.kind s.kind ≡ true) world.rows
-      (λ r typed h. (kind_decides r.kind s.kind).1 (sym typed ∙ has_dependency-kind s.kind name r.content rowed (only r h))) stands.sound.typed))
+      (λ r typed h. (kind_decides r.kind s.kind).1 (sym typed ∙ only r h)) stands.sound.typed))
       ∙ ap (list_any f) (sym stands.rows)
       ∙ any_agrees f g s.table.rows (all_then (λ (r : GenRow). content_kind r.content ≡ s.kind) (λ (r : GenRow). f r ≡ g r) s.table.rows same (contents-of s world stands))
 
@@ -65,7 +64,7 @@ module _ (s : State) (world : World) (stands : StandsFor s world) (rowed : is_by
   watched-world =
       sym (any-lives (λ content. has_dependency (needs_of s.kind) name content) world.rows
       ∙ any-dependent (λ (r : GenRow). is_live r.status && has_dependency (needs_of s.kind) name r.content) (depends_on name)
-      (λ r h. (and_parts (is_live r.status) (has_dependency (needs_of s.kind) name r.content) h).1)
+      (λ r h. has_dependency-kind s.kind name r.content rowed (and_parts (is_live r.status) (has_dependency (needs_of s.kind) name r.content) h).1)
       (λ r k. ap (λ b. is_live r.status && b) (has_dependency-same s.kind name r.content k)))
 
   pub timeout-world : is_timeout_due s.watches s.table.rows name ≡ is_awaited world.arrivals world.rows (needs_of s.kind) name
@@ -73,11 +72,8 @@ module _ (s : State) (world : World) (stands : StandsFor s world) (rowed : is_by
     where
       waiting : list_any (waits_limited name) s.table.rows ≡ list_any (is_waiting (needs_of s.kind) name) world.rows
       waiting = sym (any-dependent (is_waiting (needs_of s.kind) name) (waits_limited name)
-          (λ r h. (and_parts (has_dependency (needs_of s.kind) name r.content) (is_limited_in r.content)
-          (sym (has_limited_dependency-one (needs_of s.kind) name r.content) ∙ (and_parts (is_live r.status) (has_limited_dependency (needs_of s.kind) name r.content) h).1)).0)
-          (λ r k. ap (λ b. is_live r.status && b)
-          (has_limited_dependency-one (needs_of s.kind) name r.content ∙ ap (λ b. b && is_limited_in r.content) (has_dependency-same s.kind name r.content k))
-          ∙ sym (and_assoc (is_live r.status) (is_needed name (name_needed r.content)) (is_limited_in r.content))))
+          (λ r h. has_limited_dependency-kind s.kind name r.content rowed (and_parts (is_live r.status) (has_limited_dependency (needs_of s.kind) name r.content) h).1)
+          (λ r k. ap (λ b. is_live r.status && b) (has_limited_dependency-same s.kind name r.content k)))
 
 -- what is seen of live rows of a kind
 pub lives-world : (kind : Kind) (rows : List GenRow) → map live_of (live_rows (rows_of_kind kind rows)) ≡ filter (λ (live : Live). kind_same live.kind kind) (map live_of (live_rows rows))
@@ -102,17 +98,17 @@ pub needs-world : (kind : Kind) → is_by_name kind ≡ false → (rows : List G
 needs-world kind rowed [] all = refl
 needs-world kind rowed (row ∷ rows) all = by (kind_same row.kind kind) refl (is_live row.status) refl (needs-world kind rowed rows all.1)
   where
-    awaited : (k : Bool) → kind_same row.kind kind ≡ k → names_awaited (needs_of kind) (dependencies_of row.content) ≡ cond k (option_to_list (name_needed row.content)) []
-    awaited k e = names_awaited-of kind row.content rowed ∙ (λ i. cond (((λ j. kind_same (all.0 j) kind) ∙ e) i) (option_to_list (name_needed row.content)) [])
+    awaited : (k : Bool) → kind_same row.kind kind ≡ k → names_awaited (needs_of kind) (dependencies_of row.content) ≡ cond k (names_of row.content) []
+    awaited k e = names_awaited-of kind row.content rowed ∙ (λ i. cond (((λ j. kind_same (all.0 j) kind) ∙ e) i) (names_of row.content) [])
 
     by : (k : Bool) → kind_same row.kind kind ≡ k → (l : Bool) → is_live row.status ≡ l
         → names_needed (rows_of_kind kind rows) ≡ flat_map (λ (live : Live). names_awaited (needs_of kind) (dependencies_of live.content)) (map live_of (live_rows rows))
         → names_needed (cond k (row ∷ rows_of_kind kind rows) (rows_of_kind kind rows))
         ≡ flat_map (λ (live : Live). names_awaited (needs_of kind) (dependencies_of live.content)) (map live_of (cond l (row ∷ live_rows rows) (live_rows rows)))
     by true e true f rest =
-        (λ i. flat_map (λ (r : GenRow). option_to_list (name_needed r.content)) (cond (f i) (row ∷ live_rows (rows_of_kind kind rows)) (live_rows (rows_of_kind kind rows))))
+        (λ i. flat_map (λ (r : GenRow). names_of r.content) (cond (f i) (row ∷ live_rows (rows_of_kind kind rows)) (live_rows (rows_of_kind kind rows))))
         ∙ (λ i. sym (awaited true e) i ++ rest i)
-    by true e false f rest = (λ i. flat_map (λ (r : GenRow). option_to_list (name_needed r.content)) (cond (f i) (row ∷ live_rows (rows_of_kind kind rows)) (live_rows (rows_of_kind kind rows)))) ∙ rest
+    by true e false f rest = (λ i. flat_map (λ (r : GenRow). names_of r.content) (cond (f i) (row ∷ live_rows (rows_of_kind kind rows)) (live_rows (rows_of_kind kind rows)))) ∙ rest
     by false e true f rest =
         rest ∙ (λ i. sym (awaited false e) i ++ flat_map (λ (live : Live). names_awaited (needs_of kind) (dependencies_of live.content)) (map live_of (live_rows rows)))
     by false e false f rest = rest

@@ -1,7 +1,6 @@
 -- Rows of a kind under changes of statuses, and what a state that stands for a world has of it: the same hosts, and the same rows are ready.
-use Rattle.std.proofs.Common.{◌≡◌, ◌∙◌, ℕ, Bool, true, false, cond, not, ◌&&◌, ◌||◌, List, [], ◌∷◌, Option, None, Some, IsSome, is_some, option_map, option_to_list, unwrap_or, refl, sym, ap, true≢false}
-use Rattle.std.proofs.Math.Bool.{and-true}
-use Rattle.std.specs.List.{list_any, list_all}
+use Rattle.std.proofs.Common.{◌≡◌, ◌∙◌, ℕ, Bool, true, false, cond, not, ◌&&◌, ◌||◌, List, [], ◌∷◌, IsSome, is_some, refl, sym, ap, true≢false}
+use Rattle.std.specs.List.{list_any, list_all, AllByRecursion}
 use Rattle.ev_types.specs.Hosts.{HostRowParts}
 use Rattle.ev_types.specs.Items.{content_kind}
 use Rattle.ev_types.specs.Kinds.{kind_same}
@@ -14,16 +13,16 @@ use Rattle.ev_types.specs.declared.clusters.Discovery.TheVariants.{Static, Eds a
 use Rattle.ev_types.specs.declared.rows.RowStatus.{RowStatus}
 use Rattle.ev_types.specs.declared.rows.GenRow.{GenRow}
 use Rattle.ev_model.specs.World.{World, Arrived, HealthResult}
-use Rattle.ev_model.specs.Watching.{Dependency}
+use Rattle.ev_model.specs.Watching.{Dependency, dependencies_of}
 use Rattle.ev_model.specs.Warming.{is_told_by, is_timed_by, has_answer, discovered, assignment_by, rows_in, has_result, has_all_results, value_by, is_answered_by, is_ready_by, is_checked}
 use Rattle.ev_model.specs.Rows.{with_statuses}
 use Rattle.ev_endpoints.specs.Results.{ResultsKept, result_in}
 use Rattle.ev_generations.specs.Tables.{row_in}
 use Rattle.ev_indexes.specs.declared.state.State.{State}
 use Rattle.ev_indexes.specs.Watched.{WatchesKept, watch_in}
-use Rattle.ev_indexes.specs.Ready.{dependency_in, has_answer_in, discovered_in, assignment_in, are_results_in, is_answered_in, is_ready_in}
+use Rattle.ev_indexes.specs.Ready.{has_answer_in, discovered_in, assignment_in, are_results_in, is_answered_in, is_ready_in}
 use Rattle.ev_indexes.specs.Worlds.{needs_of, rows_of_kind, StandsFor}
-use Rattle.ev_indexes.proofs.DependencyLemmas.{dependencies_of-one, dependency-kind}
+use Rattle.ev_indexes.proofs.DependencyLemmas.{dependency-kinds}
 
 pub rows_of_kind-with_statuses : (kind : Kind) (f : GenRow → RowStatus) (rows : List GenRow) → rows_of_kind kind (with_statuses f rows) ≡ with_statuses f (rows_of_kind kind rows)
 rows_of_kind-with_statuses kind f [] = refl
@@ -65,19 +64,17 @@ module _ (kind : Kind) (watches : WatchesKept) (arrivals : List Arrived) (values
 
 module _ (s : State) (world : World) (stands : StandsFor s world) where
   answered : (content : Content) → content_kind content ≡ s.kind → is_answered_in s.watches content ≡ is_answered_by world.arrivals content
-  answered content k = by (dependency_in content) refl ∙ sym (ap (list_all (has_answer world.arrivals)) (dependencies_of-one content))
+  answered content k = over (dependencies_of content) (dependency-kinds content)
     where
-      by : (o : Option Dependency) → dependency_in content ≡ o
-          → has_answer_in s.watches (unwrap_or (option_map (λ (d : Dependency). d.limited) o) false) (option_map (λ (d : Dependency). d.name) o)
-          ≡ list_all (has_answer world.arrivals) (option_to_list o)
-      by None e = refl
-      by (Some d) e =
+      one : (d : Dependency) → needs_of s.kind ≡ d.kind → has_answer_in s.watches d ≡ has_answer world.arrivals d
+      one d kind =
           (λ i. stands.told d.name i || (stands.timed d.name i && d.limited))
           ∙ (λ i. is_told_by world.arrivals (kind i) d.name || (is_timed_by world.arrivals (kind i) d.name && d.limited))
-          ∙ sym (and-true (has_answer world.arrivals d))
-        where
-          kind : needs_of s.kind ≡ d.kind
-          kind = sym (dependency-kind content d e ∙ ap needs_of k)
+
+      over : (ds : List Dependency) → AllByRecursion (λ (d : Dependency). d.kind ≡ needs_of (content_kind content)) ds
+          → list_all (has_answer_in s.watches) ds ≡ list_all (has_answer world.arrivals) ds
+      over [] all = refl
+      over (d ∷ ds) all = λ i. one d (sym (all.0 ∙ ap needs_of k)) i && over ds all.1 i
 
   pub hosts : (content : Content) → content_kind content ≡ s.kind → assignment_in s.watches content ≡ assignment_by world.arrivals content
   hosts = hosts-by s.kind s.watches world.arrivals stands.value

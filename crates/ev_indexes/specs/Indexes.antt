@@ -1,33 +1,38 @@
 -- What the indexes of the table say: each look-up is a search of the rows.
 use Rattle.std.specs.Prelude.{◌≡◌, ◌<◌, ℕ, Bool, false, ◌&&◌, List, [], Option, Some, None, filter, option_to_list}
-use Rattle.std.specs.List.{AllByRecursion}
+use Rattle.std.specs.List.{AllByRecursion, list_any}
 use Rattle.std.specs.Str.{bytes_eq}
 use Rattle.ev_types.specs.Statuses.{is_warming, is_active, is_live}
+use Rattle.ev_types.specs.declared.contents.Content.{Content}
 use Rattle.ev_types.specs.declared.rows.RowStatus.{RowStatus}
 use Rattle.ev_types.specs.declared.rows.RowStatus.TheVariants.{Dropped}
 use Rattle.ev_types.specs.declared.rows.GenRow.{GenRow}
 use Rattle.ev_types.specs.declared.hosts.Host.{Host}
+use Rattle.ev_model.specs.Watching.{Dependency, dependencies_of}
 use Rattle.ev_endpoints.specs.Results.{result_in}
 use Rattle.ev_generations.specs.Tables.{IsTable, numbers_of}
 use Rattle.ev_indexes.specs.Addresses.{numbers_at, listens_at}
 use Rattle.ev_indexes.specs.Due.{is_among}
 use Rattle.ev_indexes.specs.Standings.{standing_in}
 use Rattle.ev_indexes.specs.Watched.{WatchesKept, watch_in}
-use Rattle.ev_indexes.specs.Ready.{name_needed, is_limited_in, is_due_at}
+use Rattle.ev_indexes.specs.Ready.{is_due_at}
 use Rattle.ev_indexes.specs.declared.state.State.{State}
 
--- the name is the one that is needed
-abbrev pub is_needed : List ℕ → Option (List ℕ) → Bool
-is_needed name None = false
-is_needed name (Some needed) = bytes_eq needed name
+-- a generation of this content depends on the name
+abbrev pub is_needed : List ℕ → Content → Bool
+is_needed name content = list_any (λ (d : Dependency). bytes_eq d.name name) (dependencies_of content)
+
+-- it depends on the name, and its wait is limited
+abbrev pub is_needed_limited : List ℕ → Content → Bool
+is_needed_limited name content = list_any (λ (d : Dependency). d.limited && bytes_eq d.name name) (dependencies_of content)
 
 -- a live row depends on the name
 abbrev pub depends_on : List ℕ → GenRow → Bool
-depends_on name row = is_live row.status && is_needed name (name_needed row.content)
+depends_on name row = is_live row.status && is_needed name row.content
 
 -- a live row depends on the name, and its wait is limited
 abbrev pub waits_limited : List ℕ → GenRow → Bool
-waits_limited name row = depends_on name row && is_limited_in row.content
+waits_limited name row = is_live row.status && is_needed_limited name row.content
 
 -- the row serves the name
 abbrev pub serves : List ℕ → GenRow → Bool

@@ -1,32 +1,36 @@
 -- Names that generations began or ceased to depend on since so many numbers were drawn, by the numbers of the generations that were
 -- made and of those that retired.
-use Rattle.std.specs.Prelude.{ℕ, zero, suc, ◌+◌, ◌-◌, Bool, not, ◌&&◌, nat_le, if◌then◌else◌, List, [], ◌∷◌, ◌++◌, Option, None, Some, filter, option_to_list}
+use Rattle.std.specs.Prelude.{ℕ, zero, suc, ◌+◌, ◌-◌, Bool, not, ◌&&◌, nat_le, if◌then◌else◌, List, [], ◌∷◌, ◌++◌, Option, None, Some, filter}
 use Rattle.std.specs.List.{list_any, flat_map}
 use Rattle.ev_types.specs.Statuses.{is_live}
 use Rattle.ev_types.specs.declared.contents.Content.{Content}
 use Rattle.ev_types.specs.declared.rows.GenRow.{GenRow}
 use Rattle.ev_model.specs.Watching.{sorted_names}
 use Rattle.ev_generations.specs.Tables.{row_in}
-use Rattle.ev_indexes.specs.Ready.{name_needed}
+use Rattle.ev_indexes.specs.Ready.{names_of}
 use Rattle.ev_indexes.specs.Indexes.{depends_on}
 
 -- a live row up to this number depends on the name
 abbrev pub is_held : ℕ → List GenRow → List ℕ → Bool
 is_held made rows name = list_any (λ (row : GenRow). nat_le row.number made && depends_on name row) rows
 
--- the name that a generation of this content depends on, where it isn't held
-abbrev pub free_need : ℕ → List GenRow → Content → List (List ℕ)
-free_need made rows content = filter (λ name. not (is_held made rows name)) (option_to_list (name_needed content))
+-- those of these names that aren't held
+abbrev pub free_names : ℕ → List GenRow → List (List ℕ) → List (List ℕ)
+free_names made rows names = filter (λ name. not (is_held made rows name)) names
+
+-- the names that a generation of this content depends on and that aren't held
+abbrev pub free_needs : ℕ → List GenRow → Content → List (List ℕ)
+free_needs made rows content = free_names made rows (names_of content)
 
 -- the same of a row that is found
 abbrev pub need_found : ℕ → List GenRow → Option GenRow → List (List ℕ)
 need_found made rows None = []
-need_found made rows (Some row) = free_need made rows row.content
+need_found made rows (Some row) = free_needs made rows row.content
 
 -- the same of a row that is found and live
 abbrev pub live_need_found : ℕ → List GenRow → Option GenRow → List (List ℕ)
 live_need_found made rows None = []
-live_need_found made rows (Some row) = if is_live row.status then free_need made rows row.content else []
+live_need_found made rows (Some row) = if is_live row.status then free_needs made rows row.content else []
 
 -- what the row of a number leaves, where it is up to `made`
 abbrev pub need_lost : ℕ → List GenRow → ℕ → List (List ℕ)

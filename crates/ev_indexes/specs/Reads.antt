@@ -1,5 +1,5 @@
 -- What is read of a state, by searches of its rows: the machine's words, where what came is looked up.
-use Rattle.std.specs.Prelude.{ℕ, Bool, false, not, ◌&&◌, ◌||◌, List, [], ◌∷◌, filter, map, option_to_list, unwrap_or}
+use Rattle.std.specs.Prelude.{ℕ, Bool, false, not, ◌&&◌, ◌||◌, List, [], ◌∷◌, filter, map, unwrap_or}
 use Rattle.std.specs.List.{list_any, flat_map}
 use Rattle.ev_types.specs.Hosts.{HostRowParts}
 use Rattle.ev_types.specs.Kinds.{kind_same}
@@ -25,7 +25,7 @@ use Rattle.ev_model.specs.World.{World}
 use Rattle.ev_endpoints.specs.Results.{ResultsKept, result_in}
 use Rattle.ev_mentions.specs.Lives.{is_at}
 use Rattle.ev_indexes.specs.Watched.{WatchesKept, watch_in}
-use Rattle.ev_indexes.specs.Ready.{name_needed, assignment_in}
+use Rattle.ev_indexes.specs.Ready.{names_of, assignment_in}
 use Rattle.ev_indexes.specs.Indexes.{waits_limited, serves, warms, holds}
 
 -- the live ones of these rows
@@ -34,7 +34,7 @@ live_rows rows = filter (λ (row : GenRow). is_live row.status) rows
 
 -- the names that live rows depend on, in the order of the rows
 abbrev pub names_needed : List GenRow → List (List ℕ)
-names_needed rows = flat_map (λ (row : GenRow). option_to_list (name_needed row.content)) (live_rows rows)
+names_needed rows = flat_map (λ (row : GenRow). names_of row.content) (live_rows rows)
 
 -- the same, sorted and without repeats
 abbrev pub names_watched : List GenRow → List (List ℕ)

@@ -1,7 +1,7 @@
 -- Which rows are due, by what is known of names and by the results that are kept: the machine's words, where what came is looked
 -- up. Source: cluster manager warming of Envoy's documentation.
-use Rattle.std.specs.Prelude.{◌≡◌, ⊤, ℕ, if◌then◌else◌, Bool, true, false, not, ◌&&◌, ◌||◌, List, [], ◌∷◌, Option, Some, None, is_some, option_map, unwrap_or}
-use Rattle.std.specs.List.{list_all}
+use Rattle.std.specs.Prelude.{◌≡◌, ℕ, if◌then◌else◌, Bool, true, false, not, ◌&&◌, ◌||◌, List, [], ◌∷◌, Option, Some, None, is_some, map}
+use Rattle.std.specs.List.{list_all, AllByRecursion}
 use Rattle.ev_types.specs.Hosts.{HostRowParts}
 use Rattle.ev_types.specs.SameHosts.{has_host}
 use Rattle.ev_types.specs.Statuses.{is_warming}
@@ -19,36 +19,31 @@ use Rattle.ev_generations.specs.Tables.{row_in}
 use Rattle.ev_indexes.specs.Due.{is_among}
 use Rattle.ev_indexes.specs.Watched.{WatchesKept, watch_in}
 
--- the first of these dependencies, where there is one
-abbrev pub first_dependency : List Dependency → Option Dependency
-first_dependency [] = None
-first_dependency (d ∷ ds) = Some d
+-- the names that a generation of this content depends on, in order
+abbrev pub names_of : Content → List (List ℕ)
+names_of content = map (λ (d : Dependency). d.name) (dependencies_of content)
 
--- the dependency of a content that has one at most: so has each content, a cluster its service and a listener its routes
-abbrev pub dependency_in : Content → Option Dependency
-dependency_in content = first_dependency (dependencies_of content)
+-- the name of a dependency that is found
+abbrev pub name_found : Option Dependency → List (List ℕ)
+name_found None = []
+name_found (Some d) = d.name ∷ []
 
--- the name that a generation of this content depends on
-abbrev pub name_needed : Content → Option (List ℕ)
-name_needed content = option_map (λ (d : Dependency). d.name) (dependency_in content)
+-- what is depended on has 1 to 512 bytes
+abbrev pub HaveNames : List Dependency → Type 0
+HaveNames ds = AllByRecursion (λ (d : Dependency). IsName d.name) ds
 
--- its wait ends at the initial fetch timeout
-abbrev pub is_limited_in : Content → Bool
-is_limited_in content = unwrap_or (option_map (λ (d : Dependency). d.limited) (dependency_in content)) false
+-- what is depended on was told of, or timed out where the wait is limited
+abbrev pub has_answer_in : WatchesKept → Dependency → Bool
+has_answer_in watches d = (watch_in watches d.name).told || ((watch_in watches d.name).timed && d.limited)
 
--- what is needed has 1 to 512 bytes
-abbrev pub IsNeedName : Option (List ℕ) → Type 0
-IsNeedName None = ⊤
-IsNeedName (Some name) = IsName name
-
--- the name was told of, or timed out where the wait is limited
-abbrev pub has_answer_in : WatchesKept → Bool → Option (List ℕ) → Bool
-has_answer_in watches limited None = true
-has_answer_in watches limited (Some name) = (watch_in watches name).told || ((watch_in watches name).timed && limited)
-
--- a generation of this content is answered
+-- a generation of this content is answered: each of its dependencies is
 abbrev pub is_answered_in : WatchesKept → Content → Bool
-is_answered_in watches content = has_answer_in watches (is_limited_in content) (name_needed content)
+is_answered_in watches content = list_all (has_answer_in watches) (dependencies_of content)
+
+-- a dependency that is found is answered
+abbrev pub is_answer_found : WatchesKept → Option Dependency → Bool
+is_answer_found watches None = true
+is_answer_found watches (Some d) = has_answer_in watches d
 
 -- the hosts that stand in a cluster, or the value of its service, or none
 abbrev pub discovered_in : WatchesKept → Discovery → List HostRowParts

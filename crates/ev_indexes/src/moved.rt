@@ -1,11 +1,14 @@
 //! Which names generations ceased or began to depend on, by the generations that changed alone.
 
-ghost use Rattle.std.specs.Prelude.{◌≡◌, ◌++◌, IfOk, OnOk};
+ghost use Rattle.std.specs.Prelude.{◌≡◌, ◌++◌, slice_get, IfOk, OnOk};
 ghost use Rattle.ev_indexes.specs.Indexes.{IsIndexed};
-ghost use Rattle.ev_indexes.specs.Moved.{is_held, free_need, need_lost, need_gained, names_lost, names_gained};
+ghost use Rattle.ev_model.specs.Watching.{dependencies_of};
+ghost use Rattle.ev_indexes.specs.Ready.{name_found};
+ghost use Rattle.ev_indexes.specs.Moved.{is_held, free_names, free_needs, need_lost, need_gained, names_lost, names_gained};
 
+use crate::State;
+use crate::needs::{need_at, need_count};
 use crate::watched::sort;
-use crate::{State, needed};
 use ev_types::{Content, Gen, Name, Seq, TryCopy};
 use std::alloc::{AllocError, Global};
 
@@ -82,7 +85,7 @@ impl State {
         }
     }
 
-    // Puts to the others the name that a generation of this content depends on, where no live one up to the number `made` does.
+    // Puts to the others the names that a generation of this content depends on, and no live one up to the number `made` does.
     fn push_free(
         &self,
         alloc: Global,
@@ -91,13 +94,32 @@ impl State {
         names: &mut Vec<Name>,
     ) -> Result<(), AllocError>
         requires indexed { IsIndexed self.now }
-        ensures { OnOk result (names.new.items ≡ names.old.items ++ free_need made self.now.table.rows content.now) }
+        ensures { OnOk result (names.new.items ≡ names.old.items ++ free_needs made self.now.table.rows content.now) }
     {
-        let Some(name) = needed(content) else {
+        for place in 0..need_count(content) {
+            self.push_free_at(alloc, made, content, place, names)?;
+        }
+        Ok(())
+    }
+
+    // The same of what it depends on at a place.
+    fn push_free_at(
+        &self,
+        alloc: Global,
+        made: u32,
+        content: &Content,
+        place: usize,
+        names: &mut Vec<Name>,
+    ) -> Result<(), AllocError>
+        requires indexed { IsIndexed self.now }
+        ensures { OnOk result (names.new.items ≡ names.old.items
+            ++ free_names made self.now.table.rows (name_found (slice_get (dependencies_of content.now) place))) }
+    {
+        let Some(need) = need_at(content, place) else {
             return Ok(());
         };
-        if !self.is_held(made, name) {
-            names.push(name.copy(alloc)?)?;
+        if !self.is_held(made, need.name) {
+            names.push(need.name.copy(alloc)?)?;
         }
         Ok(())
     }

@@ -1,73 +1,48 @@
 //! Whether generations are ready, and which are due by that.
 
-ghost use Rattle.std.specs.Prelude.{◌≡◌, ◌+◌, Some, length, OnOk};
-ghost use Rattle.std.specs.Option.{option_copied};
-ghost use Rattle.ev_types.specs.Texts.{IsName};
+ghost use Rattle.std.specs.Prelude.{◌≡◌, ◌+◌, length, slice_get, OnOk};
+ghost use Rattle.ev_model.specs.Watching.{dependencies_of};
 ghost use Rattle.ev_model.specs.Warming.{rows_in};
 ghost use Rattle.ev_indexes.specs.Watched.{watch_in};
-ghost use Rattle.ev_indexes.specs.Ready.{name_needed, is_limited_in, IsNeedName, are_results_in, is_answered_in, is_round_done_in, is_ready_in, Refreshes};
+ghost use Rattle.ev_indexes.specs.Ready.{has_answer_in, is_answer_found, are_results_in, is_answered_in, is_round_done_in, is_ready_in, Refreshes};
 
+use crate::needs::{Need, need_at, need_count};
 use crate::{Due, Watches};
 use ev_endpoints::Endpoints;
 use ev_generations::{Generations, Steps};
-use ev_types::{Content, Discovery, Gen, GenRow, Name, Serve};
+use ev_types::{Content, Discovery, Gen, GenRow, Name};
 use std::alloc::AllocError;
 use std::sync::ledger::Ledger;
 
-/// The name that a generation of this content depends on.
-pub fn needed(content: &Content) -> Option<&Name>
-    ensures value { option_copied result ≡ name_needed content.now }
-    ensures named { IsNeedName (name_needed content.now) }
-{
-    match content {
-        Content::Cluster(cluster) => match &cluster.get().discovery {
-            Discovery::Static(_) => None,
-            Discovery::Eds { service, .. } => given(service),
-        },
-        Content::Listener(listener) => match &listener.get().serve {
-            Serve::Rds { name, .. } => given(name),
-            _ => None,
-        },
-        _ => None,
-    }
-}
-
-// A name that is given has 1 to 512 bytes.
-fn given(name: &Name) -> Option<&Name>
-    ensures value { option_copied result ≡ Some name.now }
-    ensures named { IsName name.now }
-{
-    let _text = name.as_str();
-    Some(name)
-}
-
-/// Whether the wait of a generation of this content ends at the initial fetch timeout.
-pub fn limited(content: &Content) -> bool
-    ensures { result ≡ is_limited_in content.now }
-{
-    match content {
-        Content::Cluster(cluster) => match &cluster.get().discovery {
-            Discovery::Static(_) => false,
-            Discovery::Eds { limited, .. } => *limited,
-        },
-        Content::Listener(listener) => match &listener.get().serve {
-            Serve::Rds { limited, .. } => *limited,
-            _ => false,
-        },
-        _ => false,
-    }
-}
-
-// Whether a generation of this content is answered.
+// Whether a generation of this content is answered: each of what it depends on is.
 fn is_answered(watches: &Watches, content: &Content) -> bool
     ensures { result ≡ is_answered_in watches.now content.now }
 {
-    match needed(content) {
+    for place in 0..need_count(content) {
+        if !is_answered_at(watches, content, place) {
+            return false;
+        }
+    }
+    true
+}
+
+// Whether what a generation of this content depends on at a place is answered.
+fn is_answered_at(watches: &Watches, content: &Content, place: usize) -> bool
+    ensures { result ≡ is_answer_found watches.now (slice_get (dependencies_of content.now) place) }
+{
+    match need_at(content, place) {
+        Some(need) => has_answer(watches, &need),
         None => true,
-        Some(name) => match watches.get(name) {
-            Some(watch) => watch.told || (watch.timed && limited(content)),
-            None => false,
-        },
+    }
+}
+
+// Whether what is depended on was told of, or timed out where the wait is limited.
+fn has_answer(watches: &Watches, need: &Need<'_>) -> bool
+    ensures { result ≡ has_answer_in watches.now need.now }
+{
+    match watches.get(need.name) {
+        Some(watch) => watch.told || (watch.timed && need.limited),
+        None => false,
     }
 }
 
