@@ -167,7 +167,7 @@ module _ (line : Line) (before after : JournalParts) (old new : WorkerParts)
             ∙ ap (map _) (sym settled.lines);
       }
 
-  module _ (mid : WorkerParts) (batched : is_batched line.event ≡ true) (joined : HasJoined line old mid) where
+  module _ (mid : WorkerParts) (batched : is_batched line.event ≡ true) (joined : HasJoined line.at line.event old mid) where
     mid_works : WorksIn mid (world_now before)
     mid_works = record {
       begun = works.begun;

@@ -3,6 +3,7 @@ use Rattle.std.specs.Prelude.{ℕ, ◌≡◌, ◌≤◌, ◌<◌, ◌+◌, Bool,
 use Rattle.std.specs.List.{flat_map}
 use Rattle.ev_types.specs.Scripts.{ScriptParts, items_in}
 use Rattle.ev_types.specs.declared.events.Actor.TheVariants.{Worker}
+use Rattle.ev_types.specs.declared.events.Event.{Event}
 use Rattle.ev_types.specs.declared.events.Event.TheVariants.{Publish, Reap, Settle}
 use Rattle.ev_types.specs.declared.events.Answer.{Answer}
 use Rattle.ev_types.specs.declared.events.Line.{Line}
@@ -29,12 +30,12 @@ pub record HasSettled (at step : ℕ) (before after : JournalParts) (old new : W
   pub lines : new.lines ≡ []
   pub works : WorksIn new (world_now after)
 
--- an accept or close has joined its worker's batch
-pub record HasJoined (line : Line) (old new : WorkerParts) : Type 0 where
+-- an accept or close at this line has joined its worker's batch
+pub record HasJoined (at : ℕ) (event : Event) (old new : WorkerParts) : Type 0 where
   pub number : new.number ≡ old.number
   pub picture : new.picture ≡ old.picture
   pub longer : length new.lines ≡ length old.lines + 1
-  pub made : operations_made new ≡ operations_made old ++ record { actor = Worker old.number; at = line.at; step = 0; event = line.event } ∷ []
+  pub made : operations_made new ≡ operations_made old ++ record { actor = Worker old.number; at = at; step = 0; event = event } ∷ []
   pub from : (begun : List OpenMember) → IsMadeFrom begun old → IsMadeFrom begun new
 
 -- a line has gone through one of the workers: what goes out is in the journal, and what waits is in its batch

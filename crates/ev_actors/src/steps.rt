@@ -1,4 +1,4 @@
-ghost use Rattle.std.specs.Prelude.{◌≡◌, ◌≤◌, ◌<◌, ◌+◌, ◌&&◌, ◌↔◌, true, false, [], length, IsTrue, IfOk, OnOk};
+ghost use Rattle.std.specs.Prelude.{◌≡◌, ◌≤◌, ◌<◌, ◌+◌, ◌&&◌, ◌↔◌, true, false, [], length, IsTrue, IfOk, OnOk, OnErr};
 ghost use Rattle.ev_types.specs.Events.{IsMainSide, MayMake};
 ghost use Rattle.ev_types.specs.declared.events.Actor.TheVariants.{Worker as by_worker};
 ghost use Rattle.ev_model.specs.Operations.{batch_limit, is_automatic};
@@ -31,21 +31,23 @@ pub(crate) fn settle<R: Journaled>(
     Ok(())
 }
 
-// An accept or close joins the batch of its worker; at any other line nothing is done. It answers whether the line has joined.
-fn join(alloc: Global, worker: &mut Worker, line: &Line) -> Result<bool, AllocError>
-    requires room { is_batched line.now.event ≡ true → length worker.old.lines < batch_limit }
-    ensures answer { IfOk result (λ joined. joined ≡ is_batched line.now.event) }
-    ensures joined { OnOk result (is_batched line.now.event ≡ true → HasJoined line.now worker.old worker.new) }
-    ensures other { is_batched line.now.event ≡ false → worker.new ≡ worker.old }
+/// An accept or close at a line joins the batch of its worker; of any other event nothing is done. It answers whether the event has
+/// joined.
+pub fn join(alloc: Global, worker: &mut Worker, at: u32, event: &Event) -> Result<bool, AllocError>
+    requires room { is_batched event.now ≡ true → length worker.old.lines < batch_limit }
+    ensures answer { IfOk result (λ joined. joined ≡ is_batched event.now) }
+    ensures joined { OnOk result (is_batched event.now ≡ true → HasJoined at event.now worker.old worker.new) }
+    ensures other { is_batched event.now ≡ false → worker.new ≡ worker.old }
+    ensures err { OnErr result (worker.new ≡ worker.old) }
 {
-    match &line.event {
+    match event {
         Event::Accept(ask) => {
             let ask = ask.copy(alloc)?;
-            let _ = worker.accept(line.at, ask);
+            let _ = worker.accept(at, ask);
             Ok(true)
         }
         Event::Close(conn) => {
-            let _ = worker.close(line.at, *conn);
+            let _ = worker.close(at, *conn);
             Ok(true)
         }
         _ => Ok(false),
@@ -65,7 +67,7 @@ fn worker_line<R: Journaled>(
     ensures worked { OnOk result (HasWorked line.now (R.shows journaled.old) (R.shows journaled.new) worker.old worker.new) }
     ensures deferred { R.deferred journaled.new ≡ R.deferred journaled.old }
 {
-    let joined = join(alloc, worker, line)?;
+    let joined = join(alloc, worker, line.at, &line.event)?;
     if !joined {
         return settle(journaled, worker, line.at, 0);
     }

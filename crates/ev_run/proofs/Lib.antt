@@ -2,3 +2,4 @@ pub mod CloseLemmas
 pub mod PlaceLemmas
 pub mod WorkerLemmas
 pub mod SeatLemmas
+pub mod DueLemmas

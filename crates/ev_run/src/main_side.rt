@@ -1,10 +1,12 @@
-ghost use Rattle.std.specs.Prelude.{◌≡◌, true, OnOk, IsSome, Some, slice_get};
+ghost use Rattle.std.specs.Prelude.{◌≡◌, true, OnOk, IsSome, IsSomeAnd, Some, slice_get};
 ghost use Rattle.ev_types.specs.Events.{IsMainSide};
 ghost use Rattle.ev_actors.specs.Journals.{SufficeFor};
 ghost use Rattle.ev_types.specs.Events.{MayMake};
+ghost use Rattle.ev_model.specs.Runs.{is_batched};
 ghost use Rattle.ev_commits.specs.Commits.{seat_of};
 ghost use Rattle.ev_commits.specs.Seen.{HasActed, began_at, seen_by};
 ghost use Rattle.ev_fits.specs.Acting.{HasDone, HasEnded, IsActingOn, IsNextAct};
+ghost use Rattle.ev_operations.specs.Dues.{operation_due};
 ghost use Rattle.ev_run.specs.Playing.{IsGateFor, IsNewPass, IsPassAt};
 
 use crate::pace::Pace;
@@ -42,11 +44,34 @@ fn take_turn<R: Threads + Wait + Sync, J: Journaled, P: Pace>(
 }
 
 // The line at this place.
-pub(crate) fn line_at(script: &Script, place: u32) -> &Line
+fn line_at(script: &Script, place: u32) -> &Line
     requires there { IsSome (slice_get script.now.lines place) }
     ensures there { slice_get script.now.lines place ≡ Some result.now }
 {
     &script.lines.as_slice()[place as usize]
+}
+
+/// What is due of an actor: the line and the step at which it stands, and the event.
+pub(crate) fn operation_at(script: &Script, actor: Actor, due: Due) -> (u32, u32, &Event)
+    requires own { IsSomeAnd (operation_due script.now actor due) (λ o. o.actor ≡ actor) }
+    ensures is { operation_due script.now actor due ≡ Some record {
+      actor = actor;
+      at = result.0;
+      step = result.1;
+      event = result.2.now;
+    } }
+    ensures first { is_batched result.2.now ≡ true → result.1 ≡ 0 }
+{
+    match due {
+        Due::Line(place) => {
+            let line = line_at(script, place);
+            (line.at, 0, &line.event)
+        }
+        Due::Publish(place) => (line_at(script, place).at, 1, &Event::Publish),
+        Due::Reap(place) => (line_at(script, place).at, 2, &Event::Reap),
+        Due::Settle(place) => (line_at(script, place).at, 1, &Event::Settle),
+        Due::LastSettle => (script.count + 1, 0, &Event::Settle),
+    }
 }
 
 // An actor of the main side does what is due next.
@@ -67,22 +92,8 @@ fn act<R: Threads + Wait + Sync, J: Journaled, P: Pace>(
     ensures done { OnOk result.1 (HasDone script.now actor due
         (seen_by J.shows gate.now pass) (seen_by J.shows gate.now result.0)) }
 {
-    match due {
-        Due::Line(place) => {
-            let line = line_at(script, place);
-            take_turn(rt, gate, pace, pass, actor, line.at, 0, &line.event)
-        }
-        Due::Publish(place) => {
-            let line = line_at(script, place);
-            take_turn(rt, gate, pace, pass, actor, line.at, 1, &Event::Publish)
-        }
-        Due::Reap(place) => {
-            let line = line_at(script, place);
-            take_turn(rt, gate, pace, pass, actor, line.at, 2, &Event::Reap)
-        }
-        Due::Settle(_) => unreachable!(),
-        Due::LastSettle => unreachable!(),
-    }
+    let (at, step, event) = operation_at(script, actor, due);
+    take_turn(rt, gate, pace, pass, actor, at, step, event)
 }
 
 // An actor of the main side does what is due, in order, until it has no memory, and answers whether it came to the end.
