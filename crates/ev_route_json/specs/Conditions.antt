@@ -90,7 +90,8 @@ header_test_with None by_string string undecided = if by_string then string else
 unfoldable pub header_test_of : Data → HeaderTest
 header_test_of header =
     header_test_with
-    (pattern_with (text_of (codes "exact_match") header) (text_of (codes "prefix_match") header) (text_of (codes "suffix_match") header) (text_of (codes "contains_match") header))
+    (pattern_with (text_of (codes "exact_match") header) (text_of (codes "prefix_match") header) (text_of (codes "suffix_match") header)
+    (text_of (codes "contains_match") header))
     (is_given (object_of (codes "string_match") header))
     (string_matcher_of (string_match_of header))
     (is_given (object_of (codes "safe_regex_match") header) || is_given (object_of (codes "range_match") header))
@@ -98,25 +99,28 @@ header_test_of header =
 -- What the tests of a header break: what its string matcher breaks, where it has one, and what they break themselves.
 -- V21: more than one test, or an empty pattern but `exact_match`.
 unfoldable pub header_test_broken : Data → BrokenRules
-header_test_broken header = either_broken (broken_where (is_given (object_of (codes "string_match") header)) (string_matcher_broken (string_match_of header))) (record none_broken {
-  v6 =
-      is_wrong (text_of (codes "exact_match") header)
-      || is_wrong (text_of (codes "prefix_match") header)
-      || is_wrong (text_of (codes "suffix_match") header)
-      || is_wrong (text_of (codes "contains_match") header)
-      || is_wrong (boolean_of (codes "present_match") header)
-      || is_wrong (object_of (codes "string_match") header)
-      || is_wrong (object_of (codes "safe_regex_match") header)
-      || is_wrong (object_of (codes "range_match") header);
-  v21 =
-      more_than_one (
-      is_given (text_of (codes "exact_match") header) ∷ is_given (text_of (codes "prefix_match") header) ∷ is_given (text_of (codes "suffix_match") header)
-      ∷ is_given (text_of (codes "contains_match") header) ∷ is_given (boolean_of (codes "present_match") header) ∷ is_given (object_of (codes "string_match") header)
-      ∷ is_given (object_of (codes "safe_regex_match") header) ∷ is_given (object_of (codes "range_match") header) ∷ [])
-      || is_empty_text (text_of (codes "prefix_match") header)
-      || is_empty_text (text_of (codes "suffix_match") header)
-      || is_empty_text (text_of (codes "contains_match") header);
-})
+header_test_broken header = either_broken
+    (broken_where (is_given (object_of (codes "string_match") header)) (string_matcher_broken (string_match_of header)))
+    (record none_broken {
+      v6 =
+          is_wrong (text_of (codes "exact_match") header)
+          || is_wrong (text_of (codes "prefix_match") header)
+          || is_wrong (text_of (codes "suffix_match") header)
+          || is_wrong (text_of (codes "contains_match") header)
+          || is_wrong (boolean_of (codes "present_match") header)
+          || is_wrong (object_of (codes "string_match") header)
+          || is_wrong (object_of (codes "safe_regex_match") header)
+          || is_wrong (object_of (codes "range_match") header);
+      v21 =
+          more_than_one (
+          is_given (text_of (codes "exact_match") header) ∷ is_given (text_of (codes "prefix_match") header) ∷ is_given (text_of (codes "suffix_match") header)
+          ∷ is_given (text_of (codes "contains_match") header) ∷ is_given (boolean_of (codes "present_match") header)
+          ∷ is_given (object_of (codes "string_match") header) ∷ is_given (object_of (codes "safe_regex_match") header)
+          ∷ is_given (object_of (codes "range_match") header) ∷ [])
+          || is_empty_text (text_of (codes "prefix_match") header)
+          || is_empty_text (text_of (codes "suffix_match") header)
+          || is_empty_text (text_of (codes "contains_match") header);
+    })
 
 -- ---- a header matcher
 
@@ -223,7 +227,8 @@ path_specifier_broken tree = record none_broken {
   v21 =
       not (exactly_one (
       is_given (text_of (codes "prefix") tree) ∷ is_given (text_of (codes "path") tree) ∷ is_given (text_of (codes "path_separated_prefix") tree)
-      ∷ is_given (object_of (codes "safe_regex") tree) ∷ is_given (object_of (codes "connect_matcher") tree) ∷ is_given (object_of (codes "path_match_policy") tree) ∷ []))
+      ∷ is_given (object_of (codes "safe_regex") tree) ∷ is_given (object_of (codes "connect_matcher") tree)
+      ∷ is_given (object_of (codes "path_match_policy") tree) ∷ []))
       || separated_is_bad (text_of (codes "path_separated_prefix") tree);
 }
 
