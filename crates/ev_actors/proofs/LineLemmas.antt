@@ -71,6 +71,21 @@ worker_batches workers worker (Accept ask) may h = refl
 worker_batches workers worker (Close connection) may h = refl
 worker_batches workers worker Settle may h = cc
 
+-- and what is no accept or close is a settle
+pub worker_settles : (workers worker : ℕ) (event : Event) → MayMake workers (Worker worker) event → is_batched event ≡ false → is_settle event ≡ true
+worker_settles workers worker Connect may h = absurd may
+worker_settles workers worker Disconnect may h = absurd may
+worker_settles workers worker (Response response) may h = absurd may
+worker_settles workers worker (health cluster host healthy) may h = absurd may
+worker_settles workers worker (FetchTimeout timeout) may h = absurd may
+worker_settles workers worker (DrainTimeout listener) may h = absurd may
+worker_settles workers worker (TtlExpired kind name) may h = absurd may
+worker_settles workers worker Publish may h = absurd may
+worker_settles workers worker Reap may h = absurd may
+worker_settles workers worker (Accept ask) may h = cc
+worker_settles workers worker (Close connection) may h = cc
+worker_settles workers worker Settle may h = refl
+
 -- and it is one of the workers
 pub worker_below : (workers worker : ℕ) (event : Event) → MayMake workers (Worker worker) event → worker < workers
 worker_below workers worker Connect may = absurd may

@@ -38,6 +38,10 @@ SufficeFor event parts = NumbersSuffice (world_now parts) event
 abbrev pub answer_now : Actor → Event → JournalParts → Answer
 answer_now actor event parts = (machine_step parts.format (world_now parts) actor event).1
 
+-- an event of an actor, answered as the machine answers it there, as an entry
+abbrev pub entry_made : Actor → ℕ → ℕ → Event → JournalParts → Entry
+entry_made actor at step event parts = record { actor = actor; at = at; step = step; event = event; answer = answer_now actor event parts }
+
 -- The worker works in this world: its batch was made on the picture that it holds there and the connections that it has open
 -- there. The world knows nothing of the batch yet.
 pub record WorksIn (worker : WorkerParts) (world : World) : Type 0 where

@@ -1,4 +1,4 @@
-ghost use Rattle.std.specs.Prelude.{◌≡◌, ◌≤◌, length, IfOk, OnOk};
+ghost use Rattle.std.specs.Prelude.{◌≡◌, ◌≤◌, [], length, IfOk, OnOk};
 ghost use Rattle.ev_model.specs.Dead.{last_picture};
 ghost use Rattle.ev_actors.specs.Journals.{HasReplayed, nothing_done, world_now};
 ghost use Rattle.ev_actors.specs.Taken.{HaveBegun, HaveSettled};
@@ -12,14 +12,15 @@ use std::alloc::{AllocError, Global};
 
 /// Takes the whole script on one thread, in one pass over its lines: what comes back shows the script's replay, by the rules of
 /// format 2. What is passed has done nothing yet. Each worker keeps its accepts and closes until it settles, by a line of its
-/// own, where its batch is full, or behind the last line.
+/// own, where its batch is full, or behind the last line. The rows of what is reaped are let go at once.
 pub fn replay<R: Journaled + Drop>(
     alloc: Global,
     script: &Script,
     journaled: R,
 ) -> Result<R, AllocError>
     requires begins { R.shows journaled ≡ nothing_done script.now }
-    ensures { IfOk result (λ journaled. HasReplayed script.now (R.shows journaled)) }
+    ensures replayed { IfOk result (λ journaled. HasReplayed script.now (R.shows journaled)) }
+    ensures let_go { IfOk result (λ after. R.deferred journaled ≡ [] → R.deferred after ≡ []) }
 {
     let mut journaled = journaled;
     let mut workers = begin(alloc, &journaled, script.workers)?;
@@ -59,7 +60,8 @@ fn settle_all<R: Journaled>(
 ) -> Result<(), AllocError>
     requires count { length workers.old ≡ (R.shows journaled.old).workers }
     requires working { AreAtWork (world_now (R.shows journaled.old)) workers.old }
-    ensures { OnOk result (HaveSettled at (R.shows journaled.old) (R.shows journaled.new) workers.old) }
+    ensures settled { OnOk result (HaveSettled at (R.shows journaled.old) (R.shows journaled.new) workers.old) }
+    ensures deferred { OnOk result (R.deferred journaled.new ≡ R.deferred journaled.old) }
 {
     for number in 0..workers.len() {
         settle(journaled, &mut workers[number], at, 0)?;

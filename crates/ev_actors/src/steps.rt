@@ -1,7 +1,7 @@
-ghost use Rattle.std.specs.Prelude.{◌≡◌, ◌≤◌, ◌<◌, ◌+◌, ◌&&◌, ◌↔◌, true, length, IsTrue, OnOk};
+ghost use Rattle.std.specs.Prelude.{◌≡◌, ◌≤◌, ◌<◌, ◌+◌, ◌&&◌, ◌↔◌, true, false, [], length, IsTrue, IfOk, OnOk};
 ghost use Rattle.ev_types.specs.Events.{IsMainSide, MayMake};
 ghost use Rattle.ev_types.specs.declared.events.Actor.TheVariants.{Worker as by_worker};
-ghost use Rattle.ev_model.specs.Operations.{batch_limit, is_automatic, is_settle as is_settle_event};
+ghost use Rattle.ev_model.specs.Operations.{batch_limit, is_automatic};
 ghost use Rattle.ev_model.specs.Runs.{is_batched};
 ghost use Rattle.ev_actors.specs.Journals.{SufficeFor, WorksIn, world_now};
 ghost use Rattle.ev_actors.specs.Taken.{HasEntered, HasFollowed, HasGoneOut, HasJoined, HasSettled, HasWorked, IsTaken};
@@ -22,7 +22,8 @@ pub(crate) fn settle<R: Journaled>(
 ) -> Result<(), AllocError>
     requires within { worker.old.number < (R.shows journaled.old).workers }
     requires works { WorksIn worker.old (world_now (R.shows journaled.old)) }
-    ensures { OnOk result (HasSettled at step (R.shows journaled.old) (R.shows journaled.new) worker.old worker.new) }
+    ensures settled { OnOk result (HasSettled at step (R.shows journaled.old) (R.shows journaled.new) worker.old worker.new) }
+    ensures deferred { R.deferred journaled.new ≡ R.deferred journaled.old }
 {
     worker.prepare()?;
     let settled = journaled.apply_batch(worker, at, step)?;
@@ -30,23 +31,24 @@ pub(crate) fn settle<R: Journaled>(
     Ok(())
 }
 
-// An accept or close joins the batch of its worker.
-fn join(alloc: Global, worker: &mut Worker, line: &Line) -> Result<(), AllocError>
-    requires room { length worker.old.lines < batch_limit }
-    requires batched { is_batched line.now.event ≡ true }
-    ensures { OnOk result (HasJoined line.now worker.old worker.new) }
+// An accept or close joins the batch of its worker; at any other line nothing is done. It answers whether the line has joined.
+fn join(alloc: Global, worker: &mut Worker, line: &Line) -> Result<bool, AllocError>
+    requires room { is_batched line.now.event ≡ true → length worker.old.lines < batch_limit }
+    ensures answer { IfOk result (λ joined. joined ≡ is_batched line.now.event) }
+    ensures joined { OnOk result (is_batched line.now.event ≡ true → HasJoined line.now worker.old worker.new) }
+    ensures other { is_batched line.now.event ≡ false → worker.new ≡ worker.old }
 {
     match &line.event {
         Event::Accept(ask) => {
             let ask = ask.copy(alloc)?;
             let _ = worker.accept(line.at, ask);
-            Ok(())
+            Ok(true)
         }
         Event::Close(conn) => {
             let _ = worker.close(line.at, *conn);
-            Ok(())
+            Ok(true)
         }
-        _ => unreachable!(),
+        _ => Ok(false),
     }
 }
 
@@ -60,12 +62,13 @@ fn worker_line<R: Journaled>(
     requires working { IsAtWork worker.old.number (world_now (R.shows journaled.old)) worker.old }
     requires own { line.now.actor ≡ by_worker worker.old.number }
     requires allowed { MayMake (R.shows journaled.old).workers line.now.actor line.now.event }
-    ensures { OnOk result (HasWorked line.now (R.shows journaled.old) (R.shows journaled.new) worker.old worker.new) }
+    ensures worked { OnOk result (HasWorked line.now (R.shows journaled.old) (R.shows journaled.new) worker.old worker.new) }
+    ensures deferred { R.deferred journaled.new ≡ R.deferred journaled.old }
 {
-    if is_settle(&line.event) {
+    let joined = join(alloc, worker, line)?;
+    if !joined {
         return settle(journaled, worker, line.at, 0);
     }
-    join(alloc, worker, line)?;
     let full = is_full(worker);
     if full {
         settle(journaled, worker, line.at, 1)
@@ -82,13 +85,6 @@ fn is_full(worker: &Worker) -> bool
     worker.room() == 0
 }
 
-// Whether the event is a settle.
-fn is_settle(event: &Event) -> bool
-    ensures { result ≡ is_settle_event event.now }
-{
-    matches!(event, Event::Settle)
-}
-
 // Whether a publication and a reaping follow the actor's lines, by whether the script says `auto`.
 fn is_followed(auto: bool, actor: Actor) -> bool
     ensures { result ≡ (auto && is_automatic actor) }
@@ -96,7 +92,7 @@ fn is_followed(auto: bool, actor: Actor) -> bool
     auto && matches!(actor, Actor::Stream | Actor::Health | Actor::Timer)
 }
 
-// An event of the main side, whose answer is told to no one. The rows of what it reaped are dropped at once.
+// An event of the main side is entered. The rows of what it reaped are dropped at once.
 fn enter<R: Journaled>(
     journaled: &mut R,
     actor: Actor,
@@ -107,10 +103,11 @@ fn enter<R: Journaled>(
     requires main { IsMainSide actor }
     requires allowed { MayMake (R.shows journaled.old).workers actor event.now }
     requires numbered { SufficeFor event.now (R.shows journaled.old) }
-    ensures { OnOk result (HasEntered record { actor = actor; at = at; step = step; event = event.now }
+    ensures entered { OnOk result (HasEntered record { actor = actor; at = at; step = step; event = event.now }
         (R.shows journaled.old) (R.shows journaled.new)) }
+    ensures let_go { OnOk result (R.deferred journaled.new ≡ []) }
 {
-    let _ = journaled.apply(actor, at, step, event)?;
+    journaled.apply(actor, at, step, event)?;
     drop(journaled.take_deferred());
     Ok(())
 }
@@ -118,7 +115,8 @@ fn enter<R: Journaled>(
 // The publication and the reaping behind a line.
 fn follow<R: Journaled>(journaled: &mut R, line: &Line) -> Result<(), AllocError>
     requires main { IsMainSide line.now.actor }
-    ensures { OnOk result (HasFollowed line.now (R.shows journaled.old) (R.shows journaled.new)) }
+    ensures followed { OnOk result (HasFollowed line.now (R.shows journaled.old) (R.shows journaled.new)) }
+    ensures let_go { OnOk result (R.deferred journaled.new ≡ []) }
 {
     enter(journaled, line.actor, line.at, 1, &Event::Publish)?;
     enter(journaled, line.actor, line.at, 2, &Event::Reap)?;
@@ -130,7 +128,8 @@ fn main_line<R: Journaled>(journaled: &mut R, auto: bool, line: &Line) -> Result
     requires main { IsMainSide line.now.actor }
     requires allowed { MayMake (R.shows journaled.old).workers line.now.actor line.now.event }
     requires numbered { SufficeFor line.now.event (R.shows journaled.old) }
-    ensures { OnOk result (HasGoneOut auto line.now (R.shows journaled.old) (R.shows journaled.new)) }
+    ensures out { OnOk result (HasGoneOut auto line.now (R.shows journaled.old) (R.shows journaled.new)) }
+    ensures let_go { OnOk result (R.deferred journaled.new ≡ []) }
 {
     enter(journaled, line.actor, line.at, 0, &line.event)?;
     let followed = is_followed(auto, line.actor);
@@ -153,8 +152,9 @@ pub(crate) fn take_line<R: Journaled>(
     requires working { AreAtWork (world_now (R.shows journaled.old)) workers.old }
     requires allowed { MayMake (R.shows journaled.old).workers line.now.actor line.now.event }
     requires numbered { SufficeFor line.now.event (R.shows journaled.old) }
-    ensures { OnOk result (IsTaken auto line.now (R.shows journaled.old)
+    ensures taken { OnOk result (IsTaken auto line.now (R.shows journaled.old)
         (R.shows journaled.new) workers.old workers.new) }
+    ensures let_go { OnOk result (R.deferred journaled.old ≡ [] → R.deferred journaled.new ≡ []) }
 {
     match line.actor {
         Actor::Worker(number) => {

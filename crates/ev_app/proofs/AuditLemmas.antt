@@ -2,6 +2,8 @@
 use Rattle.std.proofs.Common.{ℕ, true, List, Option, Result, Ok, Err, inl}
 use Rattle.ev_io.specs.declared.faults.ScriptFault.{ScriptFault}
 use Rattle.ev_io.specs.declared.faults.ScriptFault.TheVariants.{Bad, Read, OutOfMemory as lacks_memory}
+use Rattle.ev_types.specs.Scripts.{IsScript}
+use Rattle.ev_model_laws.specs.LegalFindings.{LegalExactly}
 use Rattle.ev_script.specs.Faults.{Input}
 use Rattle.ev_audit_input.specs.declared.audited.Audited.{Audited}
 use Rattle.ev_audit_input.specs.Faults.{IsFaultWithJournal}
@@ -25,15 +27,23 @@ pub dump_fault : (entries : ℕ) (input : Input) (line number : ℕ) → IsFault
 dump_fault entries input line number fault = record { place = fault.place; kind = fault.kind; stands = fault.stands; first = fault.first; told = fault.told; numbered = fault.numbered }
 
 -- the line answers what was read
-pub audited : (before after : Option (List ℕ)) (audited : Audited) (made : Made) → ReadsAuditInput before after (Ok audited)
+pub audited : (before after : Option (List ℕ)) (audited : Audited) (made : Made) → LegalExactly → IsScript audited.script → ReadsAuditInput before after (Ok audited)
     → IsAuditText audited.format audited.script audited.rows.items made.status made.text.items → IsMadeBy Audit before after (Ok made)
-audited before after found made read told = record {
+audited before after found made exactly kept read told = record {
   input = read.input;
   takes = taken read;
   is = record {
     ended = read.is.ended;
     sound = record { early = read.is.sound; late = λ whole line number no. no };
-    answers = record { format = found.format; script = found.script; rows = found.rows.items; parts = read.is.parts; audited = told };
+    answers = record {
+      format = found.format;
+      script = found.script;
+      rows = found.rows.items;
+      parts = read.is.parts;
+      kept = kept;
+      exactly = exactly found.format found.script found.rows.items kept;
+      audited = told;
+    };
   };
 }
 

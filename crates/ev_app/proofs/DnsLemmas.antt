@@ -4,6 +4,7 @@ use Rattle.std.specs.declared.alloc.Global.{Global}
 use Rattle.serde_json.specs.View.{view}
 use Rattle.ev_io.specs.declared.faults.ScriptFault.{ScriptFault}
 use Rattle.ev_io.specs.declared.faults.ScriptFault.TheVariants.{Bad, Read, OutOfMemory as lacks_memory}
+use Rattle.ev_types.specs.Scripts.{IsScript}
 use Rattle.ev_script.specs.declared.trees.ScriptTrees.{ScriptTrees}
 use Rattle.ev_script.specs.Faults.{Input, IsFaultOf, HasNoFault, plain_lines}
 use Rattle.ev_script.specs.Script.{script_of}
@@ -28,11 +29,11 @@ use Rattle.ev_app.proofs.TreeLemmas.{whole_trees}
 -- the text that was made
 pub dns_told : (trees : ScriptTrees) (text : Vec ℕ Global) (made : Made) → LastAnswers → IsExpanded dns_rules (view trees.head) (lines_in trees) (Ok text)
     → HasNoFault plain_lines (input_of_text text.items) → script_of false text.items ≡ Some (expanded_script dns_rules trees)
-    → made.status ≡ Done → made.text ≡ text → IsDnsAnswer trees (Ok made)
-dns_told trees text made law told sound script done same = (
+    → IsScript (expanded_script dns_rules trees) → made.status ≡ Done → made.text ≡ text → IsDnsAnswer trees (Ok made)
+dns_told trees text made law told sound script kept done same = (
   has_made dns_rules trees text told,
   done,
-  record { made = text_made dns_rules trees text made.text told sound script same; last = λ format journal. law trees format journal told.0 },
+  record { made = text_made dns_rules trees text made.text told sound script kept same; last = λ format journal. law trees format journal told.0 kept },
 )
 
 -- why none was

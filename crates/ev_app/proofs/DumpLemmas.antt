@@ -7,12 +7,13 @@ use Rattle.ev_types.specs.declared.journals.Format.{Format}
 use Rattle.ev_types.specs.declared.journals.Row.{Row}
 use Rattle.ev_audit_input.specs.declared.audited.Audited.{Audited}
 use Rattle.ev_audit_input.specs.Parts.{IsParts, ReadsAuditInput}
-use Rattle.ev_dump.specs.Dumps.{IsNoCommit}
+use Rattle.ev_dump.specs.Dumps.{DumpsByPrefix, IsNoCommit}
 use Rattle.ev_fronts.specs.Fronts.{ends_commit}
 use Rattle.ev_app.specs.declared.commands.Command.TheVariants.{Dump}
 use Rattle.ev_app.specs.declared.made.Made.{Made}
 use Rattle.ev_app.specs.declared.status.Status.{Status}
-use Rattle.ev_app.specs.Dumps.{IsDumpText, IsDumpAnswer, EndsNoCommit}
+use Rattle.ev_app.specs.declared.status.Status.TheVariants.{Done}
+use Rattle.ev_app.specs.Dumps.{IsDumpText, IsDumpAnswer, IsDumpByPrefix, EndsNoCommit}
 use Rattle.ev_app.specs.Texts.{IsMadeBy}
 use Rattle.ev_app.proofs.AuditLemmas.{taken, dump_fault}
 use Rattle.ev_app.proofs.PartsLemmas.{ArePartsOf, one_parts}
@@ -36,10 +37,17 @@ no_late bytes format script rows entries status text kept parts told line number
     (subst (λ (s : ScriptParts). IsNoCommit late.format s rows entries line) (sym same.scripts)
     (subst (λ (rs : List Row). IsNoCommit late.format late.script rs entries line) (sym same.same) late.none)))
 
+-- each legal journal that agrees in these entries has the dump
+by_prefix : (format : Format) (script : ScriptParts) (rows : List Row) (entries : ℕ) (status : Status) (text : List ℕ) → DumpsByPrefix → IsScript script
+    → IsDumpText format script rows entries status text → status ≡ Done → IsDumpByPrefix format script rows entries text
+by_prefix format script rows entries status text law kept (inl dumped) done =
+    λ other others another kept_there agree there. law format other script others rows entries another text kept_there kept agree there dumped.1
+by_prefix format script rows entries status text law kept (inr wrong) done = absurd (cc (done, wrong.0))
+
 -- the line answers what was read, or no commit ends there
-pub dumped : (before after : Option (List ℕ)) (entries : ℕ) (audited : Audited) (result : Result Made ScriptFault) → IsScript audited.script → ReadsAuditInput before after (Ok audited)
+pub dumped : (before after : Option (List ℕ)) (entries : ℕ) (audited : Audited) (result : Result Made ScriptFault) → DumpsByPrefix → IsScript audited.script → ReadsAuditInput before after (Ok audited)
     → IsDumpAnswer audited.format audited.script audited.rows.items entries result → IsMadeBy (Dump entries) before after result
-dumped before after entries found (Ok made) kept read told = record {
+dumped before after entries found (Ok made) law kept read told = record {
   input = read.input;
   takes = taken read;
   is = record {
@@ -48,16 +56,24 @@ dumped before after entries found (Ok made) kept read told = record {
       early = read.is.sound;
       late = λ whole line number late. no_late read.input.bytes found.format found.script found.rows.items entries made.status made.text.items kept read.is.parts told line number late;
     };
-    answers = record { format = found.format; script = found.script; rows = found.rows.items; parts = read.is.parts; dumped = told };
+    answers = record {
+      format = found.format;
+      script = found.script;
+      rows = found.rows.items;
+      parts = read.is.parts;
+      kept = kept;
+      prefix = by_prefix found.format found.script found.rows.items entries made.status made.text.items law kept told;
+      dumped = told;
+    };
   };
 }
-dumped before after entries found (Err (Bad line number)) kept read told = record {
+dumped before after entries found (Err (Bad line number)) law kept read told = record {
   input = read.input;
   takes = taken read;
   is = inr (read.is.ended, read.is.sound, record { format = found.format; script = found.script; rows = found.rows.items; parts = read.is.parts; none = told.0; numbered = told.1 });
 }
-dumped before after entries found (Err Read) kept read told = absurd told
-dumped before after entries found (Err lacks_memory) kept read told = record { input = read.input; takes = taken read; is = tt }
+dumped before after entries found (Err Read) law kept read told = absurd told
+dumped before after entries found (Err lacks_memory) law kept read told = record { input = read.input; takes = taken read; is = tt }
 
 -- nothing was read
 pub not_dumped : (before after : Option (List ℕ)) (entries : ℕ) (fault : ScriptFault) → ReadsAuditInput before after (Err fault) → IsMadeBy (Dump entries) before after (Err fault)

@@ -5,6 +5,7 @@ use Rattle.std.proofs.lemmas.List.{map-append, take-append-drop}
 use Rattle.std.proofs.lemmas.Grind.{flat_map-append}
 use Rattle.serde_json.specs.Data.{Data}
 use Rattle.serde_json.specs.View.{view}
+use Rattle.ev_types.specs.Scripts.{IsScript}
 use Rattle.ev_script.specs.declared.trees.ScriptTrees.{ScriptTrees}
 use Rattle.ev_script.specs.Faults.{LineForms, HasNoFault, plain_lines}
 use Rattle.ev_script.specs.Script.{script_of}
@@ -26,11 +27,13 @@ has_made rules trees text told = record { unused = told.0; limits = told.1 }
 
 -- it is that of the rules, and so is what is the same
 pub text_made : (rules : Rules) (trees : ScriptTrees) (text same : Vec ℕ Global) → IsExpanded rules (view trees.head) (lines_in trees) (Ok text)
-    → HasNoFault plain_lines (input_of_text text.items) → script_of false text.items ≡ Some (expanded_script rules trees) → same ≡ text → IsTextBy rules trees same.items
-text_made rules trees text same told sound script is = record {
+    → HasNoFault plain_lines (input_of_text text.items) → script_of false text.items ≡ Some (expanded_script rules trees) → IsScript (expanded_script rules trees)
+    → same ≡ text → IsTextBy rules trees same.items
+text_made rules trees text same told sound script kept is = record {
   is = ap (λ (t : Vec ℕ Global). t.items) is ∙ told.3;
   sound = subst (λ (t : Vec ℕ Global). HasNoFault plain_lines (input_of_text t.items)) (sym is) sound;
   script = ap (λ (t : Vec ℕ Global). script_of false t.items) is ∙ script;
+  kept = kept;
 }
 
 -- what the first lines give is a front of what all give

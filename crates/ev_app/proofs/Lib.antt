@@ -14,3 +14,5 @@ pub mod ExpandLemmas
 pub mod TlsLemmas
 pub mod DnsLemmas
 pub mod SotwLemmas
+pub mod NumberLemmas
+pub mod ClaimLemmas

@@ -5,6 +5,7 @@ use Rattle.ev_types.specs.declared.journals.Format.TheVariants.{Two}
 use Rattle.ev_model.specs.Laws.{Laws, RunsHaveLaws, Told}
 use Rattle.ev_model.specs.Runs.{IsRun}
 use Rattle.ev_journal.specs.Rendering.{rendering_of}
+use Rattle.ev_journal_laws.specs.OneJournal.{AreBounded}
 use Rattle.ev_actors.specs.Journals.{HasReplayed, JournalParts}
 use Rattle.ev_app.specs.Replay.{IsReplayText}
 
@@ -18,10 +19,11 @@ has_laws script parts laws done run =
 
 -- so has the one whose text this is
 pub text_of : (script : ScriptParts) (parts : JournalParts) (text : List ℕ) → RunsHaveLaws → HasReplayed script parts → IsRun parts.format parts.workers parts.node parts.journal
-    → text ≡ rendering_of Two script.workers parts.journal → IsReplayText script text
-text_of script parts text laws done run rendered = record {
+    → text ≡ rendering_of Two script.workers parts.journal → AreBounded parts.journal → IsReplayText script text
+text_of script parts text laws done run rendered bounded = record {
   journal = parts.journal;
   replay = done.journal;
   laws = has_laws script parts laws done run;
   rendered = rendered;
+  bounded = bounded;
 }

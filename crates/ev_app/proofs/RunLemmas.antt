@@ -24,5 +24,7 @@ run_told script parts text law kept has bounded rendered = record {
   run = has.journal;
   laws = has.laws;
   rendered = rendered;
+  news = has.news;
+  bounded = bounded;
   only = only_one script parts.journal text law kept has.journal bounded rendered;
 }

@@ -66,11 +66,13 @@ sotw_told input trees script parts text laws runs same_world read kept same done
     record {
       journal = parts.journal;
       replayed = record {
+        kept = kept_there;
         replay = there.journal;
         laws = has_laws (delta_script trees) parts laws there run;
         same = same_world input trees Two parts.journal read kept_there (runs Two (delta_script trees) parts.journal kept_there there.journal);
       };
       rendered = rendered ∙ ap (λ (s : ScriptParts). sotw_text s.workers (map (stated_in (lines_in trees)) parts.journal)) same;
+      worlds = λ format journal bounds is_run. same_world input trees format journal read bounds is_run;
     }
 
 first_early : (input : Input) (line number : ℕ) → IsFaultOf sotw_lines input line number → IsFirstEarly Sotw input line number

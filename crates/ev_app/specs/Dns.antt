@@ -3,7 +3,6 @@ use Rattle.std.specs.Prelude.{◌≡◌, ℕ, List, Result, Ok, Err, ⊤}
 use Rattle.ev_io.specs.declared.faults.ScriptFault.{ScriptFault}
 use Rattle.ev_io.specs.declared.faults.ScriptFault.TheVariants.{Bad, Read, OutOfMemory as lacks_memory}
 use Rattle.ev_script.specs.declared.trees.ScriptTrees.{ScriptTrees}
-use Rattle.ev_types.specs.Scripts.{IsScript}
 use Rattle.ev_types.specs.declared.events.Entry.{Entry}
 use Rattle.ev_types.specs.declared.journals.Format.{Format}
 use Rattle.ev_model.specs.Operations.{IsRunOf}
@@ -15,12 +14,10 @@ use Rattle.ev_app.specs.declared.made.Made.{Made}
 use Rattle.ev_app.specs.Trees.{AreTreesOf}
 use Rattle.ev_app.specs.Expansions.{HasText, IsTextBy, IsUnmade}
 
--- what is told of endpoints in the runs of the script that is written is by the last answers; a script that was read is within the
--- bounds of scripts
+-- what is told of endpoints in the runs of the script that is written is by the last answers
 abbrev pub TellsLastAnswers : ScriptTrees → Type 0
 TellsLastAnswers trees =
-    (format : Format) (journal : List Entry) → IsScript (answered_script trees) → IsRunOf format (answered_script trees) journal
-    → AreLastAnswers format trees journal
+    (format : Format) (journal : List Entry) → IsRunOf format (answered_script trees) journal → AreLastAnswers format trees journal
 
 -- the text is that of a script of these trees, and its runs tell the last answers
 pub record IsDnsText (trees : ScriptTrees) (text : List ℕ) : Type 0 where

@@ -1,13 +1,13 @@
 -- The text that answers a dump: the configuration behind the first so many entries of a legal journal, as a line, or what is
 -- found of one that isn't legal.
-use Rattle.std.specs.Prelude.{◌≡◌, ◌≢◌, ℕ, ⊤, ◌⊎◌, List, Result, Ok, Err}
+use Rattle.std.specs.Prelude.{◌≡◌, ◌≢◌, ℕ, ⊤, ◌⊎◌, List, take, Result, Ok, Err}
 use Rattle.ev_io.specs.declared.faults.ScriptFault.{ScriptFault}
 use Rattle.ev_io.specs.declared.faults.ScriptFault.TheVariants.{Bad, Read, OutOfMemory as lacks_memory}
-use Rattle.ev_types.specs.Scripts.{ScriptParts}
+use Rattle.ev_types.specs.Scripts.{IsScript, ScriptParts}
 use Rattle.ev_types.specs.declared.journals.Finding.TheVariants.{Legal}
 use Rattle.ev_types.specs.declared.journals.Format.{Format}
 use Rattle.ev_types.specs.declared.journals.Row.{Row}
-use Rattle.ev_model.specs.Finding.{finding_of}
+use Rattle.ev_model.specs.Finding.{finding_of, journal_told}
 use Rattle.ev_audit.specs.Texts.{finding_text}
 use Rattle.ev_audit_input.specs.Parts.{IsParts}
 use Rattle.ev_dump.specs.Dumps.{IsDump, IsNoCommit}
@@ -25,12 +25,21 @@ abbrev pub IsDumpText : Format → ScriptParts → List Row → ℕ → Status �
 IsDumpText format script rows entries status text =
     ((status ≡ Done) × IsDump format script rows entries text) ⊎ ((status ≡ Illegal) × IsNotLegal format script rows text)
 
--- the bytes are a script with a journal behind it, and the text answers that
+-- each legal journal that agrees with these rows' in its first so many entries has this dump of them
+abbrev pub IsDumpByPrefix : Format → ScriptParts → List Row → ℕ → List ℕ → Type 0
+IsDumpByPrefix format script rows entries text =
+    (other : ScriptParts) (others : List Row) (another : List ℕ)
+    → IsScript other → take entries (journal_told other others) ≡ take entries (journal_told script rows)
+    → IsDump format other others entries another → another ≡ text
+
+-- the bytes are a script, within the bounds of scripts, with a journal behind it, and the text answers that
 pub record IsDumped (entries : ℕ) (bytes : List ℕ) (status : Status) (text : List ℕ) : Type 0 where
   pub format : Format
   pub script : ScriptParts
   pub rows : List Row
   pub parts : IsParts bytes format script rows
+  pub kept : IsScript script
+  pub prefix : status ≡ Done → IsDumpByPrefix format script rows entries text
   pub dumped : IsDumpText format script rows entries status text
 
 -- the bytes are a script with a legal journal behind it, of which no commit ends with so many entries: a fault at this line, of

@@ -3,6 +3,7 @@ use Rattle.std.specs.Prelude.{◌≡◌, ℕ, ◌⊎◌, List, false, None, Some
 use Rattle.serde_json.specs.View.{view}
 use Rattle.ev_io.specs.declared.faults.ScriptFault.{ScriptFault}
 use Rattle.ev_io.specs.declared.faults.ScriptFault.TheVariants.{Bad, OutOfMemory as lacks_memory}
+use Rattle.ev_types.specs.Scripts.{IsScript}
 use Rattle.ev_script.specs.declared.trees.ScriptTrees.{ScriptTrees}
 use Rattle.ev_script.specs.Faults.{LineForms, HasNoFault, plain_lines}
 use Rattle.ev_script.specs.Script.{script_of}
@@ -14,11 +15,13 @@ use Rattle.ev_expand.specs.declared.outcome.ExpandError.TheVariants.{Private, La
 use Rattle.ev_expand_laws.specs.Said.{lines_in, input_of_text, expanded_script}
 use Rattle.ev_app.specs.Trees.{AreTreesOf}
 
--- the text is what the rules make of a script of these trees. As an input of its own it has no fault, and is this script.
+-- the text is what the rules make of a script of these trees. As an input of its own it has no fault, and is this script, which is
+-- within the bounds of scripts.
 pub record IsTextBy (rules : Rules) (trees : ScriptTrees) (text : List ℕ) : Type 0 where
   pub is : text ≡ text_by rules (view trees.head) (lines_in trees)
   pub sound : HasNoFault plain_lines (input_of_text text)
   pub script : script_of false text ≡ Some (expanded_script rules trees)
+  pub kept : IsScript (expanded_script rules trees)
 
 -- no line uses a private name, and the text is within the limits of inputs
 pub record HasText (rules : Rules) (trees : ScriptTrees) : Type 0 where

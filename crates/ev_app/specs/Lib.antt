@@ -15,3 +15,4 @@ pub mod Chains
 pub mod Texts
 pub mod Status
 pub mod Exit
+pub mod Numbers

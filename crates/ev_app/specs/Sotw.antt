@@ -3,7 +3,7 @@
 use Rattle.std.specs.Prelude.{ℕ, ◌≡◌, List, map, ⊤, Result, Ok, Err}
 use Rattle.ev_io.specs.declared.faults.ScriptFault.{ScriptFault}
 use Rattle.ev_io.specs.declared.faults.ScriptFault.TheVariants.{Bad, Read, OutOfMemory as lacks_memory}
-use Rattle.ev_types.specs.Scripts.{ScriptParts}
+use Rattle.ev_types.specs.Scripts.{IsScript, ScriptParts}
 use Rattle.ev_types.specs.declared.events.Entry.{Entry}
 use Rattle.ev_types.specs.declared.journals.Format.TheVariants.{Two}
 use Rattle.ev_model.specs.Laws.{Laws}
@@ -13,22 +13,25 @@ use Rattle.ev_sotw_lines.specs.Lines.{sotw_lines}
 use Rattle.ev_expand_laws.specs.Said.{lines_in}
 use Rattle.ev_sotw_delta.specs.DeltaText.{written_of, delta_script, FitsInput, IsFirstTooLarge}
 use Rattle.ev_sotw.specs.Text.{stated_in, sotw_text}
-use Rattle.ev_sotw_delta.specs.SameWorld.{IsSameWorld}
+use Rattle.ev_sotw_delta.specs.SameWorld.{IsSameWorld, RunsAreSameWorld}
 use Rattle.ev_app.specs.declared.status.Status.TheVariants.{Done}
 use Rattle.ev_app.specs.declared.made.Made.{Made}
 use Rattle.ev_app.specs.Trees.{AreTreesOf}
 
--- the journal is that of the replay of the script that says the same; it has the laws, and is the same world
+-- the journal is that of the replay of the script that says the same, which is within the bounds of scripts; it has the laws, and is
+-- the same world
 pub record IsSotwJournal (script : ScriptParts) (journal : List Entry) : Type 0 where
+  pub kept : IsScript script
   pub replay : IsReplay Two script journal
   pub laws : Laws record { format = Two; workers = script.workers; node = script.node; journal = journal }
   pub same : IsSameWorld Two script journal
 
--- the text is that of this journal, with the requests of the state of the world
+-- the text is that of this journal, with the requests of the state of the world; every run of the script is the same world
 pub record IsSotwText (trees : ScriptTrees) (text : List ℕ) : Type 0 where
   pub journal : List Entry
   pub replayed : IsSotwJournal (delta_script trees) journal
   pub rendered : text ≡ sotw_text (delta_script trees).workers (map (stated_in (lines_in trees)) journal)
+  pub worlds : RunsAreSameWorld trees
 
 -- the bytes are a script of the state of the world, and the text answers it
 pub record IsSotw (bytes text : List ℕ) : Type 0 where

@@ -1,5 +1,5 @@
 -- How a call of the program ends, for every command.
-use Rattle.std.specs.Prelude.{ℕ, ◌≡◌, ◌≤◌, ⊤, List, true, Option, Some}
+use Rattle.std.specs.Prelude.{ℕ, ◌≡◌, ◌≤◌, ⊤, Bool, List, true, Option, Some}
 use Rattle.std.specs.Io.KnownBytes.{append_known}
 use Rattle.ev_io.specs.Outside.{Rose, AppendsPrefix}
 use Rattle.ev_script.specs.Faults.{Input}
@@ -11,10 +11,12 @@ use Rattle.ev_app.specs.Input.{has_journal, IsTakenFor}
 use Rattle.ev_app.specs.Faults.{IsFaultFor, HasNoneFor, IsCutOff}
 use Rattle.ev_app.specs.Texts.{IsAnswerTo}
 
--- what a source and a sink told and counted before a call and after it
+-- what a source and a sink told and counted before a call and after it, and whether the source had given its end
 pub record Outside : Type 0 where
   pub left_before : Option (List ℕ)
   pub left_after : Option (List ℕ)
+  pub ended_before : Bool
+  pub ended_after : Bool
   pub reads_before : ℕ
   pub reads_after : ℕ
   pub written_before : Option (List ℕ)
@@ -23,10 +25,12 @@ pub record Outside : Type 0 where
   pub writes_after : ℕ
 
 -- the same of a source of type S and a sink of type K, by what they tell and count
-abbrev pub outside_of : {S K : Type 0} → (S → Option (List ℕ)) → (S → ℕ) → (K → Option (List ℕ)) → (K → ℕ) → S → S → K → K → Outside
-outside_of left reads written writes source source' sink sink' = record {
+abbrev pub outside_of : {S K : Type 0} → (S → Option (List ℕ)) → (S → Bool) → (S → ℕ) → (K → Option (List ℕ)) → (K → ℕ) → S → S → K → K → Outside
+outside_of left ended reads written writes source source' sink sink' = record {
   left_before = left source;
   left_after = left source';
+  ended_before = ended source;
+  ended_after = ended source';
   reads_before = reads source;
   reads_after = reads source';
   written_before = written sink;
@@ -77,11 +81,13 @@ pub record Refuses (command : Command) (outside : Outside) (line number : ℕ) :
   pub reads : ReadsWell outside
   pub written : WritesNothing outside
 
--- a read failed before the end of the input and before a fault of the bytes taken, and nothing is written
+-- a read failed before the end of the input and before a fault of the bytes taken, and nothing is written; a source that hadn't given
+-- its end before didn't give it
 pub record FailsToRead (command : Command) (outside : Outside) : Type 0 where
   pub input : Input
   pub takes : IsTakenFor command outside.left_before outside.left_after input
   pub cut_off : IsCutOff command input
+  pub unended : outside.ended_after ≡ outside.ended_before
   pub rose : Rose outside.reads_before outside.reads_after
   pub written : WritesNothing outside
 

@@ -4,7 +4,6 @@ use Rattle.ev_io.specs.declared.faults.ScriptFault.{ScriptFault}
 use Rattle.ev_io.specs.declared.faults.ScriptFault.TheVariants.{Bad, Read, OutOfMemory as lacks_memory}
 use Rattle.ev_script.specs.declared.trees.ScriptTrees.{ScriptTrees}
 use Rattle.ev_script.specs.Faults.{plain_lines}
-use Rattle.ev_types.specs.Scripts.{IsScript}
 use Rattle.ev_types.specs.declared.events.Entry.{Entry}
 use Rattle.ev_types.specs.declared.journals.Format.{Format}
 use Rattle.ev_model.specs.Operations.{IsRunOf}
@@ -15,11 +14,10 @@ use Rattle.ev_app.specs.declared.made.Made.{Made}
 use Rattle.ev_app.specs.Trees.{AreTreesOf}
 use Rattle.ev_app.specs.Expansions.{HasText, IsTextBy, IsUnmade}
 
--- what is accepted in the runs of the script that is written is sealed; a script that was read is within the bounds of scripts
+-- what is accepted in the runs of the script that is written is sealed
 abbrev pub AreSealed : ScriptTrees → Type 0
 AreSealed trees =
-    (format : Format) (journal : List Entry) → IsScript (sealed_script trees) → IsRunOf format (sealed_script trees) journal
-    → IsSealed format trees journal
+    (format : Format) (journal : List Entry) → IsRunOf format (sealed_script trees) journal → IsSealed format trees journal
 
 -- the text is that of a script of these trees, and what is accepted in its runs is sealed
 pub record IsTlsText (trees : ScriptTrees) (text : List ℕ) : Type 0 where

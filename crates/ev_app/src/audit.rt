@@ -5,10 +5,12 @@ ghost use Rattle.ev_app.specs.Audits.{IsAuditText, status_found};
 ghost use Rattle.ev_app.specs.Texts.{IsMadeBy};
 
 use crate::made::Made;
+use crate::run::workers_of;
 use crate::status::Status;
 use ev_audit::{audit, write_finding};
 use ev_audit_input::{Audited, read_audited};
 use ev_io::{MAX_LINES, ScriptFault, Source};
+use ev_model_laws::legal_exactly;
 use ev_types::Finding;
 use std::alloc::{AllocError, Global};
 
@@ -17,10 +19,14 @@ use std::alloc::{AllocError, Global};
 pub(crate) fn make_audit<S: Source>(alloc: Global, source: &mut S) -> Result<Made, ScriptFault>
     ensures made { IsMadeBy Audit (S.left source.old) (S.left source.new) result }
     ensures failed { result ≡ Err ScriptFault.Read → Rose (S.faults source.old) (S.faults source.new) }
+    ensures unended { result ≡ Err ScriptFault.Read → S.ended source.new ≡ S.ended source.old }
     ensures same_count { (S.faults source.new ≡ S.faults source.old) ⊎ (result ≡ Err ScriptFault.Read) }
     ensures count { S.faults source.old ≤ S.faults source.new }
 {
     let audited = read_audited(alloc, source)?;
+    // what a script keeps, and when rows are found legal
+    let _workers = workers_of(&audited.script);
+    legal_exactly();
     match audit_made(alloc, &audited) {
         Ok(made) => Ok(made),
         Err(_) => Err(ScriptFault::OutOfMemory),

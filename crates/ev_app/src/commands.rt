@@ -3,7 +3,7 @@ ghost use Rattle.ev_app.specs.declared.commands.Command.{Command};
 ghost use Rattle.ev_app.specs.declared.commands.Command.TheVariants.{Replay, Run, Audit, Soak, Tls, Dns, Chains, Sotw, Dump};
 ghost use Rattle.ev_app.specs.Commands.{Asks, IsSoak, IsWithin};
 
-use ev_numbers::number_of;
+use crate::numbers::number_of;
 use ev_soak::MAX_SOAK;
 use ev_types::Text;
 

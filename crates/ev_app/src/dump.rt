@@ -13,10 +13,9 @@ use crate::run::workers_of;
 use crate::status::Status;
 use ev_audit::{audit, write_finding};
 use ev_audit_input::{Audited, read_audited};
-use ev_dump::dump;
+use ev_dump::{dump, dumps_by_prefix, state_after};
 use ev_fronts::ends_commit;
 use ev_io::{MAX_LINES, ScriptFault, Source};
-use ev_state_after::state_after;
 use ev_types::Finding;
 use std::alloc::{AllocError, Global};
 use std::mem::drop;
@@ -34,12 +33,15 @@ pub(crate) fn make_dump<S: Source>(
 ) -> Result<Made, ScriptFault>
     ensures made { IsMadeBy (Dump entries) (S.left source.old) (S.left source.new) result }
     ensures failed { result ≡ Err ScriptFault.Read → Rose (S.faults source.old) (S.faults source.new) }
+    ensures unended { result ≡ Err ScriptFault.Read → S.ended source.new ≡ S.ended source.old }
     ensures same_count { (S.faults source.new ≡ S.faults source.old) ⊎ (result ≡ Err ScriptFault.Read) }
     ensures count { S.faults source.old ≤ S.faults source.new }
 {
     let audited = read_audited(alloc, source)?;
     // what a script keeps, by which its bytes are no other's
     let _workers = workers_of(&audited.script);
+    // two legal journals that agree in their first entries have one dump of these
+    dumps_by_prefix();
     dump_made(alloc, &audited, entries)
 }
 

@@ -11,6 +11,7 @@ use std::alloc::Global;
 pub(crate) fn read_input<S: Source>(alloc: Global, source: &mut S) -> Result<Script, ScriptFault>
     ensures reads { ReadsScript (S.left source.old) (S.left source.new) result }
     ensures failed { result ≡ Err ScriptFault.Read → Rose (S.faults source.old) (S.faults source.new) }
+    ensures unended { result ≡ Err ScriptFault.Read → S.ended source.new ≡ S.ended source.old }
     ensures same_count { (S.faults source.new ≡ S.faults source.old) ⊎ (result ≡ Err ScriptFault.Read) }
     ensures count { S.faults source.old ≤ S.faults source.new }
 {

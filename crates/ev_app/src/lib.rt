@@ -3,6 +3,9 @@
 //! # Choices
 //!
 //! - The program reads by `ev_script`'s reader, and has no forms of lines of its own.
+//! - A number on the command line is its decimal, as `decimal` writes it: no sign, and no zero before another digit. So no two
+//!   words are one number, and a command line asks for one command at most. What `parse` takes beside the decimal is ruled out by
+//!   the first byte.
 //! - `completes` asks that the bytes told have no fault. That a front of them then has none is proved: more bytes
 //!   take no fault away.
 #![tactic(auto)]
@@ -15,6 +18,7 @@ mod dump;
 mod expansions;
 mod input;
 mod made;
+mod numbers;
 mod program;
 mod replay;
 mod run;

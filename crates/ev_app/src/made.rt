@@ -39,6 +39,7 @@ pub(crate) fn make<R: Threads + Wait + Sync, S: Source, P: Pace + Sync>(
     requires within { IsWithin command }
     ensures made { IsMadeBy command (S.left source.old) (S.left source.new) result }
     ensures failed { result ≡ Err ScriptFault.Read → Rose (S.faults source.old) (S.faults source.new) }
+    ensures unended { result ≡ Err ScriptFault.Read → S.ended source.new ≡ S.ended source.old }
     ensures same_count { (S.faults source.new ≡ S.faults source.old) ⊎ (result ≡ Err ScriptFault.Read) }
     ensures count { S.faults source.old ≤ S.faults source.new }
 {

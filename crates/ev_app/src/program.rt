@@ -37,7 +37,7 @@ use std::thread::Threads;
 ///   `audit` writes of another one. Where no commit ends with so many entries it is a `BadScript` of kind 12.
 ///
 /// `BadScript` tells the first fault of the bytes taken, those at the end of the input only where the source gave its
-/// end. A read that failed is told only where the bytes taken have no fault. Out of memory, nothing is written. An answer
+/// end. A read that failed is told only where the bytes taken have no fault and the source didn't give its end. Out of memory, nothing is written. An answer
 /// without a fault of the source leaves the source's count of faults as it was, and so it is of the sink. The journal whose
 /// text is written, in full or cut off by a write that failed, has the laws of runs.
 #[tactic(auto, using(crate::proofs::CommandLemmas::ends_asked, crate::proofs::CommandLemmas::completes_asked))]
@@ -51,13 +51,13 @@ pub fn run_program<R: Threads + Wait + Sync, S: Source, K: Sink, P: Pace + Sync>
 ) -> Status
     ensures usage { (result ≡ Status.Usage) ↔ ((command : Command) → ¬ (Asks arguments.now command)) }
     ensures untouched { result ≡ Status.Usage → TouchesNothing
-        (outside_of S.left S.faults K.written K.faults source.old source.new sink.old sink.new) }
+        (outside_of S.left S.ended S.faults K.written K.faults source.old source.new sink.old sink.new) }
     ensures ends { (command : Command) → Asks arguments.now command → Ends result command
-        (outside_of S.left S.faults K.written K.faults source.old source.new sink.old sink.new) }
+        (outside_of S.left S.ended S.faults K.written K.faults source.old source.new sink.old sink.new) }
     ensures counts { CountsOn
-        (outside_of S.left S.faults K.written K.faults source.old source.new sink.old sink.new) }
+        (outside_of S.left S.ended S.faults K.written K.faults source.old source.new sink.old sink.new) }
     ensures completes { (command : Command) → Asks arguments.now command → IsHonest command
-        (outside_of S.left S.faults K.written K.faults source.old source.new sink.old sink.new)
+        (outside_of S.left S.ended S.faults K.written K.faults source.old source.new sink.old sink.new)
         → IsAnswered command result }
 {
     let Some(command) = command_of(arguments) else {
@@ -78,11 +78,11 @@ fn run_command<R: Threads + Wait + Sync, S: Source, K: Sink, P: Pace + Sync>(
 ) -> Status
     requires within { IsWithin command }
     ensures ends { Ends result command
-        (outside_of S.left S.faults K.written K.faults source.old source.new sink.old sink.new) }
+        (outside_of S.left S.ended S.faults K.written K.faults source.old source.new sink.old sink.new) }
     ensures counts { CountsOn
-        (outside_of S.left S.faults K.written K.faults source.old source.new sink.old sink.new) }
+        (outside_of S.left S.ended S.faults K.written K.faults source.old source.new sink.old sink.new) }
     ensures completes { IsHonest command
-        (outside_of S.left S.faults K.written K.faults source.old source.new sink.old sink.new)
+        (outside_of S.left S.ended S.faults K.written K.faults source.old source.new sink.old sink.new)
         → IsAnswered command result }
 {
     let made = match make(rt, alloc, command, source, pace) {

@@ -1,5 +1,6 @@
-ghost use Rattle.std.specs.Prelude.{◌≡◌, ◌≤◌, ◌⊎◌, Err, IfOk};
+ghost use Rattle.std.specs.Prelude.{◌≡◌, ◌≤◌, ◌⊎◌, Err, IfOk, OnOk};
 ghost use Rattle.ev_io.specs.Outside.{Rose};
+ghost use Rattle.ev_types.specs.Scripts.{IsScript};
 ghost use Rattle.ev_app.specs.declared.commands.Command.TheVariants.{Replay};
 ghost use Rattle.ev_actors.specs.Journals.{HasReplayed};
 ghost use Rattle.ev_app.specs.Replay.{IsReplayText};
@@ -7,6 +8,7 @@ ghost use Rattle.ev_app.specs.Texts.{IsMadeBy};
 
 use crate::input::read_input;
 use crate::made::Made;
+use crate::run::workers_of;
 use crate::status::Status;
 use ev_actors::Journaled;
 use ev_io::{ScriptFault, Source};
@@ -21,6 +23,7 @@ use std::mem::drop;
 pub(crate) fn make_replay<S: Source>(alloc: Global, source: &mut S) -> Result<Made, ScriptFault>
     ensures made { IsMadeBy Replay (S.left source.old) (S.left source.new) result }
     ensures failed { result ≡ Err ScriptFault.Read → Rose (S.faults source.old) (S.faults source.new) }
+    ensures unended { result ≡ Err ScriptFault.Read → S.ended source.new ≡ S.ended source.old }
     ensures same_count { (S.faults source.new ≡ S.faults source.old) ⊎ (result ≡ Err ScriptFault.Read) }
     ensures count { S.faults source.old ≤ S.faults source.new }
 {
@@ -34,16 +37,18 @@ pub(crate) fn make_replay<S: Source>(alloc: Global, source: &mut S) -> Result<Ma
     }
 }
 
-// The text of the journal of a script's replay on one thread, by the rules of format 2.
+// The text of the journal of a script's replay on one thread, by the rules of format 2, and what the script keeps.
 fn replay_text(alloc: Global, script: &Script) -> Result<Vec<u8>, AllocError>
-    ensures { IfOk result (λ text. IsReplayText script.now text.items) }
+    ensures text { IfOk result (λ text. IsReplayText script.now text.items) }
+    ensures kept { OnOk result (IsScript script.now) }
 {
     // the journal is a run, and each run has the laws
     runs_have_the_laws();
+    let workers = workers_of(script);
     let registry = replay(alloc, script)?;
-    let text = render_journal(alloc, Format::Two, script.workers, registry.journal());
+    let text = render_journal(alloc, Format::Two, workers, registry.journal());
     drop(registry);
-    text
+    Ok(text?)
 }
 
 // The registry after the whole script.

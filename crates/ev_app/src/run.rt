@@ -1,4 +1,4 @@
-ghost use Rattle.std.specs.Prelude.{◌≡◌, ◌≤◌, ◌⊎◌, Err, IfOk};
+ghost use Rattle.std.specs.Prelude.{◌≡◌, ◌≤◌, ◌⊎◌, Err, IfOk, OnOk};
 ghost use Rattle.ev_io.specs.Outside.{Rose};
 ghost use Rattle.ev_types.specs.Scripts.{IsScript};
 ghost use Rattle.ev_run.specs.Playing.{HasRun};
@@ -30,6 +30,7 @@ pub(crate) fn make_run<R: Threads + Wait + Sync, S: Source, P: Pace + Sync>(
 ) -> Result<Made, ScriptFault>
     ensures made { IsMadeBy Run (S.left source.old) (S.left source.new) result }
     ensures failed { result ≡ Err ScriptFault.Read → Rose (S.faults source.old) (S.faults source.new) }
+    ensures unended { result ≡ Err ScriptFault.Read → S.ended source.new ≡ S.ended source.old }
     ensures same_count { (S.faults source.new ≡ S.faults source.old) ⊎ (result ≡ Err ScriptFault.Read) }
     ensures count { S.faults source.old ≤ S.faults source.new }
 {
@@ -43,7 +44,7 @@ pub(crate) fn make_run<R: Threads + Wait + Sync, S: Source, P: Pace + Sync>(
     }
 }
 
-// The text of the journal of a script's run with a thread for each actor, by the rules of format 2.
+// The text of the journal of a script's run with a thread for each actor, by the rules of format 2, and what the script keeps.
 #[tactic(auto, using(crate::proofs::RunLemmas::run_told))]
 fn run_text<R: Threads + Wait + Sync, P: Pace + Sync>(
     rt: &R,
@@ -51,7 +52,8 @@ fn run_text<R: Threads + Wait + Sync, P: Pace + Sync>(
     script: &Script,
     pace: &P,
 ) -> Result<Vec<u8>, AllocError>
-    ensures { IfOk result (λ text. IsRunText script.now text.items) }
+    ensures text { IfOk result (λ text. IsRunText script.now text.items) }
+    ensures kept { OnOk result (IsScript script.now) }
 {
     // no other journal has the text
     text_tells_journal();

@@ -4,6 +4,7 @@ ghost use Rattle.ev_soak.specs.Lines.{IsSoakText};
 ghost use Rattle.ev_app.specs.Commands.{IsSoak};
 
 use crate::replay::replay;
+use crate::run::workers_of;
 use ev_actors::Journaled;
 use ev_soak::{script, write_soak};
 use std::alloc::{AllocError, Global};
@@ -16,6 +17,8 @@ pub(crate) fn soak_text(alloc: Global, seed: u64, count: u32) -> Result<Vec<u8>,
     ensures { IfOk result (λ text. IsSoakText seed count text.items) }
 {
     let script = script(alloc, seed, count)?;
+    // what the script keeps
+    let _workers = workers_of(&script);
     let registry = replay(alloc, &script)?;
     let version = registry.latest();
     let text = write_soak(alloc, count + 1, registry.journal(), version);

@@ -20,6 +20,7 @@ use std::alloc::Global;
 pub(crate) fn make_tls<S: Source>(alloc: Global, source: &mut S) -> Result<Made, ScriptFault>
     ensures made { IsMadeBy Tls (S.left source.old) (S.left source.new) result }
     ensures failed { result ≡ Err ScriptFault.Read → Rose (S.faults source.old) (S.faults source.new) }
+    ensures unended { result ≡ Err ScriptFault.Read → S.ended source.new ≡ S.ended source.old }
     ensures same_count { (S.faults source.new ≡ S.faults source.old) ⊎ (result ≡ Err ScriptFault.Read) }
     ensures count { S.faults source.old ≤ S.faults source.new }
 {

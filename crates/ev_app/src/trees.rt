@@ -19,6 +19,7 @@ pub(crate) fn read_trees_of<F: Forms<Kept = Value>, S: Source>(
     requires trees { KeepsTrees F.keeps }
     ensures reads { ReadsTrees F.forms (S.left source.old) (S.left source.new) result }
     ensures failed { result ≡ Err ScriptFault.Read → Rose (S.faults source.old) (S.faults source.new) }
+    ensures unended { result ≡ Err ScriptFault.Read → S.ended source.new ≡ S.ended source.old }
     ensures same_count { (S.faults source.new ≡ S.faults source.old) ⊎ (result ≡ Err ScriptFault.Read) }
     ensures count { S.faults source.old ≤ S.faults source.new }
 {

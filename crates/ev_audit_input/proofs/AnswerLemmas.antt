@@ -10,7 +10,9 @@ use Rattle.ev_io.specs.declared.faults.ScriptFault.{ScriptFault}
 use Rattle.ev_io.specs.declared.faults.ScriptFault.TheVariants.{Bad, Read, OutOfMemory}
 use Rattle.ev_io.specs.Lines.{lines_of, feeds_in}
 use Rattle.ev_io.specs.Outside.{Takes}
+use Rattle.ev_io.specs.ReadLine.{LeavesOpen}
 use Rattle.ev_io.specs.LinesState.{LinesState, HasTaken, IsWithin}
+use Rattle.ev_io.proofs.GrowLemmas.{open_both}
 use Rattle.ev_io.proofs.Known.{takes_both}
 use Rattle.ev_io.proofs.ReadLemmas.{no_length}
 use Rattle.ev_types.specs.Scripts.{ScriptParts}
@@ -284,3 +286,10 @@ module _ (before now after : Option (List ℕ)) (old new : LinesState) (script :
   rows_few format rows read =
       let both = read.2 s.bytes s.taken in
       few_rows script.workers text old new (s.bytes ++ read.0) format rows.items both.1 both.0.taken
+
+-- a read of the rows failed: the source didn't give its end, nor where the script was read before
+pub rows_open : {S : Type 0} (ended : S → Bool) (a b d : S) (old now new : LinesState) (workers : ℕ) (first bytes : List ℕ) (fault : ScriptFault)
+    → fault ≡ Read → IsRowsAnswer workers first now new bytes (Err fault) → LeavesOpen ended a b old now → LeavesOpen ended b d now new → ended d ≡ ended a
+rows_open ended a b d old now new workers first bytes fault same answer script rows =
+    let cut : IsCutOff workers first now new bytes = subst (λ (f : ScriptFault). IsRowsAnswer workers first now new bytes (Err f)) same answer in
+    (open_both ended a b d old now new script rows).unended cut.unfinished.goes_on

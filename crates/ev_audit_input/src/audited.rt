@@ -21,12 +21,14 @@ pub struct Audited {
 ///
 /// # Errors
 /// `Bad` with the line and the kind of the first fault of the bytes taken, those at the end of the input only where the source
-/// gave its end; `Read` where a read failed and the bytes taken have no fault. `OutOfMemory` where there is no memory for the
-/// script or the rows, or the script's responses have 2^32 - 1 resources or more together; no read failed.
+/// gave its end; `Read` where a read failed, the source didn't give its end and the bytes taken have no fault. `OutOfMemory`
+/// where there is no memory for the script or the rows, or the script's responses have 2^32 - 1 resources or more together; no
+/// read failed.
 pub fn read_audited<S: Source>(alloc: Global, source: &mut S) -> Result<Audited, ScriptFault>
     ensures reads { ReadsAuditInput (S.left source.old) (S.left source.new) result }
     ensures few { IfOk result (λ audited. length audited.rows.items < MAX_LINES) }
     ensures failed { result ≡ Err ScriptFault.Read → Rose (S.faults source.old) (S.faults source.new) }
+    ensures unended { result ≡ Err ScriptFault.Read → S.ended source.new ≡ S.ended source.old }
     ensures same_count { (S.faults source.new ≡ S.faults source.old) ⊎ (result ≡ Err ScriptFault.Read) }
     ensures count { S.faults source.old ≤ S.faults source.new }
 {

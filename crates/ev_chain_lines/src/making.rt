@@ -12,11 +12,12 @@ use std::alloc::Global;
 ///
 /// # Errors
 /// `Bad` with the line and the kind of the first fault of the bytes taken, those at the end of the input only where the source
-/// gave its end; `Read` where a read failed and the bytes taken have no fault. `OutOfMemory` where there is no memory for the
-/// text; no read failed.
+/// gave its end; `Read` where a read failed, the source didn't give its end and the bytes taken have no fault. `OutOfMemory`
+/// where there is no memory for the text; no read failed.
 pub fn make_chains<S: Source>(alloc: Global, source: &mut S) -> Result<Vec<u8>, ScriptFault>
     ensures made { MakesChains (S.left source.old) (S.left source.new) result }
     ensures failed { result ≡ Err ScriptFault.Read → Rose (S.faults source.old) (S.faults source.new) }
+    ensures unended { result ≡ Err ScriptFault.Read → S.ended source.new ≡ S.ended source.old }
     ensures same_count { (S.faults source.new ≡ S.faults source.old) ⊎ (result ≡ Err ScriptFault.Read) }
     ensures count { S.faults source.old ≤ S.faults source.new }
 {

@@ -1,4 +1,4 @@
-ghost use Rattle.std.specs.Prelude.{◌≡◌, ◌<◌, ◌≤◌, OnOk, OnErr};
+ghost use Rattle.std.specs.Prelude.{◌≡◌, ◌<◌, ◌≤◌, [], OnOk, OnErr};
 ghost use Rattle.ev_types.specs.Events.{IsMainSide, MayMake};
 ghost use Rattle.ev_model.specs.Operations.{batch_limit};
 ghost use Rattle.ev_types.specs.declared.events.Actor.TheVariants.{Worker as by_worker};
@@ -32,6 +32,7 @@ pub(crate) fn apply_in<J: Journaled>(
     ensures committed { OnOk result (CommitsOnce (seat_of actor)
         (J.shows kept.old.journaled) (J.shows kept.new.journaled)) }
     ensures refused { OnErr result (J.shows kept.new.journaled ≡ J.shows kept.old.journaled) }
+    ensures let_go { OnOk result (J.deferred kept.new.journaled ≡ []) }
 {
     let _ = kept.journaled.journal();
     let applied = kept.journaled.apply(actor, at, step, event);

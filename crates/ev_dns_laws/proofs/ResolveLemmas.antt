@@ -1,7 +1,8 @@
 -- The text whose clusters wait for the addresses of their hosts is a script.
-use Rattle.std.proofs.Common.{◌≡◌, ℕ, false, Some, Result, Ok, Err, Vec, IfOk, refl, arith}
+use Rattle.std.proofs.Common.{◌≡◌, ℕ, false, Some, Result, Ok, Err, Vec, IfOk, OnOk, refl, arith}
 use Rattle.std.specs.declared.alloc.Global.{Global}
 use Rattle.serde_json.specs.View.{view}
+use Rattle.ev_types.specs.Scripts.{IsScript}
 use Rattle.ev_script.specs.declared.trees.ScriptTrees.{ScriptTrees}
 use Rattle.ev_script.specs.Faults.{Input, plain_lines, HasNoFault}
 use Rattle.ev_script.specs.ReadTrees.{IsTreesAnswer}
@@ -36,3 +37,8 @@ pub resolved_script : (input : Input) (trees : ScriptTrees) (result : Result (Ve
     → IsExpanded dns_rules (view trees.head) (lines_in trees) result → IfOk result (λ text. script_of false text.items ≡ Some (expanded_script dns_rules trees))
 resolved_script input trees (Ok text) answer expanded = (text_is_script dns_rules trees text (trees_expandable input trees answer) expanded).script
 resolved_script input trees (Err error) answer expanded = tt
+
+pub resolved_kept : (input : Input) (trees : ScriptTrees) (result : Result (Vec ℕ Global) ExpandError) → IsTreesAnswer dns_lines input (Ok trees)
+    → IsExpanded dns_rules (view trees.head) (lines_in trees) result → OnOk result (IsScript (expanded_script dns_rules trees))
+resolved_kept input trees (Ok text) answer expanded = (text_is_script dns_rules trees text (trees_expandable input trees answer) expanded).kept
+resolved_kept input trees (Err error) answer expanded = tt

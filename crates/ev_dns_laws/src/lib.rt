@@ -7,8 +7,9 @@
 //!   written of the trees that were read is a line of a script, and endpoints of hosts nest by a constant.
 #![tactic(auto)]
 
-ghost use Rattle.std.specs.Prelude.{◌≡◌, false, Some, Ok, IfOk};
+ghost use Rattle.std.specs.Prelude.{◌≡◌, false, Some, Ok, IfOk, OnOk};
 ghost use Rattle.serde_json.specs.View.{view};
+ghost use Rattle.ev_types.specs.Scripts.{IsScript};
 ghost use Rattle.ev_script.specs.Faults.{Input, plain_lines, HasNoFault};
 ghost use Rattle.ev_script.specs.ReadTrees.{IsTreesAnswer};
 ghost use Rattle.ev_script.specs.Script.{script_of};
@@ -26,7 +27,7 @@ pub use laws::answers_are_last;
 use std::alloc::Global;
 
 /// The text of a script whose clusters wait for the addresses of their hosts, by the trees of a script's lines and of
-/// resolutions. It is a script without fault.
+/// resolutions. It is a script without fault, within the bounds of scripts.
 ///
 /// # Errors
 /// `Private` exactly for the first line that uses a name that begins with `dns/` for endpoints. `Large` where there is none,
@@ -37,6 +38,7 @@ pub fn resolve(alloc: Global, trees: &ScriptTrees) -> Result<Vec<u8>, ExpandErro
     ensures expanded { IsExpanded dns_rules (view trees.now.head) (lines_in trees.now) result }
     ensures sound { IfOk result (λ text. HasNoFault plain_lines (input_of_text text.items)) }
     ensures script { IfOk result (λ text. script_of false text.items ≡ Some (expanded_script dns_rules trees.now)) }
+    ensures kept { OnOk result (IsScript (expanded_script dns_rules trees.now)) }
 {
     expand(alloc, &trees.head, &trees.lines)
 }

@@ -1,3 +1,4 @@
 pub mod FloatLemmas
 pub mod AlikeLemmas
 pub mod PrefixLemmas
+pub mod StepLemmas

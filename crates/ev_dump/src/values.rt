@@ -17,7 +17,7 @@ pub(crate) fn dump_value(
     ensures { IfOk result (λ v. view v ≡ dump_tree shown.now entries.now) }
 {
     let clusters = rows_value(alloc, Kind::Cds, shown.rows.as_slice())?;
-    let counters = counters_value(alloc, tally(entries))?;
+    let counters = counters_value(alloc, tally(entries)?)?;
     let listeners = rows_value(alloc, Kind::Lds, shown.rows.as_slice())?;
     json!(in alloc; {
         "clusters": clusters,

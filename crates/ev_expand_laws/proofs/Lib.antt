@@ -8,6 +8,8 @@ pub mod DepthLemmas
 pub mod SaidLemmas
 pub mod FormLemmas
 pub mod GivenLemmas
+pub mod ElementLemmas
+pub mod BoundLemmas
 pub mod ScriptLemmas
 pub mod CountLemmas
 pub mod ListLemmas

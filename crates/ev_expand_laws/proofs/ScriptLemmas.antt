@@ -19,6 +19,7 @@ use Rattle.ev_whole_laws.proofs.LineForms.{one_form}
 use Rattle.ev_expand.specs.Expanding.{ReadBack}
 use Rattle.ev_expand_laws.specs.Said.{HasLine, AllAt, lines_in, lines_said, input_of_text, given_lines}
 use Rattle.ev_expand_laws.specs.Scripts.{TextsAreScripts}
+use Rattle.ev_expand_laws.proofs.BoundLemmas.{said_kept}
 use Rattle.ev_expand_laws.proofs.SaidLemmas.{said_count, said_each, said_below}
 use Rattle.ev_expand_laws.proofs.GivenLemmas.{IsGiven, lines_given, given_have, given_readable}
 
@@ -66,4 +67,5 @@ text_is_script rules trees text able expanded =
     record {
       sound = subst (λ bs. HasNoFault plain_lines (input_of_text bs)) (sym bytes) script.0;
       script = ap (script_of false) bytes ∙ script.1;
+      kept = said_kept trees.header head given able.heads (given_have workers given each) expanded.1;
     }

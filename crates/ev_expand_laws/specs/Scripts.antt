@@ -4,6 +4,7 @@ use Rattle.std.specs.declared.alloc.Global.{Global}
 use Rattle.serde_json.specs.Data.{Data, depth}
 use Rattle.serde_json.specs.Read.{max_depth}
 use Rattle.serde_json.specs.View.{view}
+use Rattle.ev_types.specs.Scripts.{IsScript}
 use Rattle.ev_script.specs.declared.trees.ScriptTrees.{ScriptTrees}
 use Rattle.ev_script.specs.Faults.{plain_lines, HasNoFault}
 use Rattle.ev_script.specs.Header.{header_of}
@@ -35,10 +36,11 @@ pub record IsExpandable (rules : Rules) (trees : ScriptTrees) : Type 0 where
   pub shallow : All (AreShallowAt rules) (fronts (lines_in trees))
   pub nonce : 1 ≤ length rules.nonce
 
--- the text is a script without fault, of the lines that the command makes
+-- the text is a script without fault, of the lines that the command makes, and within the bounds of scripts
 pub record IsExpandedScript (rules : Rules) (trees : ScriptTrees) (text : List ℕ) : Type 0 where
   pub sound : HasNoFault plain_lines (input_of_text text)
   pub script : script_of false text ≡ Some (expanded_script rules trees)
+  pub kept : IsScript (expanded_script rules trees)
 
 abbrev pub TextsAreScripts : Type 0
 TextsAreScripts =

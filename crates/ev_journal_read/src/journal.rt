@@ -2,6 +2,7 @@ ghost use Rattle.std.specs.Prelude.{◌≡◌, ◌+◌, ◌<◌, ◌≤◌, ◌�
 ghost use Rattle.std.specs.Io.KnownBytes.{IsAtEnd};
 ghost use Rattle.ev_io.specs.Outside.{Rose, Takes};
 ghost use Rattle.ev_io.specs.LinesState.{HasTaken, IsWithin};
+ghost use Rattle.ev_io.specs.ReadLine.{LeavesOpen};
 ghost use Rattle.ev_script.specs.Faults.{fault_number};
 ghost use Rattle.ev_script.specs.ReadInput.{script_fault};
 ghost use Rattle.ev_types.specs.declared.journals.Format.{Format};
@@ -36,6 +37,7 @@ pub fn read_rows<S: Source>(
         × ((bytes : List ℕ) → HasTaken lines.old bytes → GoesOn lines.old lines.new bytes more
         × IsRowsAnswer workers first.now lines.old lines.new (bytes ++ more) result) }
     ensures at_end { IsTrue lines.new.ended → IsTrue lines.old.ended ⊎ IsAtEnd (S.left source.new) }
+    ensures unended { LeavesOpen S.ended source.old source.new lines.old lines.new }
     ensures at_most { IsWithin lines.old → IsWithin lines.new }
     ensures failed { result ≡ Err ScriptFault.Read → Rose (S.faults source.old) (S.faults source.new) }
     ensures same_count { (S.faults source.new ≡ S.faults source.old) ⊎ (result ≡ Err ScriptFault.Read) }

@@ -1,7 +1,7 @@
 //! The limits of scripts, messages and resources, each by its value: definitions cite them by their names. No code that runs.
 #![tactic(auto)]
 
-ghost use Rattle.std.specs.Prelude.{◌≡◌};
+ghost use Rattle.std.specs.Prelude.{◌≡◌, ◌<◌};
 ghost use Rattle.ev_io.specs.declared.limits.TheConstants.{MAX_INPUT_BYTES, MAX_LINE_BYTES, MAX_LINES, MAX_PIECE_BYTES};
 ghost use Rattle.ev_types.specs.declared.limits.TheConstants.{ITEM_LIMIT, LINE_LIMIT, MAX_NAME_LENGTH, MAX_WEIGHT_SUM, MAX_WORKERS, ROW_LIMIT};
 ghost use Rattle.ev_tree.specs.declared.limits.TheConstants.{MAX_FRACTION_DIGITS, MAX_NAME_BYTES, MAX_PORT, MAX_SECONDS, MAX_SECONDS_DIGITS, MAX_U32_DIGITS};
@@ -9,6 +9,10 @@ ghost use Rattle.ev_cluster_json.specs.declared.groups.TheConstants.{MAX_PRIORIT
 ghost use Rattle.ev_cluster_json.specs.declared.parts.TheConstants.{EDS, STATIC};
 ghost use Rattle.ev_route_json.specs.declared.routes.TheConstants.{MAX_STATUS, MIN_STATUS};
 ghost use Rattle.ev_script.specs.declared.limits.TheConstants.{MAX_NUMBER, MAX_PATH_LENGTH, MAX_WORKER};
+ghost use Rattle.ev_soak.specs.declared.soaking.TheConstants.{MAX_SOAK};
+ghost use Rattle.ev_dns.specs.declared.templates.TheConstants.{STRICT_DNS};
+ghost use Rattle.ev_chain_lines.specs.declared.limits.TheConstants.{MAX_NUMBER as MAX_CONNECTION, MAX_PORT_NUMBER};
+ghost use Rattle.ev_expand.specs.declared.expanding.TheConstants.{MOST_LINES};
 ghost use Rattle.ev_model.specs.Operations.{batch_limit};
 
 /// An input has at most 64 MiB in 200,000 lines of at most 4 MiB; it is read in pieces of at most 64 KiB. It does nothing.
@@ -55,4 +59,15 @@ pub fn numbers_are_limited()
     ensures seconds_digits { MAX_SECONDS_DIGITS ≡ 12 }
     ensures fraction_digits { MAX_FRACTION_DIGITS ≡ 9 }
     ensures seconds { MAX_SECONDS ≡ 315576000000 }
+{}
+
+/// The script of a seed has at most 100,000 lines after its header. A connection to a filter chain has a number below 2^64, and comes
+/// to a port of at most 65,535. Of cluster types, 1 is STRICT_DNS. A command that makes a script of a script takes all lines that an
+/// input may have. It does nothing.
+pub fn commands_are_limited()
+    ensures soak { MAX_SOAK ≡ 100000 }
+    ensures connection { MAX_CONNECTION ≡ 18446744073709551615 }
+    ensures chain_port { MAX_PORT_NUMBER ≡ 65535 }
+    ensures strict_dns_type { STRICT_DNS ≡ 1 }
+    ensures made_of { MAX_LINES < MOST_LINES }
 {}

@@ -64,20 +64,20 @@ batch_runs parts worker at n works below =
     (works.made.answers parts.format parts.workers (world_now parts) below works.has) (below, refl, tt)
 
 -- with them the registry stands where the worker has settled
-settles_in : (version : ℕ) (proxy : Proxy) (parts : JournalParts) (worker : WorkerParts) (at n : ℕ) → IsRun parts.format parts.workers parts.node parts.journal
+settles_in : (picture : Picture) (proxy : Proxy) (parts : JournalParts) (worker : WorkerParts) (at n : ℕ) → IsRun parts.format parts.workers parts.node parts.journal
     → HaveStepped parts.format parts.workers (opening parts.workers parts.node) parts.journal
     → WorksIn worker (world_now parts) → worker.number < parts.workers
-    → version ≡ (last_picture (settle worker.number (world_behind worker parts)).0).version
+    → picture ≡ last_picture (settle worker.number (world_behind worker parts)).0
     → IsAt proxy (settle worker.number (world_behind worker parts)).0
-    → StandsFor false version proxy (with_settled worker at n parts)
-settles_in version proxy parts worker at n run stepped works below latest led =
+    → StandsFor false picture proxy (with_settled worker at n parts)
+settles_in picture proxy parts worker at n run stepped works below latest led =
     let last : Entry = settle_made worker at n parts in
     let more : world_after parts.format (world_now parts) (entries_made worker ++ last ∷ []) ≡ (settle worker.number (world_behind worker parts)).0 =
     world_after-more parts.format (world_now parts) (entries_made worker) last in
-    goes_on version proxy parts (entries_made worker ++ last ∷ []) run stepped (batch_runs parts worker at n works below)
+    goes_on picture proxy parts (entries_made worker ++ last ∷ []) run stepped (batch_runs parts worker at n works below)
     (batch_unbroken worker.number worker.picture worker.lines last refl refl)
     (batch_stepped parts.format parts.workers worker.number worker.picture worker.lines last (world_now parts) refl (batch_runs parts worker at n works below))
-    (latest ∙ ap (λ (w : World). (last_picture w).version) (sym more))
+    (latest ∙ ap last_picture (sym more))
     (subst (IsAt proxy) (sym more) led)
 
 -- the settle that was told is the machine's
@@ -92,14 +92,14 @@ is_entered parts given pushed worker at n closed version same pushes answered =
     ∙ ap (λ (answer : Answer). parts.journal ++ (entries_made worker ++ record { actor = Worker worker.number; at = at; step = n; event = Settle; answer = answer } ∷ [])) (sym machine)
 
 -- a batch and a settle that were made on what is known
-pub enters_batch : (latest : ℕ) (proxy : Proxy) (parts now given : JournalParts) (pushed : List Entry) (worker : WorkerParts) (at n : ℕ) (closed : List ℕ) (version : ℕ)
+pub enters_batch : (latest : Picture) (proxy : Proxy) (parts now given : JournalParts) (pushed : List Entry) (worker : WorkerParts) (at n : ℕ) (closed : List ℕ) (version : ℕ)
     → IsRun parts.format parts.workers parts.node parts.journal
     → HaveStepped parts.format parts.workers (opening parts.workers parts.node) parts.journal
     → parts ≡ now → given ≡ parts
     → pushed ≡ parts.journal ++ (entries_made worker ++ settle_told worker.number at n closed version ∷ [])
     → WorksIn worker (world_now now) → worker.number < now.workers
     → (settle worker.number (world_behind worker given)).1 ≡ Settled closed version
-    → latest ≡ (last_picture (settle worker.number (world_behind worker given)).0).version
+    → latest ≡ last_picture (settle worker.number (world_behind worker given)).0
     → IsAt proxy (settle worker.number (world_behind worker given)).0
     → StandsFor false latest proxy (record parts { journal = pushed })
 enters_batch latest proxy parts now given pushed worker at n closed version run stepped view same pushes works below answered last led =
@@ -108,7 +108,7 @@ enters_batch latest proxy parts now given pushed worker at n closed version run 
     (settles_in latest proxy parts worker at n run stepped
     (subst (λ (p : JournalParts). WorksIn worker (world_now p)) (sym view) works)
     (subst (λ (p : JournalParts). worker.number < p.workers) (sym view) below)
-    (subst (λ (p : JournalParts). latest ≡ (last_picture (settle worker.number (world_behind worker p)).0).version) same last)
+    (subst (λ (p : JournalParts). latest ≡ last_picture (settle worker.number (world_behind worker p)).0) same last)
     (subst (λ (p : JournalParts). IsAt proxy (settle worker.number (world_behind worker p)).0) same led))
 
 -- so the journal has them

@@ -13,12 +13,13 @@ use Rattle.ev_types.specs.declared.rows.GenRow.{GenRow}
 use Rattle.ev_model.specs.World.{World, opening}
 use Rattle.ev_model.specs.Runs.{world_after, is_batched, GoesOnWith, IsRun, IsUnbroken, RunsFrom}
 use Rattle.ev_model.specs.Dead.{last_picture}
+use Rattle.ev_model.specs.declared.pictures.Picture.{Picture}
 use Rattle.ev_model.specs.Step.{step}
-use Rattle.ev_actors.specs.Journals.{JournalParts, SufficeFor, with_entries, world_now}
+use Rattle.ev_actors.specs.Journals.{JournalParts, SufficeFor, answer_now, entry_made, with_entries, with_entry, world_now}
 use Rattle.ev_actors.proofs.WorldLemmas.{after_append}
 use Rattle.ev_proxy.specs.Proxies.{AreRowsOf, IsAt, numbers_reaped}
 use Rattle.ev_proxy.specs.declared.proxy.Proxy.{Proxy}
-use Rattle.ev_run_laws.proofs.NumberLemmas.{entry_made}
+use Rattle.ev_run_laws.proofs.NumberLemmas.{entry_made as entry_draws}
 use Rattle.ev_registry.proofs.EventLemmas.{main_alone}
 use Rattle.ev_registry.specs.Registries.{DefersReaped, MayStep, HaveStepped, StandsFor}
 
@@ -55,16 +56,16 @@ stepped_at format workers world (entry ∷ entries) (suc k) d had below =
     stepped_at format workers (step format world entry.actor entry.event).0 entries k d had.1 (omega arith)
 
 -- what was done before is what is known
-pub starts : (version : ℕ) (proxy : Proxy) (format : Format) (workers : ℕ) (node kept : List ℕ) (journal given : List Entry) → IsRun format workers node journal
+pub starts : (picture : Picture) (proxy : Proxy) (format : Format) (workers : ℕ) (node kept : List ℕ) (journal given : List Entry) → IsRun format workers node journal
     → HaveStepped format workers (opening workers node) journal → kept ≡ node → given ≡ journal
-    → version ≡ (last_picture (world_after format (opening workers node) given)).version → IsAt proxy (world_after format (opening workers node) given)
-    → StandsFor false version proxy (record { format = format; workers = workers; node = kept; journal = journal })
-starts version proxy format workers node kept journal given run stepped same is latest at =
-    subst (λ (n : List ℕ). StandsFor false version proxy (record { format = format; workers = workers; node = n; journal = journal })) (sym same)
+    → picture ≡ last_picture (world_after format (opening workers node) given) → IsAt proxy (world_after format (opening workers node) given)
+    → StandsFor false picture proxy (record { format = format; workers = workers; node = kept; journal = journal })
+starts picture proxy format workers node kept journal given run stepped same is latest at =
+    subst (λ (n : List ℕ). StandsFor false picture proxy (record { format = format; workers = workers; node = n; journal = journal })) (sym same)
     (record {
       run = run;
       stepped = stepped;
-      latest = subst (λ (es : List Entry). version ≡ (last_picture (world_after format (opening workers node) es)).version) is latest;
+      latest = subst (λ (es : List Entry). picture ≡ last_picture (world_after format (opening workers node) es)) is latest;
       at = λ here. subst (λ (es : List Entry). IsAt proxy (world_after format (opening workers node) es)) is at;
     })
 
@@ -73,13 +74,13 @@ pub at_but : (p : Proxy) (deferred : List GenRow × ℕ) (world : World) → IsA
 at_but p deferred world at = record { managed = at.managed; held = at.held; shown = at.shown }
 
 -- more entries behind, at whose world what is known is
-pub goes_on : (version : ℕ) (proxy : Proxy) (parts : JournalParts) (more : List Entry) → IsRun parts.format parts.workers parts.node parts.journal
+pub goes_on : (picture : Picture) (proxy : Proxy) (parts : JournalParts) (more : List Entry) → IsRun parts.format parts.workers parts.node parts.journal
     → HaveStepped parts.format parts.workers (opening parts.workers parts.node) parts.journal
     → RunsFrom parts.format parts.workers (world_now parts) more → IsUnbroken more → HaveStepped parts.format parts.workers (world_now parts) more
-    → version ≡ (last_picture (world_after parts.format (world_now parts) more)).version
+    → picture ≡ last_picture (world_after parts.format (world_now parts) more)
     → IsAt proxy (world_after parts.format (world_now parts) more)
-    → StandsFor false version proxy (with_entries more parts)
-goes_on version proxy parts more run stepped runs whole steps latest at =
+    → StandsFor false picture proxy (with_entries more parts)
+goes_on picture proxy parts more run stepped runs whole steps latest at =
     let begun : World = opening parts.workers parts.node in
     let there : world_after parts.format begun (parts.journal ++ more) ≡ world_after parts.format (world_now parts) more = after_append parts.format begun parts.journal more in
     record {
@@ -88,35 +89,48 @@ goes_on version proxy parts more run stepped runs whole steps latest at =
         batches = unbroken_append parts.journal more run.batches whole;
       };
       stepped = stepped_append parts.format parts.workers begun parts.journal more stepped steps;
-      latest = latest ∙ ap (λ (w : World). (last_picture w).version) (sym there);
+      latest = latest ∙ ap last_picture (sym there);
       at = λ here. subst (IsAt proxy) (sym there) at;
     }
 
 -- an event of the main side that was made on what is known, and its entry
-pub enters : (version : ℕ) (proxy : Proxy) (parts now given : JournalParts) (pushed : List Entry) (entry : Entry) (actor : Actor) (at n : ℕ) (event : Event) (answer : Answer)
+pub enters : (picture : Picture) (proxy : Proxy) (parts now given : JournalParts) (pushed : List Entry) (entry : Entry) (actor : Actor) (at n : ℕ) (event : Event) (answer : Answer)
     → IsRun parts.format parts.workers parts.node parts.journal
     → HaveStepped parts.format parts.workers (opening parts.workers parts.node) parts.journal
     → parts ≡ now → given ≡ parts → pushed ≡ parts.journal ++ entry ∷ []
     → entry ≡ record { actor = actor; at = at; step = n; event = event; answer = answer }
     → IsMainSide actor → MayMake now.workers actor event → SufficeFor event now
     → answer ≡ (step given.format (world_now given) actor event).1
-    → version ≡ (last_picture (step given.format (world_now given) actor event).0).version
+    → picture ≡ last_picture (step given.format (world_now given) actor event).0
     → IsAt proxy (step given.format (world_now given) actor event).0
-    → StandsFor false version proxy (record parts { journal = pushed })
-enters version proxy parts now given pushed entry actor at n event answer run stepped view same pushes is main allowed room answered latest led =
+    → StandsFor false picture proxy (record parts { journal = pushed })
+enters picture proxy parts now given pushed entry actor at n event answer run stepped view same pushes is main allowed room answered latest led =
     let made : Entry = record { actor = actor; at = at; step = n; event = event; answer = answer } in
     let enough : SufficeFor event parts = subst (SufficeFor event) (sym view) room in
     let may : MayMake parts.workers actor event = subst (λ (p : JournalParts). MayMake p.workers actor event) (sym view) allowed in
     let alone : is_batched event ≡ false = main_alone parts.workers actor event main may in
-    let whole : StandsFor false version proxy (with_entries (made ∷ []) parts) =
-    goes_on version proxy parts (made ∷ []) run stepped
+    let whole : StandsFor false picture proxy (with_entries (made ∷ []) parts) =
+    goes_on picture proxy parts (made ∷ []) run stepped
     (may, subst (λ (p : JournalParts). answer ≡ (step p.format (world_now p) actor event).1) same answered, tt)
     (λ h. absurd (both_ways (is_batched event) alone h), tt)
     (record { allowed = may; room = enough }, tt)
-    (subst (λ (p : JournalParts). version ≡ (last_picture (step p.format (world_now p) actor event).0).version) same latest)
+    (subst (λ (p : JournalParts). picture ≡ last_picture (step p.format (world_now p) actor event).0) same latest)
     (subst (λ (p : JournalParts). IsAt proxy (step p.format (world_now p) actor event).0) same led) in
-    subst (λ (es : List Entry). StandsFor false version proxy (record parts { journal = es })) (sym pushes)
-    (subst (λ (e : Entry). StandsFor false version proxy (record parts { journal = parts.journal ++ e ∷ [] })) (sym is) whole)
+    subst (λ (es : List Entry). StandsFor false picture proxy (record parts { journal = es })) (sym pushes)
+    (subst (λ (e : Entry). StandsFor false picture proxy (record parts { journal = parts.journal ++ e ∷ [] })) (sym is) whole)
+
+-- so the journal has it, with the machine's answer
+pub shows_entry : (parts now given : JournalParts) (pushed : List Entry) (entry : Entry) (actor : Actor) (at n : ℕ) (event : Event) (answer : Answer)
+    → parts ≡ now → given ≡ parts → pushed ≡ parts.journal ++ entry ∷ []
+    → entry ≡ record { actor = actor; at = at; step = n; event = event; answer = answer }
+    → answer ≡ (step given.format (world_now given) actor event).1
+    → record parts { journal = pushed } ≡ with_entry (entry_made actor at n event now) now
+shows_entry parts now given pushed entry actor at n event answer view same pushes is answered =
+    let told : answer ≡ answer_now actor event parts = answered ∙ ap (answer_now actor event) same in
+    let made : entry ≡ entry_made actor at n event parts =
+    is ∙ ap (λ (a : Answer). record { actor = actor; at = at; step = n; event = event; answer = a }) told in
+    ap (λ (es : List Entry). record parts { journal = es }) (pushes ∙ ap (λ (e : Entry). parts.journal ++ e ∷ []) made)
+    ∙ ap (λ (p : JournalParts). with_entry (entry_made actor at n event p) p) view
 
 -- it drew at most one number for each of its resources
 pub draws : (parts now : JournalParts) (pushed : List Entry) (entry : Entry) (event : Event) → parts ≡ now → pushed ≡ parts.journal ++ entry ∷ []
@@ -127,7 +141,7 @@ draws parts now pushed entry event view pushes same =
     subst (λ (es : List Entry). (world_after parts.format begun es).made ≤ (world_now now).made + items_in event) (sym pushes)
     (subst (λ (p : JournalParts). (world_after parts.format begun (parts.journal ++ entry ∷ [])).made ≤ (world_now p).made + items_in event) view
     (subst (λ n. (world_after parts.format begun (parts.journal ++ entry ∷ [])).made ≤ (world_now parts).made + n) same
-    (entry_made parts.format begun parts.journal entry)))
+    (entry_draws parts.format begun parts.journal entry)))
 
 -- the rows that it reaped wait behind those that waited
 pub defers : (parts now given : JournalParts) (event : Event) (waiting before taken after : List GenRow) → parts ≡ now → given ≡ parts → waiting ≡ before

@@ -8,6 +8,7 @@ use Rattle.ev_model_laws.specs.Numbers.{IsNumbered}
 use Rattle.ev_model_laws.proofs.NumberLemmas.{draws_in_order}
 use Rattle.ev_actors.specs.Journals.{JournalParts, world_now}
 use Rattle.ev_types.specs.declared.rows.Phase.{Phase}
+use Rattle.ev_model.specs.declared.pictures.Picture.{Picture}
 use Rattle.ev_registry.specs.declared.views.View.{View}
 use Rattle.ev_run_laws.specs.ByNumber.{row_numbered, rows_numbered}
 use Rattle.ev_registry.specs.declared.views.ViewRow.{ViewRow}
@@ -33,9 +34,9 @@ pub numbered_now : (parts : JournalParts) → IsNumbered (world_now parts)
 numbered_now parts = draws_in_order.runs parts.format parts.workers parts.node parts.journal
 
 -- what is shown is what is known
-pub viewed : (parts now : JournalParts) (rows : List ViewRow) (phase : Phase) (version : ℕ) → parts ≡ now
+pub viewed : (parts now : JournalParts) (rows : List ViewRow) (phase : Phase) (version : ℕ) (picture : Picture) → parts ≡ now
     → rows ≡ map (view_row (world_now parts)) (world_now parts).rows → phase ≡ (world_now parts).phase
-    → version ≡ (last_picture (world_now parts)).version
+    → version ≡ picture.version → picture ≡ last_picture (world_now parts)
     → (record { rows = rows; phase = phase; version = version }) ≡ view_of (world_now now)
-viewed parts now rows phase version same shown booted latest =
-    (λ i. record { rows = shown i; phase = booted i; version = latest i }) ∙ ap (λ (p : JournalParts). view_of (world_now p)) same
+viewed parts now rows phase version picture same shown booted is latest =
+    (λ i. record { rows = shown i; phase = booted i; version = (is ∙ ap (λ (p : Picture). p.version) latest) i }) ∙ ap (λ (p : JournalParts). view_of (world_now p)) same

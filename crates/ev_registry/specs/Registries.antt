@@ -1,9 +1,7 @@
 -- What a registry keeps of its journal, and of what is known beside it.
 use Rattle.std.specs.Prelude.{◌≡◌, ℕ, ⊤, Bool, false, List, [], ◌∷◌, ◌++◌, map, Some}
 use Rattle.ev_types.specs.Events.{MayMake}
-use Rattle.ev_types.specs.declared.events.Actor.{Actor}
 use Rattle.ev_types.specs.declared.events.Actor.TheVariants.{Worker}
-use Rattle.ev_types.specs.declared.events.Answer.{Answer}
 use Rattle.ev_types.specs.declared.events.Answer.TheVariants.{Settled}
 use Rattle.ev_types.specs.declared.events.Entry.{Entry}
 use Rattle.ev_types.specs.declared.events.Event.{Event}
@@ -12,18 +10,21 @@ use Rattle.ev_types.specs.declared.journals.Format.{Format}
 use Rattle.ev_types.specs.declared.rows.GenRow.{GenRow}
 use Rattle.ev_model.specs.World.{World, opening}
 use Rattle.ev_model.specs.Dead.{last_picture}
+use Rattle.ev_model.specs.declared.pictures.Picture.{Picture}
 use Rattle.ev_model.specs.Runs.{IsRun}
 use Rattle.ev_model.specs.Step.{step}
 use Rattle.ev_run_laws.specs.Drawing.{NumbersSuffice}
 use Rattle.ev_generations.specs.Tables.{row_in}
-use Rattle.ev_actors.specs.Journals.{JournalParts, with_entry, world_now}
+use Rattle.ev_actors.specs.Journals.{JournalParts, world_now}
 use Rattle.ev_proxy.specs.declared.proxy.Proxy.{Proxy}
 use Rattle.ev_proxy.specs.Proxies.{IsAt, numbers_reaped}
 
--- what contracts see of a registry: what was done, and the rows that reapings removed, until they are taken
+-- what contracts see of a registry: what was done, the rows that reapings removed, until they are taken, and whether want of memory cut the
+-- last event off, so that what is known has to be made anew
 pub record RegistryParts : Type 0 where
   pub journaled : JournalParts
   pub deferred : List GenRow
+  pub is_lost : Bool
 
 -- the actor may make the event in this world, and the numbers suffice for its resources, where it brings some
 pub record MayStep (workers : ℕ) (world : World) (entry : Entry) : Type 0 where
@@ -41,17 +42,11 @@ abbrev pub settle_told : ℕ → ℕ → ℕ → List ℕ → ℕ → Entry
 settle_told worker at n closed version =
     record { actor = Worker worker; at = at; step = n; event = Settle; answer = Settled closed version }
 
--- behind what was done stands this event of an actor with its answer
-abbrev pub EntersEvent : Actor → ℕ → ℕ → Event → JournalParts → JournalParts → Answer → Type 0
-EntersEvent actor at n event old new answer =
-    new ≡ with_entry record { actor = actor; at = at; step = n; event = event; answer = answer } old
-
--- The journal is a run, and what is known is that of the world after it, where it wasn't lost; the version is that of the last picture
--- in any case.
-pub record StandsFor (is_lost : Bool) (version : ℕ) (proxy : Proxy) (parts : JournalParts) : Type 0 where
+-- The journal is a run, and what is known is that of the world after it, where it wasn't lost; the last picture is known in any case.
+pub record StandsFor (is_lost : Bool) (picture : Picture) (proxy : Proxy) (parts : JournalParts) : Type 0 where
   pub run : IsRun parts.format parts.workers parts.node parts.journal
   pub stepped : HaveStepped parts.format parts.workers (opening parts.workers parts.node) parts.journal
-  pub latest : version ≡ (last_picture (world_now parts)).version
+  pub latest : picture ≡ last_picture (world_now parts)
   pub at : is_lost ≡ false → IsAt proxy (world_now parts)
 
 -- behind the rows that waited stand those of these numbers, in their order, each as it stands among the others

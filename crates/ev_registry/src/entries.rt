@@ -4,24 +4,24 @@ use ev_drain::Deferred;
 use ev_types::{Actor, Answer, Entry, Event, TryCopy};
 use std::alloc::{AllocError, Global};
 
-// An event with its answer, as an entry.
+// An event with its answer, as an entry. The event is copied: it stays a part of its script.
 pub(crate) fn entry_of(
     alloc: Global,
     actor: Actor,
     at: u32,
     step: u32,
     event: &Event,
-    answer: &Answer,
+    answer: Answer,
 ) -> Result<Entry, AllocError>
     ensures { IfOk result (λ entry. entry
-        ≡ record { actor = actor; at = at; step = step; event = event.now; answer = answer.now }) }
+        ≡ record { actor = actor; at = at; step = step; event = event.now; answer = answer }) }
 {
     Ok(Entry {
         actor,
         at,
         step,
         event: event.copy(alloc)?,
-        answer: answer.copy(alloc)?,
+        answer,
     })
 }
 
@@ -36,6 +36,7 @@ pub(crate) fn enter(
     ensures deferred { OnOk result (deferred.new.0 ≡ deferred.old.0 ++ reaped.old.0) }
     ensures journal_kept { OnErr result (journal.new.items ≡ journal.old.items) }
     ensures deferred_kept { OnErr result (deferred.new.0 ≡ deferred.old.0) }
+    ensures none { OnOk result (reaped.new.0 ≡ []) }
 {
     journal.reserve(1)?;
     deferred.append(reaped)?;

@@ -1,11 +1,11 @@
-ghost use Rattle.std.specs.Prelude.{◌≡◌, ◌≤◌, ◌<◌, ◌+◌, [], IfOk, OnOk, OnErr};
+ghost use Rattle.std.specs.Prelude.{◌≡◌, ◌≤◌, ◌<◌, ◌+◌, true, false, [], is_none, IfOk, IfSome, OnOk, OnErr};
 ghost use Rattle.std.specs.Arc.{arc_value};
 ghost use Rattle.ev_types.specs.Events.{IsMainSide, MayMake};
 ghost use Rattle.ev_types.specs.Scripts.{items_in};
 ghost use Rattle.ev_model.specs.World.{opening};
 ghost use Rattle.ev_model.specs.Runs.{IsRun};
-ghost use Rattle.ev_actors.specs.Journals.{IsToldBehind, SufficeFor, WorksIn, answer_now, with_settled, world_now};
-ghost use Rattle.ev_registry.specs.Registries.{DefersReaped, EntersEvent, HaveStepped};
+ghost use Rattle.ev_actors.specs.Journals.{IsToldBehind, SufficeFor, WorksIn, entry_made, with_entry, with_settled, world_now};
+ghost use Rattle.ev_registry.specs.Registries.{DefersReaped, HaveStepped};
 ghost use Rattle.ev_registry.specs.Views.{view_of};
 
 use crate::batches::enter_batch;
@@ -17,7 +17,7 @@ use ev_actors::Journaled;
 use ev_drain::Deferred;
 use ev_proxy::Proxy;
 use ev_snapshot::Snapshot;
-use ev_types::{Actor, Answer, Entry, Event, Format, GenRow, Seq, Text, TryCopy};
+use ev_types::{Actor, Entry, Event, Format, GenRow, Seq, Text, TryCopy};
 use ev_worker::{Settled, Worker};
 use std::alloc::{AllocError, Global};
 use std::marker::Model;
@@ -25,8 +25,8 @@ use std::mem::{drop, replace};
 use std::sync::Arc;
 
 /// What is known, and the journal of what was done: a run of the machine. Where want of memory cut an event off, what is known counts as
-/// lost, and is made anew out of the journal with the next event; the version of the last picture and the rows that wait to be dropped
-/// stand beside it, and stay.
+/// lost, and is made anew out of the journal with the next event; the last picture and the rows that wait to be dropped stand beside it,
+/// and stay.
 #[derive(Drop)]
 pub struct Registry {
     alloc: Global,
@@ -35,12 +35,13 @@ pub struct Registry {
     node: Text,
     proxy: Proxy,
     is_lost: bool,
-    version: u64,
+    latest: Arc<Snapshot>,
     deferred: Deferred,
     journal: Vec<Entry>,
 }
 
 impl Model for Registry {
+    ghost use Rattle.std.specs.Arc.{arc_value};
     ghost use Rattle.ev_registry.specs.Registries.{RegistryParts, StandsFor};
 
     ghost Value = { RegistryParts };
@@ -48,9 +49,10 @@ impl Model for Registry {
     ghost view = { λ r. record {
       journaled = record { format = r.format; workers = r.workers; node = r.node; journal = r.journal.items };
       deferred = r.deferred.0;
+      is_lost = r.is_lost;
     } };
 
-    ghost invariant = { λ r. StandsFor r.is_lost r.version r.proxy record { format = r.format; workers = r.workers; node = r.node; journal = r.journal.items } };
+    ghost invariant = { λ r. StandsFor r.is_lost (arc_value r.latest) r.proxy record { format = r.format; workers = r.workers; node = r.node; journal = r.journal.items } };
 }
 
 impl Registry {
@@ -66,6 +68,7 @@ impl Registry {
         ensures empty { IfOk result (λ made. made.journaled
             ≡ record { format = format; workers = workers; node = node.now; journal = [] }) }
         ensures none { IfOk result (λ made. made.deferred ≡ []) }
+        ensures known { IfOk result (λ made. made.is_lost ≡ false) }
     {
         let registry = Registry::of_journal(alloc, format, workers, node, Vec::new(alloc))?;
         Ok(registry)
@@ -84,6 +87,7 @@ impl Registry {
         ensures shown { IfOk result (λ made. made.journaled
             ≡ record { format = format; workers = workers; node = node.now; journal = journal.items }) }
         ensures none { IfOk result (λ made. made.deferred ≡ []) }
+        ensures known { IfOk result (λ made. made.is_lost ≡ false) }
     {
         let kept = node.copy(alloc)?;
         let past = Past {
@@ -93,7 +97,7 @@ impl Registry {
             journal: journal.as_slice(),
         };
         let proxy = make_anew(alloc, past)?;
-        let version = proxy.version();
+        let latest = proxy.snapshot()?;
         Ok(Registry {
             alloc,
             format,
@@ -101,50 +105,50 @@ impl Registry {
             node: kept,
             proxy,
             is_lost: false,
-            version,
+            latest,
             deferred: Deferred::new(alloc),
             journal,
         })
     }
 
-    /// What is known, as it is shown: the generations by number, each with how many connections are open on it. It is refused where want
-    /// of memory cut an event off, until the next event. It costs look-ups of each number that was drawn.
-    pub fn view(&self, alloc: Global) -> Result<View, AllocError>
-        ensures { IfOk result (λ view. view ≡ view_of (world_now self.now.journaled)) }
+    /// What is known, as it is shown: the generations by number, each with how many connections are open on it. There is none where want
+    /// of memory cut the last event off, and else there is one. It costs look-ups of each number that was drawn.
+    pub fn view(&self, alloc: Global) -> Result<Option<View>, AllocError>
+        ensures shown { IfOk result (λ view. IfSome view (λ v. v ≡ view_of (world_now self.now.journaled))) }
+        ensures lost { IfOk result (λ view. is_none view ≡ self.now.is_lost) }
     {
         if self.is_lost {
-            return Err(AllocError);
+            return Ok(None);
         }
         let rows = rows_of(alloc, &self.proxy)?;
-        Ok(View {
+        Ok(Some(View {
             rows,
             phase: self.proxy.phase(),
-            version: self.version,
-        })
+            version: self.latest.version(),
+        }))
     }
 }
 
 impl Journaled for Registry {
     ghost shows = { λ r. r.journaled };
 
-    fn apply(
-        &mut self,
-        actor: Actor,
-        at: u32,
-        step: u32,
-        event: &Event,
-    ) -> Result<Answer, AllocError>
+    ghost deferred = { λ r. r.deferred };
+
+    fn apply(&mut self, actor: Actor, at: u32, step: u32, event: &Event) -> Result<(), AllocError>
         requires main { IsMainSide actor }
         requires allowed { MayMake self.old.journaled.workers actor event.now }
         requires numbered { SufficeFor event.now self.old.journaled }
-        ensures answer { IfOk result (λ answer. answer ≡ answer_now actor event.now self.old.journaled) }
-        ensures entry { IfOk result (EntersEvent actor at step event.now self.old.journaled self.new.journaled) }
+        ensures entry { OnOk result (self.new.journaled
+            ≡ with_entry (entry_made actor at step event.now self.old.journaled) self.old.journaled) }
         ensures drawn { OnOk result ((world_now self.new.journaled).made ≤
             (world_now self.old.journaled).made + items_in event.now) }
         // What a reaping names waits behind the rows that waited, each row as the world had it; no other event puts a row there.
         ensures deferred { OnOk result (DefersReaped event.now self.old.journaled self.old.deferred self.new.deferred) }
         ensures err { OnErr result (self.new.journaled ≡ self.old.journaled) }
         ensures kept { OnErr result (self.new.deferred ≡ self.old.deferred) }
+        // It is lost exactly where it was cut off; where it was lost before, it was made anew.
+        ensures known { OnOk result (self.new.is_lost ≡ false) }
+        ensures lost { OnErr result (self.new.is_lost ≡ true) }
     {
         let is_lost = replace(&mut self.is_lost, true);
         let past = Past {
@@ -155,16 +159,17 @@ impl Journaled for Registry {
         };
         recover(&mut self.proxy, is_lost, self.alloc, past)?;
         let answer = step_after(&mut self.proxy, self.alloc, past, actor, event)?;
-        let entry = entry_of(self.alloc, actor, at, step, event, &answer)?;
+        let latest = self.proxy.snapshot()?;
+        let entry = entry_of(self.alloc, actor, at, step, event, answer)?;
         enter(
             &mut self.journal,
             &mut self.deferred,
             &mut self.proxy.deferred,
             entry,
         )?;
-        self.version = self.proxy.version();
+        self.latest = latest;
         self.is_lost = false;
-        Ok(answer)
+        Ok(())
     }
 
     fn apply_batch(&mut self, worker: &Worker, at: u32, step: u32) -> Result<Settled, AllocError>
@@ -176,6 +181,9 @@ impl Journaled for Registry {
         ensures err { OnErr result (self.new.journaled ≡ self.old.journaled) }
         // The rows that wait go on waiting.
         ensures deferred { self.new.deferred ≡ self.old.deferred }
+        // It is lost exactly where it was cut off; where it was lost before, it was made anew.
+        ensures known { OnOk result (self.new.is_lost ≡ false) }
+        ensures lost { OnErr result (self.new.is_lost ≡ true) }
     {
         let was_lost = replace(&mut self.is_lost, true);
         let past = Past {
@@ -186,26 +194,24 @@ impl Journaled for Registry {
         };
         recover(&mut self.proxy, was_lost, self.alloc, past)?;
         let settled = settle_after(&mut self.proxy, self.alloc, past, worker)?;
+        let latest = self.proxy.snapshot()?;
         let entered = enter_batch(&mut self.journal, self.alloc, worker, at, step, &settled);
         if let Err(error) = entered {
             drop(settled);
             return Err(error);
         }
-        self.version = self.proxy.version();
+        self.latest = latest;
         self.is_lost = false;
         Ok(settled)
     }
 
-    // What was lost is made anew with the next event alone.
+    // It is never lost, and takes no memory; it is refused where 2^63 - 1 owners hold it already.
     fn snapshot(&self) -> Result<Arc<Snapshot>, AllocError> {
-        if self.is_lost {
-            return Err(AllocError);
-        }
-        self.proxy.snapshot()
+        Arc::try_clone(&self.latest)
     }
 
     fn latest(&self) -> u64 {
-        self.version
+        self.latest.version()
     }
 
     // Exactly those that reapings removed since the last call.
@@ -213,6 +219,7 @@ impl Journaled for Registry {
         ensures same { self.new.journaled ≡ self.old.journaled }
         ensures rows { result ≡ self.old.deferred }
         ensures none { self.new.deferred ≡ [] }
+        ensures lost { self.new.is_lost ≡ self.old.is_lost }
     {
         let none = Deferred::new(self.alloc);
         replace(&mut self.deferred, none).into_rows()

@@ -2,10 +2,11 @@
 use Rattle.std.specs.Prelude.{ℕ, ◌≡◌, ◌+◌, List, [], ◌∷◌, ◌++◌, length, codes}
 use Rattle.serde_json.specs.Data.{Data, number, unsigned, object, member, no_members}
 use Rattle.serde_json.specs.Written.{compact_text}
-use Rattle.ev_types.specs.Scripts.{ScriptParts}
+use Rattle.ev_types.specs.Scripts.{IsScript, ScriptParts}
 use Rattle.ev_types.specs.declared.events.Entry.{Entry}
 use Rattle.ev_types.specs.declared.journals.Format.TheVariants.{Two}
 use Rattle.ev_model.specs.Dead.{last_picture}
+use Rattle.ev_model.specs.Laws.{Laws, Told}
 use Rattle.ev_model.specs.Operations.{IsReplay}
 use Rattle.ev_model.specs.Runs.{world_after}
 use Rattle.ev_model.specs.World.{opening}
@@ -34,8 +35,15 @@ soak_line lines journal version = compact_text (soak_tree lines journal version)
 abbrev pub version_behind : ScriptParts → List Entry → ℕ
 version_behind script journal = (last_picture (world_after Two (opening script.workers script.node) journal)).version
 
--- the text is the line of this seed's script, which has so many lines after its header
+-- a journal of the script's workers and node, by the rules of format 2, as the laws of runs speak of it
+abbrev pub told_of : ScriptParts → List Entry → Told
+told_of script journal = record { format = Two; workers = script.workers; node = script.node; journal = journal }
+
+-- the text is the line of this seed's script, which has so many lines after its header and is within the bounds of scripts; the
+-- journal that it counts up has the laws
 pub record IsSoakText (seed count : ℕ) (text : List ℕ) : Type 0 where
+  pub kept : IsScript (soak_script seed count)
   pub journal : List Entry
   pub replay : IsReplay Two (soak_script seed count) journal
+  pub laws : Laws (told_of (soak_script seed count) journal)
   pub line : text ≡ soak_line (count + 1) journal (version_behind (soak_script seed count) journal)

@@ -32,7 +32,7 @@ fn soak_value(
 ) -> Result<Value, AllocError>
     ensures { IfOk result (λ v. view v ≡ soak_tree lines journal.now version) }
 {
-    let counts = tally(journal);
+    let counts = tally(journal)?;
     json!(in alloc; {
         "entries": journal.len(),
         "lines": lines,

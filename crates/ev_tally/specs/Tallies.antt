@@ -1,5 +1,5 @@
 -- What a journal counts up to. This project's own.
-use Rattle.std.specs.Prelude.{ℕ, Bool, true, false, not, min, List, filter, length}
+use Rattle.std.specs.Prelude.{ℕ, Bool, true, false, not, List, filter, length}
 use Rattle.std.specs.List.{list_any, flat_map}
 use Rattle.ev_types.specs.declared.events.Answer.{Answer}
 use Rattle.ev_types.specs.declared.events.Answer.TheVariants.{Ignored, Done, Moved, Replied, Version, Unchanged, Reaped, InUse, NoListener, NoRoute, Redirect, NoCluster, NoEndpoint, Local, Served, NotOpen, Settled}
@@ -8,7 +8,6 @@ use Rattle.ev_types.specs.declared.events.Verdict.{Verdict}
 use Rattle.ev_types.specs.declared.events.Verdict.TheVariants.{New, Same, Kept, Unasked, Renewed, Refused}
 use Rattle.ev_model.specs.Entries.{numbers_reaped}
 use Rattle.ev_tally.specs.declared.counts.Tally.{Tally}
-use Rattle.ev_tally.specs.declared.counts.TheConstants.{MAX_COUNT}
 use Rattle.ev_tally.specs.declared.counting.Counted.{Counted}
 use Rattle.ev_tally.specs.declared.counting.Counted.TheVariants.{Acks, Nacks, Opened, Served as serves}
 
@@ -78,5 +77,5 @@ tally_of journal = record {
   nacks = count_answers is_nack journal;
   opened = count_answers is_opened journal;
   served = count_answers is_served journal;
-  reaped = min (length (all_reaped journal)) MAX_COUNT;
+  reaped = length (all_reaped journal);
 }

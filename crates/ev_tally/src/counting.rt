@@ -1,22 +1,27 @@
-ghost use Rattle.std.specs.Prelude.{◌≡◌, length, min};
+ghost use Rattle.std.specs.Prelude.{◌≡◌, ◌+◌, length, IfOk};
 ghost use Rattle.std.specs.List.{list_any};
 ghost use Rattle.ev_model.specs.Entries.{numbers_reaped};
 ghost use Rattle.ev_tally.specs.Tallies.{is_refusal, is_ack, is_nack, is_opened, is_served, is_counted, count_answers, all_reaped, tally_of};
 
-use crate::counts::{MAX_COUNT, Tally};
+use crate::counts::Tally;
 use ev_types::{Answer, Entry, Verdict};
+use std::alloc::AllocError;
 
 /// Counts up a journal.
-pub fn tally(journal: &[Entry]) -> Tally
-    ensures { result ≡ tally_of journal.now }
+///
+/// # Errors
+/// `AllocError` where its reapings name 2^64 numbers and more together: there is no room for so many.
+pub fn tally(journal: &[Entry]) -> Result<Tally, AllocError>
+    ensures { IfOk result (λ counts. counts ≡ tally_of journal.now) }
 {
-    Tally {
+    let reaped = count_reaped(journal)?;
+    Ok(Tally {
         acks: count_answers(journal, Counted::Acks),
         nacks: count_answers(journal, Counted::Nacks),
         opened: count_answers(journal, Counted::Opened),
         served: count_answers(journal, Counted::Served),
-        reaped: count_reaped(journal),
-    }
+        reaped,
+    })
 }
 
 // Which answers are counted.
@@ -52,15 +57,25 @@ fn is_counted(counted: Counted, answer: &Answer) -> bool
     }
 }
 
-// How many generations a journal's reapings destroyed, up to `MAX_COUNT`.
-fn count_reaped(journal: &[Entry]) -> u64
-    ensures { result ≡ min (length (all_reaped journal.now)) MAX_COUNT }
+// How many generations a journal's reapings destroyed.
+fn count_reaped(journal: &[Entry]) -> Result<u64, AllocError>
+    ensures { IfOk result (λ count. count ≡ length (all_reaped journal.now)) }
 {
     let mut count = 0u64;
     for entry in journal {
-        count = count.saturating_add(count_numbers(&entry.answer));
+        count = sum(count, count_numbers(&entry.answer))?;
     }
-    count
+    Ok(count)
+}
+
+// So many more, where the sum has 64 bits.
+fn sum(count: u64, more: u64) -> Result<u64, AllocError>
+    ensures { IfOk result (λ sum. sum ≡ count + more) }
+{
+    match count.checked_add(more) {
+        Some(sum) => Ok(sum),
+        None => Err(AllocError),
+    }
 }
 
 // How many generations a reaping destroyed; other events destroy none.

@@ -1,6 +1,3 @@
-/// The most that a count tells: it stands still there.
-pub const MAX_COUNT: u64 = 18446744073709551615;
-
 /// What a journal counts up to.
 #[derive(Clone, Copy, Debug, PartialEq, Eq)]
 pub struct Tally {
@@ -12,6 +9,6 @@ pub struct Tally {
     pub opened: u64,
     /// The accepts that were answered with a host.
     pub served: u64,
-    /// The generations that were destroyed, up to `MAX_COUNT`.
+    /// The generations that were destroyed.
     pub reaped: u64,
 }

@@ -2,8 +2,8 @@
 //!
 //! # Choices
 //!
-//! - Counts have 64 bits. A journal in memory has fewer entries than 2^64, so each count of entries is exact. The lists of
-//!   numbers of its reapings could be longer together, as far as types tell: that count stands still at 2^64 - 1.
+//! - Counts have 64 bits, and each is exact. A journal in memory has fewer entries than 2^64. The lists of numbers of its reapings
+//!   could be longer together, as far as types tell: then there is no room for the count, which is want of memory.
 //! - An accept is told by its answer, and not by its event: no other event is answered so in a run.
 #![tactic(auto)]
 
@@ -11,4 +11,4 @@ mod counting;
 mod counts;
 
 pub use counting::tally;
-pub use counts::{MAX_COUNT, Tally};
+pub use counts::Tally;

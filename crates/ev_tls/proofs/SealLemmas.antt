@@ -1,10 +1,11 @@
 -- The text whose clusters wait for their secrets is a script.
-use Rattle.std.proofs.Common.{◌≡◌, ℕ, ◌+◌, false, List, [], ◌∷◌, Some, Result, Ok, Err, Vec, IfOk, arith}
+use Rattle.std.proofs.Common.{◌≡◌, ℕ, ◌+◌, false, List, [], ◌∷◌, Some, Result, Ok, Err, Vec, IfOk, OnOk, arith}
 use Rattle.std.specs.declared.alloc.Global.{Global}
 use Rattle.std.specs.Prelude.{All}
 use Rattle.std.proofs.lemmas.List.Elements.{All-tail}
 use Rattle.serde_json.specs.Data.{Data}
 use Rattle.serde_json.specs.View.{view}
+use Rattle.ev_types.specs.Scripts.{IsScript}
 use Rattle.ev_script.specs.declared.trees.ScriptTrees.{ScriptTrees}
 use Rattle.ev_script.specs.Faults.{Input, plain_lines, HasNoFault}
 use Rattle.ev_script.specs.ReadTrees.{IsTreesAnswer}
@@ -44,3 +45,8 @@ pub sealed_script : (input : Input) (trees : ScriptTrees) (result : Result (Vec 
     → IsExpanded tls_rules (view trees.head) (lines_in trees) result → IfOk result (λ text. script_of false text.items ≡ Some (expanded_script tls_rules trees))
 sealed_script input trees (Ok text) answer expanded = (text_is_script tls_rules trees text (trees_expandable input trees answer) expanded).script
 sealed_script input trees (Err error) answer expanded = tt
+
+pub sealed_kept : (input : Input) (trees : ScriptTrees) (result : Result (Vec ℕ Global) ExpandError) → IsTreesAnswer plain_lines input (Ok trees)
+    → IsExpanded tls_rules (view trees.head) (lines_in trees) result → OnOk result (IsScript (expanded_script tls_rules trees))
+sealed_kept input trees (Ok text) answer expanded = (text_is_script tls_rules trees text (trees_expandable input trees answer) expanded).kept
+sealed_kept input trees (Err error) answer expanded = tt

@@ -7,8 +7,9 @@
 //!   that were read are lines of a script, and the endpoints that are sent stood in such a line at least as deep.
 #![tactic(auto)]
 
-ghost use Rattle.std.specs.Prelude.{◌≡◌, false, Some, Ok, IfOk};
+ghost use Rattle.std.specs.Prelude.{◌≡◌, false, Some, Ok, IfOk, OnOk};
 ghost use Rattle.serde_json.specs.View.{view};
+ghost use Rattle.ev_types.specs.Scripts.{IsScript};
 ghost use Rattle.ev_script.specs.Faults.{Input, plain_lines, HasNoFault};
 ghost use Rattle.ev_script.specs.ReadTrees.{IsTreesAnswer};
 ghost use Rattle.ev_script.specs.Script.{script_of};
@@ -24,7 +25,8 @@ use ev_secrets::expand;
 pub use laws::accepts_are_sealed;
 use std::alloc::Global;
 
-/// The text of a script whose clusters wait for their secrets, by the trees of a script's lines. It is a script without fault.
+/// The text of a script whose clusters wait for their secrets, by the trees of a script's lines. It is a script without
+/// fault, within the bounds of scripts.
 ///
 /// # Errors
 /// `Private` exactly for the first line that uses a name that begins with `tls/` for endpoints. `Large` where there is none,
@@ -35,6 +37,7 @@ pub fn seal(alloc: Global, trees: &ScriptTrees) -> Result<Vec<u8>, ExpandError>
     ensures expanded { IsExpanded tls_rules (view trees.now.head) (lines_in trees.now) result }
     ensures sound { IfOk result (λ text. HasNoFault plain_lines (input_of_text text.items)) }
     ensures script { IfOk result (λ text. script_of false text.items ≡ Some (expanded_script tls_rules trees.now)) }
+    ensures kept { OnOk result (IsScript (expanded_script tls_rules trees.now)) }
 {
     expand(alloc, &trees.head, &trees.lines)
 }

@@ -23,13 +23,12 @@ fn copy_and_remove(alloc: Global, drain: &mut Drain) -> Result<bool, Fail>
     Ok(stays)
 }
 
-#[test]
-fn removed_rows_stay_in_a_copy(rt: HostRuntime) -> Result<(), Fail> {
-    let mut drain = Drain::new(rt.alloc());
-    let stays = copy_and_remove(rt.alloc(), &mut drain);
+// Whether a row that is removed stays in a copy.
+fn removed_row_stays(alloc: Global) -> Result<bool, Fail> {
+    let mut drain = Drain::new(alloc);
+    let stays = copy_and_remove(alloc, &mut drain);
     drop(drain);
-    assert_eq!(rt; stays?, true);
-    Ok(())
+    stays
 }
 
 // Whether each of 16 workers has that number open on generation 2, and no other, and the next worker none.
@@ -56,13 +55,12 @@ fn are_copied(alloc: Global, ledger: &mut Ledger) -> Result<bool, Fail> {
     held
 }
 
-#[test]
-fn a_copied_ledger_has_each_workers_numbers(rt: HostRuntime) -> Result<(), Fail> {
-    let mut ledger = Ledger::new(rt.alloc());
-    let copied = are_copied(rt.alloc(), &mut ledger);
+// Whether a copied ledger has each worker's numbers.
+fn ledger_is_copied(alloc: Global) -> Result<bool, Fail> {
+    let mut ledger = Ledger::new(alloc);
+    let copied = are_copied(alloc, &mut ledger);
     drop(ledger);
-    assert_eq!(rt; copied?, true);
-    Ok(())
+    copied
 }
 
 // What a copy tells of a host that isn't healthy.
@@ -76,13 +74,12 @@ fn copied_result(alloc: Global, results: &mut Endpoints) -> Result<Option<bool>,
     Ok(told)
 }
 
-#[test]
-fn copied_results_are_the_same(rt: HostRuntime) -> Result<(), Fail> {
-    let mut results = Endpoints::new(rt.alloc());
-    let told = copied_result(rt.alloc(), &mut results);
+// The same of copied results.
+fn result_of_copy(alloc: Global) -> Result<Option<bool>, Fail> {
+    let mut results = Endpoints::new(alloc);
+    let told = copied_result(alloc, &mut results);
     drop(results);
-    assert_eq!(rt; told?, Some(false));
-    Ok(())
+    told
 }
 
 // Whether a copy has a version, with its bound.
@@ -96,12 +93,21 @@ fn is_copied(alloc: Global, subscription: &mut Subscription) -> Result<bool, Fai
     Ok(has)
 }
 
-#[test]
-fn a_copied_subscription_has_each_version(rt: HostRuntime) -> Result<(), Fail> {
-    let node = Text::new(rt.alloc(), "node")?;
-    let mut subscription = Subscription::new(rt.alloc(), node);
-    let copied = is_copied(rt.alloc(), &mut subscription);
+// Whether a copied subscription has its version.
+fn subscription_is_copied(alloc: Global) -> Result<bool, Fail> {
+    let node = Text::new(alloc, "node")?;
+    let mut subscription = Subscription::new(alloc, node);
+    let copied = is_copied(alloc, &mut subscription);
     drop(subscription);
-    assert_eq!(rt; copied?, true);
+    copied
+}
+
+#[test]
+fn copies_have_what_was_copied(rt: HostRuntime) -> Result<(), Fail> {
+    let alloc = rt.alloc();
+    assert!(rt; removed_row_stays(alloc)?);
+    assert!(rt; ledger_is_copied(alloc)?);
+    assert_eq!(rt; result_of_copy(alloc)?, Some(false));
+    assert!(rt; subscription_is_copied(alloc)?);
     Ok(())
 }

@@ -89,13 +89,12 @@ fn go(
     find_dead(rt, alloc, drain, closed, Format::Two, false, &both)
 }
 
-#[test]
-fn rows_are_dead_once_nothing_holds_them(rt: HostRuntime) -> Result<(), Fail> {
-    let alloc = rt.alloc();
+// Rows are dead once nothing holds them.
+fn assert_dead(rt: &impl Abort, alloc: Global) -> Result<(), Fail> {
     let mut drain = Drain::new(alloc);
     let closed = Ledger::new(alloc);
     let mut open = Ledger::new(alloc);
-    let went = go(&rt, alloc, &mut drain, &mut open, &closed);
+    let went = go(rt, alloc, &mut drain, &mut open, &closed);
     drop(open);
     drop(closed);
     drop(drain);
@@ -131,7 +130,10 @@ fn push_two(alloc: Global, deferred: &mut Deferred) -> Result<(), Fail> {
 }
 
 #[test]
-fn reaped_rows_are_kept_in_order(rt: HostRuntime) -> Result<(), Fail> {
+fn rows_are_dead_once_nothing_holds_them_and_are_kept_in_order(
+    rt: HostRuntime,
+) -> Result<(), Fail> {
+    assert_dead(&rt, rt.alloc())?;
     let mut deferred = Deferred::new(rt.alloc());
     let pushed = push_two(rt.alloc(), &mut deferred);
     let rows = deferred.into_rows();

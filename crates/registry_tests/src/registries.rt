@@ -106,12 +106,12 @@ fn takes_two_clusters(alloc: Global, registry: &mut Registry, event: &Event) -> 
     if !is_of_two(event) {
         return Ok(false);
     }
-    let _ = registry.apply(Actor::Stream, 2, 0, &Event::Connect)?;
+    registry.apply(Actor::Stream, 2, 0, &Event::Connect)?;
     if registry.apply(Actor::Stream, 3, 0, event).is_err() {
         if !has_lines(alloc, registry, &[BEGUN, CONNECTED])? {
             return Ok(false);
         }
-        let _ = registry.apply(Actor::Stream, 3, 0, event)?;
+        registry.apply(Actor::Stream, 3, 0, event)?;
     }
     let entered = has_lines(alloc, registry, &[BEGUN, CONNECTED, MADE])?;
     let reaped = registry.take_deferred().len();

@@ -36,8 +36,8 @@ fn takes_a_cluster(registry: &mut Registry, event: &Event) -> Result<bool, Fail>
     if !is_of_one(event) {
         return Ok(false);
     }
-    let _ = registry.apply(Actor::Stream, 2, 0, &Event::Connect)?;
-    let _ = registry.apply(Actor::Stream, 3, 0, event)?;
+    registry.apply(Actor::Stream, 2, 0, &Event::Connect)?;
+    registry.apply(Actor::Stream, 3, 0, event)?;
     Ok(true)
 }
 

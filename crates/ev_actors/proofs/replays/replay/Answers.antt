@@ -16,7 +16,7 @@ loop-line-preserved g c =
     subst (λ auto. IsTaken auto c.line-item.result (g.R.Journaled.shows c.loop-line.journaled) (g.R.Journaled.shows c.take_line.new.journaled) old new)
     (ap (λ (s : ScriptParts). s.auto) c.script.view_is)
     (subst (λ (ws : List WorkerParts). IsTaken c.script.inside.auto c.line-item.result (g.R.Journaled.shows c.loop-line.journaled) (g.R.Journaled.shows c.take_line.new.journaled) ws new)
-    c.as_mut_slice.ensures.value c.in_ok-take_line.ensures) in
+    c.as_mut_slice.ensures.value c.in_ok-take_line.ensures.taken) in
     let way : IsOnTheWay c.args.script.now (g.R.Journaled.shows c.take_line.new.journaled) new _ _ =
     line_more c.args.script.now (g.R.Journaled.shows c.loop-line.journaled) (g.R.Journaled.shows c.take_line.new.journaled) old new
     c.as_slice-line-items.result.now c.loop-line.line-index c.line-item.result c.loop-line-test.true c.line-item.is
@@ -31,10 +31,11 @@ loop-line-preserved g c =
       way =
           subst (λ (ws : List WorkerParts). IsUnderWay c.args.script.now (g.R.Journaled.shows c.take_line.new.journaled) ws (drop (c.loop-line.line-index + 1) c.as_slice-line-items.result.now))
           (sym (ap (λ n. take n (new ++ drop (length new) old)) (sym same) ∙ take-append_seam new (drop (length new) old))) way.way;
+      let_go = λ none. c.in_ok-take_line.ensures.let_go (c.loop-line.invariant.let_go none);
     }
 
-pub returns : goal.returns
-returns g c =
+pub returns-clause-replayed : goal.returns-clause-replayed
+returns-clause-replayed g c =
     let parts : JournalParts = g.R.Journaled.shows c.loop-line.journaled in
     let after : JournalParts = g.R.Journaled.shows c.settle_all.new.journaled in
     ends c.args.script.now parts after c.loop-line.workers.items (c.script.inside.count + 1)
@@ -42,5 +43,8 @@ returns g c =
     (ap (λ (s : ScriptParts). s.count + 1) c.script.view_is)
     c.loop-line.invariant.goes
     (subst (IsUnderWay c.args.script.now parts c.loop-line.workers.items) (drop_all c.loop-line.line-index c.as_slice-line-items.result.now c.loop-line-test.false) c.loop-line.invariant.way)
-    (subst (HaveSettled (c.script.inside.count + 1) parts after) c.as_mut_slice-2.ensures.value c.in_ok-settle_all.ensures)
+    (subst (HaveSettled (c.script.inside.count + 1) parts after) c.as_mut_slice-2.ensures.value c.in_ok-settle_all.ensures.settled)
     c.journal.ensures.run
+
+pub returns-clause-let_go : goal.returns-clause-let_go
+returns-clause-let_go g c = λ none. c.in_ok-settle_all.ensures.deferred ∙ c.loop-line.invariant.let_go none

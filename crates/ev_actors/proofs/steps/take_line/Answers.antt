@@ -14,8 +14,8 @@ within : (workers number count : ℕ) (line : Line) → line.actor ≡ Worker nu
 within workers number count line own may same =
     subst (λ n. number < n) (sym same) (worker_below workers number line.event (subst (λ a. MayMake workers a line.event) own may))
 
-pub returns-in-Worker : goal.returns-in-Worker
-returns-in-Worker g c =
+pub returns-in-Worker-clause-taken : goal.returns-in-Worker-clause-taken
+returns-in-Worker-clause-taken g c =
     let workers : List WorkerParts = c.args.workers.now in
     let old : WorkerParts = get_or workers c.in-Worker.number c.index-workers-number.result in
     IfOk-weaker c.worker_line.result
@@ -26,4 +26,4 @@ returns-in-Worker g c =
     old c.worker_line.new.worker
     (within (g.R.Journaled.shows c.args.journaled.now).workers c.in-Worker.number (length workers) c.args.line.now c.in-Worker.is c.requires.allowed c.requires.count)
     (ap (λ (d : WorkerParts). get_or workers c.in-Worker.number d) c.index-workers-number.is) c.requires.working c.in-Worker.is worked)
-    c.worker_line.ensures
+    c.worker_line.ensures.worked

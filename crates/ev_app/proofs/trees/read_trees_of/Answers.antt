@@ -8,3 +8,6 @@ returns-in_default-clause-reads g c = reads_no_tree (g.F.Forms.forms) (g.S.Sourc
 pub returns-clause-reads : goal.returns-clause-reads
 returns-clause-reads g c =
     reads_trees (g.F.Forms.forms) (g.S.Source.left c.args.source.now) (g.S.Source.left c.read_trees_with.new.source) c.read_trees_with.new.lines c.read_trees_with.result c.read_trees_with.ensures.at_most c.read_trees_with.ensures.at_end c.read_trees_with.ensures.reads
+
+pub returns-clause-unended : goal.returns-clause-unended
+returns-clause-unended g c = λ e. c.read_trees_with.ensures.unended.unended (c.read_trees_with.ensures.goes_on e)

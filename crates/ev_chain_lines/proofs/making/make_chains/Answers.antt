@@ -1,4 +1,5 @@
-use Rattle.std.proofs.Common.{◌∙◌, ap, map}
+use Rattle.std.proofs.Common.{◌≡◌, ◌∙◌, Err, ap, map}
+use Rattle.ev_io.specs.declared.faults.ScriptFault.TheVariants.{Read}
 use Rattle.ev_chains.specs.Events.{seen}
 use Rattle.ev_chain_lines.specs.Texts.{chains_text}
 use Rattle.ev_chain_lines.proofs.InputLemmas.{makes_text, makes_fault, makes_none, makes_nothing}
@@ -22,3 +23,8 @@ pub returns-clause-made : goal.returns-clause-made
 returns-clause-made g c =
     makes_fault (g.S.Source.left c.args.source.now) (g.S.Source.left c.read_lines_with.new.source) c.read_lines_with.new.lines c.in-Err.fault
     c.in-Err.ensures.at_most c.in-Err.ensures.at_end c.in-Err.ensures.reads
+
+pub returns-clause-unended : goal.returns-clause-unended
+returns-clause-unended g c = λ e.
+    let same : c.in-Err.fault ≡ Read = cc in
+    c.in-Err.ensures.unended.unended (c.in-Err.ensures.goes_on (ap Err same))

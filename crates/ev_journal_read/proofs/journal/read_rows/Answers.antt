@@ -2,6 +2,7 @@
 use Rattle.std.proofs.Common.{◌≡◌, ◌+◌, ◌≤◌, ◌++◌, ℕ, List, true, IsTrue, Ok, Err, refl, sym, ap, subst, ◌∙◌, inl, inr, arith}
 use Rattle.ev_io.specs.declared.faults.LineEnd.{LineEnd}
 use Rattle.ev_io.specs.declared.faults.ScriptFault.{ScriptFault}
+use Rattle.ev_io.proofs.GrowLemmas.{open_both}
 use Rattle.ev_script.specs.ReadInput.{script_fault}
 use Rattle.ev_journal_read.specs.Journals.{IsFirstAnswer, IsAdded, IsMisplaced}
 use Rattle.ev_journal_read.proofs.JournalLemmas.{Reads, Exits, reading_none, reading_more, few_after, one_more, exit_early, exit_first, exit_memory, exit_line, exit_fault, exit_endless, exit_whole, still_at_end}
@@ -21,6 +22,7 @@ lines-init g c =
     record {
       reading = reading_none (g.S.Source.left c.args.source.now) c.args.lines.now c.new.result.items c.requires.untold c.new.ensures.items;
       at_end = λ was. inl was;
+      unended = record { before = λ goes_on. goes_on; unended = λ goes_on. refl };
       at_most = λ h. h;
       same_count = refl;
     }
@@ -38,6 +40,7 @@ lines-preserved g c =
     record {
       reading = reading_more (g.S.Source.left c.args.source.now) (g.S.Source.left c.lines.source) (g.S.Source.left c.read_line.new.source) c.args.lines.now c.lines.lines c.read_line.new.self c.lines.body.rows.items c.add.new.self.rows.items c.lines.body.ended c.add.new.self.ended c.lines.text.items c.read_line.new.out.items c.lines.invariant.reading (subst (λ (end : LineEnd). Reads (g.S.Source.left c.lines.source) (g.S.Source.left c.read_line.new.source) c.lines.lines c.read_line.new.self c.lines.text.items c.read_line.new.out.items (Ok end)) c.in-Ok-Line.field-0-is (c.in-Ok-Line.ensures.reads c.lines.invariant.reading.untold)) c.requires.taken.0 c.requires.taken.1 added.0 added.1;
       at_end = still_at_end g.S.Source.left c.lines.source c.read_line.new.source c.lines.lines c.read_line.new.self (c.requires.taken.0 ++ c.lines.invariant.reading.more) (IsTrue c.args.lines.now.ended) c.lines.invariant.at_end c.read_line.ensures.at_end (c.read_line.ensures.untouched (c.requires.taken.0 ++ c.lines.invariant.reading.more) (c.lines.invariant.reading.taken c.requires.taken.0 c.requires.taken.1));
+      unended = open_both _ _ _ _ _ _ _ c.lines.invariant.unended c.read_line.ensures.unended;
       at_most = λ h. c.read_line.ensures.at_most;
       same_count = elim c.in-Ok-Line.ensures.same_count [ inl same ↦ same ∙ c.lines.invariant.same_count | inr failed ↦ cc ];
     }
@@ -96,3 +99,18 @@ pub returns-in-Err-clause-reads : goal.returns-in-Err-clause-reads
 returns-in-Err-clause-reads g c =
     subst (λ (fault : ScriptFault). Exits c.args.workers c.args.first.now (g.S.Source.left c.args.source.now) (g.S.Source.left c.read_line.new.source) c.args.lines.now c.read_line.new.self (Err fault)) (sym (c.script_fault.ensures ∙ ap (λ (i : ℕ). script_fault i c.in-Err.fault) c.number-in-Err.ensures))
     (exit_fault c.args.workers c.args.first.now (g.S.Source.left c.args.source.now) (g.S.Source.left c.lines.source) (g.S.Source.left c.read_line.new.source) c.args.lines.now c.lines.lines c.read_line.new.self c.in-Some.format c.lines.body.rows.items c.lines.body.ended c.lines.text.items c.read_line.new.out.items (subst (IsFirstAnswer c.args.first.now c.args.workers) c.in-Some.is c.in-Ok.ensures) c.lines.invariant.reading c.in-Err.fault (c.in-Err.ensures.reads c.lines.invariant.reading.untold))
+
+pub returns-in-Ok-false-clause-unended : goal.returns-in-Ok-false-clause-unended
+returns-in-Ok-false-clause-unended g c = open_both _ _ _ _ _ _ _ c.lines.invariant.unended c.read_line.ensures.unended
+
+pub returns-in-Err-add-clause-unended : goal.returns-in-Err-add-clause-unended
+returns-in-Err-add-clause-unended g c = open_both _ _ _ _ _ _ _ c.lines.invariant.unended c.read_line.ensures.unended
+
+pub returns-in-Ok-End-clause-unended : goal.returns-in-Ok-End-clause-unended
+returns-in-Ok-End-clause-unended g c = open_both _ _ _ _ _ _ _ c.lines.invariant.unended c.read_line.ensures.unended
+
+pub returns-in-Ok-End-2-clause-unended : goal.returns-in-Ok-End-2-clause-unended
+returns-in-Ok-End-2-clause-unended g c = open_both _ _ _ _ _ _ _ c.lines.invariant.unended c.read_line.ensures.unended
+
+pub returns-in-Err-clause-unended : goal.returns-in-Err-clause-unended
+returns-in-Err-clause-unended g c = open_both _ _ _ _ _ _ _ c.lines.invariant.unended c.read_line.ensures.unended

@@ -1,4 +1,5 @@
 use Rattle.std.proofs.Common.{ap}
+use Rattle.std.specs.Arc.{arc_value}
 use Rattle.ev_types.specs.Scripts.{items_in}
 use Rattle.ev_types.specs.declared.events.Entry.{Entry}
 use Rattle.ev_model.specs.World.{World}
@@ -6,7 +7,7 @@ use Rattle.ev_model.specs.Step.{step as machine_step}
 use Rattle.ev_actors.specs.Journals.{JournalParts, world_now}
 use Rattle.ev_proxy.specs.Proxies.{IsAt}
 use Rattle.ev_proxy.specs.declared.proxy.Proxy.{Proxy}
-use Rattle.ev_registry.proofs.RunSteps.{at_but, defers, draws, enters}
+use Rattle.ev_registry.proofs.RunSteps.{at_but, defers, draws, enters, shows_entry}
 use Rattle.ev_registry.proofs.journal.RegistryJournaled.apply.Goals as goal
 
 pub invariant_of-self-2 : goal.invariant_of-self-2
@@ -16,11 +17,22 @@ invariant_of-self-2 c =
     let there : World = (machine_step given.format (world_now given) c.args.actor c.args.event.now).0 in
     let proxy : Proxy = record c.step_after.new.proxy { deferred = c.enter.new.reaped } in
     let led : IsAt proxy there = at_but c.step_after.new.proxy c.enter.new.reaped there c.in_ok-answer.ensures.at in
-    enters c.version-self-inside.result proxy parts c.args.self.now.journaled given c.enter.new.journal.items c.in_ok-entry.entry c.args.actor c.args.at c.args.step c.args.event.now c.in_ok-answer.answer
+    enters (arc_value c.in_ok-latest.latest) proxy parts c.args.self.now.journaled given c.enter.new.journal.items c.in_ok-entry.entry c.args.actor c.args.at c.args.step c.args.event.now c.in_ok-answer.answer
     c.self.invariant.run c.self.invariant.stepped (ap (λ r. r.journaled) c.self.view_is)
     (λ i. record { format = c.self.inside.format; workers = c.self.inside.workers; node = c.self.inside.node; journal = c.as_slice.ensures.value i })
     c.in_ok-enter.ensures.journal c.in_ok-entry.ensures
-    c.requires.main c.requires.allowed c.requires.numbered c.in_ok-answer.ensures.answer (c.version-self-inside.ensures there led) led
+    c.requires.main c.requires.allowed c.requires.numbered c.in_ok-answer.ensures.answer (c.in_ok-latest.ensures there c.in_ok-answer.ensures.at) led
+
+pub returns-clause-entry : goal.returns-clause-entry
+returns-clause-entry c =
+    shows_entry
+    record { format = c.self.inside.format; workers = c.self.inside.workers; node = c.self.inside.node; journal = c.self.inside.journal.items }
+    c.args.self.now.journaled
+    record { format = c.self.inside.format; workers = c.self.inside.workers; node = c.self.inside.node; journal = c.as_slice.result.now }
+    c.enter.new.journal.items c.in_ok-entry.entry c.args.actor c.args.at c.args.step c.args.event.now c.in_ok-answer.answer
+    (ap (λ r. r.journaled) c.self.view_is)
+    (λ i. record { format = c.self.inside.format; workers = c.self.inside.workers; node = c.self.inside.node; journal = c.as_slice.ensures.value i })
+    c.in_ok-enter.ensures.journal c.in_ok-entry.ensures c.in_ok-answer.ensures.answer
 
 pub returns-clause-drawn : goal.returns-clause-drawn
 returns-clause-drawn c =

@@ -5,8 +5,8 @@ use Rattle.ev_model.specs.Finding.{journal_told}
 use Rattle.ev_model.specs.World.{opening}
 use Rattle.ev_fronts.specs.Fronts.{IsFront}
 use Rattle.ev_fronts.proofs.FrontLemmas.{fronts_are_runs}
-use Rattle.ev_state_after.proofs.StepLemmas.{run_of, steps_again, stepped_of}
-use Rattle.ev_state_after.proofs.states.state_after.Goals as goal
+use Rattle.ev_dump.proofs.StepLemmas.{run_of, steps_again, stepped_of}
+use Rattle.ev_dump.proofs.states.state_after.Goals as goal
 
 pub entries_told-requires : goal.entries_told-requires
 entries_told-requires c =

@@ -1,8 +1,8 @@
 -- A word is a number exactly where it is the number's decimal.
 use Rattle.std.proofs.Common.{◌≡◌, true, Err, Ok, IsTrue, sym, subst}
-use Rattle.ev_numbers.specs.Numbers.{IsPlain}
-use Rattle.ev_numbers.proofs.NumberLemmas.{reads_decimal, decimal_is_plain, decimal_reads}
-use Rattle.ev_numbers.proofs.numbers.number_of.Goals as goal
+use Rattle.ev_app.specs.Numbers.{IsPlain}
+use Rattle.ev_app.proofs.NumberLemmas.{reads_decimal, decimal_is_plain, decimal_reads}
+use Rattle.ev_app.proofs.numbers.number_of.Goals as goal
 
 pub returns-then-not-is_plain-clause-none : goal.returns-then-not-is_plain-clause-none
 returns-then-not-is_plain-clause-none c = λ none number small is.

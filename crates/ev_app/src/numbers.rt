@@ -1,6 +1,6 @@
 ghost use Rattle.std.specs.Prelude.{◌≡◌, ℕ, ◌<◌, ◌^◌, ◌↔◌, None, IfSome, IsTrue};
 ghost use Rattle.std.specs.Fmt.{decimal};
-ghost use Rattle.ev_numbers.specs.Numbers.{IsPlain};
+ghost use Rattle.ev_app.specs.Numbers.{IsPlain};
 
 /// The number below 2^64 that a text is, in decimal digits without a sign, and with no zero before another digit.
 pub fn number_of(text: &str) -> Option<u64>
