@@ -5,6 +5,7 @@ pub mod SameHosts
 pub mod SameClusters
 pub mod Weights
 pub mod SameRoutes
+pub mod SamePaths
 pub mod SameListeners
 pub mod Items
 pub mod SameContents

@@ -1,6 +1,7 @@
 -- When answers are equal.
 use Rattle.std.specs.Prelude.{ℕ, Bool, true, false, ◌≡◌, ◌&&◌, ◌==◌, List, Option, Some, None, refl}
 use Rattle.std.specs.Bool.{Decides}
+use Rattle.std.specs.Option.{option_eq}
 use Rattle.std.specs.Str.{bytes_eq}
 use Rattle.std.proofs.Common.{ap}
 use lib.Pointwise.{pointwise, pointwise_decides}
@@ -8,9 +9,9 @@ use Rattle.ev_types.specs.declared.contents.Request.{Request}
 use Rattle.ev_types.specs.declared.events.Verdict.{Verdict}
 use Rattle.ev_types.specs.declared.events.Verdict.TheVariants.{New, Same, Kept, Unasked, Renewed, Refused}
 use Rattle.ev_types.specs.declared.events.Answer.{Answer}
-use Rattle.ev_types.specs.declared.events.Answer.TheVariants.{Ignored, Done, Moved, Replied, Version, Unchanged, Reaped, InUse, NoListener, NoRoute, Redirect, NoCluster, NoEndpoint, Local, Served, NotOpen, Settled}
+use Rattle.ev_types.specs.declared.events.Answer.TheVariants.{Ignored, Done, Moved, Replied, Version, Unchanged, Reaped, InUse, NoListener, NoChain, Undecided, Elsewhere, NoRoute, Redirect, NoCluster, NoEndpoint, Local, Served, NotOpen, Settled}
 use Rattle.ev_types.specs.Kinds.{kind_same, kind_decides}
-use Rattle.ev_types.specs.Same.{texts_same, both_decide, decides_as, bytes_decide, numbers_decide}
+use Rattle.ev_types.specs.Same.{texts_same, both_decide, decides_as, bytes_decide, numbers_decide, option_decides}
 use Rattle.ev_types.specs.SameHosts.{host_same, host_decides}
 
 -- both have the same text, or neither has one
@@ -50,6 +51,9 @@ answer_same Unchanged Unchanged = true
 answer_same (Reaped numbers) (Reaped numbers') = pointwise (λ (m n : ℕ). m == n) numbers numbers'
 answer_same InUse InUse = true
 answer_same NoListener NoListener = true
+answer_same NoChain NoChain = true
+answer_same (Undecided listener) (Undecided listener') = listener == listener'
+answer_same (Elsewhere listener cluster) (Elsewhere listener' cluster') = (listener == listener') && option_eq (λ (m n : ℕ). m == n) cluster cluster'
 answer_same (NoRoute listener) (NoRoute listener') = listener == listener'
 answer_same (Redirect listener) (Redirect listener') = listener == listener'
 answer_same (NoCluster listener) (NoCluster listener') = listener == listener'
@@ -121,6 +125,9 @@ answer_decides Unchanged Unchanged = (λ h. refl, λ e. refl)
 answer_decides (Reaped numbers) (Reaped numbers') = decides_as (numbers_all numbers numbers') (λ e. ap Reaped e) (λ e. cc)
 answer_decides InUse InUse = (λ h. refl, λ e. refl)
 answer_decides NoListener NoListener = (λ h. refl, λ e. refl)
+answer_decides NoChain NoChain = (λ h. refl, λ e. refl)
+answer_decides (Undecided listener) (Undecided listener') = decides_as (numbers_decide listener listener') (λ e. ap Undecided e) (λ e. cc)
+answer_decides (Elsewhere listener cluster) (Elsewhere listener' cluster') = decides_as (both_decide (numbers_decide listener listener') (option_decides numbers_decide cluster cluster')) (λ (p, q). λ i. Elsewhere (p i) (q i)) (λ e. (cc, cc))
 answer_decides (NoRoute listener) (NoRoute listener') = decides_as (numbers_decide listener listener') (λ e. ap NoRoute e) (λ e. cc)
 answer_decides (Redirect listener) (Redirect listener') = decides_as (numbers_decide listener listener') (λ e. ap Redirect e) (λ e. cc)
 answer_decides (NoCluster listener) (NoCluster listener') = decides_as (numbers_decide listener listener') (λ e. ap NoCluster e) (λ e. cc)

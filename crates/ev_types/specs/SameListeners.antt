@@ -1,35 +1,81 @@
 -- When listeners are equal.
-use Rattle.std.specs.Prelude.{Bool, false, ◌≡◌, ◌&&◌}
+use Rattle.std.specs.Prelude.{Bool, true, false, ◌≡◌, ◌&&◌, refl}
 use Rattle.std.specs.Bool.{Decides}
+use Rattle.std.specs.Option.{option_eq}
 use Rattle.std.specs.Str.{bytes_eq}
 use Rattle.std.proofs.Common.{ap}
+use lib.Pointwise.{pointwise, pointwise_decides}
 use Rattle.ev_types.specs.declared.listeners.Serve.{Serve}
-use Rattle.ev_types.specs.declared.listeners.Serve.TheVariants.{Rds, Inline, Tcp}
+use Rattle.ev_types.specs.declared.listeners.Serve.TheVariants.{Rds, Inline, Tcp, Other}
+use Rattle.ev_types.specs.declared.listeners.FilterChain.{FilterChain}
 use Rattle.ev_types.specs.declared.listeners.Listener.{Listener}
-use Rattle.ev_types.specs.Same.{bool_same, bool_decides, both_decide, decides_as, bytes_decide}
+use Rattle.ev_types.specs.FilterChains.{filter_chain_match_same, filter_chain_match_decides}
+use Rattle.ev_types.specs.Same.{bool_same, bool_decides, both_decide, decides_as, bytes_decide, option_decides}
 use Rattle.ev_types.specs.SameHosts.{host_same, host_decides}
 use Rattle.ev_types.specs.SameRoutes.{route_table_same, route_table_decides, target_same, target_decides}
 
--- the same routes, the same name under the same kind of time limit, or the same target
+-- the same routes, the same name under the same kind of time limit, or the same target; what isn't read is one
 abbrev pub serve_same : Serve → Serve → Bool
 serve_same (Rds name limited) (Rds name' limited') = bytes_eq name name' && bool_same limited limited'
 serve_same (Inline a) (Inline b) = route_table_same a b
 serve_same (Tcp a) (Tcp b) = target_same a b
+serve_same Other Other = true
 serve_same a b = false
 
--- the same name, address and service
+-- the same connections are taken, and served the same
+abbrev pub filter_chain_same : FilterChain → FilterChain → Bool
+filter_chain_same a b = filter_chain_match_same a.criteria b.criteria && serve_same a.serve b.serve
+
+-- the same name, address and mark, the same chains in the same order, and the same text of the body
 abbrev pub listener_same : Listener → Listener → Bool
-listener_same a b = bytes_eq a.name b.name && host_same a.address b.address && serve_same a.serve b.serve
+listener_same a b =
+    bytes_eq a.name b.name
+    && host_same a.address b.address
+    && bool_same a.takes_every_address b.takes_every_address
+    && pointwise filter_chain_same a.filter_chains b.filter_chains
+    && option_eq serve_same a.default_filter_chain b.default_filter_chain
+    && bytes_eq a.body_text b.body_text
 
 pub serve_decides : (a b : Serve) → Decides (serve_same a b) (a ≡ b)
 serve_decides (Rds name limited) (Rds name' limited') =
     decides_as (both_decide (bytes_decide name name') (bool_decides limited limited')) (λ (p, q). λ i. Rds (p i) (q i)) (λ e. (cc, cc))
 serve_decides (Inline a) (Inline b) = decides_as (route_table_decides a b) (λ e. ap Inline e) (λ e. cc)
 serve_decides (Tcp a) (Tcp b) = decides_as (target_decides a b) (λ e. ap Tcp e) (λ e. cc)
+serve_decides Other Other = (λ h. refl, λ e. refl)
 serve_decides a b = (λ h. cc, λ e. cc)
+
+pub filter_chain_decides : (a b : FilterChain) → Decides (filter_chain_same a b) (a ≡ b)
+filter_chain_decides a b = decides_as (both_decide (filter_chain_match_decides a.criteria b.criteria) (serve_decides a.serve b.serve))
+    (λ (p, q). λ i. record { criteria = p i; serve = q i })
+    (λ e. (ap (λ (c : FilterChain). c.criteria) e, ap (λ (c : FilterChain). c.serve) e))
 
 pub listener_decides : (a b : Listener) → Decides (listener_same a b) (a ≡ b)
 listener_decides a b = decides_as
-    (both_decide (both_decide (bytes_decide a.name b.name) (host_decides a.address b.address)) (serve_decides a.serve b.serve))
-    (λ p. λ i. record { name = p.0.0 i; address = p.0.1 i; serve = p.1 i })
-    (λ e. ((ap (λ (l : Listener). l.name) e, ap (λ (l : Listener). l.address) e), ap (λ (l : Listener). l.serve) e))
+    (both_decide (both_decide (both_decide (both_decide (both_decide
+    (bytes_decide a.name b.name)
+    (host_decides a.address b.address))
+    (bool_decides a.takes_every_address b.takes_every_address))
+    (pointwise_decides filter_chain_decides a.filter_chains b.filter_chains))
+    (option_decides serve_decides a.default_filter_chain b.default_filter_chain))
+    (bytes_decide a.body_text b.body_text))
+    (λ p. λ i. record {
+      name = p.0.0.0.0.0 i;
+      address = p.0.0.0.0.1 i;
+      takes_every_address = p.0.0.0.1 i;
+      filter_chains = p.0.0.1 i;
+      default_filter_chain = p.0.1 i;
+      body_text = p.1 i;
+    })
+    (λ e. (
+      (
+        (
+          (
+            (ap (λ (l : Listener). l.name) e, ap (λ (l : Listener). l.address) e),
+            ap (λ (l : Listener). l.takes_every_address) e,
+          ),
+          ap (λ (l : Listener). l.filter_chains) e,
+        ),
+        ap (λ (l : Listener). l.default_filter_chain) e,
+      ),
+      ap (λ (l : Listener). l.body_text) e,
+    ))

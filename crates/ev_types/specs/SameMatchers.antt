@@ -16,7 +16,7 @@ use Rattle.ev_types.specs.declared.matchers.PathSpecifier.{PathSpecifier}
 use Rattle.ev_types.specs.declared.matchers.PathSpecifier.TheVariants.{Cased, Folded, Connect, Open as open_path}
 use Rattle.ev_types.specs.declared.matchers.RouteMatch.{RouteMatch}
 use Rattle.ev_types.specs.Same.{bool_same, bool_decides, both_decide, decides_as, bytes_decide}
-use Rattle.ev_types.specs.SameRoutes.{path_match_same, path_match_decides}
+use Rattle.ev_types.specs.SamePaths.{path_match_same, path_match_decides}
 
 -- the same kind of pattern of the same text
 abbrev pub string_pattern_same : StringPattern → StringPattern → Bool

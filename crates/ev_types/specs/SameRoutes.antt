@@ -6,15 +6,14 @@ use Rattle.std.proofs.Common.{ap}
 use lib.Pointwise.{pointwise, pointwise_decides}
 use Rattle.ev_types.specs.declared.routes.WeightedCluster.{WeightedCluster}
 use Rattle.ev_types.specs.declared.routes.Target.{Target}
-use Rattle.ev_types.specs.declared.routes.Target.TheVariants.{One, Weighted}
+use Rattle.ev_types.specs.declared.routes.Target.TheVariants.{One, Weighted, Elsewhere}
 use Rattle.ev_types.specs.declared.routes.Action.{Action}
-use Rattle.ev_types.specs.declared.routes.Action.TheVariants.{Forward, Redirect, Local}
-use Rattle.ev_types.specs.declared.routes.PathMatch.{PathMatch}
-use Rattle.ev_types.specs.declared.routes.PathMatch.TheVariants.{Prefix, Path, Separated}
+use Rattle.ev_types.specs.declared.routes.Action.TheVariants.{Forward, Redirect, Local, Elsewhere as elsewhere}
 use Rattle.ev_types.specs.declared.routes.Route.{Route}
 use Rattle.ev_types.specs.declared.routes.VirtualHost.{VirtualHost}
 use Rattle.ev_types.specs.declared.routes.RouteTable.{RouteTable}
 use Rattle.ev_types.specs.Same.{texts_same, both_decide, decides_as, bytes_decide, numbers_decide}
+use Rattle.ev_types.specs.SameMatchers.{route_match_same, route_match_decides}
 
 -- the same name and weight
 abbrev pub weighted_cluster_same : WeightedCluster → WeightedCluster → Bool
@@ -24,29 +23,24 @@ weighted_cluster_same a b = bytes_eq a.name b.name && (a.weight == b.weight)
 abbrev pub weighted_clusters_same : List WeightedCluster → List WeightedCluster → Bool
 weighted_clusters_same a b = pointwise weighted_cluster_same a b
 
--- the same cluster, or the same weighted clusters
+-- the same cluster, or the same weighted clusters; all that no script tells are one
 abbrev pub target_same : Target → Target → Bool
 target_same (One a) (One b) = bytes_eq a b
 target_same (Weighted a) (Weighted b) = weighted_clusters_same a b
+target_same Elsewhere Elsewhere = true
 target_same a b = false
 
--- the same kind of action, with the same target or status
+-- the same kind of action, with the same target or status; all that no script tells are one
 abbrev pub action_same : Action → Action → Bool
 action_same (Forward a) (Forward b) = target_same a b
 action_same Redirect Redirect = true
 action_same (Local a) (Local b) = a == b
+action_same elsewhere elsewhere = true
 action_same a b = false
-
--- the same kind of match of the same text
-abbrev pub path_match_same : PathMatch → PathMatch → Bool
-path_match_same (Prefix a) (Prefix b) = bytes_eq a b
-path_match_same (Path a) (Path b) = bytes_eq a b
-path_match_same (Separated a) (Separated b) = bytes_eq a b
-path_match_same a b = false
 
 -- the same match and action
 abbrev pub route_same : Route → Route → Bool
-route_same a b = path_match_same a.path b.path && action_same a.action b.action
+route_same a b = route_match_same a.route_match b.route_match && action_same a.action b.action
 
 -- the same name, domains and routes
 abbrev pub virtual_host_same : VirtualHost → VirtualHost → Bool
@@ -67,24 +61,20 @@ weighted_clusters_decide = pointwise_decides weighted_cluster_decides
 pub target_decides : (a b : Target) → Decides (target_same a b) (a ≡ b)
 target_decides (One a) (One b) = decides_as (bytes_decide a b) (λ e. ap One e) (λ e. cc)
 target_decides (Weighted a) (Weighted b) = decides_as (weighted_clusters_decide a b) (λ e. ap Weighted e) (λ e. cc)
+target_decides Elsewhere Elsewhere = (λ h. refl, λ e. refl)
 target_decides a b = (λ h. cc, λ e. cc)
 
 pub action_decides : (a b : Action) → Decides (action_same a b) (a ≡ b)
 action_decides (Forward a) (Forward b) = decides_as (target_decides a b) (λ e. ap Forward e) (λ e. cc)
 action_decides Redirect Redirect = (λ h. refl, λ e. refl)
 action_decides (Local a) (Local b) = decides_as (numbers_decide a b) (λ e. ap Local e) (λ e. cc)
+action_decides elsewhere elsewhere = (λ h. refl, λ e. refl)
 action_decides a b = (λ h. cc, λ e. cc)
 
-pub path_match_decides : (a b : PathMatch) → Decides (path_match_same a b) (a ≡ b)
-path_match_decides (Prefix a) (Prefix b) = decides_as (bytes_decide a b) (λ e. ap Prefix e) (λ e. cc)
-path_match_decides (Path a) (Path b) = decides_as (bytes_decide a b) (λ e. ap Path e) (λ e. cc)
-path_match_decides (Separated a) (Separated b) = decides_as (bytes_decide a b) (λ e. ap Separated e) (λ e. cc)
-path_match_decides a b = (λ h. cc, λ e. cc)
-
 pub route_decides : (a b : Route) → Decides (route_same a b) (a ≡ b)
-route_decides a b = decides_as (both_decide (path_match_decides a.path b.path) (action_decides a.action b.action))
-    (λ (p, q). λ i. record { path = p i; action = q i })
-    (λ e. (ap (λ (r : Route). r.path) e, ap (λ (r : Route). r.action) e))
+route_decides a b = decides_as (both_decide (route_match_decides a.route_match b.route_match) (action_decides a.action b.action))
+    (λ (p, q). λ i. record { route_match = p i; action = q i })
+    (λ e. (ap (λ (r : Route). r.route_match) e, ap (λ (r : Route). r.action) e))
 
 pub virtual_host_decides : (a b : VirtualHost) → Decides (virtual_host_same a b) (a ≡ b)
 virtual_host_decides a b = decides_as

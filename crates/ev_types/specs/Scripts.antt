@@ -5,6 +5,7 @@ use Rattle.ev_types.specs.Texts.{IsName}
 use Rattle.ev_types.specs.Events.{MayMake}
 use Rattle.ev_types.specs.declared.limits.TheConstants.{MAX_WORKERS, LINE_LIMIT, ITEM_LIMIT}
 use Rattle.ev_types.specs.declared.events.Line.{Line}
+use Rattle.ev_types.specs.declared.events.Profile.{Profile}
 use Rattle.ev_types.specs.declared.events.Event.{Event}
 use Rattle.ev_types.specs.declared.events.Event.TheVariants.{Connect, Disconnect, Response, Health, FetchTimeout, DrainTimeout, TtlExpired, Publish, Reap, Accept, Close, Settle}
 
@@ -12,6 +13,7 @@ use Rattle.ev_types.specs.declared.events.Event.TheVariants.{Connect, Disconnect
 pub record ScriptParts : Type 0 where
   pub workers : ℕ
   pub auto : Bool
+  pub profile : Profile
   pub node : List ℕ
   pub lines : List Line
   pub count : ℕ

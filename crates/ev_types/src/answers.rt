@@ -33,6 +33,20 @@ pub fn is_same_answer(one: &Answer, other: &Answer) -> bool
         (Answer::Reaped(ones), Answer::Reaped(others)) => ones == others,
         (Answer::InUse, Answer::InUse) => true,
         (Answer::NoListener, Answer::NoListener) => true,
+        (Answer::NoChain, Answer::NoChain) => true,
+        (Answer::Undecided { listener: one }, Answer::Undecided { listener: other }) => {
+            one == other
+        }
+        (
+            Answer::Elsewhere {
+                listener: one,
+                cluster: first,
+            },
+            Answer::Elsewhere {
+                listener: other,
+                cluster: second,
+            },
+        ) => one == other && first == second,
         (Answer::NoRoute { listener: one }, Answer::NoRoute { listener: other }) => one == other,
         (Answer::Redirect { listener: one }, Answer::Redirect { listener: other }) => one == other,
         (Answer::NoCluster { listener: one }, Answer::NoCluster { listener: other }) => {

@@ -1,4 +1,4 @@
-use crate::{Assignment, Name, TryCopy};
+use crate::{Assignment, Name, Text, TryCopy};
 use std::alloc::{AllocError, Global};
 
 /// How a cluster finds its hosts.
@@ -12,17 +12,27 @@ pub enum Discovery {
         service: Name,
         /// Whether the wait for them ends at the initial fetch timeout.
         limited: bool,
+        /// Whether a generation waits until they are sent anew, though they may be known. Source: cluster manager warming.
+        fresh: bool,
     },
+    /// Envoy, or an extension of it, finds the host of each connection by itself.
+    Elsewhere,
 }
 
 impl TryCopy for Discovery {
     fn copy(&self, alloc: Global) -> Result<Discovery, AllocError> {
         match self {
             Discovery::Static(assignment) => Ok(Discovery::Static(assignment.copy(alloc)?)),
-            Discovery::Eds { service, limited } => Ok(Discovery::Eds {
+            Discovery::Eds {
+                service,
+                limited,
+                fresh,
+            } => Ok(Discovery::Eds {
                 service: service.copy(alloc)?,
                 limited: *limited,
+                fresh: *fresh,
             }),
+            Discovery::Elsewhere => Ok(Discovery::Elsewhere),
         }
     }
 }
@@ -39,12 +49,18 @@ impl PartialEq for Discovery {
         match (self, other) {
             (Discovery::Static(mine), Discovery::Static(theirs)) => mine == theirs,
             (
-                Discovery::Eds { service, limited },
+                Discovery::Eds {
+                    service,
+                    limited,
+                    fresh,
+                },
                 Discovery::Eds {
                     service: other_service,
                     limited: other_limited,
+                    fresh: other_fresh,
                 },
-            ) => service == other_service && limited == other_limited,
+            ) => service == other_service && limited == other_limited && fresh == other_fresh,
+            (Discovery::Elsewhere, Discovery::Elsewhere) => true,
             _ => false,
         }
     }
@@ -57,13 +73,15 @@ impl Eq for Discovery {
     ghost laws = { decided discovery_same discovery_decides };
 }
 
-/// The fields of a cluster that the profile reads.
+/// The fields of a cluster that are read.
 #[derive(Drop)]
 pub struct Cluster {
     pub name: Name,
     pub discovery: Discovery,
     /// Whether its hosts are health checked.
     pub checked: bool,
+    /// The text of its body, by which a change of any field is told. It is empty where only the fields that are read count.
+    pub body_text: Text,
 }
 
 impl TryCopy for Cluster {
@@ -72,6 +90,7 @@ impl TryCopy for Cluster {
             name: self.name.copy(alloc)?,
             discovery: self.discovery.copy(alloc)?,
             checked: self.checked,
+            body_text: self.body_text.copy(alloc)?,
         })
     }
 }
@@ -88,6 +107,7 @@ impl PartialEq for Cluster {
         self.name == other.name
             && self.discovery == other.discovery
             && self.checked == other.checked
+            && self.body_text == other.body_text
     }
 }
 

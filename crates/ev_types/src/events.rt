@@ -1,4 +1,4 @@
-use crate::{FetchTimeout, Gen, Host, Kind, Name, Request, Response, Seq, Text, TryCopy};
+use crate::{FetchTimeout, Gen, Host, Ip, Kind, Name, Request, Response, Seq, Text, TryCopy};
 use std::alloc::{AllocError, Global};
 use std::marker::Model;
 
@@ -24,10 +24,20 @@ pub struct Ask {
     pub conn: u64,
     /// The address and port that it came to.
     pub address: Host,
+    /// The IP address that the address writes, if it writes one.
+    pub ip: Option<Ip>,
+    /// The server that it names in the TLS handshake, or nothing.
+    pub server_name: Text,
+    /// Whether it comes over TLS.
+    pub tls: bool,
+    /// The application protocols that it offers, the one that it likes best first.
+    pub alpn: Seq<Text>,
     /// The host that it names, with the port where it names one.
     pub host: Text,
     /// The path that it asks for, with its query.
     pub path: Text,
+    /// The headers that it brings beside these two, sorted by name, each name once, its ASCII letters in lower case.
+    pub headers: Seq<(Text, Text)>,
     /// The number by which clusters and hosts are picked in proportion to their weights.
     pub pick: u64,
 }
@@ -37,8 +47,13 @@ impl TryCopy for Ask {
         Ok(Ask {
             conn: self.conn,
             address: self.address.copy(alloc)?,
+            ip: self.ip,
+            server_name: self.server_name.copy(alloc)?,
+            tls: self.tls,
+            alpn: self.alpn.copy(alloc)?,
             host: self.host.copy(alloc)?,
             path: self.path.copy(alloc)?,
+            headers: self.headers.copy(alloc)?,
             pick: self.pick,
         })
     }
@@ -201,6 +216,17 @@ pub enum Answer {
     InUse,
     /// No listener has the address.
     NoListener,
+    /// No filter chain of the listener takes it.
+    NoChain,
+    /// Its way depends on what no script tells.
+    Undecided {
+        listener: Gen,
+    },
+    /// It goes where no script tells: to a host of the cluster where there is one, else by a filter or an extension.
+    Elsewhere {
+        listener: Gen,
+        cluster: Option<Gen>,
+    },
     /// The listener has no route for it.
     NoRoute {
         listener: Gen,
@@ -246,6 +272,9 @@ impl TryCopy for Answer {
             &Answer::Unchanged => Answer::Unchanged,
             &Answer::InUse => Answer::InUse,
             &Answer::NoListener => Answer::NoListener,
+            &Answer::NoChain => Answer::NoChain,
+            &Answer::Undecided { listener } => Answer::Undecided { listener },
+            &Answer::Elsewhere { listener, cluster } => Answer::Elsewhere { listener, cluster },
             &Answer::NoRoute { listener } => Answer::NoRoute { listener },
             &Answer::Redirect { listener } => Answer::Redirect { listener },
             &Answer::NoCluster { listener } => Answer::NoCluster { listener },
@@ -317,6 +346,15 @@ impl TryCopy for Line {
     }
 }
 
+/// How the resources of a script are read.
+#[derive(Clone, Copy, Debug, PartialEq, Eq)]
+pub enum Profile {
+    /// By this project's own rules.
+    Own,
+    /// As Envoy reads them.
+    Envoy,
+}
+
 /// A script. It has 1 to `MAX_WORKERS` workers, a node of 1 to 512 bytes, and its lines' numbers rise from 2 at least to `count`
 /// at most, which is below `LINE_LIMIT`; each line has an actor that its event allows, and its responses have fewer than
 /// `ITEM_LIMIT` resources together.
@@ -325,6 +363,7 @@ pub struct Script {
     pub workers: u32,
     /// Whether each line of the stream, the health checker and the timers is followed by a publication and a reaping.
     pub auto: bool,
+    pub profile: Profile,
     pub node: Text,
     pub lines: Seq<Line>,
     /// The number of the last line.
@@ -336,9 +375,23 @@ impl Model for Script {
 
     ghost Value = { ScriptParts };
 
-    ghost view = { λ s. record { workers = s.workers; auto = s.auto; node = s.node; lines = s.lines; count = s.count } };
+    ghost view = { λ s. record {
+      workers = s.workers;
+      auto = s.auto;
+      profile = s.profile;
+      node = s.node;
+      lines = s.lines;
+      count = s.count;
+    } };
 
-    ghost invariant = { λ s. IsScript record { workers = s.workers; auto = s.auto; node = s.node; lines = s.lines; count = s.count } };
+    ghost invariant = { λ s. IsScript record {
+      workers = s.workers;
+      auto = s.auto;
+      profile = s.profile;
+      node = s.node;
+      lines = s.lines;
+      count = s.count;
+    } };
 }
 
 impl TryCopy for Script {
@@ -346,6 +399,7 @@ impl TryCopy for Script {
         Ok(Script {
             workers: self.workers,
             auto: self.auto,
+            profile: self.profile,
             node: self.node.copy(alloc)?,
             lines: self.lines.copy(alloc)?,
             count: self.count,

@@ -13,6 +13,8 @@
 //!   on are as before. `share` can be refused, since the kit's `Arc` stops at 2^63 - 1 owners and says so; so it
 //!   answers a `Result`, as `copy` does.
 //! - Names and texts are copied, not shared: most are short, and a shared one would take two allocations to make.
+//!   The text of a resource's body may be long, but it stands in a content, which is shared as a whole.
+//! - What a filter chain asks for is shared between its listener and the pictures that show it.
 //! - `copy` is a trait, `TryCopy`, so that lists, pairs and options copy what they hold.
 //! - Equality of contents is a test by cases in the definitions; that it holds of equal values alone is a lemma for
 //!   each type. It isn't derived. A derive of `PartialEq` on `PathMatch`, whose variants hide no field, was tried:
@@ -59,13 +61,13 @@ pub use answers::is_same_answer;
 pub use clusters::{Cluster, Discovery};
 pub use contents::{Body, Content, Item, Kind, Request, Response};
 pub use copies::TryCopy;
-pub use events::{Actor, Answer, Ask, Entry, Event, Line, Op, Script, Verdict};
+pub use events::{Actor, Answer, Ask, Entry, Event, Line, Op, Profile, Script, Verdict};
 pub use filter_chains::FilterChainMatch;
 pub use hosts::{Assignment, Host, HostRow};
 pub use ips::{CidrRange, Ip};
 pub use journals::{Finding, Format, Row};
 pub use limits::{ITEM_LIMIT, LINE_LIMIT, MAX_NAME_LENGTH, MAX_WEIGHT_SUM, MAX_WORKERS, ROW_LIMIT};
-pub use listeners::{Listener, Serve};
+pub use listeners::{FilterChain, Listener, Serve};
 pub use lists::Seq;
 pub use matchers::{
     HeaderMatcher, HeaderTest, PathSpecifier, RouteCondition, RouteMatch, StringMatcher,

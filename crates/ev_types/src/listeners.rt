@@ -1,7 +1,7 @@
-use crate::{Host, Name, RouteTable, Shared, Target, TryCopy};
+use crate::{FilterChainMatch, Host, Name, RouteTable, Seq, Shared, Target, Text, TryCopy};
 use std::alloc::{AllocError, Global};
 
-/// What a listener serves.
+/// What a filter chain serves.
 #[derive(Drop)]
 pub enum Serve {
     /// Routes that come by the route discovery service.
@@ -15,6 +15,8 @@ pub enum Serve {
     Inline(Shared<RouteTable>),
     /// A TCP proxy to this target.
     Tcp(Target),
+    /// Something else: other filters, or routes by scopes.
+    Other,
 }
 
 impl TryCopy for Serve {
@@ -26,6 +28,7 @@ impl TryCopy for Serve {
             }),
             Serve::Inline(table) => Ok(Serve::Inline(table.copy(alloc)?)),
             Serve::Tcp(target) => Ok(Serve::Tcp(target.copy(alloc)?)),
+            Serve::Other => Ok(Serve::Other),
         }
     }
 }
@@ -49,6 +52,7 @@ impl PartialEq for Serve {
             ) => name == other_name && limited == other_limited,
             (Serve::Inline(table), Serve::Inline(other)) => table == other,
             (Serve::Tcp(target), Serve::Tcp(other)) => target == other,
+            (Serve::Other, Serve::Other) => true,
             _ => false,
         }
     }
@@ -61,12 +65,56 @@ impl Eq for Serve {
     ghost laws = { decided serve_same serve_decides };
 }
 
-/// The fields of a listener that the profile reads.
+/// A filter chain of a listener: which connections it takes, and what it serves them. Source: Envoy's `FilterChain`.
+#[derive(Drop)]
+pub struct FilterChain {
+    /// Which connections it takes. It is shared with the pictures that show it.
+    pub criteria: Shared<FilterChainMatch>,
+    pub serve: Serve,
+}
+
+impl TryCopy for FilterChain {
+    fn copy(&self, alloc: Global) -> Result<FilterChain, AllocError> {
+        Ok(FilterChain {
+            criteria: self.criteria.copy(alloc)?,
+            serve: self.serve.copy(alloc)?,
+        })
+    }
+}
+
+impl PartialEq for FilterChain {
+    ghost use Rattle.std.specs.Cmp.{decided, partial_equiv_from_equiv};
+    ghost use Rattle.ev_types.specs.SameListeners.{filter_chain_same, filter_chain_decides};
+
+    ghost eq = { filter_chain_same };
+
+    ghost laws = { partial_equiv_from_equiv (decided filter_chain_same filter_chain_decides) };
+
+    fn eq(&self, other: &FilterChain) -> bool {
+        self.criteria == other.criteria && self.serve == other.serve
+    }
+}
+
+impl Eq for FilterChain {
+    ghost use Rattle.std.specs.Cmp.{decided};
+    ghost use Rattle.ev_types.specs.SameListeners.{filter_chain_same, filter_chain_decides};
+
+    ghost laws = { decided filter_chain_same filter_chain_decides };
+}
+
+/// The fields of a listener that are read. Source: Envoy's `Listener`.
 #[derive(Drop)]
 pub struct Listener {
     pub name: Name,
     pub address: Host,
-    pub serve: Serve,
+    /// Whether its address stands for every address of its port, where no listener has that address itself.
+    pub takes_every_address: bool,
+    /// Its chains in order.
+    pub filter_chains: Seq<FilterChain>,
+    /// What connections are served that no chain takes, if they are.
+    pub default_filter_chain: Option<Serve>,
+    /// The text of its body, by which a change of any field is told. It is empty where only the fields that are read count.
+    pub body_text: Text,
 }
 
 impl TryCopy for Listener {
@@ -74,7 +122,10 @@ impl TryCopy for Listener {
         Ok(Listener {
             name: self.name.copy(alloc)?,
             address: self.address.copy(alloc)?,
-            serve: self.serve.copy(alloc)?,
+            takes_every_address: self.takes_every_address,
+            filter_chains: self.filter_chains.copy(alloc)?,
+            default_filter_chain: self.default_filter_chain.copy(alloc)?,
+            body_text: self.body_text.copy(alloc)?,
         })
     }
 }
@@ -88,7 +139,12 @@ impl PartialEq for Listener {
     ghost laws = { partial_equiv_from_equiv (decided listener_same listener_decides) };
 
     fn eq(&self, other: &Listener) -> bool {
-        self.name == other.name && self.address == other.address && self.serve == other.serve
+        self.name == other.name
+            && self.address == other.address
+            && self.takes_every_address == other.takes_every_address
+            && self.filter_chains == other.filter_chains
+            && self.default_filter_chain == other.default_filter_chain
+            && self.body_text == other.body_text
     }
 }
 

@@ -1,4 +1,4 @@
-use crate::{Name, Seq, Text, TryCopy};
+use crate::{RouteMatch, Seq, Text, TryCopy};
 use std::alloc::{AllocError, Global};
 use std::marker::Model;
 
@@ -113,6 +113,8 @@ pub enum Target {
     One(Text),
     /// One of several clusters, by their weights.
     Weighted(WeightedClusters),
+    /// A cluster that a header of the request names, or an extension: no script tells which.
+    Elsewhere,
 }
 
 impl TryCopy for Target {
@@ -120,6 +122,7 @@ impl TryCopy for Target {
         match self {
             Target::One(name) => Ok(Target::One(name.copy(alloc)?)),
             Target::Weighted(clusters) => Ok(Target::Weighted(clusters.copy(alloc)?)),
+            Target::Elsewhere => Ok(Target::Elsewhere),
         }
     }
 }
@@ -136,6 +139,7 @@ impl PartialEq for Target {
         match (self, other) {
             (Target::One(name), Target::One(other)) => name == other,
             (Target::Weighted(clusters), Target::Weighted(other)) => clusters == other,
+            (Target::Elsewhere, Target::Elsewhere) => true,
             _ => false,
         }
     }
@@ -157,6 +161,8 @@ pub enum Action {
     Redirect,
     /// It is answered at once with this status, 200 to 599.
     Local(u16),
+    /// A filter does with it what no script tells.
+    Elsewhere,
 }
 
 impl TryCopy for Action {
@@ -165,6 +171,7 @@ impl TryCopy for Action {
             Action::Forward(target) => Ok(Action::Forward(target.copy(alloc)?)),
             Action::Redirect => Ok(Action::Redirect),
             Action::Local(status) => Ok(Action::Local(*status)),
+            Action::Elsewhere => Ok(Action::Elsewhere),
         }
     }
 }
@@ -182,6 +189,7 @@ impl PartialEq for Action {
             (Action::Forward(target), Action::Forward(other)) => target == other,
             (Action::Redirect, Action::Redirect) => true,
             (Action::Local(status), Action::Local(other)) => status == other,
+            (Action::Elsewhere, Action::Elsewhere) => true,
             _ => false,
         }
     }
@@ -217,7 +225,7 @@ impl TryCopy for PathMatch {
 
 impl PartialEq for PathMatch {
     ghost use Rattle.std.specs.Cmp.{decided, partial_equiv_from_equiv};
-    ghost use Rattle.ev_types.specs.SameRoutes.{path_match_same, path_match_decides};
+    ghost use Rattle.ev_types.specs.SamePaths.{path_match_same, path_match_decides};
 
     ghost eq = { path_match_same };
 
@@ -235,7 +243,7 @@ impl PartialEq for PathMatch {
 
 impl Eq for PathMatch {
     ghost use Rattle.std.specs.Cmp.{decided};
-    ghost use Rattle.ev_types.specs.SameRoutes.{path_match_same, path_match_decides};
+    ghost use Rattle.ev_types.specs.SamePaths.{path_match_same, path_match_decides};
 
     ghost laws = { decided path_match_same path_match_decides };
 }
@@ -243,14 +251,15 @@ impl Eq for PathMatch {
 /// A route of a virtual host.
 #[derive(Drop)]
 pub struct Route {
-    pub path: PathMatch,
+    /// Which requests it takes.
+    pub route_match: RouteMatch,
     pub action: Action,
 }
 
 impl TryCopy for Route {
     fn copy(&self, alloc: Global) -> Result<Route, AllocError> {
         Ok(Route {
-            path: self.path.copy(alloc)?,
+            route_match: self.route_match.copy(alloc)?,
             action: self.action.copy(alloc)?,
         })
     }
@@ -265,7 +274,7 @@ impl PartialEq for Route {
     ghost laws = { partial_equiv_from_equiv (decided route_same route_decides) };
 
     fn eq(&self, other: &Route) -> bool {
-        self.path == other.path && self.action == other.action
+        self.route_match == other.route_match && self.action == other.action
     }
 }
 

@@ -188,6 +188,8 @@ pub enum Arrival {
     Bad,
     /// The initial fetch timeout.
     TimedOut,
+    /// The end of a time to live, with what is held from then on. The control plane has said nothing by it.
+    Ended(Content),
 }
 
 impl TryCopy for Arrival {
@@ -197,6 +199,7 @@ impl TryCopy for Arrival {
             Arrival::Absent => Ok(Arrival::Absent),
             Arrival::Bad => Ok(Arrival::Bad),
             Arrival::TimedOut => Ok(Arrival::TimedOut),
+            Arrival::Ended(content) => Ok(Arrival::Ended(content.copy(alloc)?)),
         }
     }
 }
