@@ -26,7 +26,7 @@ use Rattle.ev_script.specs.TimerLines.{timeout_of, timeout_line, drain_line, exp
 use Rattle.ev_script.specs.MainLines.{publish_line, reap_line}
 use Rattle.ev_script.specs.WorkerLines.{worker_in, conn_in, named_host_in, path_in, pick_in, ask_in, worker_line, accept_line, close_line, settle_line}
 use Rattle.ev_script.specs.Lines.{main_side_line, line_by, line_of}
-use Rattle.ev_trees.specs.Floats.{whole}
+use Rattle.ev_tree.specs.Floats.{whole}
 use Rattle.ev_whole_laws.specs.OneForm.{NumbersHaveOneForm}
 use Rattle.ev_whole_laws.proofs.Parts.{as_str-whole, as_bool-whole, and_then-by}
 use Rattle.ev_whole_laws.proofs.Responses.{response_of-whole}

@@ -5,7 +5,7 @@ use Rattle.ev_wire.specs.Responses.{response_of}
 use Rattle.ev_script.specs.Faults.{has_format, plain_lines}
 use Rattle.ev_script.specs.Header.{header_of}
 use Rattle.ev_script.specs.Lines.{line_of}
-use Rattle.ev_trees.specs.Floats.{whole}
+use Rattle.ev_tree.specs.Floats.{whole}
 
 -- every form that a line is read by says the same of both
 pub record HasOneForm (tree : Data) : Type 0 where
