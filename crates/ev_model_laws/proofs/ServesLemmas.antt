@@ -45,6 +45,7 @@ use Rattle.ev_model_laws.proofs.MadeLemmas.{made_more}
 use Rattle.ev_model_laws.proofs.PlaceLemmas.{world_next}
 use Rattle.ev_model_laws.proofs.OneANameLemmas.{removed_active, replaced_active}
 use Rattle.ev_model_laws.proofs.AnsweredLemmas.{answered_by, ready_answered}
+use Rattle.ev_model_laws.proofs.SinceLemmas.{made_positive}
 
 -- what serves in the one world serves in the other
 abbrev ServesWithin : World → World → Type 0
@@ -256,7 +257,10 @@ serving_warmed told k number made come serving =
       answered = record {
         row = made_as row;
         made = ap (λ (journal : List Entry). made_of journal number) (sym whole) ∙ made_more entries (drop (k + 1) told.journal) number (made_as row) of;
-        answered = answered_by entries world row.content come (ready_answered world row serving.ready);
+        answered =
+            subst (λ n. list_all (has_ended_wait n entries) (dependencies_of row.content) ≡ true) serving.numbered
+            (answered_by entries world row.number row.content
+            (subst (λ n. 1 ≤ n) (sym serving.numbered) (made_positive entries number (made_as row) of)) come (ready_answered world row serving.ready));
       };
     }
 
