@@ -12,7 +12,8 @@ pub enum Discovery {
         service: Name,
         /// Whether the wait for them ends at the initial fetch timeout.
         limited: bool,
-        /// Whether a generation waits until they are sent anew, though they may be known. Source: cluster manager warming.
+        /// Whether a generation waits until they are sent anew, though they may be known. Source: cluster manager
+        /// warming.
         fresh: bool,
     },
     /// Envoy, or an extension of it, finds the host of each connection by itself.
@@ -80,7 +81,8 @@ pub struct Cluster {
     pub discovery: Discovery,
     /// Whether its hosts are health checked.
     pub checked: bool,
-    /// The text of its body, by which a change of any field is told. It is empty where only the fields that are read count.
+    /// The text of its body, by which a change of any field is told. It is empty where only the fields that are read
+    /// count.
     pub body_text: Text,
 }
 

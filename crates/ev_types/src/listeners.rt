@@ -113,7 +113,8 @@ pub struct Listener {
     pub filter_chains: Seq<FilterChain>,
     /// What connections are served that no chain takes, if they are.
     pub default_filter_chain: Option<Serve>,
-    /// The text of its body, by which a change of any field is told. It is empty where only the fields that are read count.
+    /// The text of its body, by which a change of any field is told. It is empty where only the fields that are read
+    /// count.
     pub body_text: Text,
 }
 
