@@ -1,7 +1,7 @@
 -- A generation that serves behind an event served before it, or the event has made it serve: it is ready then.
 use Rattle.std.proofs.Common.{◌≡◌, ℕ, ◌<◌, ◌≤◌, ◌+◌, ◌⊎◌, inl, inr, Bool, true, false, ◌&&◌, ◌==◌, List, [], ◌∷◌, ◌++◌, take, drop, Some, refl, sym, ap, ◌∙◌, subst, arith}
 use Rattle.std.specs.Cmp.{first_so, second_so}
-use Rattle.std.specs.List.{Contains, fold, zip, list_any}
+use Rattle.std.specs.List.{Contains, fold, zip, list_any, list_all}
 use Rattle.std.proofs.lemmas.Bool.{false≢true, cond_both, and_from}
 use Rattle.std.proofs.lemmas.List.Elements.{All-map, All-contains}
 use Rattle.std.proofs.lemmas.List.{take-append-drop}
@@ -27,13 +27,13 @@ use Rattle.ev_types.specs.declared.rows.RowStatus.TheVariants.{Warming, Active, 
 use Rattle.ev_model.specs.World.{World, Arrived}
 use Rattle.ev_model.specs.Live.{lives_of}
 use Rattle.ev_model.specs.Verdicts.{verdicts_for, is_removed}
-use Rattle.ev_model.specs.Watching.{is_watched}
+use Rattle.ev_model.specs.Watching.{is_watched, dependencies_of}
 use Rattle.ev_model.specs.Warming.{is_ready_by, is_ready}
 use Rattle.ev_model.specs.Rows.{is_row_of, with_statuses, status_left, with_removals, replaced_status, new_row, add_row, keep_value, keep_version, with_content, told_of_refusal, refuse, add_item, add_items, made_names, with_first}
 use Rattle.ev_model.specs.Tidy.{has_successor, status_by, promoted_status, promoted, arrivals_watched, tidy}
 use Rattle.ev_model.specs.Signals.{ended_status, with_end, forget_version}
 use Rattle.ev_model.specs.Step.{step}
-use Rattle.ev_model.specs.Entries.{made_of}
+use Rattle.ev_model.specs.Entries.{made_of, has_ended_wait}
 use Rattle.ev_model.specs.Laws.{Told, world_told, IsEntryAt, IsServing, HadWarmed}
 use Rattle.ev_model_laws.specs.Kept.{made_as, AreMade, ComesByEntries, ServesWarmed}
 use Rattle.ev_model_laws.proofs.TidyLists.{all_of, any_at}
@@ -96,7 +96,7 @@ module _ (before : World) where
 
   told_serves : (kind : Kind) (name : List ℕ) (world : World) → ServesWithin before world → ServesWithin before (told_of_refusal kind name world)
   told_serves kind name world within =
-      cond_both (is_watched (lives_of world) kind name) (record world { arrivals = world.arrivals ++ record { kind = kind; name = name; arrival = bad } ∷ [] }) world
+      cond_both (is_watched (lives_of world) kind name) (record world { arrivals = world.arrivals ++ record { kind = kind; name = name; arrival = bad; made = world.made } ∷ [] }) world
       (ServesWithin before) (λ watched. within) (λ unwatched. within)
 
   refuse_serves : (kind : Kind) (name : List ℕ) (world : World) → ServesWithin before world → ServesWithin before (refuse kind name world)

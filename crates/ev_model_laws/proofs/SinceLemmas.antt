@@ -34,15 +34,18 @@ module _ (test : Entry → Bool) where
       → list_any test (entries_since made entries) ≡ true → list_any test (entries_since number entries) ≡ true
   since_earlier number made [] le h = h
   since_earlier number made (entry ∷ entries) le h =
-      by (nat_le number (count_made entry)) refl (nat_le made (count_made entry)) refl h
+      by (nat_le number (count_made entry)) refl (nat_le made (count_made entry)) refl
+      (since_earlier (number - count_made entry) (made - count_made entry) entries (omega (arith, le))) h
     where
       by : (one : Bool) → nat_le number (count_made entry) ≡ one → (other : Bool) → nat_le made (count_made entry) ≡ other
+          → (list_any test (entries_since (made - count_made entry) entries) ≡ true
+          → list_any test (entries_since (number - count_made entry) entries) ≡ true)
           → list_any test (cond other entries (entries_since (made - count_made entry) entries)) ≡ true
           → list_any test (cond one entries (entries_since (number - count_made entry) entries)) ≡ true
-      by true is true was some = some
-      by true is false was some = any_since (made - count_made entry) entries some
-      by false is true was some = absurd (grind (arith, nat_tests))
-      by false is false was some = since_earlier (number - count_made entry) (made - count_made entry) entries (omega (arith, le)) some
+      by true is true was rest some = some
+      by true is false was rest some = any_since (made - count_made entry) entries some
+      by false is true was rest some = absurd (grind (arith, nat_tests, le, is, was))
+      by false is false was rest some = rest some
 
   -- with more entries it holds still
   since_more : (number : ℕ) (entries more : List Entry) → list_any test (entries_since number entries) ≡ true
@@ -68,15 +71,16 @@ module _ (test : Entry → Bool) where
   since_last number [] entry some is h = absurd (omega (arith, some, is))
   since_last number (first ∷ before) entry some is h =
       by (nat_le number (count_made first)) refl
+      (λ more. since_last (number - count_made first) before entry more (omega (arith, counted)) h)
     where
       counted : count_made first + length (made_rows before) ≡ number
       counted = sym (length-append (made_in first.event first.answer) (made_rows before)) ∙ is
 
       by : (b : Bool) → nat_le number (count_made first) ≡ b
+          → (1 ≤ number - count_made first → list_any test (entries_since (number - count_made first) (before ++ entry ∷ [])) ≡ true)
           → list_any test (cond b (before ++ entry ∷ []) (entries_since (number - count_made first) (before ++ entry ∷ []))) ≡ true
-      by true here = any_second test before (entry ∷ []) (or_left (test entry) false h)
-      by false later =
-          since_last (number - count_made first) before entry (grind (arith, nat_tests, counted, later)) (omega (arith, counted)) h
+      by true here rest = any_second test before (entry ∷ []) (or_left (test entry) false h)
+      by false later rest = rest (grind (arith, nat_tests, later))
 
   pub after_last : (number : ℕ) (before : List Entry) (entry : Entry) → length (made_rows before) ≡ number → test entry ≡ true
       → list_any test (entries_after number (before ++ entry ∷ [])) ≡ true
