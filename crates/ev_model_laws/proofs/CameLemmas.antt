@@ -1,6 +1,6 @@
--- What came for names was said by the control plane, or timed out, and a version of endpoints or routes is kept only of a name
+-- What came for names was said by the control plane, timed out, or is the end of what it has said, and a version of endpoints or routes is kept only of a name
 -- that was told of.
-use Rattle.std.proofs.Common.{◌≡◌, ℕ, ◌+◌, Bool, true, false, ◌&&◌, ◌||◌, cond, List, [], ◌∷◌, ◌++◌, take, map, filter, Option, Some, refl, sym, ap, ap₂, ◌∙◌, subst, subst₂}
+use Rattle.std.proofs.Common.{◌≡◌, ℕ, ◌+◌, Bool, true, false, ◌&&◌, ◌||◌, cond, List, [], ◌∷◌, ◌++◌, take, map, filter, length, Option, Some, refl, arith, sym, ap, ap₂, ◌∙◌, subst, subst₂}
 use Rattle.std.specs.Prelude.{unwrap_or, option_map}
 use Rattle.std.specs.List.{All, Contains, AllByRecursion as ByRecursion, fold, zip}
 use Rattle.std.specs.Str.{bytes_eq}
@@ -24,23 +24,24 @@ use Rattle.ev_types.specs.declared.events.Event.TheVariants.{Response, FetchTime
 use Rattle.ev_types.specs.declared.events.Verdict.{Verdict}
 use Rattle.ev_types.specs.declared.events.Verdict.TheVariants.{New, Same, Kept, Unasked, Renewed, Refused}
 use Rattle.ev_types.specs.declared.journals.Format.{Format}
-use Rattle.ev_types.specs.declared.rows.Arrival.TheVariants.{Value, Absent, Bad as bad, TimedOut}
+use Rattle.ev_types.specs.declared.rows.Arrival.TheVariants.{Value, Absent, Bad as bad, TimedOut, Ended}
 use Rattle.ev_types.specs.declared.rows.KeptVersion.{KeptVersion}
 use Rattle.ev_model.specs.World.{World, Arrived, opening}
 use Rattle.ev_model.specs.Live.{lives_of}
 use Rattle.ev_model.specs.Versions.{is_version_of, is_bounded, bounded_as, with_version}
 use Rattle.ev_model.specs.Verdicts.{is_removed, lives_left, verdicts_for}
 use Rattle.ev_model.specs.Watching.{is_by_name, is_watched}
-use Rattle.ev_model.specs.Warming.{is_word}
+use Rattle.ev_model.specs.Warming.{is_word, is_timeout}
 use Rattle.ev_model.specs.Rows.{is_version_left, arrived, absent_names, with_absences, with_removals, version_in, keep_version, add_row, keep_value, with_content, told_of_refusal, refuse, renew, add_item, add_items, made_names, with_first}
 use Rattle.ev_model.specs.Tidy.{promoted, is_version_due, tidy}
 use Rattle.ev_model.specs.Signals.{no_hosts, no_routes, with_end, forget_version}
 use Rattle.ev_model.specs.Step.{step, answered}
-use Rattle.ev_model.specs.Entries.{is_word_on, has_word_on, is_response_of, tells_of_name, times_out}
+use Rattle.ev_model.specs.Entries.{made_rows, is_word_on, has_word_on, is_response_of, tells_of_name, times_out}
 use Rattle.ev_model.specs.Laws.{Told, world_told, IsEntryAt}
-use Rattle.ev_model_laws.specs.Kept.{was_told, was_timed, has_come_by, ComesByEntries}
+use Rattle.ev_model_laws.specs.Kept.{entries_after, was_told, was_timed, has_come_by, AreMade, ComesByEntries}
 use Rattle.ev_model_laws.proofs.TidyLists.{all_of, any_at}
-use Rattle.ev_model_laws.proofs.AnyLemmas.{any_first, any_second, any_found}
+use Rattle.ev_model_laws.proofs.AnyLemmas.{any_first, any_found}
+use Rattle.ev_model_laws.proofs.SinceLemmas.{after_any, after_more, after_new}
 use Rattle.ev_model_laws.proofs.VersionLemmas.{all_with}
 use Rattle.ev_model_laws.proofs.ExpiredLemmas.{passed}
 use Rattle.ev_model_laws.proofs.VerdictLemmas.{fits, judged_by, verdict_fits}
@@ -89,25 +90,32 @@ module _ (entries : List Entry) where
     versions = All-filter (is_version_due (lives_of (promoted world))) (IsVersionTold entries) world.versions come.versions;
   }
 
-  -- what a response does, whose words and removals the entries have told
-  module _ (kind : Kind) (told : List ℕ → Bool) (so : (name : List ℕ) → told name ≡ true → was_told entries kind name ≡ true) where
-    absences_come : (names : List (List ℕ)) → ByRecursion (λ name. told name ≡ true) names
-        → ByRecursion (λ (a : Arrived). has_come_by entries a ≡ true) (map (arrived kind Absent) names)
-    absences_come [] each = tt
-    absences_come (name ∷ names) each = (so name each.0, absences_come names each.1)
+  -- what a response does, whose words and removals the entries have told when so many numbers were drawn
+  module _ (made : ℕ) (kind : Kind) (told : List ℕ → Bool)
+      (so : (name : List ℕ) → told name ≡ true → was_told (entries_after made entries) kind name ≡ true) where
+    told_of : (name : List ℕ) → told name ≡ true → was_told entries kind name ≡ true
+    told_of name h = after_any (λ (e : Entry). tells_of_name kind name e.event e.answer) made entries (so name h)
 
-    absent_come : (response : ResponseParts) (world : World) → ((name : List ℕ) → is_removed response name ≡ true → told name ≡ true)
+    told_at : (drawn : ℕ) → drawn ≡ made → (name : List ℕ) → told name ≡ true → was_told (entries_after drawn entries) kind name ≡ true
+    told_at drawn same name h = ap (λ n. was_told (entries_after n entries) kind name) same ∙ so name h
+
+    absences_come : (drawn : ℕ) → drawn ≡ made → (names : List (List ℕ)) → ByRecursion (λ name. told name ≡ true) names
+        → ByRecursion (λ (a : Arrived). has_come_by entries a ≡ true) (map (arrived drawn kind Absent) names)
+    absences_come drawn same [] each = tt
+    absences_come drawn same (name ∷ names) each = (told_at drawn same name each.0, absences_come drawn same names each.1)
+
+    absent_come : (response : ResponseParts) (world : World) → world.made ≡ made → ((name : List ℕ) → is_removed response name ≡ true → told name ≡ true)
         → ComesByEntries world entries → ComesByEntries (with_absences kind response world) entries
-    absent_come response world removed come =
+    absent_come response world same removed come =
         let names : List (List ℕ) = absent_names kind response world in
         let test : List ℕ → Bool = λ name. is_removed response name && is_watched (lives_of world) kind name in
         let each : All (λ name. told name ≡ true) names =
         all_of (λ name. told name ≡ true) names
         (λ name there. removed name (first_so (is_removed response name) (is_watched (lives_of world) kind name) (passed test response.removed name there))) in
         record {
-          arrivals = All-append (λ (a : Arrived). has_come_by entries a ≡ true) world.arrivals (map (arrived kind Absent) names) come.arrivals
-              (All-from_recursion (λ (a : Arrived). has_come_by entries a ≡ true) (map (arrived kind Absent) names)
-              (absences_come names (recursion_from_All (λ name. told name ≡ true) names each)));
+          arrivals = All-append (λ (a : Arrived). has_come_by entries a ≡ true) world.arrivals (map (arrived world.made kind Absent) names) come.arrivals
+              (All-from_recursion (λ (a : Arrived). has_come_by entries a ≡ true) (map (arrived world.made kind Absent) names)
+              (absences_come world.made same names (recursion_from_All (λ name. told name ≡ true) names each)));
           versions = All-filter (is_version_left kind response) (IsVersionTold entries) world.versions come.versions;
         }
 
@@ -125,18 +133,21 @@ module _ (entries : List Entry) where
     same_come item (Bad rule) world isnt come = come
     same_come item Beat world isnt come = come
 
-    value_come : (item : ItemParts) (body : Body) (world : World) → told item.name ≡ true → ComesByEntries world entries
+    value_come : (item : ItemParts) (body : Body) (world : World) → world.made ≡ made → told item.name ≡ true → ComesByEntries world entries
         → ComesByEntries (with_content (keep_value kind item) body world) entries
-    value_come item (Good content) world is come =
-        version_told (version_in kind item) (record world { arrivals = world.arrivals ++ arrived kind (Value content) item.name ∷ [] })
-        (λ by_name. so item.name is) (one_came (arrived kind (Value content) item.name) world (so item.name is) come)
-    value_come item (Bad rule) world is come = come
-    value_come item Beat world is come = come
+    value_come item (Good content) world same is come =
+        version_told (version_in kind item) (record world { arrivals = world.arrivals ++ arrived world.made kind (Value content) item.name ∷ [] })
+        (λ by_name. told_of item.name is)
+        (one_came (arrived world.made kind (Value content) item.name) world (told_at world.made same item.name is) come)
+    value_come item (Bad rule) world same is come = come
+    value_come item Beat world same is come = come
 
-    refusal_come : (name : List ℕ) (world : World) → told name ≡ true → ComesByEntries world entries → ComesByEntries (told_of_refusal kind name world) entries
-    refusal_come name world is come =
-        cond_both (is_watched (lives_of world) kind name) (record world { arrivals = world.arrivals ++ arrived kind bad name ∷ [] }) world
-        (λ (w : World). ComesByEntries w entries) (λ watched. one_came (arrived kind bad name) world (so name is) come) (λ unwatched. come)
+    refusal_come : (name : List ℕ) (world : World) → world.made ≡ made → told name ≡ true → ComesByEntries world entries
+        → ComesByEntries (told_of_refusal kind name world) entries
+    refusal_come name world same is come =
+        cond_both (is_watched (lives_of world) kind name) (record world { arrivals = world.arrivals ++ arrived world.made kind bad name ∷ [] }) world
+        (λ (w : World). ComesByEntries w entries)
+        (λ watched. one_came (arrived world.made kind bad name) world (told_at world.made same name is) come) (λ unwatched. come)
 
 pub by_name_not : (kind : Kind) → fits kind New ≡ true → is_by_name kind ≡ false
 by_name_not Cds fit = refl
@@ -150,44 +161,96 @@ by_name_not_same Eds fit = absurd (false≢true fit)
 by_name_not_same Lds fit = refl
 by_name_not_same Rds fit = absurd (false≢true fit)
 
+by_name_kept : (kind : Kind) → fits kind Kept ≡ true → is_by_name kind ≡ true
+by_name_kept Cds fit = absurd (false≢true fit)
+by_name_kept Eds fit = refl
+by_name_kept Lds fit = absurd (false≢true fit)
+by_name_kept Rds fit = refl
+
 own_name : (name : List ℕ) → bytes_eq name name ≡ true
 own_name name = (bytes_decide name name).1 refl
 
-module _ (entries : List Entry) (kind : Kind) (told : List ℕ → Bool) (so : (name : List ℕ) → told name ≡ true → was_told entries kind name ≡ true) where
-  refuse_come : (of : Kind) → kind ≡ of → (name : List ℕ) (world : World) → told name ≡ true → ComesByEntries world entries → ComesByEntries (refuse of name world) entries
-  refuse_come Cds is name world h come = come
-  refuse_come Eds is name world h come = refusal_come entries Eds told (λ n t. subst (λ (k : Kind). was_told entries k n ≡ true) is (so n t)) name world h come
-  refuse_come Lds is name world h come = come
-  refuse_come Rds is name world h come = refusal_come entries Rds told (λ n t. subst (λ (k : Kind). was_told entries k n ≡ true) is (so n t)) name world h come
+-- a response of endpoints or routes draws no number
+same_drawn : (kind : Kind) (item : ItemParts) (body : Body) (world : World) → (with_content (λ content. keep_version kind item) body world).made ≡ world.made
+same_drawn kind item (Good content) world = refl
+same_drawn kind item (Bad rule) world = refl
+same_drawn kind item Beat world = refl
 
-  item_come : (verdict : Verdict) (item : ItemParts) (world : World) → fits kind verdict ≡ true
+value_drawn : (kind : Kind) (item : ItemParts) (body : Body) (world : World) → (with_content (keep_value kind item) body world).made ≡ world.made
+value_drawn kind item (Good content) world = refl
+value_drawn kind item (Bad rule) world = refl
+value_drawn kind item Beat world = refl
+
+told_drawn : (kind : Kind) (name : List ℕ) (world : World) → (told_of_refusal kind name world).made ≡ world.made
+told_drawn kind name world =
+    cond_both (is_watched (lives_of world) kind name) (record world { arrivals = world.arrivals ++ arrived world.made kind bad name ∷ [] }) world
+    (λ (w : World). w.made ≡ world.made) (λ watched. refl) (λ unwatched. refl)
+
+refuse_drawn : (kind : Kind) (name : List ℕ) (world : World) → (refuse kind name world).made ≡ world.made
+refuse_drawn Cds name world = refl
+refuse_drawn Eds name world = told_drawn Eds name world
+refuse_drawn Lds name world = refl
+refuse_drawn Rds name world = told_drawn Rds name world
+
+item_drawn : (kind : Kind) (verdict : Verdict) (item : ItemParts) (world : World) → fits kind verdict ≡ true → is_by_name kind ≡ true
+    → (add_item kind verdict item world).made ≡ world.made
+item_drawn kind New item world fit by_name = absurd (both_ways (is_by_name kind) (by_name_not kind fit) by_name)
+item_drawn kind Same item world fit by_name = same_drawn kind item item.body world
+item_drawn kind Kept item world fit by_name = value_drawn kind item item.body world
+item_drawn kind Unasked item world fit by_name = refl
+item_drawn kind Renewed item world fit by_name = refl
+item_drawn kind (Refused rule) item world fit by_name = refuse_drawn kind item.name world
+
+removals_drawn : (kind : Kind) (response : ResponseParts) (world : World) → (with_removals kind response world).made ≡ world.made
+removals_drawn Cds response world = refl
+removals_drawn Eds response world = refl
+removals_drawn Lds response world = refl
+removals_drawn Rds response world = refl
+
+module _ (entries : List Entry) (made : ℕ) (kind : Kind) (told : List ℕ → Bool)
+    (so : (name : List ℕ) → told name ≡ true → was_told (entries_after made entries) kind name ≡ true) where
+  refuse_come : (of : Kind) → kind ≡ of → (name : List ℕ) (world : World) → (is_by_name kind ≡ true → world.made ≡ made) → told name ≡ true
+      → ComesByEntries world entries → ComesByEntries (refuse of name world) entries
+  refuse_come Cds is name world same h come = come
+  refuse_come Eds is name world same h come =
+      refusal_come entries made Eds told (λ n t. subst (λ (k : Kind). was_told (entries_after made entries) k n ≡ true) is (so n t)) name world
+      (same (ap is_by_name is)) h come
+  refuse_come Lds is name world same h come = come
+  refuse_come Rds is name world same h come =
+      refusal_come entries made Rds told (λ n t. subst (λ (k : Kind). was_told (entries_after made entries) k n ≡ true) is (so n t)) name world
+      (same (ap is_by_name is)) h come
+
+  item_come : (verdict : Verdict) (item : ItemParts) (world : World) → (is_by_name kind ≡ true → world.made ≡ made) → fits kind verdict ≡ true
       → ((name : List ℕ) → is_word_on name verdict item ≡ true → told name ≡ true)
       → ComesByEntries world entries → ComesByEntries (add_item kind verdict item world) entries
-  item_come New item world fit word come = new_come entries kind told so item item.body world (by_name_not kind fit) come
-  item_come Same item world fit word come = same_come entries kind told so item item.body world (by_name_not_same kind fit) come
-  item_come Kept item world fit word come = value_come entries kind told so item item.body world (word item.name (own_name item.name)) come
-  item_come Unasked item world fit word come = come
-  item_come Renewed item world fit word come = versions_renewed entries kind item.name world come
-  item_come (Refused rule) item world fit word come = refuse_come kind refl item.name world (word item.name (own_name item.name)) come
+  item_come New item world same fit word come = new_come entries made kind told so item item.body world (by_name_not kind fit) come
+  item_come Same item world same fit word come = same_come entries made kind told so item item.body world (by_name_not_same kind fit) come
+  item_come Kept item world same fit word come =
+      value_come entries made kind told so item item.body world (same (by_name_kept kind fit)) (word item.name (own_name item.name)) come
+  item_come Unasked item world same fit word come = come
+  item_come Renewed item world same fit word come = versions_renewed entries kind item.name world come
+  item_come (Refused rule) item world same fit word come = refuse_come kind refl item.name world same (word item.name (own_name item.name)) come
 
-  items_come : (judged : List (Verdict × ItemParts)) (world : World) → ByRecursion (λ (one : Verdict × ItemParts). fits kind one.0 ≡ true) judged
+  items_come : (judged : List (Verdict × ItemParts)) (world : World) → (is_by_name kind ≡ true → world.made ≡ made)
+      → ByRecursion (λ (one : Verdict × ItemParts). fits kind one.0 ≡ true) judged
       → ByRecursion (λ (one : Verdict × ItemParts). (name : List ℕ) → is_word_on name one.0 one.1 ≡ true → told name ≡ true) judged
       → ComesByEntries world entries
       → ComesByEntries (fold (λ (w : World) (one : Verdict × ItemParts). add_item kind one.0 one.1 w) world judged) entries
-  items_come [] world fit word come = come
-  items_come (one ∷ judged) world fit word come =
-      items_come judged (add_item kind one.0 one.1 world) fit.1 word.1 (item_come one.0 one.1 world fit.0 word.0 come)
+  items_come [] world same fit word come = come
+  items_come (one ∷ judged) world same fit word come =
+      items_come judged (add_item kind one.0 one.1 world) (λ by_name. item_drawn kind one.0 one.1 world fit.0 by_name ∙ same by_name) fit.1 word.1
+      (item_come one.0 one.1 world same fit.0 word.0 come)
 
 removals_come : (entries : List Entry) (kind : Kind) (told : List ℕ → Bool) (response : ResponseParts) (world : World)
-    → ((name : List ℕ) → told name ≡ true → was_told entries kind name ≡ true)
+    → ((name : List ℕ) → told name ≡ true → was_told (entries_after world.made entries) kind name ≡ true)
     → ((name : List ℕ) → is_removed response name ≡ true → told name ≡ true)
     → ComesByEntries world entries → ComesByEntries (with_removals kind response world) entries
 removals_come entries Cds told response world so removed come =
     record { arrivals = come.arrivals; versions = All-filter (is_version_left Cds response) (IsVersionTold entries) world.versions come.versions }
-removals_come entries Eds told response world so removed come = absent_come entries Eds told so response world removed come
+removals_come entries Eds told response world so removed come = absent_come entries world.made Eds told so response world refl removed come
 removals_come entries Lds told response world so removed come =
     record { arrivals = come.arrivals; versions = All-filter (is_version_left Lds response) (IsVersionTold entries) world.versions come.versions }
-removals_come entries Rds told response world so removed come = absent_come entries Rds told so response world removed come
+removals_come entries Rds told response world so removed come = absent_come entries world.made Rds told so response world refl removed come
 
 first_come : (entries : List Entry) (kind : Kind) (names : List (List ℕ)) (world : World) → ComesByEntries world entries
     → ComesByEntries (with_first kind names world) entries
@@ -201,7 +264,8 @@ abbrev tells : ResponseParts → List Verdict → List ℕ → Bool
 tells response verdicts name = has_word_on name verdicts response.items || is_removed response name
 
 answered_come : (entries : List Entry) (kind : Kind) (response : ResponseParts) (world : World)
-    → ((name : List ℕ) → tells response (verdicts_for kind (lives_of world) world.versions response) name ≡ true → was_told entries kind name ≡ true)
+    → ((name : List ℕ) → tells response (verdicts_for kind (lives_of world) world.versions response) name ≡ true
+    → was_told (entries_after world.made entries) kind name ≡ true)
     → ComesByEntries world entries
     → ComesByEntries (answered kind response (verdicts_for kind (lives_of world) world.versions response) world).0 entries
 answered_come entries kind response world so come =
@@ -216,7 +280,7 @@ answered_come entries kind response world so come =
     (any_at (λ (other : Verdict × ItemParts). is_word_on name other.0 other.1) judged one there is)) in
     tidied_come entries (with_first kind (made_names verdicts response.items) (add_items kind verdicts response.items left))
     (first_come entries kind (made_names verdicts response.items) (add_items kind verdicts response.items left)
-    (items_come entries kind told so judged left
+    (items_come entries world.made kind told so judged left (λ by_name. removals_drawn kind response world)
     (judged_by (λ (one : Verdict × ItemParts). fits kind one.0 ≡ true) kind response world.versions
     (λ lives (item : ItemParts). verdict_fits kind response lives world.versions item) (lives_left kind response (lives_of world)) response.items)
     (recursion_from_All (λ (one : Verdict × ItemParts). (name : List ℕ) → is_word_on name one.0 one.1 ≡ true → told name ≡ true) judged words)
@@ -238,19 +302,22 @@ bounded_told entries kind name world by_name bounded come =
 end_come : (entries : List Entry) (kind : Kind) (name : List ℕ) (world : World) → (is_by_name kind ≡ true → was_told entries kind name ≡ true)
     → ComesByEntries world entries → ComesByEntries (with_end kind name world) entries
 end_come entries Cds name world told come = record { arrivals = come.arrivals; versions = come.versions }
-end_come entries Eds name world told come = one_came entries (arrived Eds (Value no_hosts) name) world (told refl) come
+end_come entries Eds name world told come = one_came entries (arrived world.made Eds (Ended no_hosts) name) world (told refl) come
 end_come entries Lds name world told come = record { arrivals = come.arrivals; versions = come.versions }
-end_come entries Rds name world told come = one_came entries (arrived Rds (Value no_routes) name) world (told refl) come
+end_come entries Rds name world told come = one_came entries (arrived world.made Rds (Ended no_routes) name) world (told refl) come
 
 own_kind : (kind : Kind) (response : ResponseParts) → response.kind ≡ Some kind → is_response_of kind response ≡ true
 own_kind kind response typed =
     ap (λ (of : Option Kind). unwrap_or (option_map (kind_same kind) of) false) typed ∙ (kind_decides kind kind).1 refl
 
-by_answer : (word told timed more late : Bool) → (told ≡ true → more ≡ true) → (timed ≡ true → late ≡ true) → cond word told timed ≡ true → cond word more late ≡ true
-by_answer true told timed more late so also h = so h
-by_answer false told timed more late so also h = also h
+by_answer : (word timeout told timed heard more late yet : Bool) → (told ≡ true → more ≡ true) → (timed ≡ true → late ≡ true) → (heard ≡ true → yet ≡ true)
+    → cond word told (cond timeout timed heard) ≡ true → cond word more (cond timeout late yet) ≡ true
+by_answer true timeout told timed heard more late yet first second third h = first h
+by_answer false true told timed heard more late yet first second third h = second h
+by_answer false false told timed heard more late yet first second third h = third h
 
-module _ (before : List Entry) (entry : Entry) (format : Format) (world : World) (come : ComesByEntries world before) where
+module _ (before : List Entry) (entry : Entry) (format : Format) (world : World) (drawn : length (made_rows before) ≡ world.made)
+    (come : ComesByEntries world before) where
   -- the entries with one more, which is answered so
   abbrev with_answer : Answer → List Entry
   with_answer answer = before ++ record entry { answer = answer } ∷ []
@@ -260,10 +327,13 @@ module _ (before : List Entry) (entry : Entry) (format : Format) (world : World)
   still_come answer = record {
     arrivals = All-weaker (λ (a : Arrived). has_come_by before a ≡ true) (λ (a : Arrived). has_come_by (with_answer answer) a ≡ true)
         (λ (a : Arrived).
-        by_answer (is_word a.arrival) (was_told before a.kind a.name) (was_timed before a.kind a.name) (was_told (with_answer answer) a.kind a.name)
-        (was_timed (with_answer answer) a.kind a.name)
-        (any_first (λ (e : Entry). tells_of_name a.kind a.name e.event e.answer) before (record entry { answer = answer } ∷ []))
-        (any_first (λ (e : Entry). times_out a.kind a.name e.event e.answer) before (record entry { answer = answer } ∷ [])))
+        by_answer (is_word a.arrival) (is_timeout a.arrival)
+        (was_told (entries_after a.made before) a.kind a.name) (was_timed (entries_after a.made before) a.kind a.name) (was_told before a.kind a.name)
+        (was_told (entries_after a.made (with_answer answer)) a.kind a.name) (was_timed (entries_after a.made (with_answer answer)) a.kind a.name)
+        (was_told (with_answer answer) a.kind a.name)
+        (after_more (λ (e : Entry). tells_of_name a.kind a.name e.event e.answer) a.made before (record entry { answer = answer } ∷ []))
+        (after_more (λ (e : Entry). times_out a.kind a.name e.event e.answer) a.made before (record entry { answer = answer } ∷ []))
+        (any_first (λ (e : Entry). tells_of_name a.kind a.name e.event e.answer) before (record entry { answer = answer } ∷ [])))
         world.arrivals come.arrivals;
     versions = All-weaker (IsVersionTold before) (IsVersionTold (with_answer answer))
         (λ (kept : KeptVersion) told by_name.
@@ -275,22 +345,23 @@ module _ (before : List Entry) (entry : Entry) (format : Format) (world : World)
   ComesBy did = ComesByEntries did.0 (with_answer did.1)
 
   told_now : (kind : Kind) (response : ResponseParts) (requests : List Request) (verdicts : List Verdict) (name : List ℕ) → entry.event ≡ Response response
-      → response.kind ≡ Some kind → tells response verdicts name ≡ true → was_told (with_answer (Replied requests verdicts)) kind name ≡ true
+      → response.kind ≡ Some kind → tells response verdicts name ≡ true
+      → was_told (entries_after world.made (with_answer (Replied requests verdicts))) kind name ≡ true
   told_now kind response requests verdicts name is typed told =
-      any_second (λ (e : Entry). tells_of_name kind name e.event e.answer) before (record entry { answer = Replied requests verdicts } ∷ [])
-      (or_left (tells_of_name kind name entry.event (Replied requests verdicts)) false
+      after_new (λ (e : Entry). tells_of_name kind name e.event e.answer) world.made before (record entry { answer = Replied requests verdicts })
+      (omega (arith, drawn))
       (ap (λ (e : Event). tells_of_name kind name e (Replied requests verdicts)) is
-      ∙ and_from (is_response_of kind response) (tells response verdicts name) (own_kind kind response typed) told))
+      ∙ and_from (is_response_of kind response) (tells response verdicts name) (own_kind kind response typed) told)
 
   timed_now : (timeout : TimeoutParts) (name : List ℕ) (requests : List Request) → entry.event ≡ FetchTimeout timeout → timeout.name ≡ Some name
-      → was_timed (with_answer (Moved requests)) timeout.kind name ≡ true
+      → was_timed (entries_after world.made (with_answer (Moved requests))) timeout.kind name ≡ true
   timed_now timeout name requests is named =
-      any_second (λ (e : Entry). times_out timeout.kind name e.event e.answer) before (record entry { answer = Moved requests } ∷ [])
-      (or_left (times_out timeout.kind name entry.event (Moved requests)) false
+      after_new (λ (e : Entry). times_out timeout.kind name e.event e.answer) world.made before (record entry { answer = Moved requests })
+      (omega (arith, drawn))
       (ap (λ (e : Event). times_out timeout.kind name e (Moved requests)) is
       ∙ and_from (kind_same timeout.kind timeout.kind) (unwrap_or (option_map (bytes_eq name) timeout.name) false)
       ((kind_decides timeout.kind timeout.kind).1 refl)
-      (ap (λ (o : Option (List ℕ)). unwrap_or (option_map (bytes_eq name) o) false) named ∙ own_name name)))
+      (ap (λ (o : Option (List ℕ)). unwrap_or (option_map (bytes_eq name) o) false) named ∙ own_name name))
 
   -- an event keeps it
   step-come : ComesBy (step format world entry.actor entry.event)
@@ -303,7 +374,7 @@ module _ (before : List Entry) (entry : Entry) (format : Format) (world : World)
         (λ name. told_now kind response _ (verdicts_for kind (lives_of world) world.versions response) name is typed) (still_come _);
     resulted = λ cluster host healthy rows is. tidied_come _ _ (record { arrivals = (still_come _).arrivals; versions = (still_come _).versions });
     timed = λ timeout name is named.
-        tidied_come _ _ (one_came _ (arrived timeout.kind TimedOut name) world (timed_now timeout name _ is named) (still_come _));
+        tidied_come _ _ (one_came _ (arrived world.made timeout.kind TimedOut name) world (timed_now timeout name _ is named) (still_come _));
     clusters_late = λ timeout is. tidied_come _ _ (record { arrivals = (still_come _).arrivals; versions = (still_come _).versions });
     listeners_late = λ timeout is. tidied_come _ _ (record { arrivals = (still_come _).arrivals; versions = (still_come _).versions });
     expired = λ name numbers is. tidied_come _ _ (record { arrivals = (still_come _).arrivals; versions = (still_come _).versions });
@@ -321,13 +392,14 @@ module _ (before : List Entry) (entry : Entry) (format : Format) (world : World)
 
 -- an entry keeps it
 pub come_next : (told : Told) (k : ℕ) (entry : Entry) → IsEntryAt told k entry → IsAnswered told k entry
+    → AreMade (world_told told k) (take k told.journal)
     → ComesByEntries (world_told told k) (take k told.journal) → ComesByEntries (world_told told (k + 1)) (take (k + 1) told.journal)
-come_next told k entry there answered come =
+come_next told k entry there answered made come =
     let world : World = world_told told k in
     let before : List Entry = take k told.journal in
     subst₂ ComesByEntries (sym (world_next told k entry there))
     (ap (λ (answer : Answer). before ++ record entry { answer = answer } ∷ []) (sym answered.answer) ∙ sym (take_one told.journal k entry there))
-    (step-come before entry told.format world come)
+    (step-come before entry told.format world made.drawn come)
 
 pub opens_come : (workers : ℕ) (node : List ℕ) → ComesByEntries (opening workers node) []
 opens_come workers node = record { arrivals = All-nil _; versions = All-nil _ }

@@ -41,6 +41,7 @@ pub mod FilterLemmas
 pub mod VerdictLemmas
 pub mod EventLemmas
 pub mod MadeLemmas
+pub mod SinceLemmas
 pub mod CameLemmas
 pub mod WatchedLemmas
 pub mod AnsweredLemmas

@@ -1,6 +1,6 @@
 -- What every event of a run keeps, and the opening has: the parts from which the laws of runs follow. This project's own. Some
 -- speak of one world, and some of a journal's first entries, since they tell how that world came about.
-use Rattle.std.specs.Prelude.{ℕ, ◌≡◌, ◌≤◌, ◌<◌, ◌⊎◌, Bool, true, false, not, ◌&&◌, ◌==◌, if◌then◌else◌, IsTrue, List, length, take, Contains, All, Some}
+use Rattle.std.specs.Prelude.{ℕ, zero, suc, ◌≡◌, ◌≤◌, ◌<◌, ◌⊎◌, Bool, true, false, not, ◌&&◌, ◌==◌, if◌then◌else◌, IsTrue, List, length, take, Contains, All, Some}
 use Rattle.std.specs.List.{list_any, flat_map}
 use Rattle.ev_types.specs.declared.contents.Kind.{Kind}
 use Rattle.ev_types.specs.declared.contents.Kind.TheVariants.{Lds}
@@ -15,11 +15,11 @@ use Rattle.ev_model.specs.World.{World, Arrived, OpenMember}
 use Rattle.ev_model.specs.Picture.{has_number, is_shown, numbers_shown}
 use Rattle.ev_model.specs.Live.{lives_of}
 use Rattle.ev_model.specs.Watching.{is_by_name, is_watched}
-use Rattle.ev_model.specs.Warming.{is_word, is_told}
+use Rattle.ev_model.specs.Warming.{is_word, is_timeout, is_told}
 use Rattle.ev_model.specs.Dead.{shown_at, version_held, is_open_on, is_in_use, is_in_use_by}
 use Rattle.ev_model.specs.Operations.{actor_same}
 use Rattle.ev_model.specs.Tidy.{is_due}
-use Rattle.ev_model.specs.Entries.{MadeRow, made_rows, made_of, tells_of_name, times_out, last_settled, numbers_reaped}
+use Rattle.ev_model.specs.Entries.{MadeRow, made_rows, made_of, entries_since, tells_of_name, times_out, last_settled, numbers_reaped}
 use Rattle.ev_model.specs.Laws.{Told, world_told, HadWarmed, WasWarm, Opened, IsClosedBetween, StandsAt, HasWaited}
 use Rattle.ev_model_laws.specs.Numbers.{IsNumbered}
 
@@ -120,12 +120,23 @@ was_told entries kind name = list_any (λ (entry : Entry). tells_of_name kind na
 abbrev pub was_timed : List Entry → Kind → List ℕ → Bool
 was_timed entries kind name = list_any (λ (entry : Entry). times_out kind name entry.event entry.answer) entries
 
--- one of these entries is why it came: it has told of the name or, where a timeout came, was that
-abbrev pub has_come_by : List Entry → Arrived → Bool
-has_come_by entries a = if is_word a.arrival then was_told entries a.kind a.name else was_timed entries a.kind a.name
+-- those of these entries that come after the one that made the generation of this number; numbers begin at 1
+abbrev pub entries_after : ℕ → List Entry → List Entry
+entries_after zero entries = entries
+entries_after (suc place) entries = entries_since (suc place) entries
 
--- all that came for names was said by the control plane or timed out, and a version of endpoints or routes is kept only of a
--- name that was told of; so the value that the end of a time to live puts in its place is one of a name that was told of, too
+-- one of these entries is why it came: after the last generation was made that stood by then, it has told of the name or, where a
+-- timeout came, was that; the end of a time to live comes of a name that an entry has told of
+abbrev pub has_come_by : List Entry → Arrived → Bool
+has_come_by entries a =
+    if is_word a.arrival
+    then was_told (entries_after a.made entries) a.kind a.name
+    else (if is_timeout a.arrival
+    then was_timed (entries_after a.made entries) a.kind a.name
+    else was_told entries a.kind a.name)
+
+-- all that came for names was said by the control plane or timed out, or is the end of what it has said; and a version of
+-- endpoints or routes is kept only of a name that was told of
 pub record ComesByEntries (world : World) (entries : List Entry) : Type 0 where
   pub arrivals : All (λ (a : Arrived). IsTrue (has_come_by entries a)) world.arrivals
   pub versions : All (λ (kept : KeptVersion). is_by_name kept.kind ≡ true → IsTrue (was_told entries kept.kind kept.name)) world.versions
