@@ -112,8 +112,8 @@ module _ (kind : Kind) (name : List ℕ) where
       let own : (kind_same kind kind && bytes_eq item.name name) ≡ true = and_from (kind_same kind kind) (bytes_eq item.name name) ((kind_decides kind kind).1 refl) ((bytes_decide item.name name).1 named) in
       subst (λ (b : Body). IsLast content (with_content (keep_value kind item) b world)) (sym good) (record {
         before = came kind name world.arrivals;
-        is = came-append kind name world.arrivals (arrived kind (Value content) item.name ∷ [])
-            ∙ ap (λ (b : Bool). came kind name world.arrivals ++ map (λ (a : Arrived). a.arrival) (cond b (arrived kind (Value content) item.name ∷ []) [])) own;
+        is = came-append kind name world.arrivals (arrived world.made kind (Value content) item.name ∷ [])
+            ∙ ap (λ (b : Bool). came kind name world.arrivals ++ map (λ (a : Arrived). a.arrival) (cond b (arrived world.made kind (Value content) item.name ∷ []) [])) own;
       })
 
   value_after : (verdicts : List Verdict) (items : List ItemParts) (place : ℕ) (item : ItemParts) (content : Content) (world : World)

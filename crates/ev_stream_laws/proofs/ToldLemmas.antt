@@ -23,11 +23,11 @@ use Rattle.ev_types.specs.declared.events.Verdict.{Verdict}
 use Rattle.ev_types.specs.declared.events.Verdict.TheVariants.{New, Same, Kept, Unasked, Renewed, Refused}
 use Rattle.ev_types.specs.declared.journals.Format.{Format}
 use Rattle.ev_types.specs.declared.rows.Arrival.{Arrival}
-use Rattle.ev_types.specs.declared.rows.Arrival.TheVariants.{Value, Absent, Bad as bad, TimedOut}
+use Rattle.ev_types.specs.declared.rows.Arrival.TheVariants.{Value, Absent, Bad as bad, TimedOut, Ended}
 use Rattle.ev_model.specs.World.{World, Arrived}
 use Rattle.ev_model.specs.Live.{lives_of}
 use Rattle.ev_model.specs.Watching.{is_watched}
-use Rattle.ev_model.specs.Warming.{came_for, content_in, is_word}
+use Rattle.ev_model.specs.Warming.{is_for, came_for, content_in, is_word}
 use Rattle.ev_model.specs.Verdicts.{is_removed, verdicts_for}
 use Rattle.ev_model.specs.Rows.{arrived, absent_names, with_absences, with_removals, keep_version, add_row, keep_value, with_content, refuse, add_item, add_items, made_names, with_first}
 use Rattle.ev_model.specs.Tidy.{promoted, tidy}
@@ -51,34 +51,31 @@ same_false false true h k = k refl
 same_false false false h k = refl
 
 module _ (kind : Kind) (name : List ℕ) where
-  abbrev pub is_for : Arrived → Bool
-  is_for a = kind_same a.kind kind && bytes_eq a.name name
-
   abbrev pub came : List Arrived → List Arrival
   came arrivals = came_for arrivals kind name
 
   pub came-append : (xs ys : List Arrived) → came (xs ++ ys) ≡ came xs ++ came ys
-  came-append xs ys = ap (map (λ (a : Arrived). a.arrival)) (filter-append is_for xs ys) ∙ map-append (λ (a : Arrived). a.arrival) (filter is_for xs) (filter is_for ys)
+  came-append xs ys = ap (map (λ (a : Arrived). a.arrival)) (filter-append (is_for kind name) xs ys) ∙ map-append (λ (a : Arrived). a.arrival) (filter (is_for kind name) xs) (filter (is_for kind name) ys)
 
-  other_alone : (a : Arrived) → is_for a ≡ false → came (a ∷ []) ≡ []
+  other_alone : (a : Arrived) → is_for kind name a ≡ false → came (a ∷ []) ≡ []
   other_alone a e = ap (λ (b : Bool). map (λ (a : Arrived). a.arrival) (cond b (a ∷ []) [])) e
 
   -- what came for another name says nothing
-  other_came : (arrivals : List Arrived) (a : Arrived) → is_for a ≡ false → came (arrivals ++ a ∷ []) ≡ came arrivals
+  other_came : (arrivals : List Arrived) (a : Arrived) → is_for kind name a ≡ false → came (arrivals ++ a ∷ []) ≡ came arrivals
   other_came arrivals a e = came-append arrivals (a ∷ []) ∙ ap (λ (xs : List Arrival). came arrivals ++ xs) (other_alone a e) ∙ append-nil (came arrivals)
 
-  others_alone : (of : Kind) (names : List (List ℕ)) → ByRecursion (λ n. (kind_same of kind && bytes_eq n name) ≡ false) names → came (map (arrived of Absent) names) ≡ []
-  others_alone of [] each = refl
-  others_alone of (n ∷ names) each =
-      came-append (arrived of Absent n ∷ []) (map (arrived of Absent) names)
-      ∙ ap (λ (xs : List Arrival). xs ++ came (map (arrived of Absent) names)) (other_alone (arrived of Absent n) each.0)
-      ∙ others_alone of names each.1
+  others_alone : (made : ℕ) (of : Kind) (names : List (List ℕ)) → ByRecursion (λ n. (kind_same of kind && bytes_eq n name) ≡ false) names → came (map (arrived made of Absent) names) ≡ []
+  others_alone made of [] each = refl
+  others_alone made of (n ∷ names) each =
+      came-append (arrived made of Absent n ∷ []) (map (arrived made of Absent) names)
+      ∙ ap (λ (xs : List Arrival). xs ++ came (map (arrived made of Absent) names)) (other_alone (arrived made of Absent n) each.0)
+      ∙ others_alone made of names each.1
 
-  others_came : (arrivals : List Arrived) (of : Kind) (names : List (List ℕ)) → ByRecursion (λ n. (kind_same of kind && bytes_eq n name) ≡ false) names
-      → came (arrivals ++ map (arrived of Absent) names) ≡ came arrivals
-  others_came arrivals of names each =
-      came-append arrivals (map (arrived of Absent) names)
-      ∙ ap (λ (xs : List Arrival). came arrivals ++ xs) (others_alone of names each)
+  others_came : (arrivals : List Arrived) (made : ℕ) (of : Kind) (names : List (List ℕ)) → ByRecursion (λ n. (kind_same of kind && bytes_eq n name) ≡ false) names
+      → came (arrivals ++ map (arrived made of Absent) names) ≡ came arrivals
+  others_came arrivals made of names each =
+      came-append arrivals (map (arrived made of Absent) names)
+      ∙ ap (λ (xs : List Arrival). came arrivals ++ xs) (others_alone made of names each)
       ∙ append-nil (came arrivals)
 
   pub tidied_came : (world : World) → is_watched (lives_of (tidy world)) kind name ≡ true → came (tidy world).arrivals ≡ came world.arrivals
@@ -120,13 +117,13 @@ module _ (kind : Kind) (name : List ℕ) where
       version_came item Beat after is = is
 
       value_came : (item : ItemParts) (body : Body) (after : World) → Other item.name → Came after → Came (with_content (keep_value of item) body after)
-      value_came item (Good content) after other is = other_came after.arrivals (arrived of (Value content) item.name) other ∙ is
+      value_came item (Good content) after other is = other_came after.arrivals (arrived after.made of (Value content) item.name) other ∙ is
       value_came item (Bad rule) after other is = is
       value_came item Beat after other is = is
 
     told_came : (of : Kind) (n : List ℕ) (watched : Bool) (after : World) → Other of n → Came after
-        → Came (cond watched (record after { arrivals = after.arrivals ++ arrived of bad n ∷ [] }) after)
-    told_came of n true after other is = other_came after.arrivals (arrived of bad n) other ∙ is
+        → Came (cond watched (record after { arrivals = after.arrivals ++ arrived after.made of bad n ∷ [] }) after)
+    told_came of n true after other is = other_came after.arrivals (arrived after.made of bad n) other ∙ is
     told_came of n false after other is = is
 
     refused_came : (of : Kind) (n : List ℕ) (after : World) → Other of n → Came after → Came (refuse of n after)
@@ -159,7 +156,7 @@ module _ (kind : Kind) (name : List ℕ) where
     absent_came of response hush =
         let names : List (List ℕ) = absent_names of response world in
         let test : List ℕ → Bool = λ n. is_removed response n && is_watched (lives_of world) of n in
-        others_came world.arrivals of names
+        others_came world.arrivals world.made of names
         (recursion_from_All (Other of) names (all_of (Other of) names
         (λ n there. hushed of n (λ same.
         hush (ap (is_removed response) (sym ((bytes_decide n name).0 same)) ∙ first_so (is_removed response n) (is_watched (lives_of world) of n) (passed test response.removed n there))))))
@@ -172,13 +169,13 @@ module _ (kind : Kind) (name : List ℕ) where
 
     ended_came : (of : Kind) (n : List ℕ) → Other of n → Came (with_end of n (forget_version of n world))
     ended_came Cds n other = refl
-    ended_came Eds n other = other_came world.arrivals (arrived Eds (Value no_hosts) n) other
+    ended_came Eds n other = other_came world.arrivals (arrived world.made Eds (Ended no_hosts) n) other
     ended_came Lds n other = refl
-    ended_came Rds n other = other_came world.arrivals (arrived Rds (Value no_routes) n) other
+    ended_came Rds n other = other_came world.arrivals (arrived world.made Rds (Ended no_routes) n) other
 
     -- ---- a timeout
 
-    timed_same : (a : Arrived) (test : Bool) → a.arrival ≡ TimedOut → is_for a ≡ test → (after : World) → came after.arrivals ≡ came (world.arrivals ++ a ∷ [])
+    timed_same : (a : Arrived) (test : Bool) → a.arrival ≡ TimedOut → is_for kind name a ≡ test → (after : World) → came after.arrivals ≡ came (world.arrivals ++ a ∷ [])
         → HasSameValue kind name world after
     timed_same a false timed for after is = same_by after (is ∙ other_came world.arrivals a for)
     timed_same a true timed for after is =
@@ -239,8 +236,8 @@ module _ (kind : Kind) (name : List ℕ) where
         replied = replied_stays;
         resulted = λ cluster host healthy rows is. after_tidy _ _ refl;
         timed = λ timeout n is named watched hush.
-            timed_same (arrived timeout.kind TimedOut n) (is_for (arrived timeout.kind TimedOut n)) refl refl _
-            (tidied_came (record world { arrivals = world.arrivals ++ arrived timeout.kind TimedOut n ∷ [] }) watched);
+            timed_same (arrived world.made timeout.kind TimedOut n) (is_for kind name (arrived world.made timeout.kind TimedOut n)) refl refl _
+            (tidied_came (record world { arrivals = world.arrivals ++ arrived world.made timeout.kind TimedOut n ∷ [] }) watched);
         clusters_late = λ timeout is. after_tidy _ _ refl;
         listeners_late = λ timeout is. after_tidy _ _ refl;
         expired = λ n numbers is. after_tidy _ _ refl;
