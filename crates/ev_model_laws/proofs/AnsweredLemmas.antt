@@ -36,13 +36,19 @@ last_from {X = X} f before (x ∷ xs) y h =
     ]
 
 -- where something of a sort came for a name, the last of it stands among all that came
-last_found : (is : Arrival → Bool) (arrivals : List Arrived) (kind : Kind) (name : List ℕ) (made : ℕ) → last_made is arrivals kind name ≡ Some made
+last_found : (is : Arrival → Bool) (arrivals : List Arrived) (kind : Kind) (name : List ℕ) (made : ℕ)
+    → last_made is arrivals kind name ≡ Some made
     → (a : Arrived) × Contains arrivals a × ((is_for kind name a && is a.arrival) ≡ true) × (a.made ≡ made)
 last_found is arrivals kind name made h =
     let of : Arrived → Bool = λ (a : Arrived). is_for kind name a && is a.arrival in
     elim (last_from (λ (a : Arrived). a.made) None (filter of arrivals) made h) [
       | inl never ↦ absurd (cc)
-      | inr found ↦ (found.0, each_left (Contains arrivals) of arrivals (λ a there. there) found.0 found.1, passed of arrivals found.0 found.1, found.2)
+      | inr found ↦ (
+        found.0,
+        each_left (Contains arrivals) of arrivals (λ a there. there) found.0 found.1,
+        passed of arrivals found.0 found.1,
+        found.2,
+      )
     ]
 
 word_told : (word told rest : Bool) → word ≡ true → cond word told rest ≡ true → told ≡ true
@@ -56,7 +62,8 @@ no_word bad h = absurd (false≢true h)
 no_word TimedOut h = refl
 no_word (Ended content) h = absurd (false≢true h)
 
-timeout_timed : (word timeout told timed ended : Bool) → word ≡ false → timeout ≡ true → cond word told (cond timeout timed ended) ≡ true → timed ≡ true
+timeout_timed : (word timeout told timed ended : Bool) → word ≡ false → timeout ≡ true
+    → cond word told (cond timeout timed ended) ≡ true → timed ≡ true
 timeout_timed true timeout told timed ended isnt is h = absurd (false≢true (sym isnt))
 timeout_timed false true told timed ended isnt is h = h
 timeout_timed false false told timed ended isnt is h = absurd (false≢true is)
@@ -91,7 +98,8 @@ module _ (entries : List Entry) (world : World) (come : ComesByEntries world ent
       let since : List Entry = entries_after a.made entries in
       ap (λ n. was_timed (entries_after n entries) kind name) (sym one.3)
       ∙ sym (ap₂ (was_timed since) same.0 same.1)
-      ∙ timeout_timed (is_word a.arrival) (is_timeout a.arrival) (was_told since a.kind a.name) (was_timed since a.kind a.name) (was_told entries a.kind a.name)
+      ∙ timeout_timed (is_word a.arrival) (is_timeout a.arrival) (was_told since a.kind a.name) (was_timed since a.kind a.name)
+      (was_told entries a.kind a.name)
       (no_word a.arrival timeout) timeout
       (All-contains (λ (b : Arrived). has_come_by entries b ≡ true) world.arrivals a come.arrivals one.1)
 
@@ -138,10 +146,12 @@ module _ (entries : List Entry) (world : World) (come : ComesByEntries world ent
 pub answered_by : (entries : List Entry) (world : World) (number : ℕ) (content : Content) → ComesByEntries world entries → 0 < number
     → is_answered_by world.arrivals number content ≡ true → list_all (has_ended_wait number entries) (dependencies_of content) ≡ true
 answered_by entries world number content come low h =
-    all_so (has_answer world.arrivals number) (has_ended_wait number entries) (dependencies_of content) (wait_ended entries world come number low) h
+    all_so (has_answer world.arrivals number) (has_ended_wait number entries) (dependencies_of content)
+    (wait_ended entries world come number low) h
 
 -- a generation that is ready is answered
-pub ready_answered : (world : World) (row : GenRow) → is_ready world row ≡ true → is_answered_by world.arrivals row.number row.content ≡ true
+pub ready_answered : (world : World) (row : GenRow) → is_ready world row ≡ true
+    → is_answered_by world.arrivals row.number row.content ≡ true
 ready_answered world row ready =
     first_so (is_answered_by world.arrivals row.number row.content)
     (not (is_checked row.content) || has_all_results world.results row.number (assignment_by world.arrivals row.content)) ready

@@ -1,5 +1,5 @@
--- What came for names was said by the control plane, timed out, or is the end of what it has said, and a version of endpoints or routes is kept only of a name
--- that was told of.
+-- What came for names was said by the control plane, timed out, or is the end of what it has said, and a version of endpoints or
+-- routes is kept only of a name that was told of.
 use Rattle.std.proofs.Common.{◌≡◌, ℕ, ◌+◌, Bool, true, false, ◌&&◌, ◌||◌, cond, List, [], ◌∷◌, ◌++◌, take, map, filter, length, Option, Some, refl, arith, sym, ap, ap₂, ◌∙◌, subst, subst₂}
 use Rattle.std.specs.Prelude.{unwrap_or, option_map}
 use Rattle.std.specs.List.{All, Contains, AllByRecursion as ByRecursion, fold, zip}
@@ -104,7 +104,8 @@ module _ (entries : List Entry) where
     absences_come drawn same [] each = tt
     absences_come drawn same (name ∷ names) each = (told_at drawn same name each.0, absences_come drawn same names each.1)
 
-    absent_come : (response : ResponseParts) (world : World) → world.made ≡ made → ((name : List ℕ) → is_removed response name ≡ true → told name ≡ true)
+    absent_come : (response : ResponseParts) (world : World) → world.made ≡ made
+        → ((name : List ℕ) → is_removed response name ≡ true → told name ≡ true)
         → ComesByEntries world entries → ComesByEntries (with_absences kind response world) entries
     absent_come response world same removed come =
         let names : List (List ℕ) = absent_names kind response world in
@@ -113,7 +114,8 @@ module _ (entries : List Entry) where
         all_of (λ name. told name ≡ true) names
         (λ name there. removed name (first_so (is_removed response name) (is_watched (lives_of world) kind name) (passed test response.removed name there))) in
         record {
-          arrivals = All-append (λ (a : Arrived). has_come_by entries a ≡ true) world.arrivals (map (arrived world.made kind Absent) names) come.arrivals
+          arrivals = All-append (λ (a : Arrived). has_come_by entries a ≡ true) world.arrivals
+              (map (arrived world.made kind Absent) names) come.arrivals
               (All-from_recursion (λ (a : Arrived). has_come_by entries a ≡ true) (map (arrived world.made kind Absent) names)
               (absences_come world.made same names (recursion_from_All (λ name. told name ≡ true) names each)));
           versions = All-filter (is_version_left kind response) (IsVersionTold entries) world.versions come.versions;
@@ -136,7 +138,8 @@ module _ (entries : List Entry) where
     value_come : (item : ItemParts) (body : Body) (world : World) → world.made ≡ made → told item.name ≡ true → ComesByEntries world entries
         → ComesByEntries (with_content (keep_value kind item) body world) entries
     value_come item (Good content) world same is come =
-        version_told (version_in kind item) (record world { arrivals = world.arrivals ++ arrived world.made kind (Value content) item.name ∷ [] })
+        version_told (version_in kind item)
+        (record world { arrivals = world.arrivals ++ arrived world.made kind (Value content) item.name ∷ [] })
         (λ by_name. told_of item.name is)
         (one_came (arrived world.made kind (Value content) item.name) world (told_at world.made same item.name is) come)
     value_come item (Bad rule) world same is come = come
@@ -145,7 +148,8 @@ module _ (entries : List Entry) where
     refusal_come : (name : List ℕ) (world : World) → world.made ≡ made → told name ≡ true → ComesByEntries world entries
         → ComesByEntries (told_of_refusal kind name world) entries
     refusal_come name world same is come =
-        cond_both (is_watched (lives_of world) kind name) (record world { arrivals = world.arrivals ++ arrived world.made kind bad name ∷ [] }) world
+        cond_both (is_watched (lives_of world) kind name)
+        (record world { arrivals = world.arrivals ++ arrived world.made kind bad name ∷ [] }) world
         (λ (w : World). ComesByEntries w entries)
         (λ watched. one_came (arrived world.made kind bad name) world (told_at world.made same name is) come) (λ unwatched. come)
 
@@ -171,19 +175,22 @@ own_name : (name : List ℕ) → bytes_eq name name ≡ true
 own_name name = (bytes_decide name name).1 refl
 
 -- a response of endpoints or routes draws no number
-same_drawn : (kind : Kind) (item : ItemParts) (body : Body) (world : World) → (with_content (λ content. keep_version kind item) body world).made ≡ world.made
+same_drawn : (kind : Kind) (item : ItemParts) (body : Body) (world : World)
+    → (with_content (λ content. keep_version kind item) body world).made ≡ world.made
 same_drawn kind item (Good content) world = refl
 same_drawn kind item (Bad rule) world = refl
 same_drawn kind item Beat world = refl
 
-value_drawn : (kind : Kind) (item : ItemParts) (body : Body) (world : World) → (with_content (keep_value kind item) body world).made ≡ world.made
+value_drawn : (kind : Kind) (item : ItemParts) (body : Body) (world : World)
+    → (with_content (keep_value kind item) body world).made ≡ world.made
 value_drawn kind item (Good content) world = refl
 value_drawn kind item (Bad rule) world = refl
 value_drawn kind item Beat world = refl
 
 told_drawn : (kind : Kind) (name : List ℕ) (world : World) → (told_of_refusal kind name world).made ≡ world.made
 told_drawn kind name world =
-    cond_both (is_watched (lives_of world) kind name) (record world { arrivals = world.arrivals ++ arrived world.made kind bad name ∷ [] }) world
+    cond_both (is_watched (lives_of world) kind name)
+    (record world { arrivals = world.arrivals ++ arrived world.made kind bad name ∷ [] }) world
     (λ (w : World). w.made ≡ world.made) (λ watched. refl) (λ unwatched. refl)
 
 refuse_drawn : (kind : Kind) (name : List ℕ) (world : World) → (refuse kind name world).made ≡ world.made
@@ -213,14 +220,17 @@ module _ (entries : List Entry) (made : ℕ) (kind : Kind) (told : List ℕ → 
       → ComesByEntries world entries → ComesByEntries (refuse of name world) entries
   refuse_come Cds is name world same h come = come
   refuse_come Eds is name world same h come =
-      refusal_come entries made Eds told (λ n t. subst (λ (k : Kind). was_told (entries_after made entries) k n ≡ true) is (so n t)) name world
+      refusal_come entries made Eds told
+      (λ n t. subst (λ (k : Kind). was_told (entries_after made entries) k n ≡ true) is (so n t)) name world
       (same (ap is_by_name is)) h come
   refuse_come Lds is name world same h come = come
   refuse_come Rds is name world same h come =
-      refusal_come entries made Rds told (λ n t. subst (λ (k : Kind). was_told (entries_after made entries) k n ≡ true) is (so n t)) name world
+      refusal_come entries made Rds told
+      (λ n t. subst (λ (k : Kind). was_told (entries_after made entries) k n ≡ true) is (so n t)) name world
       (same (ap is_by_name is)) h come
 
-  item_come : (verdict : Verdict) (item : ItemParts) (world : World) → (is_by_name kind ≡ true → world.made ≡ made) → fits kind verdict ≡ true
+  item_come : (verdict : Verdict) (item : ItemParts) (world : World) → (is_by_name kind ≡ true → world.made ≡ made)
+      → fits kind verdict ≡ true
       → ((name : List ℕ) → is_word_on name verdict item ≡ true → told name ≡ true)
       → ComesByEntries world entries → ComesByEntries (add_item kind verdict item world) entries
   item_come New item world same fit word come = new_come entries made kind told so item item.body world (by_name_not kind fit) come
@@ -229,7 +239,8 @@ module _ (entries : List Entry) (made : ℕ) (kind : Kind) (told : List ℕ → 
       value_come entries made kind told so item item.body world (same (by_name_kept kind fit)) (word item.name (own_name item.name)) come
   item_come Unasked item world same fit word come = come
   item_come Renewed item world same fit word come = versions_renewed entries kind item.name world come
-  item_come (Refused rule) item world same fit word come = refuse_come kind refl item.name world same (word item.name (own_name item.name)) come
+  item_come (Refused rule) item world same fit word come =
+      refuse_come kind refl item.name world same (word item.name (own_name item.name)) come
 
   items_come : (judged : List (Verdict × ItemParts)) (world : World) → (is_by_name kind ≡ true → world.made ≡ made)
       → ByRecursion (λ (one : Verdict × ItemParts). fits kind one.0 ≡ true) judged
@@ -238,7 +249,8 @@ module _ (entries : List Entry) (made : ℕ) (kind : Kind) (told : List ℕ → 
       → ComesByEntries (fold (λ (w : World) (one : Verdict × ItemParts). add_item kind one.0 one.1 w) world judged) entries
   items_come [] world same fit word come = come
   items_come (one ∷ judged) world same fit word come =
-      items_come judged (add_item kind one.0 one.1 world) (λ by_name. item_drawn kind one.0 one.1 world fit.0 by_name ∙ same by_name) fit.1 word.1
+      items_come judged (add_item kind one.0 one.1 world)
+      (λ by_name. item_drawn kind one.0 one.1 world fit.0 by_name ∙ same by_name) fit.1 word.1
       (item_come one.0 one.1 world same fit.0 word.0 come)
 
 removals_come : (entries : List Entry) (kind : Kind) (told : List ℕ → Bool) (response : ResponseParts) (world : World)
@@ -310,7 +322,8 @@ own_kind : (kind : Kind) (response : ResponseParts) → response.kind ≡ Some k
 own_kind kind response typed =
     ap (λ (of : Option Kind). unwrap_or (option_map (kind_same kind) of) false) typed ∙ (kind_decides kind kind).1 refl
 
-by_answer : (word timeout told timed heard more late yet : Bool) → (told ≡ true → more ≡ true) → (timed ≡ true → late ≡ true) → (heard ≡ true → yet ≡ true)
+by_answer : (word timeout told timed heard more late yet : Bool) → (told ≡ true → more ≡ true) → (timed ≡ true → late ≡ true)
+    → (heard ≡ true → yet ≡ true)
     → cond word told (cond timeout timed heard) ≡ true → cond word more (cond timeout late yet) ≡ true
 by_answer true timeout told timed heard more late yet first second third h = first h
 by_answer false true told timed heard more late yet first second third h = second h
@@ -328,8 +341,10 @@ module _ (before : List Entry) (entry : Entry) (format : Format) (world : World)
     arrivals = All-weaker (λ (a : Arrived). has_come_by before a ≡ true) (λ (a : Arrived). has_come_by (with_answer answer) a ≡ true)
         (λ (a : Arrived).
         by_answer (is_word a.arrival) (is_timeout a.arrival)
-        (was_told (entries_after a.made before) a.kind a.name) (was_timed (entries_after a.made before) a.kind a.name) (was_told before a.kind a.name)
-        (was_told (entries_after a.made (with_answer answer)) a.kind a.name) (was_timed (entries_after a.made (with_answer answer)) a.kind a.name)
+        (was_told (entries_after a.made before) a.kind a.name) (was_timed (entries_after a.made before) a.kind a.name)
+        (was_told before a.kind a.name)
+        (was_told (entries_after a.made (with_answer answer)) a.kind a.name)
+        (was_timed (entries_after a.made (with_answer answer)) a.kind a.name)
         (was_told (with_answer answer) a.kind a.name)
         (after_more (λ (e : Entry). tells_of_name a.kind a.name e.event e.answer) a.made before (record entry { answer = answer } ∷ []))
         (after_more (λ (e : Entry). times_out a.kind a.name e.event e.answer) a.made before (record entry { answer = answer } ∷ []))
@@ -348,7 +363,8 @@ module _ (before : List Entry) (entry : Entry) (format : Format) (world : World)
       → response.kind ≡ Some kind → tells response verdicts name ≡ true
       → was_told (entries_after world.made (with_answer (Replied requests verdicts))) kind name ≡ true
   told_now kind response requests verdicts name is typed told =
-      after_new (λ (e : Entry). tells_of_name kind name e.event e.answer) world.made before (record entry { answer = Replied requests verdicts })
+      after_new (λ (e : Entry). tells_of_name kind name e.event e.answer) world.made before
+      (record entry { answer = Replied requests verdicts })
       (omega (arith, drawn))
       (ap (λ (e : Event). tells_of_name kind name e (Replied requests verdicts)) is
       ∙ and_from (is_response_of kind response) (tells response verdicts name) (own_kind kind response typed) told)
@@ -374,7 +390,8 @@ module _ (before : List Entry) (entry : Entry) (format : Format) (world : World)
         (λ name. told_now kind response _ (verdicts_for kind (lives_of world) world.versions response) name is typed) (still_come _);
     resulted = λ cluster host healthy rows is. tidied_come _ _ (record { arrivals = (still_come _).arrivals; versions = (still_come _).versions });
     timed = λ timeout name is named.
-        tidied_come _ _ (one_came _ (arrived world.made timeout.kind TimedOut name) world (timed_now timeout name _ is named) (still_come _));
+        tidied_come _ _
+        (one_came _ (arrived world.made timeout.kind TimedOut name) world (timed_now timeout name _ is named) (still_come _));
     clusters_late = λ timeout is. tidied_come _ _ (record { arrivals = (still_come _).arrivals; versions = (still_come _).versions });
     listeners_late = λ timeout is. tidied_come _ _ (record { arrivals = (still_come _).arrivals; versions = (still_come _).versions });
     expired = λ name numbers is. tidied_come _ _ (record { arrivals = (still_come _).arrivals; versions = (still_come _).versions });

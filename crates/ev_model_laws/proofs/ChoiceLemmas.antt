@@ -77,10 +77,12 @@ module _ (picture : Picture) (listener : ℕ) (shown : is_shown listener picture
       → ShowsChosen picture.shown (choice_in listener cluster pick)
   cluster_chosen None pick also = shown
   cluster_chosen (Some cluster) pick also =
-      cond_both cluster.elsewhere (Elsewhere listener (Some cluster.number)) (served_at listener cluster.number (host_place cluster.hosts pick))
+      cond_both cluster.elsewhere (Elsewhere listener (Some cluster.number))
+      (served_at listener cluster.number (host_place cluster.hosts pick))
       (ShowsChosen picture.shown) (λ is. (shown, also)) (λ isnt. served_chosen cluster.number (host_place cluster.hosts pick) also)
 
-  named_chosen : (name : List ℕ) (pick : ℕ) → ShowsChosen picture.shown (choice_in listener (cluster_named picture.shown.clusters name) pick)
+  named_chosen : (name : List ℕ) (pick : ℕ)
+      → ShowsChosen picture.shown (choice_in listener (cluster_named picture.shown.clusters name) pick)
   named_chosen name pick =
       cluster_chosen (cluster_named picture.shown.clusters name) pick
       (IfSome_then (cluster_named picture.shown.clusters name)
@@ -195,7 +197,8 @@ pub opens_shown : (shown : Shown) (worker connection number : ℕ) (choice : Cho
     → list_any (is_open_on number) (members_of worker connection choice) ≡ true → is_shown number shown ≡ true
 opens_shown shown worker connection number NoListener chosen h = absurd (false≢true h)
 opens_shown shown worker connection number NoChain chosen h = absurd (false≢true h)
-opens_shown shown worker connection number (Undecided listener) chosen h = one_open_on shown worker connection listener number None chosen tt h
+opens_shown shown worker connection number (Undecided listener) chosen h =
+    one_open_on shown worker connection listener number None chosen tt h
 opens_shown shown worker connection number (Elsewhere listener cluster) chosen h =
     one_open_on shown worker connection listener number cluster chosen.0 chosen.1 h
 opens_shown shown worker connection number (NoRoute listener) chosen h = one_open_on shown worker connection listener number None chosen tt h

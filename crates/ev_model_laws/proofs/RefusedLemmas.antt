@@ -124,7 +124,8 @@ value_silent arrivals more kind name silent =
     ∙ ap (λ (contents : List Content). filter_map content_in (came_for arrivals kind name) ++ contents) (no_contents kind name more silent)
     ∙ append-nil (filter_map content_in (came_for arrivals kind name)))
 
-absences_silent : (made : ℕ) (kind : Kind) (name : List ℕ) (names : List (List ℕ)) → ByRecursion (IsSilent kind name) (map (arrived made kind Absent) names)
+absences_silent : (made : ℕ) (kind : Kind) (name : List ℕ) (names : List (List ℕ))
+    → ByRecursion (IsSilent kind name) (map (arrived made kind Absent) names)
 absences_silent made kind name [] = tt
 absences_silent made kind name (one ∷ names) = (λ of. refl, absences_silent made kind name names)
 
@@ -209,7 +210,8 @@ module _ (kind : Kind) (name : List ℕ) (before : World) where
 
   told_left : (other : List ℕ) (w : World) → is_by_name kind ≡ true → IsLeft kind name before w → IsLeft kind name before (told_of_refusal kind other w)
   told_left other w by_name left =
-      cond_both (is_watched (lives_of w) kind other) (record w { arrivals = w.arrivals ++ arrived w.made kind bad other ∷ [] }) w (IsLeft kind name before)
+      cond_both (is_watched (lives_of w) kind other) (record w { arrivals = w.arrivals ++ arrived w.made kind bad other ∷ [] }) w
+      (IsLeft kind name before)
       (λ watched. silent_left (arrived w.made kind bad other ∷ []) w by_name (λ is. refl, tt) left)
       (λ unwatched. left)
 

@@ -95,7 +95,8 @@ module _ (before : World) where
 
   told_serves : (kind : Kind) (name : List ℕ) (world : World) → ServesWithin before world → ServesWithin before (told_of_refusal kind name world)
   told_serves kind name world within =
-      cond_both (is_watched (lives_of world) kind name) (record world { arrivals = world.arrivals ++ arrived world.made kind bad name ∷ [] }) world
+      cond_both (is_watched (lives_of world) kind name)
+      (record world { arrivals = world.arrivals ++ arrived world.made kind bad name ∷ [] }) world
       (ServesWithin before) (λ watched. within) (λ unwatched. within)
 
   refuse_serves : (kind : Kind) (name : List ℕ) (world : World) → ServesWithin before world → ServesWithin before (refuse kind name world)

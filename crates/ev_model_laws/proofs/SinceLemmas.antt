@@ -15,7 +15,8 @@ module _ (p : Entry → Bool) where
   since_any number (entry ∷ entries) h =
       let made : ℕ = length (made_in entry.event entry.answer) in
       or_right (p entry) (list_any p entries)
-      (cond_both (nat_le number made) entries (entries_since (number - made) entries) (λ (es : List Entry). list_any p es ≡ true → list_any p entries ≡ true)
+      (cond_both (nat_le number made) entries (entries_since (number - made) entries)
+      (λ (es : List Entry). list_any p es ≡ true → list_any p entries ≡ true)
       (λ le here. here) (λ gt here. since_any (number - made) entries here) h)
 
   either_more : (le : Bool) (now later more further : List Entry) → (list_any p now ≡ true → list_any p more ≡ true)
@@ -29,7 +30,8 @@ module _ (p : Entry → Bool) where
   since_more number [] more h = absurd (false≢true h)
   since_more number (entry ∷ entries) more h =
       let made : ℕ = length (made_in entry.event entry.answer) in
-      either_more (nat_le number made) entries (entries_since (number - made) entries) (entries ++ more) (entries_since (number - made) (entries ++ more))
+      either_more (nat_le number made) entries (entries_since (number - made) entries) (entries ++ more)
+      (entries_since (number - made) (entries ++ more))
       (any_first p entries more) (since_more (number - made) entries more) h
 
   since_new : (number : ℕ) (entries : List Entry) (entry : Entry) → 0 < number → number ≤ length (made_rows entries) → p entry ≡ true
@@ -52,7 +54,8 @@ module _ (p : Entry → Bool) where
       let made : ℕ = length (made_in entry.event entry.answer) in
       cond_both (nat_le low made) entries (entries_since (low - made) entries) (λ (es : List Entry). list_any p es ≡ true)
       (λ first.
-      cond_both (nat_le high made) entries (entries_since (high - made) entries) (λ (es : List Entry). list_any p es ≡ true → list_any p entries ≡ true)
+      cond_both (nat_le high made) entries (entries_since (high - made) entries)
+      (λ (es : List Entry). list_any p es ≡ true → list_any p entries ≡ true)
       (λ second here. here) (λ second here. since_any (high - made) entries here) h)
       (λ first.
       cond_both (nat_le high made) entries (entries_since (high - made) entries)

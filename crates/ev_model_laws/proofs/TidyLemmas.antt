@@ -54,7 +54,8 @@ kept world row there live = λ d among.
     (any_at (is_dependency d.kind d.name) (dependencies_of row.content) d among (own_dependency d)))
 
 -- what is for a watched name is watched
-for_watched : (lives : List Live) (kind : Kind) (name : List ℕ) (a : Arrived) → is_watched lives kind name ≡ true → is_for kind name a ≡ true
+for_watched : (lives : List Live) (kind : Kind) (name : List ℕ) (a : Arrived) → is_watched lives kind name ≡ true
+    → is_for kind name a ≡ true
     → is_watched lives a.kind a.name ≡ true
 for_watched lives kind name a watched h =
     ap (λ k. is_watched lives k a.name) ((kind_decides a.kind kind).0 (first_so (kind_same a.kind kind) (bytes_eq a.name name) h))
@@ -66,10 +67,12 @@ pub came_same : (lives : List Live) (arrivals : List Arrived) (kind : Kind) (nam
     → came_for (arrivals_watched lives arrivals) kind name ≡ came_for arrivals kind name
 came_same lives arrivals kind name watched =
     ap (map (λ (a : Arrived). a.arrival))
-    (filter_within (is_for kind name) (λ (a : Arrived). is_watched lives a.kind a.name) (λ (a : Arrived). for_watched lives kind name a watched) arrivals)
+    (filter_within (is_for kind name) (λ (a : Arrived). is_watched lives a.kind a.name)
+    (λ (a : Arrived). for_watched lives kind name a watched) arrivals)
 
 -- so when the last of a sort came for it
-made_same : (is : Arrival → Bool) (lives : List Live) (arrivals : List Arrived) (kind : Kind) (name : List ℕ) → is_watched lives kind name ≡ true
+made_same : (is : Arrival → Bool) (lives : List Live) (arrivals : List Arrived) (kind : Kind) (name : List ℕ)
+    → is_watched lives kind name ≡ true
     → last_made is (arrivals_watched lives arrivals) kind name ≡ last_made is arrivals kind name
 made_same is lives arrivals kind name watched =
     ap (λ (came : List Arrived). last_or None (map (λ (a : Arrived). a.made) came))
@@ -83,7 +86,8 @@ answers_same lives arrivals number ds watched =
     all_agree (has_answer (arrivals_watched lives arrivals) number) (has_answer arrivals number) ds
     (λ d among.
     ap₂ (λ (told timed : Option ℕ). counts_for number d told || (counts_for number d timed && d.limited))
-    (made_same is_word lives arrivals d.kind d.name (watched d among)) (made_same is_timeout lives arrivals d.kind d.name (watched d among)))
+    (made_same is_word lives arrivals d.kind d.name (watched d among))
+    (made_same is_timeout lives arrivals d.kind d.name (watched d among)))
 
 -- and so the hosts of a content whose dependencies are watched
 discovered_same : (lives : List Live) (arrivals : List Arrived) (discovery : Discovery) → IsKept lives (discovery_dependencies discovery)
@@ -109,7 +113,8 @@ watched_ready lives arrivals results row watched =
     ap (λ answered. answered && (not (is_checked row.content)
     || has_all_results results row.number (assignment_by (arrivals_watched lives arrivals) row.content)))
     (answers_same lives arrivals row.number (dependencies_of row.content) watched)
-    ∙ ap (λ hosts. is_answered_by arrivals row.number row.content && (not (is_checked row.content) || has_all_results results row.number hosts))
+    ∙ ap
+    (λ hosts. is_answered_by arrivals row.number row.content && (not (is_checked row.content) || has_all_results results row.number hosts))
     (hosts_same lives arrivals row.content watched)
 
 -- a live row's results for hosts of its assignment stay: the row itself is why

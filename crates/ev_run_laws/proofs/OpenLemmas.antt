@@ -116,7 +116,8 @@ once_chosen : (worker connection : ℕ) (choice : Choice) (opened : List OpenMem
 once_chosen worker connection NoListener opened none once = subst IsOpenOnce (sym (append-nil opened)) once
 once_chosen worker connection NoChain opened none once = subst IsOpenOnce (sym (append-nil opened)) once
 once_chosen worker connection (Undecided listener) opened none once = once_more (member_on worker connection listener None) opened none once
-once_chosen worker connection (Elsewhere listener cluster) opened none once = once_more (member_on worker connection listener cluster) opened none once
+once_chosen worker connection (Elsewhere listener cluster) opened none once =
+    once_more (member_on worker connection listener cluster) opened none once
 once_chosen worker connection (NoRoute listener) opened none once = once_more (member_on worker connection listener None) opened none once
 once_chosen worker connection (Local listener status) opened none once = once_more (member_on worker connection listener None) opened none once
 once_chosen worker connection (Redirect listener) opened none once = once_more (member_on worker connection listener None) opened none once
@@ -202,7 +203,8 @@ module _ (world : World) (once : IsOpenOnce world.opened) where
     chosen_from : (picture : Picture) (choice : Choice) (m : OpenMember) → Contains (members_of worker ask.conn choice) m → Here (answer_of picture choice) m
     chosen_from picture NoListener m there = absurd (omega (arith, there.1))
     chosen_from picture NoChain m there = absurd (omega (arith, there.1))
-    chosen_from picture (Undecided listener) m there = opens_on listener None (answer_of picture (Undecided listener)) (own listener) m there
+    chosen_from picture (Undecided listener) m there =
+        opens_on listener None (answer_of picture (Undecided listener)) (own listener) m there
     chosen_from picture (Elsewhere listener cluster) m there =
         opens_on listener cluster (answer_of picture (Elsewhere listener cluster))
         (or_left (listener == listener) (is_forwarded_to listener cluster) (own listener)) m there

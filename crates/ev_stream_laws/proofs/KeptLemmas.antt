@@ -113,7 +113,10 @@ module _ (kind : Kind) (name : List ℕ) where
       subst (λ (b : Body). IsLast content (with_content (keep_value kind item) b world)) (sym good) (record {
         before = came kind name world.arrivals;
         is = came-append kind name world.arrivals (arrived world.made kind (Value content) item.name ∷ [])
-            ∙ ap (λ (b : Bool). came kind name world.arrivals ++ map (λ (a : Arrived). a.arrival) (cond b (arrived world.made kind (Value content) item.name ∷ []) [])) own;
+            ∙ ap
+            (λ (b : Bool).
+            came kind name world.arrivals
+            ++ map (λ (a : Arrived). a.arrival) (cond b (arrived world.made kind (Value content) item.name ∷ []) [])) own;
       })
 
   value_after : (verdicts : List Verdict) (items : List ItemParts) (place : ℕ) (item : ItemParts) (content : Content) (world : World)

@@ -55,7 +55,9 @@ module _ (kind : Kind) (name : List ℕ) where
   came arrivals = came_for arrivals kind name
 
   pub came-append : (xs ys : List Arrived) → came (xs ++ ys) ≡ came xs ++ came ys
-  came-append xs ys = ap (map (λ (a : Arrived). a.arrival)) (filter-append (is_for kind name) xs ys) ∙ map-append (λ (a : Arrived). a.arrival) (filter (is_for kind name) xs) (filter (is_for kind name) ys)
+  came-append xs ys =
+      ap (map (λ (a : Arrived). a.arrival)) (filter-append (is_for kind name) xs ys)
+      ∙ map-append (λ (a : Arrived). a.arrival) (filter (is_for kind name) xs) (filter (is_for kind name) ys)
 
   other_alone : (a : Arrived) → is_for kind name a ≡ false → came (a ∷ []) ≡ []
   other_alone a e = ap (λ (b : Bool). map (λ (a : Arrived). a.arrival) (cond b (a ∷ []) [])) e
@@ -64,14 +66,16 @@ module _ (kind : Kind) (name : List ℕ) where
   other_came : (arrivals : List Arrived) (a : Arrived) → is_for kind name a ≡ false → came (arrivals ++ a ∷ []) ≡ came arrivals
   other_came arrivals a e = came-append arrivals (a ∷ []) ∙ ap (λ (xs : List Arrival). came arrivals ++ xs) (other_alone a e) ∙ append-nil (came arrivals)
 
-  others_alone : (made : ℕ) (of : Kind) (names : List (List ℕ)) → ByRecursion (λ n. (kind_same of kind && bytes_eq n name) ≡ false) names → came (map (arrived made of Absent) names) ≡ []
+  others_alone : (made : ℕ) (of : Kind) (names : List (List ℕ)) → ByRecursion (λ n. (kind_same of kind && bytes_eq n name) ≡ false) names
+      → came (map (arrived made of Absent) names) ≡ []
   others_alone made of [] each = refl
   others_alone made of (n ∷ names) each =
       came-append (arrived made of Absent n ∷ []) (map (arrived made of Absent) names)
       ∙ ap (λ (xs : List Arrival). xs ++ came (map (arrived made of Absent) names)) (other_alone (arrived made of Absent n) each.0)
       ∙ others_alone made of names each.1
 
-  others_came : (arrivals : List Arrived) (made : ℕ) (of : Kind) (names : List (List ℕ)) → ByRecursion (λ n. (kind_same of kind && bytes_eq n name) ≡ false) names
+  others_came : (arrivals : List Arrived) (made : ℕ) (of : Kind) (names : List (List ℕ))
+      → ByRecursion (λ n. (kind_same of kind && bytes_eq n name) ≡ false) names
       → came (arrivals ++ map (arrived made of Absent) names) ≡ came arrivals
   others_came arrivals made of names each =
       came-append arrivals (map (arrived made of Absent) names)
@@ -175,7 +179,8 @@ module _ (kind : Kind) (name : List ℕ) where
 
     -- ---- a timeout
 
-    timed_same : (a : Arrived) (test : Bool) → a.arrival ≡ TimedOut → is_for kind name a ≡ test → (after : World) → came after.arrivals ≡ came (world.arrivals ++ a ∷ [])
+    timed_same : (a : Arrived) (test : Bool) → a.arrival ≡ TimedOut → is_for kind name a ≡ test → (after : World)
+        → came after.arrivals ≡ came (world.arrivals ++ a ∷ [])
         → HasSameValue kind name world after
     timed_same a false timed for after is = same_by after (is ∙ other_came world.arrivals a for)
     timed_same a true timed for after is =
@@ -236,7 +241,8 @@ module _ (kind : Kind) (name : List ℕ) where
         replied = replied_stays;
         resulted = λ cluster host healthy rows is. after_tidy _ _ refl;
         timed = λ timeout n is named watched hush.
-            timed_same (arrived world.made timeout.kind TimedOut n) (is_for kind name (arrived world.made timeout.kind TimedOut n)) refl refl _
+            timed_same (arrived world.made timeout.kind TimedOut n)
+            (is_for kind name (arrived world.made timeout.kind TimedOut n)) refl refl _
             (tidied_came (record world { arrivals = world.arrivals ++ arrived world.made timeout.kind TimedOut n ∷ [] }) watched);
         clusters_late = λ timeout is. after_tidy _ _ refl;
         listeners_late = λ timeout is. after_tidy _ _ refl;
