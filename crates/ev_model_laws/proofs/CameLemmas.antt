@@ -165,7 +165,7 @@ by_name_not_same Eds fit = absurd (false≢true fit)
 by_name_not_same Lds fit = refl
 by_name_not_same Rds fit = absurd (false≢true fit)
 
-by_name_kept : (kind : Kind) → fits kind Kept ≡ true → is_by_name kind ≡ true
+pub by_name_kept : (kind : Kind) → fits kind Kept ≡ true → is_by_name kind ≡ true
 by_name_kept Cds fit = absurd (false≢true fit)
 by_name_kept Eds fit = refl
 by_name_kept Lds fit = absurd (false≢true fit)
@@ -199,7 +199,7 @@ refuse_drawn Eds name world = told_drawn Eds name world
 refuse_drawn Lds name world = refl
 refuse_drawn Rds name world = told_drawn Rds name world
 
-item_drawn : (kind : Kind) (verdict : Verdict) (item : ItemParts) (world : World) → fits kind verdict ≡ true → is_by_name kind ≡ true
+pub item_drawn : (kind : Kind) (verdict : Verdict) (item : ItemParts) (world : World) → fits kind verdict ≡ true → is_by_name kind ≡ true
     → (add_item kind verdict item world).made ≡ world.made
 item_drawn kind New item world fit by_name = absurd (both_ways (is_by_name kind) (by_name_not kind fit) by_name)
 item_drawn kind Same item world fit by_name = same_drawn kind item item.body world
@@ -208,7 +208,7 @@ item_drawn kind Unasked item world fit by_name = refl
 item_drawn kind Renewed item world fit by_name = refl
 item_drawn kind (Refused rule) item world fit by_name = refuse_drawn kind item.name world
 
-removals_drawn : (kind : Kind) (response : ResponseParts) (world : World) → (with_removals kind response world).made ≡ world.made
+pub removals_drawn : (kind : Kind) (response : ResponseParts) (world : World) → (with_removals kind response world).made ≡ world.made
 removals_drawn Cds response world = refl
 removals_drawn Eds response world = refl
 removals_drawn Lds response world = refl

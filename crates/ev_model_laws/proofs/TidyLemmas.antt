@@ -63,12 +63,15 @@ for_watched lives kind name a watched h =
     ∙ watched
 
 -- what came for a watched name stays, in order
+pub for_same : (lives : List Live) (arrivals : List Arrived) (kind : Kind) (name : List ℕ) → is_watched lives kind name ≡ true
+    → filter (is_for kind name) (arrivals_watched lives arrivals) ≡ filter (is_for kind name) arrivals
+for_same lives arrivals kind name watched =
+    filter_within (is_for kind name) (λ (a : Arrived). is_watched lives a.kind a.name)
+    (λ (a : Arrived). for_watched lives kind name a watched) arrivals
+
 pub came_same : (lives : List Live) (arrivals : List Arrived) (kind : Kind) (name : List ℕ) → is_watched lives kind name ≡ true
     → came_for (arrivals_watched lives arrivals) kind name ≡ came_for arrivals kind name
-came_same lives arrivals kind name watched =
-    ap (map (λ (a : Arrived). a.arrival))
-    (filter_within (is_for kind name) (λ (a : Arrived). is_watched lives a.kind a.name)
-    (λ (a : Arrived). for_watched lives kind name a watched) arrivals)
+came_same lives arrivals kind name watched = ap (map (λ (a : Arrived). a.arrival)) (for_same lives arrivals kind name watched)
 
 -- so when the last of a sort came for it
 made_same : (is : Arrival → Bool) (lives : List Live) (arrivals : List Arrived) (kind : Kind) (name : List ℕ)
