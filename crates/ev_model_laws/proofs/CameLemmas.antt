@@ -1,6 +1,6 @@
--- What came for names was said by the control plane, or timed out, and a version of endpoints or routes is kept only of a name
--- that was told of.
-use Rattle.std.proofs.Common.{◌≡◌, ℕ, ◌+◌, Bool, true, false, ◌&&◌, ◌||◌, cond, List, [], ◌∷◌, ◌++◌, length, take, map, filter, Option, Some, refl, sym, ap, ap₂, ◌∙◌, subst, subst₂}
+-- What came for names was said by the control plane, timed out, or is the end of what it has said, and a version of endpoints or
+-- routes is kept only of a name that was told of.
+use Rattle.std.proofs.Common.{◌≡◌, ℕ, ◌+◌, Bool, true, false, ◌&&◌, ◌||◌, cond, List, [], ◌∷◌, ◌++◌, take, map, filter, length, Option, Some, refl, arith, sym, ap, ap₂, ◌∙◌, subst, subst₂}
 use Rattle.std.specs.Prelude.{unwrap_or, option_map}
 use Rattle.std.specs.List.{All, Contains, AllByRecursion as ByRecursion, fold, zip}
 use Rattle.std.specs.Str.{bytes_eq}
@@ -13,7 +13,6 @@ use Rattle.ev_types.specs.Same.{bytes_decide}
 use Rattle.ev_types.specs.Timeouts.{TimeoutParts}
 use Rattle.ev_types.specs.declared.contents.Kind.{Kind}
 use Rattle.ev_types.specs.declared.contents.Kind.TheVariants.{Cds, Eds, Lds, Rds}
-use Rattle.ev_types.specs.declared.contents.Content.{Content}
 use Rattle.ev_types.specs.declared.contents.Body.{Body}
 use Rattle.ev_types.specs.declared.contents.Body.TheVariants.{Good, Bad, Beat}
 use Rattle.ev_types.specs.declared.contents.Request.{Request}
@@ -25,7 +24,6 @@ use Rattle.ev_types.specs.declared.events.Event.TheVariants.{Response, FetchTime
 use Rattle.ev_types.specs.declared.events.Verdict.{Verdict}
 use Rattle.ev_types.specs.declared.events.Verdict.TheVariants.{New, Same, Kept, Unasked, Renewed, Refused}
 use Rattle.ev_types.specs.declared.journals.Format.{Format}
-use Rattle.ev_types.specs.declared.rows.Arrival.{Arrival}
 use Rattle.ev_types.specs.declared.rows.Arrival.TheVariants.{Value, Absent, Bad as bad, TimedOut, Ended}
 use Rattle.ev_types.specs.declared.rows.KeptVersion.{KeptVersion}
 use Rattle.ev_model.specs.World.{World, Arrived, opening}
@@ -33,16 +31,17 @@ use Rattle.ev_model.specs.Live.{lives_of}
 use Rattle.ev_model.specs.Versions.{is_version_of, is_bounded, bounded_as, with_version}
 use Rattle.ev_model.specs.Verdicts.{is_removed, lives_left, verdicts_for}
 use Rattle.ev_model.specs.Watching.{is_by_name, is_watched}
+use Rattle.ev_model.specs.Warming.{is_word, is_timeout}
 use Rattle.ev_model.specs.Rows.{is_version_left, arrived, absent_names, with_absences, with_removals, version_in, keep_version, add_row, keep_value, with_content, told_of_refusal, refuse, renew, add_item, add_items, made_names, with_first}
 use Rattle.ev_model.specs.Tidy.{promoted, is_version_due, tidy}
 use Rattle.ev_model.specs.Signals.{no_hosts, no_routes, with_end, forget_version}
 use Rattle.ev_model.specs.Step.{step, answered}
 use Rattle.ev_model.specs.Entries.{made_rows, is_word_on, has_word_on, is_response_of, tells_of_name, times_out}
 use Rattle.ev_model.specs.Laws.{Told, world_told, IsEntryAt}
-use Rattle.ev_model_laws.specs.Kept.{entries_after, came_by, was_told, was_timed, has_come_by, ComesByEntries}
-use Rattle.ev_model_laws.proofs.SinceLemmas.{any_after, after_more, after_last}
+use Rattle.ev_model_laws.specs.Kept.{entries_after, was_told, was_timed, has_come_by, AreMade, ComesByEntries}
 use Rattle.ev_model_laws.proofs.TidyLists.{all_of, any_at}
-use Rattle.ev_model_laws.proofs.AnyLemmas.{any_first, any_second, any_found}
+use Rattle.ev_model_laws.proofs.AnyLemmas.{any_first, any_found}
+use Rattle.ev_model_laws.proofs.SinceLemmas.{after_any, after_more, after_new}
 use Rattle.ev_model_laws.proofs.VersionLemmas.{all_with}
 use Rattle.ev_model_laws.proofs.ExpiredLemmas.{passed}
 use Rattle.ev_model_laws.proofs.VerdictLemmas.{fits, judged_by, verdict_fits}
@@ -91,27 +90,34 @@ module _ (entries : List Entry) where
     versions = All-filter (is_version_due (lives_of (promoted world))) (IsVersionTold entries) world.versions come.versions;
   }
 
-  -- what a response does, whose words and removals the entries have told since so many generations were made
+  -- what a response does, whose words and removals the entries have told when so many numbers were drawn
   module _ (made : ℕ) (kind : Kind) (told : List ℕ → Bool)
       (so : (name : List ℕ) → told name ≡ true → was_told (entries_after made entries) kind name ≡ true) where
-    absences_come : (names : List (List ℕ)) → ByRecursion (λ name. told name ≡ true) names
-        → ByRecursion (λ (a : Arrived). has_come_by entries a ≡ true) (map (arrived made kind Absent) names)
-    absences_come [] each = tt
-    absences_come (name ∷ names) each = (so name each.0, absences_come names each.1)
+    told_of : (name : List ℕ) → told name ≡ true → was_told entries kind name ≡ true
+    told_of name h = after_any (λ (e : Entry). tells_of_name kind name e.event e.answer) made entries (so name h)
 
-    absent_come : (response : ResponseParts) (world : World) → world.made ≡ made → ((name : List ℕ) → is_removed response name ≡ true → told name ≡ true)
+    told_at : (drawn : ℕ) → drawn ≡ made → (name : List ℕ) → told name ≡ true → was_told (entries_after drawn entries) kind name ≡ true
+    told_at drawn same name h = ap (λ n. was_told (entries_after n entries) kind name) same ∙ so name h
+
+    absences_come : (drawn : ℕ) → drawn ≡ made → (names : List (List ℕ)) → ByRecursion (λ name. told name ≡ true) names
+        → ByRecursion (λ (a : Arrived). has_come_by entries a ≡ true) (map (arrived drawn kind Absent) names)
+    absences_come drawn same [] each = tt
+    absences_come drawn same (name ∷ names) each = (told_at drawn same name each.0, absences_come drawn same names each.1)
+
+    absent_come : (response : ResponseParts) (world : World) → world.made ≡ made
+        → ((name : List ℕ) → is_removed response name ≡ true → told name ≡ true)
         → ComesByEntries world entries → ComesByEntries (with_absences kind response world) entries
-    absent_come response world drawn removed come =
+    absent_come response world same removed come =
         let names : List (List ℕ) = absent_names kind response world in
         let test : List ℕ → Bool = λ name. is_removed response name && is_watched (lives_of world) kind name in
         let each : All (λ name. told name ≡ true) names =
         all_of (λ name. told name ≡ true) names
         (λ name there. removed name (first_so (is_removed response name) (is_watched (lives_of world) kind name) (passed test response.removed name there))) in
         record {
-          arrivals = All-append (λ (a : Arrived). has_come_by entries a ≡ true) world.arrivals (map (arrived world.made kind Absent) names) come.arrivals
-              (subst (λ n. All (λ (a : Arrived). has_come_by entries a ≡ true) (map (arrived n kind Absent) names)) (sym drawn)
-              (All-from_recursion (λ (a : Arrived). has_come_by entries a ≡ true) (map (arrived made kind Absent) names)
-              (absences_come names (recursion_from_All (λ name. told name ≡ true) names each))));
+          arrivals = All-append (λ (a : Arrived). has_come_by entries a ≡ true) world.arrivals
+              (map (arrived world.made kind Absent) names) come.arrivals
+              (All-from_recursion (λ (a : Arrived). has_come_by entries a ≡ true) (map (arrived world.made kind Absent) names)
+              (absences_come world.made same names (recursion_from_All (λ name. told name ≡ true) names each)));
           versions = All-filter (is_version_left kind response) (IsVersionTold entries) world.versions come.versions;
         }
 
@@ -129,24 +135,23 @@ module _ (entries : List Entry) where
     same_come item (Bad rule) world isnt come = come
     same_come item Beat world isnt come = come
 
-    told_since : (name : List ℕ) (world : World) → world.made ≡ made → told name ≡ true → was_told (entries_after world.made entries) kind name ≡ true
-    told_since name world drawn is = subst (λ n. was_told (entries_after n entries) kind name ≡ true) (sym drawn) (so name is)
-
     value_come : (item : ItemParts) (body : Body) (world : World) → world.made ≡ made → told item.name ≡ true → ComesByEntries world entries
         → ComesByEntries (with_content (keep_value kind item) body world) entries
-    value_come item (Good content) world drawn is come =
-        version_told (version_in kind item) (record world { arrivals = world.arrivals ++ arrived world.made kind (Value content) item.name ∷ [] })
-        (λ by_name. any_after (λ (e : Entry). tells_of_name kind item.name e.event e.answer) made entries (so item.name is))
-        (one_came (arrived world.made kind (Value content) item.name) world (told_since item.name world drawn is) come)
-    value_come item (Bad rule) world drawn is come = come
-    value_come item Beat world drawn is come = come
+    value_come item (Good content) world same is come =
+        version_told (version_in kind item)
+        (record world { arrivals = world.arrivals ++ arrived world.made kind (Value content) item.name ∷ [] })
+        (λ by_name. told_of item.name is)
+        (one_came (arrived world.made kind (Value content) item.name) world (told_at world.made same item.name is) come)
+    value_come item (Bad rule) world same is come = come
+    value_come item Beat world same is come = come
 
-    refusal_come : (name : List ℕ) (world : World) → world.made ≡ made → told name ≡ true
-        → ComesByEntries world entries → ComesByEntries (told_of_refusal kind name world) entries
-    refusal_come name world drawn is come =
-        cond_both (is_watched (lives_of world) kind name) (record world { arrivals = world.arrivals ++ arrived world.made kind bad name ∷ [] }) world
-        (λ (w : World). ComesByEntries w entries) (λ watched. one_came (arrived world.made kind bad name) world (told_since name world drawn is) come)
-        (λ unwatched. come)
+    refusal_come : (name : List ℕ) (world : World) → world.made ≡ made → told name ≡ true → ComesByEntries world entries
+        → ComesByEntries (told_of_refusal kind name world) entries
+    refusal_come name world same is come =
+        cond_both (is_watched (lives_of world) kind name)
+        (record world { arrivals = world.arrivals ++ arrived world.made kind bad name ∷ [] }) world
+        (λ (w : World). ComesByEntries w entries)
+        (λ watched. one_came (arrived world.made kind bad name) world (told_at world.made same name is) come) (λ unwatched. come)
 
 pub by_name_not : (kind : Kind) → fits kind New ≡ true → is_by_name kind ≡ false
 by_name_not Cds fit = refl
@@ -160,81 +165,93 @@ by_name_not_same Eds fit = absurd (false≢true fit)
 by_name_not_same Lds fit = refl
 by_name_not_same Rds fit = absurd (false≢true fit)
 
-own_name : (name : List ℕ) → bytes_eq name name ≡ true
-own_name name = (bytes_decide name name).1 refl
-
 pub by_name_kept : (kind : Kind) → fits kind Kept ≡ true → is_by_name kind ≡ true
 by_name_kept Cds fit = absurd (false≢true fit)
 by_name_kept Eds fit = refl
 by_name_kept Lds fit = absurd (false≢true fit)
 by_name_kept Rds fit = refl
 
--- no number is drawn for resources of a type that is asked for by name
-content_made : (change : Content → World → World) (body : Body) (world : World) → ((content : Content) → (change content world).made ≡ world.made)
-    → (with_content change body world).made ≡ world.made
-content_made change (Good content) world keeps = keeps content
-content_made change (Bad rule) world keeps = refl
-content_made change Beat world keeps = refl
+own_name : (name : List ℕ) → bytes_eq name name ≡ true
+own_name name = (bytes_decide name name).1 refl
 
-refusal_made : (kind : Kind) (name : List ℕ) (world : World) → (told_of_refusal kind name world).made ≡ world.made
-refusal_made kind name world =
-    cond_both (is_watched (lives_of world) kind name) (record world { arrivals = world.arrivals ++ arrived world.made kind bad name ∷ [] }) world
+-- a response of endpoints or routes draws no number
+same_drawn : (kind : Kind) (item : ItemParts) (body : Body) (world : World)
+    → (with_content (λ content. keep_version kind item) body world).made ≡ world.made
+same_drawn kind item (Good content) world = refl
+same_drawn kind item (Bad rule) world = refl
+same_drawn kind item Beat world = refl
+
+value_drawn : (kind : Kind) (item : ItemParts) (body : Body) (world : World)
+    → (with_content (keep_value kind item) body world).made ≡ world.made
+value_drawn kind item (Good content) world = refl
+value_drawn kind item (Bad rule) world = refl
+value_drawn kind item Beat world = refl
+
+told_drawn : (kind : Kind) (name : List ℕ) (world : World) → (told_of_refusal kind name world).made ≡ world.made
+told_drawn kind name world =
+    cond_both (is_watched (lives_of world) kind name)
+    (record world { arrivals = world.arrivals ++ arrived world.made kind bad name ∷ [] }) world
     (λ (w : World). w.made ≡ world.made) (λ watched. refl) (λ unwatched. refl)
 
-refuse_made : (kind : Kind) (name : List ℕ) (world : World) → (refuse kind name world).made ≡ world.made
-refuse_made Cds name world = refl
-refuse_made Eds name world = refusal_made Eds name world
-refuse_made Lds name world = refl
-refuse_made Rds name world = refusal_made Rds name world
+refuse_drawn : (kind : Kind) (name : List ℕ) (world : World) → (refuse kind name world).made ≡ world.made
+refuse_drawn Cds name world = refl
+refuse_drawn Eds name world = told_drawn Eds name world
+refuse_drawn Lds name world = refl
+refuse_drawn Rds name world = told_drawn Rds name world
 
-item_made : (kind : Kind) (verdict : Verdict) (item : ItemParts) (world : World) → fits kind verdict ≡ true → is_by_name kind ≡ true
+pub item_drawn : (kind : Kind) (verdict : Verdict) (item : ItemParts) (world : World) → fits kind verdict ≡ true → is_by_name kind ≡ true
     → (add_item kind verdict item world).made ≡ world.made
-item_made kind New item world fit by_name = absurd (both_ways (is_by_name kind) (by_name_not kind fit) by_name)
-item_made kind Same item world fit by_name = content_made (λ content. keep_version kind item) item.body world (λ content. refl)
-item_made kind Kept item world fit by_name = content_made (keep_value kind item) item.body world (λ content. refl)
-item_made kind Unasked item world fit by_name = refl
-item_made kind Renewed item world fit by_name = refl
-item_made kind (Refused rule) item world fit by_name = refuse_made kind item.name world
+item_drawn kind New item world fit by_name = absurd (both_ways (is_by_name kind) (by_name_not kind fit) by_name)
+item_drawn kind Same item world fit by_name = same_drawn kind item item.body world
+item_drawn kind Kept item world fit by_name = value_drawn kind item item.body world
+item_drawn kind Unasked item world fit by_name = refl
+item_drawn kind Renewed item world fit by_name = refl
+item_drawn kind (Refused rule) item world fit by_name = refuse_drawn kind item.name world
 
-removals_made : (kind : Kind) (response : ResponseParts) (world : World) → (with_removals kind response world).made ≡ world.made
-removals_made Cds response world = refl
-removals_made Eds response world = refl
-removals_made Lds response world = refl
-removals_made Rds response world = refl
+pub removals_drawn : (kind : Kind) (response : ResponseParts) (world : World) → (with_removals kind response world).made ≡ world.made
+removals_drawn Cds response world = refl
+removals_drawn Eds response world = refl
+removals_drawn Lds response world = refl
+removals_drawn Rds response world = refl
 
 module _ (entries : List Entry) (made : ℕ) (kind : Kind) (told : List ℕ → Bool)
     (so : (name : List ℕ) → told name ≡ true → was_told (entries_after made entries) kind name ≡ true) where
   refuse_come : (of : Kind) → kind ≡ of → (name : List ℕ) (world : World) → (is_by_name kind ≡ true → world.made ≡ made) → told name ≡ true
       → ComesByEntries world entries → ComesByEntries (refuse of name world) entries
-  refuse_come Cds is name world drawn h come = come
-  refuse_come Eds is name world drawn h come =
-      refusal_come entries made Eds told (λ n t. subst (λ (k : Kind). was_told (entries_after made entries) k n ≡ true) is (so n t)) name world
-      (drawn (ap is_by_name is)) h come
-  refuse_come Lds is name world drawn h come = come
-  refuse_come Rds is name world drawn h come =
-      refusal_come entries made Rds told (λ n t. subst (λ (k : Kind). was_told (entries_after made entries) k n ≡ true) is (so n t)) name world
-      (drawn (ap is_by_name is)) h come
+  refuse_come Cds is name world same h come = come
+  refuse_come Eds is name world same h come =
+      refusal_come entries made Eds told
+      (λ n t. subst (λ (k : Kind). was_told (entries_after made entries) k n ≡ true) is (so n t)) name world
+      (same (ap is_by_name is)) h come
+  refuse_come Lds is name world same h come = come
+  refuse_come Rds is name world same h come =
+      refusal_come entries made Rds told
+      (λ n t. subst (λ (k : Kind). was_told (entries_after made entries) k n ≡ true) is (so n t)) name world
+      (same (ap is_by_name is)) h come
 
-  item_come : (verdict : Verdict) (item : ItemParts) (world : World) → fits kind verdict ≡ true → (is_by_name kind ≡ true → world.made ≡ made)
+  item_come : (verdict : Verdict) (item : ItemParts) (world : World) → (is_by_name kind ≡ true → world.made ≡ made)
+      → fits kind verdict ≡ true
       → ((name : List ℕ) → is_word_on name verdict item ≡ true → told name ≡ true)
       → ComesByEntries world entries → ComesByEntries (add_item kind verdict item world) entries
-  item_come New item world fit drawn word come = new_come entries made kind told so item item.body world (by_name_not kind fit) come
-  item_come Same item world fit drawn word come = same_come entries made kind told so item item.body world (by_name_not_same kind fit) come
-  item_come Kept item world fit drawn word come =
-      value_come entries made kind told so item item.body world (drawn (by_name_kept kind fit)) (word item.name (own_name item.name)) come
-  item_come Unasked item world fit drawn word come = come
-  item_come Renewed item world fit drawn word come = versions_renewed entries kind item.name world come
-  item_come (Refused rule) item world fit drawn word come = refuse_come kind refl item.name world drawn (word item.name (own_name item.name)) come
+  item_come New item world same fit word come = new_come entries made kind told so item item.body world (by_name_not kind fit) come
+  item_come Same item world same fit word come = same_come entries made kind told so item item.body world (by_name_not_same kind fit) come
+  item_come Kept item world same fit word come =
+      value_come entries made kind told so item item.body world (same (by_name_kept kind fit)) (word item.name (own_name item.name)) come
+  item_come Unasked item world same fit word come = come
+  item_come Renewed item world same fit word come = versions_renewed entries kind item.name world come
+  item_come (Refused rule) item world same fit word come =
+      refuse_come kind refl item.name world same (word item.name (own_name item.name)) come
 
   items_come : (judged : List (Verdict × ItemParts)) (world : World) → (is_by_name kind ≡ true → world.made ≡ made)
       → ByRecursion (λ (one : Verdict × ItemParts). fits kind one.0 ≡ true) judged
       → ByRecursion (λ (one : Verdict × ItemParts). (name : List ℕ) → is_word_on name one.0 one.1 ≡ true → told name ≡ true) judged
       → ComesByEntries world entries
       → ComesByEntries (fold (λ (w : World) (one : Verdict × ItemParts). add_item kind one.0 one.1 w) world judged) entries
-  items_come [] world drawn fit word come = come
-  items_come (one ∷ judged) world drawn fit word come =
-      items_come judged (add_item kind one.0 one.1 world) (λ by_name. item_made kind one.0 one.1 world fit.0 by_name ∙ drawn by_name) fit.1 word.1
-      (item_come one.0 one.1 world fit.0 drawn word.0 come)
+  items_come [] world same fit word come = come
+  items_come (one ∷ judged) world same fit word come =
+      items_come judged (add_item kind one.0 one.1 world)
+      (λ by_name. item_drawn kind one.0 one.1 world fit.0 by_name ∙ same by_name) fit.1 word.1
+      (item_come one.0 one.1 world same fit.0 word.0 come)
 
 removals_come : (entries : List Entry) (kind : Kind) (told : List ℕ → Bool) (response : ResponseParts) (world : World)
     → ((name : List ℕ) → told name ≡ true → was_told (entries_after world.made entries) kind name ≡ true)
@@ -275,30 +292,42 @@ answered_come entries kind response world so come =
     (any_at (λ (other : Verdict × ItemParts). is_word_on name other.0 other.1) judged one there is)) in
     tidied_come entries (with_first kind (made_names verdicts response.items) (add_items kind verdicts response.items left))
     (first_come entries kind (made_names verdicts response.items) (add_items kind verdicts response.items left)
-    (items_come entries world.made kind told so judged left (λ by_name. removals_made kind response world)
+    (items_come entries world.made kind told so judged left (λ by_name. removals_drawn kind response world)
     (judged_by (λ (one : Verdict × ItemParts). fits kind one.0 ≡ true) kind response world.versions
     (λ lives (item : ItemParts). verdict_fits kind response lives world.versions item) (lives_left kind response (lives_of world)) response.items)
     (recursion_from_All (λ (one : Verdict × ItemParts). (name : List ℕ) → is_word_on name one.0 one.1 ≡ true → told name ≡ true) judged words)
     (removals_come entries kind told response world so (λ name is. or_right (has_word_on name verdicts response.items) (is_removed response name) is) come)))
 
-end_come : (entries : List Entry) (kind : Kind) (name : List ℕ) (world : World)
+-- a bounded life is that of a version that is kept, so its name was told of
+bounded_told : (entries : List Entry) (kind : Kind) (name : List ℕ) (world : World) → is_by_name kind ≡ true → is_bounded world.versions kind name ≡ true
+    → ComesByEntries world entries → was_told entries kind name ≡ true
+bounded_told entries kind name world by_name bounded come =
+    let found : (kept : KeptVersion) × Contains world.versions kept × ((is_version_of kind name kept && kept.bounded) ≡ true) =
+    any_found (λ (kept : KeptVersion). is_version_of kind name kept && kept.bounded) world.versions bounded in
+    let kept : KeptVersion = found.0 in
+    let is : is_version_of kind name kept ≡ true = first_so (is_version_of kind name kept) kept.bounded found.2 in
+    let of : kept.kind ≡ kind = (kind_decides kept.kind kind).0 (first_so (kind_same kept.kind kind) (bytes_eq kept.name name) is) in
+    let named : kept.name ≡ name = (bytes_decide kept.name name).0 (second_so (kind_same kept.kind kind) (bytes_eq kept.name name) is) in
+    sym (ap₂ (was_told entries) of named)
+    ∙ All-contains (IsVersionTold entries) world.versions kept come.versions found.1 (ap is_by_name of ∙ by_name)
+
+end_come : (entries : List Entry) (kind : Kind) (name : List ℕ) (world : World) → (is_by_name kind ≡ true → was_told entries kind name ≡ true)
     → ComesByEntries world entries → ComesByEntries (with_end kind name world) entries
-end_come entries Cds name world come = record { arrivals = come.arrivals; versions = come.versions }
-end_come entries Eds name world come = one_came entries (arrived world.made Eds (Ended no_hosts) name) world refl come
-end_come entries Lds name world come = record { arrivals = come.arrivals; versions = come.versions }
-end_come entries Rds name world come = one_came entries (arrived world.made Rds (Ended no_routes) name) world refl come
+end_come entries Cds name world told come = record { arrivals = come.arrivals; versions = come.versions }
+end_come entries Eds name world told come = one_came entries (arrived world.made Eds (Ended no_hosts) name) world (told refl) come
+end_come entries Lds name world told come = record { arrivals = come.arrivals; versions = come.versions }
+end_come entries Rds name world told come = one_came entries (arrived world.made Rds (Ended no_routes) name) world (told refl) come
 
 own_kind : (kind : Kind) (response : ResponseParts) → response.kind ≡ Some kind → is_response_of kind response ≡ true
 own_kind kind response typed =
     ap (λ (of : Option Kind). unwrap_or (option_map (kind_same kind) of) false) typed ∙ (kind_decides kind kind).1 refl
 
-came_more : (arrival : Arrival) (told timed more late : Bool) → (told ≡ true → more ≡ true) → (timed ≡ true → late ≡ true)
-    → came_by arrival told timed ≡ true → came_by arrival more late ≡ true
-came_more (Value content) told timed more late so also h = so h
-came_more Absent told timed more late so also h = so h
-came_more bad told timed more late so also h = so h
-came_more TimedOut told timed more late so also h = also h
-came_more (Ended content) told timed more late so also h = refl
+by_answer : (word timeout told timed heard more late yet : Bool) → (told ≡ true → more ≡ true) → (timed ≡ true → late ≡ true)
+    → (heard ≡ true → yet ≡ true)
+    → cond word told (cond timeout timed heard) ≡ true → cond word more (cond timeout late yet) ≡ true
+by_answer true timeout told timed heard more late yet first second third h = first h
+by_answer false true told timed heard more late yet first second third h = second h
+by_answer false false told timed heard more late yet first second third h = third h
 
 module _ (before : List Entry) (entry : Entry) (format : Format) (world : World) (drawn : length (made_rows before) ≡ world.made)
     (come : ComesByEntries world before) where
@@ -311,10 +340,15 @@ module _ (before : List Entry) (entry : Entry) (format : Format) (world : World)
   still_come answer = record {
     arrivals = All-weaker (λ (a : Arrived). has_come_by before a ≡ true) (λ (a : Arrived). has_come_by (with_answer answer) a ≡ true)
         (λ (a : Arrived).
-        came_more a.arrival (was_told (entries_after a.made before) a.kind a.name) (was_timed (entries_after a.made before) a.kind a.name)
-        (was_told (entries_after a.made (with_answer answer)) a.kind a.name) (was_timed (entries_after a.made (with_answer answer)) a.kind a.name)
+        by_answer (is_word a.arrival) (is_timeout a.arrival)
+        (was_told (entries_after a.made before) a.kind a.name) (was_timed (entries_after a.made before) a.kind a.name)
+        (was_told before a.kind a.name)
+        (was_told (entries_after a.made (with_answer answer)) a.kind a.name)
+        (was_timed (entries_after a.made (with_answer answer)) a.kind a.name)
+        (was_told (with_answer answer) a.kind a.name)
         (after_more (λ (e : Entry). tells_of_name a.kind a.name e.event e.answer) a.made before (record entry { answer = answer } ∷ []))
-        (after_more (λ (e : Entry). times_out a.kind a.name e.event e.answer) a.made before (record entry { answer = answer } ∷ [])))
+        (after_more (λ (e : Entry). times_out a.kind a.name e.event e.answer) a.made before (record entry { answer = answer } ∷ []))
+        (any_first (λ (e : Entry). tells_of_name a.kind a.name e.event e.answer) before (record entry { answer = answer } ∷ [])))
         world.arrivals come.arrivals;
     versions = All-weaker (IsVersionTold before) (IsVersionTold (with_answer answer))
         (λ (kept : KeptVersion) told by_name.
@@ -329,14 +363,17 @@ module _ (before : List Entry) (entry : Entry) (format : Format) (world : World)
       → response.kind ≡ Some kind → tells response verdicts name ≡ true
       → was_told (entries_after world.made (with_answer (Replied requests verdicts))) kind name ≡ true
   told_now kind response requests verdicts name is typed told =
-      after_last (λ (e : Entry). tells_of_name kind name e.event e.answer) world.made before (record entry { answer = Replied requests verdicts }) drawn
+      after_new (λ (e : Entry). tells_of_name kind name e.event e.answer) world.made before
+      (record entry { answer = Replied requests verdicts })
+      (omega (arith, drawn))
       (ap (λ (e : Event). tells_of_name kind name e (Replied requests verdicts)) is
       ∙ and_from (is_response_of kind response) (tells response verdicts name) (own_kind kind response typed) told)
 
   timed_now : (timeout : TimeoutParts) (name : List ℕ) (requests : List Request) → entry.event ≡ FetchTimeout timeout → timeout.name ≡ Some name
       → was_timed (entries_after world.made (with_answer (Moved requests))) timeout.kind name ≡ true
   timed_now timeout name requests is named =
-      after_last (λ (e : Entry). times_out timeout.kind name e.event e.answer) world.made before (record entry { answer = Moved requests }) drawn
+      after_new (λ (e : Entry). times_out timeout.kind name e.event e.answer) world.made before (record entry { answer = Moved requests })
+      (omega (arith, drawn))
       (ap (λ (e : Event). times_out timeout.kind name e (Moved requests)) is
       ∙ and_from (kind_same timeout.kind timeout.kind) (unwrap_or (option_map (bytes_eq name) timeout.name) false)
       ((kind_decides timeout.kind timeout.kind).1 refl)
@@ -353,13 +390,15 @@ module _ (before : List Entry) (entry : Entry) (format : Format) (world : World)
         (λ name. told_now kind response _ (verdicts_for kind (lives_of world) world.versions response) name is typed) (still_come _);
     resulted = λ cluster host healthy rows is. tidied_come _ _ (record { arrivals = (still_come _).arrivals; versions = (still_come _).versions });
     timed = λ timeout name is named.
-        tidied_come _ _ (one_came _ (arrived world.made timeout.kind TimedOut name) world (timed_now timeout name _ is named) (still_come _));
+        tidied_come _ _
+        (one_came _ (arrived world.made timeout.kind TimedOut name) world (timed_now timeout name _ is named) (still_come _));
     clusters_late = λ timeout is. tidied_come _ _ (record { arrivals = (still_come _).arrivals; versions = (still_come _).versions });
     listeners_late = λ timeout is. tidied_come _ _ (record { arrivals = (still_come _).arrivals; versions = (still_come _).versions });
     expired = λ name numbers is. tidied_come _ _ (record { arrivals = (still_come _).arrivals; versions = (still_come _).versions });
     ended = λ kind name is bounded.
         tidied_come _ _
-        (end_come _ kind name (forget_version kind name world) (versions_filtered _ _ world (still_come _)));
+        (end_come _ kind name (forget_version kind name world) (λ by_name. bounded_told _ kind name world by_name bounded (still_come _))
+        (versions_filtered _ _ world (still_come _)));
     unchanged = λ is. still_come _;
     published = λ is. record { arrivals = (still_come _).arrivals; versions = (still_come _).versions };
     reaped = λ is. record { arrivals = (still_come _).arrivals; versions = (still_come _).versions };
@@ -370,14 +409,14 @@ module _ (before : List Entry) (entry : Entry) (format : Format) (world : World)
 
 -- an entry keeps it
 pub come_next : (told : Told) (k : ℕ) (entry : Entry) → IsEntryAt told k entry → IsAnswered told k entry
-    → length (made_rows (take k told.journal)) ≡ (world_told told k).made
+    → AreMade (world_told told k) (take k told.journal)
     → ComesByEntries (world_told told k) (take k told.journal) → ComesByEntries (world_told told (k + 1)) (take (k + 1) told.journal)
-come_next told k entry there answered drawn come =
+come_next told k entry there answered made come =
     let world : World = world_told told k in
     let before : List Entry = take k told.journal in
     subst₂ ComesByEntries (sym (world_next told k entry there))
     (ap (λ (answer : Answer). before ++ record entry { answer = answer } ∷ []) (sym answered.answer) ∙ sym (take_one told.journal k entry there))
-    (step-come before entry told.format world drawn come)
+    (step-come before entry told.format world made.drawn come)
 
 pub opens_come : (workers : ℕ) (node : List ℕ) → ComesByEntries (opening workers node) []
 opens_come workers node = record { arrivals = All-nil _; versions = All-nil _ }

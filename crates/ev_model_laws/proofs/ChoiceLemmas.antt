@@ -1,5 +1,6 @@
 -- A choice in a picture names generations that the picture shows, and so does the connection that it opens.
-use Rattle.std.proofs.Common.{◌≡◌, ℕ, Bool, true, false, ◌==◌, ◌/◌, List, [], ◌∷◌, map, filter, Option, Some, None, refl, ◌∙◌, subst, codes}
+use Rattle.std.proofs.Common.{◌≡◌, ℕ, Bool, true, false, ◌==◌, ◌/◌, List, [], ◌∷◌, map, filter, Option, Some, None, refl, sym, ◌∙◌, subst}
+use Rattle.std.specs.Prelude.{codes}
 use Rattle.std.specs.Bool.{⊤}
 use Rattle.std.specs.List.{find, list_any}
 use Rattle.std.specs.Option.{IfSome, option_or}
@@ -7,6 +8,7 @@ use Rattle.std.proofs.lemmas.Bool.{false≢true, cond_both, or_left, or_right}
 use Rattle.std.proofs.lemmas.Option.{IfSome_then}
 use Rattle.std.proofs.lemmas.List.Folds.{list_any-append}
 use Rattle.ev_types.specs.Same.{numbers_decide}
+use Rattle.ev_types.specs.Weights.{weight_sum}
 use Rattle.ev_types.specs.declared.events.Ask.{Ask}
 use Rattle.ev_types.specs.declared.hosts.Host.{Host}
 use Rattle.ev_types.specs.declared.ips.Ip.{Ip}
@@ -22,19 +24,19 @@ use Rattle.ev_model.specs.declared.pictures.Shown.{Shown}
 use Rattle.ev_model.specs.declared.pictures.Routing.{Routing}
 use Rattle.ev_model.specs.declared.pictures.Routing.TheVariants.{Table, Tcp, Other}
 use Rattle.ev_model.specs.declared.pictures.ServedChain.{ServedChain}
-use Rattle.ev_model.specs.declared.pictures.Taken.{Taken}
-use Rattle.ev_model.specs.declared.pictures.Taken.TheVariants.{No, Yes, Undecided as undecided}
 use Rattle.ev_model.specs.declared.pictures.ServedCluster.{ServedCluster}
 use Rattle.ev_model.specs.declared.pictures.ServedListener.{ServedListener}
 use Rattle.ev_model.specs.declared.pictures.Choice.{Choice}
 use Rattle.ev_model.specs.declared.pictures.Choice.TheVariants.{NoListener, NoChain, Undecided, Elsewhere, NoRoute, Local, Redirect, NoCluster, NoEndpoint, Served}
-use Rattle.ev_model.specs.Picture.{has_number, is_shown}
-use Rattle.ev_model.specs.Dead.{is_open_on}
-use Rattle.ev_model.specs.Choice.{listener_at, listener_for_every, listener_of_any, listener_for, incoming_of, requested_of, virtual_host_for, route_for, name_picked, cluster_named, host_place, served_at, in_cluster, choice_in, forwarded, acted, by_word, by_route, by_host, by_routing, by_chain, routing_left, by_chains, by_listener, choice_of}
+use Rattle.ev_model.specs.declared.pictures.Taken.{Taken}
+use Rattle.ev_model.specs.declared.pictures.Taken.TheVariants.{No, Yes, Undecided as undecided}
 use Rattle.ev_model.specs.Conditions.{match_says}
 use Rattle.ev_model.specs.Narrowing.{chains_left}
+use Rattle.ev_model.specs.Picture.{has_number, is_shown}
+use Rattle.ev_model.specs.Dead.{is_open_on}
+use Rattle.ev_model.specs.Choice.{listener_at, listener_for_every, listener_of_any, listener_for, incoming_of, requested_of, virtual_host_for, route_for, name_picked, cluster_named, host_place, served_at, choice_in, forwarded, acted, by_word, by_route, by_host, by_routing, by_chain, routing_left, by_listener, choice_of}
 use Rattle.ev_model.specs.Connections.{member_on, members_of}
-use Rattle.ev_model_laws.proofs.AnyLemmas.{or_so, any_only}
+use Rattle.ev_model_laws.proofs.AnyLemmas.{or_so, any_only, any_left, any_mapped}
 
 -- the number of a generation that is found stands among the numbers of all
 found_number : {X : Type 0} (number_of : X → ℕ) (test : X → Bool) (xs : List X)
@@ -44,25 +46,6 @@ found_number number_of test (x ∷ xs) =
     cond_both (test x) (Some x) (find test xs) (λ o. IfSome o (λ y. has_number (number_of y) (map number_of (x ∷ xs)) ≡ true))
     (λ passes. or_left (number_of x == number_of x) _ ((numbers_decide (number_of x) (number_of x)).1 refl))
     (λ fails. IfSome_then (find test xs) (found_number number_of test xs) (λ y h. or_right (number_of x == number_of y) _ h))
-
--- the same of one that is found among those that a test keeps
-found_kept : {X : Type 0} (number_of : X → ℕ) (keep test : X → Bool) (xs : List X)
-    → IfSome (find test (filter keep xs)) (λ x. has_number (number_of x) (map number_of xs) ≡ true)
-found_kept number_of keep test [] = tt
-found_kept {X} number_of keep test (x ∷ xs) =
-    let among : X → Type 0 = λ y. has_number (number_of y) (map number_of (x ∷ xs)) ≡ true in
-    let rest : IfSome (find test (filter keep xs)) among =
-    IfSome_then (find test (filter keep xs)) (found_kept number_of keep test xs) (λ y h. or_right (number_of x == number_of y) _ h) in
-    cond_both (keep x) (x ∷ filter keep xs) (filter keep xs) (λ ys. IfSome (find test ys) among)
-    (λ kept. cond_both (test x) (Some x) (find test (filter keep xs)) (λ o. IfSome o among)
-    (λ passes. or_left (number_of x == number_of x) _ ((numbers_decide (number_of x) (number_of x)).1 refl))
-    (λ fails. rest))
-    (λ left. rest)
-
--- what holds of either value holds of the first that is there
-either_some : {X : Type 0} (P : X → Type 0) (one other : Option X) → IfSome one P → IfSome other P → IfSome (option_or one other) P
-either_some P None other first second = second
-either_some P (Some x) other first second = first
 
 cluster_shown : (shown : Shown) (number : ℕ) → has_number number (map (λ (c : ServedCluster). c.number) shown.clusters) ≡ true → is_shown number shown ≡ true
 cluster_shown shown number h = list_any-append (λ n. n == number) _ _ ∙ or_left _ _ h
@@ -94,12 +77,12 @@ module _ (picture : Picture) (listener : ℕ) (shown : is_shown listener picture
       → ShowsChosen picture.shown (choice_in listener cluster pick)
   cluster_chosen None pick also = shown
   cluster_chosen (Some cluster) pick also =
-      cond_both cluster.elsewhere (Elsewhere listener (Some cluster.number)) (served_at listener cluster.number (host_place cluster.hosts pick))
-      (ShowsChosen picture.shown)
-      (λ is. (shown, also))
-      (λ isnt. served_chosen cluster.number (host_place cluster.hosts pick) also)
+      cond_both cluster.elsewhere (Elsewhere listener (Some cluster.number))
+      (served_at listener cluster.number (host_place cluster.hosts pick))
+      (ShowsChosen picture.shown) (λ is. (shown, also)) (λ isnt. served_chosen cluster.number (host_place cluster.hosts pick) also)
 
-  named_chosen : (name : List ℕ) (pick : ℕ) → ShowsChosen picture.shown (choice_in listener (cluster_named picture.shown.clusters name) pick)
+  named_chosen : (name : List ℕ) (pick : ℕ)
+      → ShowsChosen picture.shown (choice_in listener (cluster_named picture.shown.clusters name) pick)
   named_chosen name pick =
       cluster_chosen (cluster_named picture.shown.clusters name) pick
       (IfSome_then (cluster_named picture.shown.clusters name)
@@ -108,7 +91,7 @@ module _ (picture : Picture) (listener : ℕ) (shown : is_shown listener picture
 
   target_chosen : (pick : ℕ) (target : Target) → ShowsChosen picture.shown (forwarded picture pick listener target)
   target_chosen pick (One name) = named_chosen name pick
-  target_chosen pick (Weighted clusters) = named_chosen (name_picked clusters pick) _
+  target_chosen pick (Weighted clusters) = named_chosen (name_picked clusters pick) (pick / weight_sum clusters)
   target_chosen pick elsewhere = (shown, tt)
 
   action_chosen : (pick : ℕ) (action : Action) → ShowsChosen picture.shown (acted picture pick listener action)
@@ -117,7 +100,7 @@ module _ (picture : Picture) (listener : ℕ) (shown : is_shown listener picture
   action_chosen pick (local status) = shown
   action_chosen pick by_filter = (shown, tt)
 
-  word_chosen : (pick : ℕ) (action : Action) (said : Taken) → ShowsChosen picture.shown (by_word picture pick listener action said)
+  word_chosen : (pick : ℕ) (action : Action) (word : Taken) → ShowsChosen picture.shown (by_word picture pick listener action word)
   word_chosen pick action No = shown
   word_chosen pick action Yes = action_chosen pick action
   word_chosen pick action undecided = shown
@@ -139,45 +122,56 @@ module _ (picture : Picture) (listener : ℕ) (shown : is_shown listener picture
   chain_chosen ask None = tt
   chain_chosen ask (Some routing) = routing_chosen ask routing
 
-chains_chosen : (picture : Picture) (ask : Ask) (listener : ServedListener) (chains : List ServedChain)
-    → is_shown listener.number picture.shown ≡ true → ShowsChosen picture.shown (by_chains picture ask listener chains)
-chains_chosen picture ask listener chains shown =
-    cond_both (list_any (λ (c : ServedChain). c.criteria.asks_source) chains) (Undecided listener.number)
-    (by_chain picture ask listener.number (routing_left chains listener.default_filter_chain)) (ShowsChosen picture.shown)
-    (λ asks. shown)
-    (λ none. chain_chosen picture listener.number shown ask (routing_left chains listener.default_filter_chain))
-
 listener_chosen : (picture : Picture) (ask : Ask) (listener : Option ServedListener)
     → IfSome listener (λ l. is_shown l.number picture.shown ≡ true) → ShowsChosen picture.shown (by_listener picture ask listener)
 listener_chosen picture ask None shown = tt
-listener_chosen picture ask (Some listener) shown = chains_chosen picture ask listener (chains_left (incoming_of ask) listener.filter_chains) shown
+listener_chosen picture ask (Some listener) shown =
+    let chains : List ServedChain = chains_left (incoming_of ask) listener.filter_chains in
+    let left : Option Routing = routing_left chains listener.default_filter_chain in
+    cond_both (list_any (λ (c : ServedChain). c.criteria.asks_source) chains) (Undecided listener.number)
+    (by_chain picture ask listener.number left) (ShowsChosen picture.shown)
+    (λ asks. shown) (λ none. chain_chosen picture listener.number shown ask left)
 
-abbrev IsShown : Shown → ServedListener → Type 0
-IsShown shown l = is_shown l.number shown ≡ true
+-- what holds of two options holds of the first that is there
+either_has : {X : Type 0} (P : X → Type 0) (first second : Option X) → IfSome first P → IfSome second P → IfSome (option_or first second) P
+either_has P None second one other = other
+either_has P (Some x) second one other = one
 
--- a listener that is found is shown: at an address, among those that take every address, or by either
 module _ (shown : Shown) where
-  at_shown : (address : Host) → IfSome (listener_at shown.listeners address) (IsShown shown)
-  at_shown address =
+  -- the listener is shown
+  abbrev IsListed : ServedListener → Type 0
+  IsListed l = is_shown l.number shown ≡ true
+
+  at_listed : (address : Host) → IfSome (listener_at shown.listeners address) IsListed
+  at_listed address =
       IfSome_then (listener_at shown.listeners address) (found_number (λ (l : ServedListener). l.number) _ shown.listeners)
       (λ (l : ServedListener). listener_shown shown l.number)
 
-  every_shown : (port : ℕ) (address : List ℕ) → IfSome (listener_for_every shown.listeners port address) (IsShown shown)
-  every_shown port address =
-      IfSome_then (listener_for_every shown.listeners port address)
-      (found_kept (λ (l : ServedListener). l.number) (λ (l : ServedListener). l.takes_every_address) _ shown.listeners)
-      (λ (l : ServedListener). listener_shown shown l.number)
+  every_listed : (port : ℕ) (address : List ℕ) → IfSome (listener_for_every shown.listeners port address) IsListed
+  every_listed port address =
+      let takes : ServedListener → Bool = λ (l : ServedListener). l.takes_every_address in
+      let number : ServedListener → ℕ = λ (l : ServedListener). l.number in
+      IfSome_then (listener_for_every shown.listeners port address) (found_number number _ (filter takes shown.listeners))
+      (λ (l : ServedListener) h.
+      listener_shown shown l.number
+      (any_mapped (λ n. n == l.number) number shown.listeners
+      ∙ any_left (λ (other : ServedListener). other.number == l.number) takes shown.listeners
+      (sym (any_mapped (λ n. n == l.number) number (filter takes shown.listeners)) ∙ h)))
 
-  any_shown : (port : ℕ) (ip : Option Ip) → IfSome (listener_of_any shown.listeners port ip) (IsShown shown)
-  any_shown port None = tt
-  any_shown port (Some (V4 bits)) = either_some (IsShown shown) _ _ (every_shown port (codes "0.0.0.0")) (every_shown port (codes "::"))
-  any_shown port (Some (V6 bits)) = every_shown port (codes "::")
+  any_listed : (port : ℕ) (ip : Option Ip) → IfSome (listener_of_any shown.listeners port ip) IsListed
+  any_listed port None = tt
+  any_listed port (Some (V4 bits)) =
+      either_has IsListed (listener_for_every shown.listeners port (codes "0.0.0.0")) (listener_for_every shown.listeners port (codes "::"))
+      (every_listed port (codes "0.0.0.0")) (every_listed port (codes "::"))
+  any_listed port (Some (V6 bits)) = every_listed port (codes "::")
 
 -- a choice in a picture names what the picture shows
 pub choice_shown : (picture : Picture) (ask : Ask) → ShowsChosen picture.shown (choice_of picture ask)
 choice_shown picture ask =
     listener_chosen picture ask (listener_for picture.shown.listeners ask)
-    (either_some (IsShown picture.shown) _ _ (at_shown picture.shown ask.address) (any_shown picture.shown ask.address.port ask.ip))
+    (either_has (IsListed picture.shown) (listener_at picture.shown.listeners ask.address)
+    (listener_of_any picture.shown.listeners ask.address.port ask.ip)
+    (at_listed picture.shown ask.address) (any_listed picture.shown ask.address.port ask.ip))
 
 -- a connection is open on the generations that it was opened on
 open_on : (shown : Shown) (worker connection listener number : ℕ) (cluster : Option ℕ)
@@ -203,8 +197,10 @@ pub opens_shown : (shown : Shown) (worker connection number : ℕ) (choice : Cho
     → list_any (is_open_on number) (members_of worker connection choice) ≡ true → is_shown number shown ≡ true
 opens_shown shown worker connection number NoListener chosen h = absurd (false≢true h)
 opens_shown shown worker connection number NoChain chosen h = absurd (false≢true h)
-opens_shown shown worker connection number (Undecided listener) chosen h = one_open_on shown worker connection listener number None chosen tt h
-opens_shown shown worker connection number (Elsewhere listener cluster) chosen h = one_open_on shown worker connection listener number cluster chosen.0 chosen.1 h
+opens_shown shown worker connection number (Undecided listener) chosen h =
+    one_open_on shown worker connection listener number None chosen tt h
+opens_shown shown worker connection number (Elsewhere listener cluster) chosen h =
+    one_open_on shown worker connection listener number cluster chosen.0 chosen.1 h
 opens_shown shown worker connection number (NoRoute listener) chosen h = one_open_on shown worker connection listener number None chosen tt h
 opens_shown shown worker connection number (Local listener status) chosen h = one_open_on shown worker connection listener number None chosen tt h
 opens_shown shown worker connection number (Redirect listener) chosen h = one_open_on shown worker connection listener number None chosen tt h

@@ -210,7 +210,8 @@ module _ (kind : Kind) (name : List ℕ) (before : World) where
 
   told_left : (other : List ℕ) (w : World) → is_by_name kind ≡ true → IsLeft kind name before w → IsLeft kind name before (told_of_refusal kind other w)
   told_left other w by_name left =
-      cond_both (is_watched (lives_of w) kind other) (record w { arrivals = w.arrivals ++ arrived w.made kind bad other ∷ [] }) w (IsLeft kind name before)
+      cond_both (is_watched (lives_of w) kind other) (record w { arrivals = w.arrivals ++ arrived w.made kind bad other ∷ [] }) w
+      (IsLeft kind name before)
       (λ watched. silent_left (arrived w.made kind bad other ∷ []) w by_name (λ is. refl, tt) left)
       (λ unwatched. left)
 

@@ -58,7 +58,8 @@ parts_next told k entry run there parts =
     let next : world_told told (k + 1) ≡ (step told.format world entry.actor entry.event).0 = world_next told k entry there in
     let answered : IsAnswered told k entry = entry_answered told k entry run there in
     let made : AreMade (world_told told (k + 1)) (take (k + 1) told.journal) = made_next told k entry there answered parts.made in
-    let come : ComesByEntries (world_told told (k + 1)) (take (k + 1) told.journal) = come_next told k entry there answered parts.made.drawn parts.come in
+    let come : ComesByEntries (world_told told (k + 1)) (take (k + 1) told.journal) =
+    come_next told k entry there answered parts.made parts.come in
     let known : IsKnown (length world.held) entry.actor =
     subst (λ n. IsKnown n entry.actor) (sym parts.workers) (may_known told.workers entry.actor entry.event answered.may) in
     record {

@@ -1,5 +1,5 @@
 -- A generation that serves behind an event served before it, or the event has made it serve: it is ready then.
-use Rattle.std.proofs.Common.{◌≡◌, ℕ, ◌<◌, ◌≤◌, ◌+◌, ◌⊎◌, inl, inr, Bool, true, false, ◌&&◌, ◌==◌, List, [], ◌∷◌, ◌++◌, take, drop, Some, refl, sym, ap, ◌∙◌, subst, arith}
+use Rattle.std.proofs.Common.{◌≡◌, ℕ, zero, suc, ◌<◌, ◌≤◌, ◌+◌, ◌⊎◌, inl, inr, Bool, true, false, ◌&&◌, ◌==◌, List, [], ◌∷◌, ◌++◌, take, drop, Some, refl, sym, ap, ◌∙◌, subst, arith}
 use Rattle.std.specs.Cmp.{first_so, second_so}
 use Rattle.std.specs.List.{Contains, fold, zip, list_any, list_all}
 use Rattle.std.proofs.lemmas.Bool.{false≢true, cond_both, and_from}
@@ -29,11 +29,11 @@ use Rattle.ev_model.specs.Live.{lives_of}
 use Rattle.ev_model.specs.Verdicts.{verdicts_for, is_removed}
 use Rattle.ev_model.specs.Watching.{is_watched, dependencies_of}
 use Rattle.ev_model.specs.Warming.{is_ready_by, is_ready}
-use Rattle.ev_model.specs.Rows.{is_row_of, with_statuses, status_left, with_removals, replaced_status, new_row, add_row, keep_value, keep_version, with_content, told_of_refusal, refuse, add_item, add_items, made_names, with_first}
+use Rattle.ev_model.specs.Rows.{is_row_of, arrived, with_statuses, status_left, with_removals, replaced_status, new_row, add_row, keep_value, keep_version, with_content, told_of_refusal, refuse, add_item, add_items, made_names, with_first}
 use Rattle.ev_model.specs.Tidy.{has_successor, status_by, promoted_status, promoted, arrivals_watched, tidy}
 use Rattle.ev_model.specs.Signals.{ended_status, with_end, forget_version}
 use Rattle.ev_model.specs.Step.{step}
-use Rattle.ev_model.specs.Entries.{made_of, has_ended_wait}
+use Rattle.ev_model.specs.Entries.{MadeRow, made_of, has_ended_wait}
 use Rattle.ev_model.specs.Laws.{Told, world_told, IsEntryAt, IsServing, HadWarmed}
 use Rattle.ev_model_laws.specs.Kept.{made_as, AreMade, ComesByEntries, ServesWarmed}
 use Rattle.ev_model_laws.proofs.TidyLists.{all_of, any_at}
@@ -45,7 +45,6 @@ use Rattle.ev_model_laws.proofs.MadeLemmas.{made_more}
 use Rattle.ev_model_laws.proofs.PlaceLemmas.{world_next}
 use Rattle.ev_model_laws.proofs.OneANameLemmas.{removed_active, replaced_active}
 use Rattle.ev_model_laws.proofs.AnsweredLemmas.{answered_by, ready_answered}
-use Rattle.ev_model_laws.proofs.SinceLemmas.{made_positive}
 
 -- what serves in the one world serves in the other
 abbrev ServesWithin : World → World → Type 0
@@ -96,7 +95,8 @@ module _ (before : World) where
 
   told_serves : (kind : Kind) (name : List ℕ) (world : World) → ServesWithin before world → ServesWithin before (told_of_refusal kind name world)
   told_serves kind name world within =
-      cond_both (is_watched (lives_of world) kind name) (record world { arrivals = world.arrivals ++ record { kind = kind; name = name; arrival = bad; made = world.made } ∷ [] }) world
+      cond_both (is_watched (lives_of world) kind name)
+      (record world { arrivals = world.arrivals ++ arrived world.made kind bad name ∷ [] }) world
       (ServesWithin before) (λ watched. within) (λ unwatched. within)
 
   refuse_serves : (kind : Kind) (name : List ℕ) (world : World) → ServesWithin before world → ServesWithin before (refuse kind name world)
@@ -239,6 +239,11 @@ warmed_later told number j k le had =
     let lt : had.place < j = had.earlier in
     record { place = had.place; earlier = omega (arith, lt, le); serving = had.serving; answered = had.answered }
 
+-- numbers of generations that were made begin at 1
+drawn_number : (entries : List Entry) (number : ℕ) (m : MadeRow) → made_of entries number ≡ Some m → 0 < number
+drawn_number entries zero m there = absurd (cc)
+drawn_number entries (suc place) m there = omega arith
+
 -- one that serves behind an entry and is ready there has warmed by then
 serving_warmed : (told : Told) (k number : ℕ) → AreMade (world_told told (k + 1)) (take (k + 1) told.journal)
     → ComesByEntries (world_told told (k + 1)) (take (k + 1) told.journal) → IsServing (world_told told (k + 1)) number → HadWarmed told number (k + 1)
@@ -247,9 +252,9 @@ serving_warmed told k number made come serving =
     let row : GenRow = serving.row in
     let entries : List Entry = take (k + 1) told.journal in
     let whole : entries ++ drop (k + 1) told.journal ≡ told.journal = take-append-drop (k + 1) told.journal in
-    let of : made_of entries number ≡ Some (made_as row) =
-    ap (made_of entries) (sym serving.numbered)
-    ∙ All-contains (λ (r : GenRow). made_of entries r.number ≡ Some (made_as r)) world.rows row made.rows serving.among in
+    let numbered : made_of entries row.number ≡ Some (made_as row) =
+    All-contains (λ (r : GenRow). made_of entries r.number ≡ Some (made_as r)) world.rows row made.rows serving.among in
+    let of : made_of entries number ≡ Some (made_as row) = ap (made_of entries) (sym serving.numbered) ∙ numbered in
     record {
       place = k;
       earlier = omega arith;
@@ -257,10 +262,9 @@ serving_warmed told k number made come serving =
       answered = record {
         row = made_as row;
         made = ap (λ (journal : List Entry). made_of journal number) (sym whole) ∙ made_more entries (drop (k + 1) told.journal) number (made_as row) of;
-        answered =
-            subst (λ n. list_all (has_ended_wait n entries) (dependencies_of row.content) ≡ true) serving.numbered
-            (answered_by entries world row.number row.content
-            (subst (λ n. 1 ≤ n) (sym serving.numbered) (made_positive entries number (made_as row) of)) come (ready_answered world row serving.ready));
+        answered = ap (λ n. list_all (has_ended_wait n entries) (dependencies_of row.content)) (sym serving.numbered)
+            ∙ answered_by entries world row.number row.content come (drawn_number entries row.number (made_as row) numbered)
+            (ready_answered world row serving.ready);
       };
     }
 

@@ -1,7 +1,7 @@
 -- Why tidying a world that was tidied changes nothing: no row that warms is ready any more, since neither what goes with names
 -- that aren't watched nor the results that go are of a live row, and what is filtered was filtered by the same tests.
-use Rattle.std.proofs.Common.{◌≡◌, ℕ, Bool, true, false, not, ◌&&◌, ◌||◌, ◌==◌, List, [], map, filter, filter_map, None, refl, ap, sym, ◌∙◌}
-use Rattle.std.specs.List.{Contains, list_any, list_all, last_or}
+use Rattle.std.proofs.Common.{◌≡◌, ℕ, Bool, true, false, not, ◌&&◌, ◌||◌, ◌==◌, List, [], map, filter, filter_map, Option, None, refl, ap, ap₂, sym, ◌∙◌}
+use Rattle.std.specs.List.{Contains, list_all, last_or}
 use Rattle.std.specs.Str.{bytes_eq}
 use Rattle.std.specs.Cmp.{first_so, second_so}
 use Rattle.std.proofs.lemmas.Bool.{and_from}
@@ -19,17 +19,17 @@ use Rattle.ev_types.specs.declared.contents.Content.{Content}
 use Rattle.ev_types.specs.declared.contents.Content.TheVariants.{Cluster as a_cluster, Assignment as an_assignment, Listener as a_listener, Routes as routes}
 use Rattle.ev_types.specs.declared.clusters.Discovery.{Discovery}
 use Rattle.ev_types.specs.declared.clusters.Discovery.TheVariants.{Static, Eds as by_eds, Elsewhere}
+use Rattle.ev_types.specs.declared.rows.Arrival.{Arrival}
 use Rattle.ev_types.specs.declared.rows.RowStatus.{RowStatus}
 use Rattle.ev_types.specs.declared.rows.RowStatus.TheVariants.{Warming, Active, Draining, Dropped}
 use Rattle.ev_types.specs.declared.rows.Phase.{Phase}
 use Rattle.ev_types.specs.declared.rows.Phase.TheVariants.{Clusters, Listeners, Serving}
-use Rattle.ev_types.specs.declared.rows.Arrival.{Arrival}
 use Rattle.ev_types.specs.declared.rows.GenRow.{GenRow}
 use Rattle.ev_types.specs.declared.rows.Live.{Live}
 use Rattle.ev_model.specs.World.{World, Arrived, HealthResult}
 use Rattle.ev_model.specs.Live.{lives_of, live_of}
 use Rattle.ev_model.specs.Watching.{Dependency, dependencies_of, discovery_dependencies, has_dependency, is_dependency, is_watched}
-use Rattle.ev_model.specs.Warming.{came_for, content_in, rows_in, is_word, is_timeout, has_answer, is_answered_by, discovered, assignment_by, is_checked, is_result_of, has_result, has_all_results, is_ready_by, is_for, last_made, counts_for}
+use Rattle.ev_model.specs.Warming.{is_for, came_for, content_in, rows_in, is_word, is_timeout, last_made, counts_for, has_answer, is_answered_by, discovered, assignment_by, is_checked, is_result_of, has_result, has_all_results, is_ready_by}
 use Rattle.ev_model.specs.Rows.{is_row_of}
 use Rattle.ev_model.specs.Phase.{phase_from, phase_after, clusters_have_come, listeners_have_come}
 use Rattle.ev_model.specs.Tidy.{is_due, has_successor, status_by, promoted_status, promoted_rows, promoted, arrivals_watched, is_version_due, without_unwatched, is_result_due, without_old_results, with_phase, tidy}
@@ -53,46 +53,53 @@ kept world row there live = λ d among.
     (and_from (is_live row.status) (has_dependency d.kind d.name row.content) live
     (any_at (is_dependency d.kind d.name) (dependencies_of row.content) d among (own_dependency d)))
 
--- what came for a watched name stays, in order
-watched_too : (lives : List Live) (kind : Kind) (name : List ℕ) → is_watched lives kind name ≡ true
-    → (a : Arrived) → is_for kind name a ≡ true → is_watched lives a.kind a.name ≡ true
-watched_too lives kind name watched a h =
+-- what is for a watched name is watched
+for_watched : (lives : List Live) (kind : Kind) (name : List ℕ) (a : Arrived) → is_watched lives kind name ≡ true
+    → is_for kind name a ≡ true
+    → is_watched lives a.kind a.name ≡ true
+for_watched lives kind name a watched h =
     ap (λ k. is_watched lives k a.name) ((kind_decides a.kind kind).0 (first_so (kind_same a.kind kind) (bytes_eq a.name name) h))
     ∙ ap (is_watched lives kind) ((bytes_decide a.name name).0 (second_so (kind_same a.kind kind) (bytes_eq a.name name) h))
     ∙ watched
 
+-- what came for a watched name stays, in order
+pub for_same : (lives : List Live) (arrivals : List Arrived) (kind : Kind) (name : List ℕ) → is_watched lives kind name ≡ true
+    → filter (is_for kind name) (arrivals_watched lives arrivals) ≡ filter (is_for kind name) arrivals
+for_same lives arrivals kind name watched =
+    filter_within (is_for kind name) (λ (a : Arrived). is_watched lives a.kind a.name)
+    (λ (a : Arrived). for_watched lives kind name a watched) arrivals
+
 pub came_same : (lives : List Live) (arrivals : List Arrived) (kind : Kind) (name : List ℕ) → is_watched lives kind name ≡ true
     → came_for (arrivals_watched lives arrivals) kind name ≡ came_for arrivals kind name
-came_same lives arrivals kind name watched =
-    ap (map (λ (a : Arrived). a.arrival))
-    (filter_within (is_for kind name) (λ (a : Arrived). is_watched lives a.kind a.name) (watched_too lives kind name watched) arrivals)
+came_same lives arrivals kind name watched = ap (map (λ (a : Arrived). a.arrival)) (for_same lives arrivals kind name watched)
 
--- and so when the last of a sort came for it
-pub last_same : (is : Arrival → Bool) (lives : List Live) (arrivals : List Arrived) (kind : Kind) (name : List ℕ) → is_watched lives kind name ≡ true
+-- so when the last of a sort came for it
+made_same : (is : Arrival → Bool) (lives : List Live) (arrivals : List Arrived) (kind : Kind) (name : List ℕ)
+    → is_watched lives kind name ≡ true
     → last_made is (arrivals_watched lives arrivals) kind name ≡ last_made is arrivals kind name
-last_same is lives arrivals kind name watched =
+made_same is lives arrivals kind name watched =
     ap (λ (came : List Arrived). last_or None (map (λ (a : Arrived). a.made) came))
     (filter_within (λ (a : Arrived). is_for kind name a && is a.arrival) (λ (a : Arrived). is_watched lives a.kind a.name)
-    (λ (a : Arrived) h. watched_too lives kind name watched a (first_so (is_for kind name a) (is a.arrival) h))
-    arrivals)
+    (λ (a : Arrived) h. for_watched lives kind name a watched (first_so (is_for kind name a) (is a.arrival) h)) arrivals)
 
 -- so whether the control plane has answered for each dependency
 answers_same : (lives : List Live) (arrivals : List Arrived) (number : ℕ) (ds : List Dependency) → IsKept lives ds
     → list_all (has_answer (arrivals_watched lives arrivals) number) ds ≡ list_all (has_answer arrivals number) ds
 answers_same lives arrivals number ds watched =
     all_agree (has_answer (arrivals_watched lives arrivals) number) (has_answer arrivals number) ds
-    (λ d among. λ i.
-    counts_for number d (last_same is_word lives arrivals d.kind d.name (watched d among) i)
-    || (counts_for number d (last_same is_timeout lives arrivals d.kind d.name (watched d among) i) && d.limited))
+    (λ d among.
+    ap₂ (λ (told timed : Option ℕ). counts_for number d told || (counts_for number d timed && d.limited))
+    (made_same is_word lives arrivals d.kind d.name (watched d among))
+    (made_same is_timeout lives arrivals d.kind d.name (watched d among)))
 
 -- and so the hosts of a content whose dependencies are watched
 discovered_same : (lives : List Live) (arrivals : List Arrived) (discovery : Discovery) → IsKept lives (discovery_dependencies discovery)
     → discovered (arrivals_watched lives arrivals) discovery ≡ discovered arrivals discovery
 discovered_same lives arrivals (Static rows) watched = refl
-discovered_same lives arrivals Elsewhere watched = refl
 discovered_same lives arrivals (by_eds service limited fresh) watched =
     let d : Dependency = record { kind = Eds; name = service; limited = limited; fresh = fresh } in
     ap (λ came. rows_in (last_or None (filter_map content_in came))) (came_same lives arrivals Eds service (watched d (Contains-push [] d)))
+discovered_same lives arrivals Elsewhere watched = refl
 
 hosts_same : (lives : List Live) (arrivals : List Arrived) (content : Content) → IsKept lives (dependencies_of content)
     → assignment_by (arrivals_watched lives arrivals) content ≡ assignment_by arrivals content
@@ -109,7 +116,8 @@ watched_ready lives arrivals results row watched =
     ap (λ answered. answered && (not (is_checked row.content)
     || has_all_results results row.number (assignment_by (arrivals_watched lives arrivals) row.content)))
     (answers_same lives arrivals row.number (dependencies_of row.content) watched)
-    ∙ ap (λ hosts. is_answered_by arrivals row.number row.content && (not (is_checked row.content) || has_all_results results row.number hosts))
+    ∙ ap
+    (λ hosts. is_answered_by arrivals row.number row.content && (not (is_checked row.content) || has_all_results results row.number hosts))
     (hosts_same lives arrivals row.content watched)
 
 -- a live row's results for hosts of its assignment stay: the row itself is why

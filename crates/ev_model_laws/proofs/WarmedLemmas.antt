@@ -1,8 +1,8 @@
 -- Connections go only to warmed generations: an accept names what the picture shows that its worker holds.
 use Rattle.std.proofs.Common.{◌≡◌, ℕ, ◌<◌, true, ◌==◌, length, take, Option, Some, None, sym, ap, ◌∙◌, subst, arith}
+use Rattle.std.specs.Option.{IfSome}
 use Rattle.std.proofs.lemmas.Bool.{false≢true, cond_both}
 use Rattle.std.proofs.lemmas.Option.{slice_get_within}
-use Rattle.std.specs.Option.{IfSome}
 use Rattle.ev_types.specs.Events.{MayMake}
 use Rattle.ev_types.specs.Same.{numbers_decide}
 use Rattle.ev_types.specs.declared.hosts.Host.{Host}
@@ -40,10 +40,10 @@ module _ (picture : Picture) (number : ℕ) where
   served_names listener cluster (Some host) first second names =
       or_so (listener == number) (cluster == number) (is_number listener first) (is_number cluster second) names
 
-  cluster_names : (cluster : Option ℕ) → IfSome cluster (λ c. is_shown c picture.shown ≡ true) → is_forwarded_to number cluster ≡ true
+  is_forwarded : (cluster : Option ℕ) → IfSome cluster (λ c. is_shown c picture.shown ≡ true) → is_forwarded_to number cluster ≡ true
       → is_shown number picture.shown ≡ true
-  cluster_names None chosen names = absurd (false≢true names)
-  cluster_names (Some cluster) chosen names = is_number cluster chosen names
+  is_forwarded None shown same = absurd (false≢true same)
+  is_forwarded (Some cluster) shown same = is_number cluster shown same
 
   -- an answer names generations that are chosen
   chosen_names : (choice : Choice) → ShowsChosen picture.shown choice → names_row number (answer_of picture choice) ≡ true → is_shown number picture.shown ≡ true
@@ -51,7 +51,7 @@ module _ (picture : Picture) (number : ℕ) where
   chosen_names NoChain chosen names = absurd (false≢true names)
   chosen_names (Undecided listener) chosen names = is_number listener chosen names
   chosen_names (Elsewhere listener cluster) chosen names =
-      or_so (listener == number) (is_forwarded_to number cluster) (is_number listener chosen.0) (cluster_names cluster chosen.1) names
+      or_so (listener == number) (is_forwarded_to number cluster) (is_number listener chosen.0) (is_forwarded cluster chosen.1) names
   chosen_names (NoRoute listener) chosen names = is_number listener chosen names
   chosen_names (Local listener status) chosen names = is_number listener chosen names
   chosen_names (Redirect listener) chosen names = is_number listener chosen names

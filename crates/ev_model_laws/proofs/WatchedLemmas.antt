@@ -132,7 +132,8 @@ module _ (kind : Kind) (item : ItemParts) where
 
 refusal_heard : (kind : Kind) (name : List ℕ) (world : World) → AreHeard world → AreHeard (told_of_refusal kind name world)
 refusal_heard kind name world heard =
-    cond_both (is_watched (lives_of world) kind name) (record world { arrivals = world.arrivals ++ arrived world.made kind bad name ∷ [] }) world AreHeard
+    cond_both (is_watched (lives_of world) kind name)
+    (record world { arrivals = world.arrivals ++ arrived world.made kind bad name ∷ [] }) world AreHeard
     (λ watched. more_heard (arrived world.made kind bad name ∷ []) world heard) (λ unwatched. heard)
 
 refused_heard : (kind : Kind) (name : List ℕ) (world : World) → AreHeard world → AreHeard (refuse kind name world)

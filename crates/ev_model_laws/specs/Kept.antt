@@ -8,8 +8,6 @@ use Rattle.ev_types.specs.declared.rows.KeptVersion.{KeptVersion}
 use Rattle.ev_types.specs.declared.rows.RowStatus.{RowStatus}
 use Rattle.ev_types.specs.declared.rows.RowStatus.TheVariants.{Warming, Active, Draining, Dropped}
 use Rattle.ev_types.specs.declared.rows.GenRow.{GenRow}
-use Rattle.ev_types.specs.declared.rows.Arrival.{Arrival}
-use Rattle.ev_types.specs.declared.rows.Arrival.TheVariants.{Value, Absent, Bad, TimedOut, Ended}
 use Rattle.ev_types.specs.declared.events.Actor.{Actor}
 use Rattle.ev_types.specs.declared.events.Actor.TheVariants.{Worker}
 use Rattle.ev_types.specs.declared.events.Entry.{Entry}
@@ -17,7 +15,7 @@ use Rattle.ev_model.specs.World.{World, Arrived, OpenMember}
 use Rattle.ev_model.specs.Picture.{has_number, is_shown, numbers_shown}
 use Rattle.ev_model.specs.Live.{lives_of}
 use Rattle.ev_model.specs.Watching.{is_by_name, is_watched}
-use Rattle.ev_model.specs.Warming.{is_told}
+use Rattle.ev_model.specs.Warming.{is_word, is_timeout, is_told}
 use Rattle.ev_model.specs.Dead.{shown_at, version_held, is_open_on, is_in_use, is_in_use_by}
 use Rattle.ev_model.specs.Operations.{actor_same}
 use Rattle.ev_model.specs.Tidy.{is_due}
@@ -122,26 +120,23 @@ was_told entries kind name = list_any (λ (entry : Entry). tells_of_name kind na
 abbrev pub was_timed : List Entry → Kind → List ℕ → Bool
 was_timed entries kind name = list_any (λ (entry : Entry). times_out kind name entry.event entry.answer) entries
 
--- the entries after the one that made the last of so many generations: all where there are none
+-- those of these entries that come after the one that made the generation of this number; numbers begin at 1
 abbrev pub entries_after : ℕ → List Entry → List Entry
 entries_after zero entries = entries
-entries_after (suc n) entries = entries_since (suc n) entries
+entries_after (suc place) entries = entries_since (suc place) entries
 
--- why it came: a word was told, a timeout has come; for the end of a time to live nothing is said
-abbrev pub came_by : Arrival → Bool → Bool → Bool
-came_by (Value content) told timed = told
-came_by Absent told timed = told
-came_by Bad told timed = told
-came_by TimedOut told timed = timed
-came_by (Ended content) told timed = true
-
--- an entry is why it came, which stands after all generations were made that stood by then
+-- one of these entries is why it came: after the last generation was made that stood by then, it has told of the name or, where a
+-- timeout came, was that; the end of a time to live comes of a name that an entry has told of
 abbrev pub has_come_by : List Entry → Arrived → Bool
 has_come_by entries a =
-    came_by a.arrival (was_told (entries_after a.made entries) a.kind a.name) (was_timed (entries_after a.made entries) a.kind a.name)
+    if is_word a.arrival
+    then was_told (entries_after a.made entries) a.kind a.name
+    else (if is_timeout a.arrival
+    then was_timed (entries_after a.made entries) a.kind a.name
+    else was_told entries a.kind a.name)
 
--- all that came for names was said by the control plane or timed out, and a version of endpoints or routes is kept only of a
--- name that was told of; so the value that the end of a time to live puts in its place is one of a name that was told of, too
+-- all that came for names was said by the control plane or timed out, or is the end of what it has said; and a version of
+-- endpoints or routes is kept only of a name that was told of
 pub record ComesByEntries (world : World) (entries : List Entry) : Type 0 where
   pub arrivals : All (λ (a : Arrived). IsTrue (has_come_by entries a)) world.arrivals
   pub versions : All (λ (kept : KeptVersion). is_by_name kept.kind ≡ true → IsTrue (was_told entries kept.kind kept.name)) world.versions

@@ -8,7 +8,7 @@ pub fn runs_keep_their_parts()
 
 /// A law of every run, in both formats: connections go only to warmed generations. What an accept names served and was ready
 /// after some entry before the picture was published that its worker holds, and an entry not after that one had answered what
-/// it waits for. It does nothing.
+/// it waits for: where that has to come anew, one since the generation was made. It does nothing.
 pub fn connections_go_to_warmed_generations()
     ensures { RunsOpenWarmed }
 {}

@@ -1,5 +1,5 @@
 -- What is in use stands among the rows, and what was reaped stands there no longer.
-use Rattle.std.proofs.Common.{◌≡◌, ℕ, ◌≤◌, Bool, true, false, ◌&&◌, ◌==◌, length, take, IsTrue}
+use Rattle.std.proofs.Common.{ℕ, ◌≤◌, ◌&&◌, ◌==◌, length, take}
 use Rattle.std.specs.Cmp.{first_so}
 use Rattle.std.specs.List.{list_any}
 use Rattle.std.proofs.lemmas.Bool.{both_ways, false_from_ne_true}

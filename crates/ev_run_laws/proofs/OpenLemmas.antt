@@ -1,8 +1,8 @@
 -- Each open connection was opened by an accept, and wasn't closed since.
-use Rattle.std.proofs.Common.{◌≡◌, ℕ, ◌+◌, ◌<◌, ◌≤◌, ◌⊎◌, inl, inr, zero, suc, get_or, Bool, true, false, not, ◌&&◌, ◌==◌, List, [], ◌∷◌, ◌++◌, length, drop, take, map, filter, Option, Some, None, refl, sym, ap, ◌∙◌, subst, IsTrue, arith}
-use Rattle.std.specs.Prelude.{nat_le, slice_get}
+use Rattle.std.proofs.Common.{◌≡◌, ℕ, ◌+◌, ◌<◌, ◌≤◌, ◌⊎◌, inl, inr, zero, suc, get_or, Bool, true, false, not, ◌&&◌, ◌==◌, List, [], ◌∷◌, ◌++◌, length, drop, take, map, filter, Option, Some, None, refl, sym, ap, ◌∙◌, subst, arith}
+use Rattle.std.specs.Prelude.{nat_le}
 use Rattle.std.specs.Cmp.{first_so, second_so}
-use Rattle.std.specs.List.{list_any, Contains, All}
+use Rattle.std.specs.List.{list_any, Contains}
 use Rattle.std.proofs.lemmas.Bool.{false≢true, both_ways, cond_both, and_from, or_left, false_from_ne_true}
 use Rattle.std.proofs.lemmas.List.{append-nil, length-take-le, drop-append-le}
 use Rattle.std.proofs.lemmas.List.Elements.{All-contains, All-contains_itself, All-filter, filter_passes, Contains-append_cases}
@@ -21,17 +21,17 @@ use Rattle.ev_types.specs.declared.events.Event.TheVariants.{Connect, Disconnect
 use Rattle.ev_types.specs.declared.journals.Format.{Format}
 use Rattle.ev_model.specs.declared.pictures.Picture.{Picture}
 use Rattle.ev_model.specs.declared.pictures.Choice.{Choice}
-use Rattle.ev_model.specs.declared.pictures.Choice.TheVariants.{NoListener, NoRoute, Local, Redirect, NoCluster, NoEndpoint, Served}
+use Rattle.ev_model.specs.declared.pictures.Choice.TheVariants.{NoListener, NoChain, Undecided, Elsewhere, NoRoute, Local, Redirect, NoCluster, NoEndpoint, Served}
 use Rattle.ev_model.specs.World.{World, OpenMember}
 use Rattle.ev_model.specs.Operations.{actor_same, actor_decides}
 use Rattle.ev_model.specs.Picture.{has_number}
-use Rattle.ev_model.specs.Dead.{picture_held}
+use Rattle.ev_model.specs.Dead.{picture_held, is_forwarded_to}
 use Rattle.ev_model.specs.Choice.{choice_of}
-use Rattle.ev_model.specs.Connections.{Worked, is_member, is_open, host_at, served_by, answer_of, member_on, members_of, opened_by, closed_by, is_closing, left_open, accept, close, settle}
+use Rattle.ev_model.specs.Connections.{Worked, is_member, is_open, host_at, served_by, answer_of, member_on, members_of, opened_by, closed_by, is_closing, accept, close, settle}
 use Rattle.ev_model.specs.Entries.{names_row, connection_of, closes, closes_connection}
 use Rattle.ev_model.specs.Step.{step}
-use Rattle.ev_model.specs.Laws.{Told, world_told, IsEntryAt, Opened}
-use Rattle.ev_model_laws.proofs.KeepLemmas.{HoldsOfEach, is_for_managers, either, of_worker-keeps, step-holds}
+use Rattle.ev_model.specs.Laws.{Told, world_told, IsEntryAt}
+use Rattle.ev_model_laws.proofs.KeepLemmas.{is_for_managers, either, of_worker-keeps, step-holds}
 use Rattle.ev_model_laws.proofs.SeenLemmas.{same_seen}
 use Rattle.ev_model_laws.proofs.PlaceLemmas.{take_one, Runs, IsAnswered, entry_answered, world_next, over_places}
 use Rattle.ev_model_laws.proofs.TidyLists.{any_at}
@@ -114,6 +114,10 @@ module _ (new : OpenMember) (opened : List OpenMember) (none : is_open opened ne
 once_chosen : (worker connection : ℕ) (choice : Choice) (opened : List OpenMember) → is_open opened worker connection ≡ false → IsOpenOnce opened
     → IsOpenOnce (opened ++ members_of worker connection choice)
 once_chosen worker connection NoListener opened none once = subst IsOpenOnce (sym (append-nil opened)) once
+once_chosen worker connection NoChain opened none once = subst IsOpenOnce (sym (append-nil opened)) once
+once_chosen worker connection (Undecided listener) opened none once = once_more (member_on worker connection listener None) opened none once
+once_chosen worker connection (Elsewhere listener cluster) opened none once =
+    once_more (member_on worker connection listener cluster) opened none once
 once_chosen worker connection (NoRoute listener) opened none once = once_more (member_on worker connection listener None) opened none once
 once_chosen worker connection (Local listener status) opened none once = once_more (member_on worker connection listener None) opened none once
 once_chosen worker connection (Redirect listener) opened none once = once_more (member_on worker connection listener None) opened none once
@@ -198,6 +202,12 @@ module _ (world : World) (once : IsOpenOnce world.opened) where
 
     chosen_from : (picture : Picture) (choice : Choice) (m : OpenMember) → Contains (members_of worker ask.conn choice) m → Here (answer_of picture choice) m
     chosen_from picture NoListener m there = absurd (omega (arith, there.1))
+    chosen_from picture NoChain m there = absurd (omega (arith, there.1))
+    chosen_from picture (Undecided listener) m there =
+        opens_on listener None (answer_of picture (Undecided listener)) (own listener) m there
+    chosen_from picture (Elsewhere listener cluster) m there =
+        opens_on listener cluster (answer_of picture (Elsewhere listener cluster))
+        (or_left (listener == listener) (is_forwarded_to listener cluster) (own listener)) m there
     chosen_from picture (NoRoute listener) m there = opens_on listener None (answer_of picture (NoRoute listener)) (own listener) m there
     chosen_from picture (Local listener status) m there = opens_on listener None (answer_of picture (Local listener status)) (own listener) m there
     chosen_from picture (Redirect listener) m there = opens_on listener None (answer_of picture (Redirect listener)) (own listener) m there

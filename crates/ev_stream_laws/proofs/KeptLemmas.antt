@@ -1,10 +1,11 @@
 -- A resource that is kept stands once in its response, so it is the last that came for its name.
-use Rattle.std.proofs.Common.{◌≡◌, ℕ, zero, suc, ◌+◌, ◌≤◌, Bool, true, false, cond, ◌&&◌, List, [], ◌∷◌, ◌++◌, length, map, filter_map, nat_le, Option, None, Some, inl, inr, refl, sym, ap, subst, ◌∙◌, arith}
+use Rattle.std.proofs.Common.{◌≡◌, ℕ, zero, suc, ◌+◌, ◌≤◌, Bool, true, false, cond, List, [], ◌∷◌, ◌++◌, length, map, filter, filter_map, nat_le, Option, None, Some, inl, inr, refl, sym, ap, ap₂, subst, ◌∙◌, arith}
 use Rattle.std.specs.Prelude.{slice_get}
 use Rattle.std.specs.List.{list_any, last_or, fold, zip, AllByRecursion as ByRecursion}
 use Rattle.std.specs.Str.{bytes_eq}
 use Rattle.std.proofs.lemmas.Bool.{false≢true, both_ways, and_from, cases_Bool, leb-false}
-use Rattle.std.proofs.lemmas.List.Elements.{filter_map-append}
+use Rattle.std.proofs.lemmas.List.Elements.{filter-append, filter_map-append}
+use Rattle.std.proofs.lemmas.List.{map-append}
 use Rattle.ev_types.specs.Items.{ItemParts, ResponseParts}
 use Rattle.ev_types.specs.Kinds.{kind_same, kind_decides}
 use Rattle.ev_types.specs.Same.{bytes_decide}
@@ -22,17 +23,18 @@ use Rattle.ev_types.specs.declared.rows.KeptVersion.{KeptVersion}
 use Rattle.ev_types.specs.declared.rows.Live.{Live}
 use Rattle.ev_model.specs.World.{World, Arrived}
 use Rattle.ev_model.specs.Live.{lives_of}
-use Rattle.ev_model.specs.Watching.{is_watched}
-use Rattle.ev_model.specs.Warming.{content_in, is_word, value_of, is_told}
+use Rattle.ev_model.specs.Watching.{is_by_name, is_watched}
+use Rattle.ev_model.specs.Warming.{is_for, content_in, is_word, value_of, is_told, last_told}
 use Rattle.ev_model.specs.Verdicts.{items_named, stale_rule, twice_rule, removed_rule, form_rule, lesser, rule_of, verdict_by, verdict_of, lives_left, verdicts_by, verdicts_for}
 use Rattle.ev_model.specs.Rows.{arrived, with_removals, keep_value, with_content, add_item, add_items, made_names, with_first}
 use Rattle.ev_model.specs.Tidy.{tidy}
 use Rattle.ev_model.specs.Entries.{is_word_on}
 use Rattle.ev_model.specs.Step.{step, respond_by, responded}
 use Rattle.ev_model_laws.proofs.AnyLemmas.{any_second}
-use Rattle.ev_model_laws.proofs.VerdictLemmas.{judged_by}
+use Rattle.ev_model_laws.proofs.VerdictLemmas.{fits, judged_by, verdict_fits}
+use Rattle.ev_model_laws.proofs.CameLemmas.{by_name_kept, item_drawn, removals_drawn}
 use Rattle.ev_stream_laws.specs.Told.{KeptIsValue}
-use Rattle.ev_stream_laws.proofs.ToldLemmas.{came, came-append, Hush, items_came, first_came, tidied_came}
+use Rattle.ev_stream_laws.proofs.ToldLemmas.{came, came-append, last_word, told_is, Hush, items_came, first_came, tidied_came}
 
 -- ---- a resource that is kept stands once
 
@@ -102,42 +104,66 @@ module _ (kind : Kind) (name : List ℕ) where
         )
       ]
 
-  -- the last that came for the name is this content
-  record IsLast (content : Content) (after : World) : Type 0 where
-    pub before : List Arrival
-    pub is : came kind name after.arrivals ≡ before ++ Value content ∷ []
+  -- the last that came for the name is this content, when so many numbers were drawn
+  record IsLast (made : ℕ) (content : Content) (after : World) : Type 0 where
+    pub before : List Arrived
+    pub is : came kind name after.arrivals ≡ before ++ arrived made kind (Value content) name ∷ []
 
-  value_put : (item : ItemParts) (body : Body) (content : Content) (world : World) → item.name ≡ name → body ≡ Good content → IsLast content (with_content (keep_value kind item) body world)
-  value_put item body content world named good =
-      let own : (kind_same kind kind && bytes_eq item.name name) ≡ true = and_from (kind_same kind kind) (bytes_eq item.name name) ((kind_decides kind kind).1 refl) ((bytes_decide item.name name).1 named) in
-      subst (λ (b : Body). IsLast content (with_content (keep_value kind item) b world)) (sym good) (record {
-        before = came kind name world.arrivals;
-        is = came-append kind name world.arrivals (arrived kind (Value content) item.name ∷ [])
-            ∙ ap (λ (b : Bool). came kind name world.arrivals ++ map (λ (a : Arrived). a.arrival) (cond b (arrived kind (Value content) item.name ∷ []) [])) own;
+  value_put : (made : ℕ) (item : ItemParts) (body : Body) (content : Content) (world : World)
+      → world.made ≡ made → item.name ≡ name → body ≡ Good content
+      → IsLast made content (with_content (keep_value kind item) body world)
+  value_put made item body content world same named good =
+      let own : is_for kind name (arrived world.made kind (Value content) item.name) ≡ true =
+      and_from (kind_same kind kind) (bytes_eq item.name name) ((kind_decides kind kind).1 refl) ((bytes_decide item.name name).1 named) in
+      let before : List Arrived = came kind name world.arrivals in
+      subst (λ (b : Body). IsLast made content (with_content (keep_value kind item) b world)) (sym good) (record {
+        before = before;
+        is = came-append kind name world.arrivals (arrived world.made kind (Value content) item.name ∷ [])
+            ∙ ap (λ (b : Bool). before ++ cond b (arrived world.made kind (Value content) item.name ∷ []) []) own
+            ∙ ap₂ (λ (n : ℕ) (of : List ℕ). before ++ arrived n kind (Value content) of ∷ []) same named;
       })
 
-  value_after : (verdicts : List Verdict) (items : List ItemParts) (place : ℕ) (item : ItemParts) (content : Content) (world : World)
-      → length (items_named name items) ≤ 1 → slice_get verdicts place ≡ Some Kept → slice_get items place ≡ Some item → item.name ≡ name → item.body ≡ Good content
-      → IsLast content (fold (λ (w : World) (one : Verdict × ItemParts). add_item kind one.0 one.1 w) world (zip verdicts items))
-  value_after [] items place item content world one judged there named good = absurd (cc)
-  value_after (verdict ∷ verdicts) [] place item content world one judged there named good = absurd (cc)
-  value_after (verdict ∷ verdicts) (first ∷ items) zero item content world one judged there named good =
+  value_after : (made : ℕ) (verdicts : List Verdict) (items : List ItemParts) (place : ℕ) (item : ItemParts) (content : Content)
+      (world : World)
+      → is_by_name kind ≡ true → world.made ≡ made
+      → ByRecursion (λ (one : Verdict × ItemParts). fits kind one.0 ≡ true) (zip verdicts items)
+      → length (items_named name items) ≤ 1 → slice_get verdicts place ≡ Some Kept → slice_get items place ≡ Some item
+      → item.name ≡ name → item.body ≡ Good content
+      → IsLast made content (fold (λ (w : World) (one : Verdict × ItemParts). add_item kind one.0 one.1 w) world (zip verdicts items))
+  value_after made [] items place item content world by_name same fit one judged there named good = absurd (cc)
+  value_after made (verdict ∷ verdicts) [] place item content world by_name same fit one judged there named good = absurd (cc)
+  value_after made (verdict ∷ verdicts) (first ∷ items) zero item content world by_name same fit one judged there named good =
       let this : first ≡ item = cc in
       let kept : verdict ≡ Kept = cc in
       let own : first.name ≡ name = ap (λ (i : ItemParts). i.name) this ∙ named in
       let here : bytes_eq first.name name ≡ true = (bytes_decide first.name name).1 own in
       let put : World = add_item kind Kept first world in
-      let last : IsLast content put = value_put first first.body content world own (ap (λ (i : ItemParts). i.body) this ∙ good) in
-      subst (λ (v : Verdict). IsLast content (fold (λ (w : World) (one : Verdict × ItemParts). add_item kind one.0 one.1 w) (add_item kind v first world) (zip verdicts items))) (sym kept)
+      let last : IsLast made content put =
+      value_put made first first.body content world same own (ap (λ (i : ItemParts). i.body) this ∙ good) in
+      subst
+      (λ (v : Verdict).
+      IsLast made content
+      (fold (λ (w : World) (one : Verdict × ItemParts). add_item kind one.0 one.1 w) (add_item kind v first world) (zip verdicts items)))
+      (sym kept)
       (record {
         before = last.before;
-        is = items_came kind name put kind (zip verdicts items) put (none_hush put verdicts items (omega (arith, one, named_count name first items true here))) refl ∙ last.is;
+        is = items_came kind name put kind (zip verdicts items) put
+            (none_hush put verdicts items (omega (arith, one, named_count name first items true here))) refl
+            ∙ last.is;
       })
-  value_after (verdict ∷ verdicts) (first ∷ items) (suc place) item content world one judged there named good =
+  value_after made (verdict ∷ verdicts) (first ∷ items) (suc place) item content world by_name same fit one judged there named good =
+      let after : World = add_item kind verdict first world in
+      let drawn : after.made ≡ made = item_drawn kind verdict first world fit.0 by_name ∙ same in
       elim (cases_Bool (bytes_eq first.name name)) [
-        | inl here ↦ value_after verdicts items place item content (add_item kind verdict first world) (omega (arith, one, named_count name first items true here)) judged there named good
-        | inr other ↦ value_after verdicts items place item content (add_item kind verdict first world) (omega (arith, one, named_count name first items false other)) judged there named good
+        | inl here ↦ value_after made verdicts items place item content after by_name drawn fit.1
+            (omega (arith, one, named_count name first items true here)) judged there named good
+        | inr other ↦ value_after made verdicts items place item content after by_name drawn fit.1
+            (omega (arith, one, named_count name first items false other)) judged there named good
       ]
+
+last_after : {X : Type 0} (first : Option X) (xs : List X) (x : X) → last_or first (xs ++ x ∷ []) ≡ Some x
+last_after first [] x = refl
+last_after first (y ∷ xs) x = last_after (Some y) xs x
 
 pub kept_value : KeptIsValue
 kept_value format world actor response kind place item content streams typed judged there good watched =
@@ -145,33 +171,47 @@ kept_value format world actor response kind place item content streams typed jud
     let left : World = with_removals kind response world in
     let items : World = add_items kind verdicts response.items left in
     let firsts : World = with_first kind (made_names verdicts response.items) items in
+    let lives : List Live = lives_left kind response (lives_of world) in
+    let here : slice_get verdicts place ≡ Some Kept =
+    sym (ap (λ (of : Option Kind). slice_get (verdicts_by of (lives_of world) world.versions response) place) typed) ∙ judged in
     let once : nat_le 2 (length (items_named item.name response.items)) ≡ false =
     at_place (StandsOnce response) verdicts response.items place Kept item
-    (judged_by (StandsOnce response) kind response world.versions (kept_once kind response world.versions) (lives_left kind response (lives_of world)) response.items)
-    (sym (ap (λ (of : Option Kind). slice_get (verdicts_by of (lives_of world) world.versions response) place) typed) ∙ judged) there refl in
-    let last : IsLast kind item.name content items =
-    value_after kind item.name verdicts response.items place item content left (omega (arith, leb-false 2 (length (items_named item.name response.items)) once))
-    (sym (ap (λ (of : Option Kind). slice_get (verdicts_by of (lives_of world) world.versions response) place) typed) ∙ judged) there refl good in
+    (judged_by (StandsOnce response) kind response world.versions (kept_once kind response world.versions) lives response.items)
+    here there refl in
+    let fit : ByRecursion (λ (one : Verdict × ItemParts). fits kind one.0 ≡ true) (zip verdicts response.items) =
+    judged_by (λ (one : Verdict × ItemParts). fits kind one.0 ≡ true) kind response world.versions
+    (λ lives (other : ItemParts). verdict_fits kind response lives world.versions other) lives response.items in
+    let by_name : is_by_name kind ≡ true =
+    by_name_kept kind
+    (at_place (λ (one : Verdict × ItemParts). fits kind one.0 ≡ true) verdicts response.items place Kept item fit here there) in
+    let last : IsLast kind item.name world.made content items =
+    value_after kind item.name world.made verdicts response.items place item content left by_name (removals_drawn kind response world) fit
+    (omega (arith, leb-false 2 (length (items_named item.name response.items)) once)) here there refl good in
     let after : (step format world actor (Response response)).0 ≡ responded kind response verdicts world =
     ap (λ (b : Bool). (cond b (respond_by response.kind response world) (world, Ignored)).0) streams
     ∙ ap (λ (of : Option Kind). (respond_by of response world).0) typed
     ∙ ap (λ (of : Option Kind). responded kind response (verdicts_by of (lives_of world) world.versions response) world) typed in
-    let all : came kind item.name (tidy firsts).arrivals ≡ last.before ++ Value content ∷ [] =
+    let one : Arrived = arrived world.made kind (Value content) item.name in
+    let arrival : Arrived → Arrival = λ (a : Arrived). a.arrival in
+    let number : Arrived → ℕ = λ (a : Arrived). a.made in
+    let word : Arrived → Bool = λ (a : Arrived). is_word a.arrival in
+    let all : came kind item.name (tidy firsts).arrivals ≡ last.before ++ one ∷ [] =
     tidied_came kind item.name firsts (subst (λ (w : World). is_watched (lives_of w) kind item.name ≡ true) after watched)
     ∙ first_came kind item.name items kind (made_names verdicts response.items) items refl
-    ∙ last.is in (
+    ∙ last.is in
+    let arrivals : map arrival (came kind item.name (tidy firsts).arrivals) ≡ map arrival last.before ++ Value content ∷ [] =
+    ap (map arrival) all ∙ map-append arrival last.before (one ∷ []) in (
       ap (λ (w : World). value_of w kind item.name) after
-          ∙ ap (λ (xs : List Arrival). last_or None (filter_map content_in xs)) all
-          ∙ ap (λ (xs : List Content). last_or None xs) (filter_map-append content_in last.before (Value content ∷ []))
-          ∙ last_behind (filter_map content_in last.before) content,
+          ∙ ap (λ (xs : List Arrival). last_or None (filter_map content_in xs)) arrivals
+          ∙ ap (λ (xs : List Content). last_or None xs) (filter_map-append content_in (map arrival last.before) (Value content ∷ []))
+          ∙ last_after None (filter_map content_in (map arrival last.before)) content,
       ap (λ (w : World). is_told w kind item.name) after
-          ∙ ap (λ (xs : List Arrival). list_any is_word xs) all
-          ∙ any_second is_word last.before (Value content ∷ []) refl,
+          ∙ ap (λ (xs : List Arrival). list_any is_word xs) arrivals
+          ∙ any_second is_word (map arrival last.before) (Value content ∷ []) refl,
+      ap (λ (w : World). last_told w.arrivals kind item.name) after
+          ∙ told_is kind item.name (tidy firsts).arrivals
+          ∙ ap (last_word kind item.name) all
+          ∙ ap (λ (xs : List Arrived). last_or None (map number xs)) (filter-append word last.before (one ∷ []))
+          ∙ ap (λ (ns : List ℕ). last_or None ns) (map-append number (filter word last.before) (one ∷ []))
+          ∙ last_after None (map number (filter word last.before)) world.made,
     )
-  where
-    last_after : (first : Option Content) (xs : List Content) (x : Content) → last_or first (xs ++ x ∷ []) ≡ Some x
-    last_after first [] x = refl
-    last_after first (y ∷ xs) x = last_after (Some y) xs x
-
-    last_behind : (xs : List Content) (x : Content) → last_or None (xs ++ x ∷ []) ≡ Some x
-    last_behind xs x = last_after None xs x

@@ -231,7 +231,8 @@ module _ (kind : Kind) (name : List ℕ) where
       disconnected = λ is. quiet (record world { stream = false }) _ (λ h. h);
       replied = replied_begins;
       resulted = λ cluster host healthy rows is. quiet (with_results host healthy rows world) _ (λ h. h);
-      timed = λ timeout of is named. quiet (record world { arrivals = world.arrivals ++ arrived timeout.kind TimedOut of ∷ [] }) _ (λ h. h);
+      timed = λ timeout of is named.
+          quiet (record world { arrivals = world.arrivals ++ arrived world.made timeout.kind TimedOut of ∷ [] }) _ (λ h. h);
       clusters_late = λ timeout is. quiet (record world { late_clusters = true }) _ (λ h. h);
       listeners_late = λ timeout is. quiet (record world { late_listeners = true }) _ (λ h. h);
       expired = λ of numbers is. quiet (record world { expired = world.expired ++ numbers }) _ (λ h. h);

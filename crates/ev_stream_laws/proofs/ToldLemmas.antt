@@ -23,11 +23,11 @@ use Rattle.ev_types.specs.declared.events.Verdict.{Verdict}
 use Rattle.ev_types.specs.declared.events.Verdict.TheVariants.{New, Same, Kept, Unasked, Renewed, Refused}
 use Rattle.ev_types.specs.declared.journals.Format.{Format}
 use Rattle.ev_types.specs.declared.rows.Arrival.{Arrival}
-use Rattle.ev_types.specs.declared.rows.Arrival.TheVariants.{Value, Absent, Bad as bad, TimedOut}
+use Rattle.ev_types.specs.declared.rows.Arrival.TheVariants.{Value, Absent, Bad as bad, TimedOut, Ended}
 use Rattle.ev_model.specs.World.{World, Arrived}
 use Rattle.ev_model.specs.Live.{lives_of}
 use Rattle.ev_model.specs.Watching.{is_watched}
-use Rattle.ev_model.specs.Warming.{came_for, content_in, is_word}
+use Rattle.ev_model.specs.Warming.{is_for, content_in, is_word, last_told}
 use Rattle.ev_model.specs.Verdicts.{is_removed, verdicts_for}
 use Rattle.ev_model.specs.Rows.{arrived, absent_names, with_absences, with_removals, keep_version, add_row, keep_value, with_content, refuse, add_item, add_items, made_names, with_first}
 use Rattle.ev_model.specs.Tidy.{promoted, tidy}
@@ -35,8 +35,9 @@ use Rattle.ev_model.specs.Signals.{no_hosts, no_routes, with_end, forget_version
 use Rattle.ev_model.specs.Entries.{is_word_on, has_word_on, is_response_of, tells_of_name}
 use Rattle.ev_model.specs.Step.{step, answered}
 use Rattle.ev_model_laws.proofs.AnyLemmas.{any_behind, any_first}
+use Rattle.ev_model_laws.proofs.OperationLists.{filter_filter}
 use Rattle.ev_model_laws.proofs.TidyLists.{all_of, any_at}
-use Rattle.ev_model_laws.proofs.TidyLemmas.{came_same}
+use Rattle.ev_model_laws.proofs.TidyLemmas.{for_same}
 use Rattle.ev_model_laws.proofs.ExpiredLemmas.{passed}
 use Rattle.ev_model_laws.proofs.EventLemmas.{step-leads}
 use Rattle.ev_stream_laws.specs.Told.{ends_name, HasSameValue, ToldStays}
@@ -51,38 +52,48 @@ same_false false true h k = k refl
 same_false false false h k = refl
 
 module _ (kind : Kind) (name : List ℕ) where
-  abbrev pub is_for : Arrived → Bool
-  is_for a = kind_same a.kind kind && bytes_eq a.name name
-
-  abbrev pub came : List Arrived → List Arrival
-  came arrivals = came_for arrivals kind name
+  -- what came for the name
+  abbrev pub came : List Arrived → List Arrived
+  came arrivals = filter (is_for kind name) arrivals
 
   pub came-append : (xs ys : List Arrived) → came (xs ++ ys) ≡ came xs ++ came ys
-  came-append xs ys = ap (map (λ (a : Arrived). a.arrival)) (filter-append is_for xs ys) ∙ map-append (λ (a : Arrived). a.arrival) (filter is_for xs) (filter is_for ys)
+  came-append xs ys = filter-append (is_for kind name) xs ys
 
-  other_alone : (a : Arrived) → is_for a ≡ false → came (a ∷ []) ≡ []
-  other_alone a e = ap (λ (b : Bool). map (λ (a : Arrived). a.arrival) (cond b (a ∷ []) [])) e
+  -- how many numbers were drawn at the last word among these
+  abbrev pub last_word : List Arrived → Option ℕ
+  last_word arrivals = last_or None (map (λ (a : Arrived). a.made) (filter (λ (a : Arrived). is_word a.arrival) arrivals))
+
+  pub told_is : (arrivals : List Arrived) → last_told arrivals kind name ≡ last_word (came arrivals)
+  told_is arrivals =
+      sym (ap (λ (xs : List Arrived). last_or None (map (λ (a : Arrived). a.made) xs))
+      (filter_filter (λ (a : Arrived). is_word a.arrival) (is_for kind name) arrivals))
+
+  other_alone : (a : Arrived) → is_for kind name a ≡ false → came (a ∷ []) ≡ []
+  other_alone a e = ap (λ (b : Bool). cond b (a ∷ []) []) e
 
   -- what came for another name says nothing
-  other_came : (arrivals : List Arrived) (a : Arrived) → is_for a ≡ false → came (arrivals ++ a ∷ []) ≡ came arrivals
-  other_came arrivals a e = came-append arrivals (a ∷ []) ∙ ap (λ (xs : List Arrival). came arrivals ++ xs) (other_alone a e) ∙ append-nil (came arrivals)
+  other_came : (arrivals : List Arrived) (a : Arrived) → is_for kind name a ≡ false → came (arrivals ++ a ∷ []) ≡ came arrivals
+  other_came arrivals a e =
+      came-append arrivals (a ∷ []) ∙ ap (λ (xs : List Arrived). came arrivals ++ xs) (other_alone a e) ∙ append-nil (came arrivals)
 
-  others_alone : (of : Kind) (names : List (List ℕ)) → ByRecursion (λ n. (kind_same of kind && bytes_eq n name) ≡ false) names → came (map (arrived of Absent) names) ≡ []
-  others_alone of [] each = refl
-  others_alone of (n ∷ names) each =
-      came-append (arrived of Absent n ∷ []) (map (arrived of Absent) names)
-      ∙ ap (λ (xs : List Arrival). xs ++ came (map (arrived of Absent) names)) (other_alone (arrived of Absent n) each.0)
-      ∙ others_alone of names each.1
+  others_alone : (made : ℕ) (of : Kind) (names : List (List ℕ)) → ByRecursion (λ n. (kind_same of kind && bytes_eq n name) ≡ false) names
+      → came (map (arrived made of Absent) names) ≡ []
+  others_alone made of [] each = refl
+  others_alone made of (n ∷ names) each =
+      came-append (arrived made of Absent n ∷ []) (map (arrived made of Absent) names)
+      ∙ ap (λ (xs : List Arrived). xs ++ came (map (arrived made of Absent) names)) (other_alone (arrived made of Absent n) each.0)
+      ∙ others_alone made of names each.1
 
-  others_came : (arrivals : List Arrived) (of : Kind) (names : List (List ℕ)) → ByRecursion (λ n. (kind_same of kind && bytes_eq n name) ≡ false) names
-      → came (arrivals ++ map (arrived of Absent) names) ≡ came arrivals
-  others_came arrivals of names each =
-      came-append arrivals (map (arrived of Absent) names)
-      ∙ ap (λ (xs : List Arrival). came arrivals ++ xs) (others_alone of names each)
+  others_came : (arrivals : List Arrived) (made : ℕ) (of : Kind) (names : List (List ℕ))
+      → ByRecursion (λ n. (kind_same of kind && bytes_eq n name) ≡ false) names
+      → came (arrivals ++ map (arrived made of Absent) names) ≡ came arrivals
+  others_came arrivals made of names each =
+      came-append arrivals (map (arrived made of Absent) names)
+      ∙ ap (λ (xs : List Arrived). came arrivals ++ xs) (others_alone made of names each)
       ∙ append-nil (came arrivals)
 
   pub tidied_came : (world : World) → is_watched (lives_of (tidy world)) kind name ≡ true → came (tidy world).arrivals ≡ came world.arrivals
-  tidied_came world watched = came_same (lives_of (promoted world)) world.arrivals kind name watched
+  tidied_came world watched = for_same (lives_of (promoted world)) world.arrivals kind name watched
 
   module _ (world : World) where
     -- what came for the name is what had come
@@ -91,8 +102,9 @@ module _ (kind : Kind) (name : List ℕ) where
 
     same_by : (after : World) → Came after → HasSameValue kind name world after
     same_by after is = record {
-      value = ap (λ (xs : List Arrival). last_or None (filter_map content_in xs)) is;
-      told = ap (λ (xs : List Arrival). list_any is_word xs) is;
+      value = ap (λ (xs : List Arrived). last_or None (filter_map content_in (map (λ (a : Arrived). a.arrival) xs))) is;
+      told = ap (λ (xs : List Arrived). list_any is_word (map (λ (a : Arrived). a.arrival) xs)) is;
+      last = told_is after.arrivals ∙ ap last_word is ∙ sym (told_is world.arrivals);
     }
 
     -- ---- a response
@@ -120,13 +132,13 @@ module _ (kind : Kind) (name : List ℕ) where
       version_came item Beat after is = is
 
       value_came : (item : ItemParts) (body : Body) (after : World) → Other item.name → Came after → Came (with_content (keep_value of item) body after)
-      value_came item (Good content) after other is = other_came after.arrivals (arrived of (Value content) item.name) other ∙ is
+      value_came item (Good content) after other is = other_came after.arrivals (arrived after.made of (Value content) item.name) other ∙ is
       value_came item (Bad rule) after other is = is
       value_came item Beat after other is = is
 
     told_came : (of : Kind) (n : List ℕ) (watched : Bool) (after : World) → Other of n → Came after
-        → Came (cond watched (record after { arrivals = after.arrivals ++ arrived of bad n ∷ [] }) after)
-    told_came of n true after other is = other_came after.arrivals (arrived of bad n) other ∙ is
+        → Came (cond watched (record after { arrivals = after.arrivals ++ arrived after.made of bad n ∷ [] }) after)
+    told_came of n true after other is = other_came after.arrivals (arrived after.made of bad n) other ∙ is
     told_came of n false after other is = is
 
     refused_came : (of : Kind) (n : List ℕ) (after : World) → Other of n → Came after → Came (refuse of n after)
@@ -159,7 +171,7 @@ module _ (kind : Kind) (name : List ℕ) where
     absent_came of response hush =
         let names : List (List ℕ) = absent_names of response world in
         let test : List ℕ → Bool = λ n. is_removed response n && is_watched (lives_of world) of n in
-        others_came world.arrivals of names
+        others_came world.arrivals world.made of names
         (recursion_from_All (Other of) names (all_of (Other of) names
         (λ n there. hushed of n (λ same.
         hush (ap (is_removed response) (sym ((bytes_decide n name).0 same)) ∙ first_so (is_removed response n) (is_watched (lives_of world) of n) (passed test response.removed n there))))))
@@ -172,28 +184,42 @@ module _ (kind : Kind) (name : List ℕ) where
 
     ended_came : (of : Kind) (n : List ℕ) → Other of n → Came (with_end of n (forget_version of n world))
     ended_came Cds n other = refl
-    ended_came Eds n other = other_came world.arrivals (arrived Eds (Value no_hosts) n) other
+    ended_came Eds n other = other_came world.arrivals (arrived world.made Eds (Ended no_hosts) n) other
     ended_came Lds n other = refl
-    ended_came Rds n other = other_came world.arrivals (arrived Rds (Value no_routes) n) other
+    ended_came Rds n other = other_came world.arrivals (arrived world.made Rds (Ended no_routes) n) other
 
     -- ---- a timeout
 
-    timed_same : (a : Arrived) (test : Bool) → a.arrival ≡ TimedOut → is_for a ≡ test → (after : World) → came after.arrivals ≡ came (world.arrivals ++ a ∷ [])
+    timed_same : (a : Arrived) (test : Bool) → a.arrival ≡ TimedOut → is_for kind name a ≡ test → (after : World)
+        → came after.arrivals ≡ came (world.arrivals ++ a ∷ [])
         → HasSameValue kind name world after
     timed_same a false timed for after is = same_by after (is ∙ other_came world.arrivals a for)
     timed_same a true timed for after is =
-        let one : came (a ∷ []) ≡ TimedOut ∷ [] =
-        ap (λ (b : Bool). map (λ (a : Arrived). a.arrival) (cond b (a ∷ []) [])) for ∙ ap (λ (x : Arrival). x ∷ []) timed in
-        let all : came after.arrivals ≡ came world.arrivals ++ TimedOut ∷ [] =
-        is ∙ came-append world.arrivals (a ∷ []) ∙ ap (λ (xs : List Arrival). came world.arrivals ++ xs) one in
+        let one : came (a ∷ []) ≡ a ∷ [] = ap (λ (b : Bool). cond b (a ∷ []) []) for in
+        let whole : came after.arrivals ≡ came world.arrivals ++ a ∷ [] =
+        is ∙ came-append world.arrivals (a ∷ []) ∙ ap (λ (xs : List Arrived). came world.arrivals ++ xs) one in
+        let before : List Arrival = map (λ (b : Arrived). b.arrival) (came world.arrivals) in
+        let all : map (λ (b : Arrived). b.arrival) (came after.arrivals) ≡ before ++ TimedOut ∷ [] =
+        ap (map (λ (b : Arrived). b.arrival)) whole
+        ∙ map-append (λ (b : Arrived). b.arrival) (came world.arrivals) (a ∷ [])
+        ∙ ap (λ (x : Arrival). before ++ x ∷ []) timed in
+        let word : Arrived → Bool = λ (b : Arrived). is_word b.arrival in
+        let words : filter word (came world.arrivals ++ a ∷ []) ≡ filter word (came world.arrivals) =
+        filter-append word (came world.arrivals) (a ∷ [])
+        ∙ ap (λ (b : Bool). filter word (came world.arrivals) ++ cond b (a ∷ []) []) (ap is_word timed)
+        ∙ append-nil (filter word (came world.arrivals)) in
         record {
           value = ap (λ (xs : List Arrival). last_or None (filter_map content_in xs)) all
               ∙ ap (λ (xs : List Content). last_or None xs)
-              (filter_map-append content_in (came world.arrivals) (TimedOut ∷ []) ∙ append-nil (filter_map content_in (came world.arrivals)));
+              (filter_map-append content_in before (TimedOut ∷ []) ∙ append-nil (filter_map content_in before));
           told = ap (λ (xs : List Arrival). list_any is_word xs) all
               ∙ same_false _ _
-              (λ h. any_behind is_word (came world.arrivals) (TimedOut ∷ []) (λ here. here) (λ none. absurd (both_ways false refl none)) h)
-              (λ h. any_first is_word (came world.arrivals) (TimedOut ∷ []) h);
+              (λ h. any_behind is_word before (TimedOut ∷ []) (λ here. here) (λ none. absurd (both_ways false refl none)) h)
+              (λ h. any_first is_word before (TimedOut ∷ []) h);
+          last = told_is after.arrivals
+              ∙ ap last_word whole
+              ∙ ap (λ (xs : List Arrived). last_or None (map (λ (b : Arrived). b.made) xs)) words
+              ∙ sym (told_is world.arrivals);
         }
 
     -- ---- any event
@@ -239,8 +265,9 @@ module _ (kind : Kind) (name : List ℕ) where
         replied = replied_stays;
         resulted = λ cluster host healthy rows is. after_tidy _ _ refl;
         timed = λ timeout n is named watched hush.
-            timed_same (arrived timeout.kind TimedOut n) (is_for (arrived timeout.kind TimedOut n)) refl refl _
-            (tidied_came (record world { arrivals = world.arrivals ++ arrived timeout.kind TimedOut n ∷ [] }) watched);
+            timed_same (arrived world.made timeout.kind TimedOut n)
+            (is_for kind name (arrived world.made timeout.kind TimedOut n)) refl refl _
+            (tidied_came (record world { arrivals = world.arrivals ++ arrived world.made timeout.kind TimedOut n ∷ [] }) watched);
         clusters_late = λ timeout is. after_tidy _ _ refl;
         listeners_late = λ timeout is. after_tidy _ _ refl;
         expired = λ n numbers is. after_tidy _ _ refl;

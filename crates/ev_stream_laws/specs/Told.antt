@@ -15,7 +15,7 @@ use Rattle.ev_model.specs.World.{World}
 use Rattle.ev_model.specs.Live.{lives_of}
 use Rattle.ev_model.specs.Watching.{is_watched}
 use Rattle.ev_model.specs.Verdicts.{verdicts_of}
-use Rattle.ev_model.specs.Warming.{value_of, is_told}
+use Rattle.ev_model.specs.Warming.{value_of, is_told, last_told}
 use Rattle.ev_model.specs.Entries.{tells_of_name}
 use Rattle.ev_model.specs.Step.{step}
 
@@ -24,12 +24,13 @@ abbrev pub ends_name : Kind → List ℕ → Event → Bool
 ends_name kind name (TtlExpired of ended) = kind_same of kind && bytes_eq ended name
 ends_name kind name event = false
 
--- a name has the value that it had, and is told of where it was
+-- a name has the value that it had, and is told of where it was, for the generations that it was told of for
 pub record HasSameValue (kind : Kind) (name : List ℕ) (before after : World) : Type 0 where
   pub value : value_of after kind name ≡ value_of before kind name
   pub told : is_told after kind name ≡ is_told before kind name
+  pub last : last_told after.arrivals kind name ≡ last_told before.arrivals kind name
 
--- a name that is watched behind an event which says nothing of it has the value that it had, and is told of where it was
+-- a name that is watched after an event which says nothing of it has the value that it had, and is told of where it was
 abbrev pub ToldStays : Type 0
 ToldStays =
     (format : Format) (world : World) (actor : Actor) (event : Event) (kind : Kind) (name : List ℕ)
@@ -38,7 +39,8 @@ ToldStays =
     → ends_name kind name event ≡ false
     → HasSameValue kind name world (step format world actor event).0
 
--- a resource that an answered response keeps is the value of its name, which is told of, where the name is watched behind it
+-- a resource that an answered response keeps is the value of its name, which is told of for each generation that was made, where
+-- the name is watched after it
 abbrev pub KeptIsValue : Type 0
 KeptIsValue =
     (format : Format) (world : World) (actor : Actor) (response : ResponseParts) (kind : Kind) (place : ℕ) (item : ItemParts) (content : Content)
@@ -48,3 +50,4 @@ KeptIsValue =
     → is_watched (lives_of (step format world actor (Response response)).0) kind item.name ≡ true
     → (value_of (step format world actor (Response response)).0 kind item.name ≡ Some content)
     × (is_told (step format world actor (Response response)).0 kind item.name ≡ true)
+    × (last_told (step format world actor (Response response)).0.arrivals kind item.name ≡ Some world.made)
