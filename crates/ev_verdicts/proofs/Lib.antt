@@ -1,3 +1,4 @@
 pub mod ListLemmas
+pub mod DependencyLemmas
 pub mod MadeLemmas
 pub mod FollowLemmas

@@ -4,12 +4,12 @@ ghost use Rattle.ev_model.specs.Watching.{has_dependency, is_watched};
 ghost use Rattle.ev_model.specs.Verdicts.{listening_address, shares_address};
 ghost use Rattle.ev_model.specs.Versions.{is_kept, is_version_of};
 ghost use Rattle.ev_mentions.specs.Lives.{is_at};
-ghost use Rattle.ev_verdicts.specs.Known.{later_named};
+ghost use Rattle.ev_verdicts.specs.Known.{chains_by, default_by, later_named, listener_by, serves_by};
 
 use crate::addresses::address_of;
 use crate::known::Known;
 use ev_mentions::LiveRow;
-use ev_types::{Content, Discovery, Host, KeptVersion, Kind, Serve};
+use ev_types::{Content, Discovery, FilterChain, Host, KeptVersion, Kind, Listener, Serve};
 use std::alloc::{AllocError, Global};
 use std::marker::Model;
 
@@ -154,14 +154,48 @@ fn depends_on(content: &Content, kind: Kind, name: &str) -> bool
 {
     match content {
         Content::Cluster(cluster) => match &cluster.get().discovery {
-            Discovery::Static(_) => false,
             Discovery::Eds { service, .. } => Kind::Eds.is(kind) && service.as_str() == name,
+            Discovery::Static(_) | Discovery::Elsewhere => false,
         },
-        Content::Listener(listener) => match &listener.get().serve {
-            Serve::Rds { name: routes, .. } => Kind::Rds.is(kind) && routes.as_str() == name,
-            Serve::Inline(_) | Serve::Tcp(_) => false,
-        },
+        Content::Listener(listener) => listener_depends_on(listener.get(), kind, name),
         Content::Assignment(_) | Content::Routes(_) => false,
+    }
+}
+
+// Whether a chain of the listener, or its default chain, has its routes by the name.
+fn listener_depends_on(listener: &Listener, kind: Kind, name: &str) -> bool
+    ensures { result ≡ listener_by kind name.now listener.now }
+{
+    chains_depend_on(listener.filter_chains.as_slice(), kind, name)
+        || default_depends_on(&listener.default_filter_chain, kind, name)
+}
+
+// Whether one of these chains has its routes by the name.
+fn chains_depend_on(chains: &[FilterChain], kind: Kind, name: &str) -> bool
+    ensures { result ≡ chains_by kind name.now chains.now }
+{
+    chains
+        .iter()
+        .any(|chain| serve_depends_on(&chain.serve, kind, name))
+}
+
+// Whether the default chain, where there is one, has its routes by the name.
+fn default_depends_on(default: &Option<Serve>, kind: Kind, name: &str) -> bool
+    ensures { result ≡ default_by kind name.now default.now }
+{
+    match default {
+        Some(serve) => serve_depends_on(serve, kind, name),
+        None => false,
+    }
+}
+
+// Whether the routes of what is served come by the name.
+fn serve_depends_on(serve: &Serve, kind: Kind, name: &str) -> bool
+    ensures { result ≡ serves_by kind name.now serve.now }
+{
+    match serve {
+        Serve::Rds { name: routes, .. } => Kind::Rds.is(kind) && routes.as_str() == name,
+        Serve::Inline(_) | Serve::Tcp(_) | Serve::Other => false,
     }
 }
 
