@@ -45,10 +45,12 @@
 //!   and even with `{"format":null}`; a first line with it is a header with a member too many.
 #![tactic(auto)]
 
+mod asks;
 mod content;
 mod fault_kinds;
 mod forms;
 mod header;
+mod headers;
 mod health_lines;
 mod limits;
 mod line_forms;
@@ -63,7 +65,7 @@ mod trees;
 mod worker_lines;
 
 pub use fault_kinds::FaultKind;
-pub use forms::{FormedLine, Forms, ScriptLines};
+pub use forms::{FormedLine, Forms, ScriptLines, Settings};
 pub use header::{Header, read_header};
 pub use limits::{MAX_NUMBER, MAX_PATH_LENGTH, MAX_WORKER};
 pub use lines::read_line;

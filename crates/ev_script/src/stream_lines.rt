@@ -1,13 +1,12 @@
 ghost use Rattle.std.specs.Prelude.{◌≡◌, option_map, option_and_then, codes, IfOk};
 ghost use Rattle.serde_json.specs.View.{view};
-ghost use Rattle.ev_wire.specs.Responses.{response_of};
 ghost use Rattle.ev_script.specs.Members.{member_of};
-ghost use Rattle.ev_script.specs.StreamLines.{connect_line, disconnect_line, response_line};
+ghost use Rattle.ev_script.specs.StreamLines.{message_of, connect_line, disconnect_line, response_line};
 ghost use Rattle.ev_types.specs.declared.events.Event.TheVariants.{Response as response_event};
 
 use crate::line_forms::line_at;
 use crate::members::has_only;
-use ev_types::{Actor, Event, Line, Response};
+use ev_types::{Actor, Event, Line, Profile, Response};
 use ev_wire::{WireError, read_response};
 use serde_json::Value;
 use std::alloc::{AllocError, Global};
@@ -35,15 +34,16 @@ pub(crate) fn disconnect_line(at: u32, tree: &Value) -> Option<Line>
 // A `response`: a message comes on the stream.
 pub(crate) fn response_line(
     alloc: Global,
+    profile: Profile,
     at: u32,
     tree: &Value,
 ) -> Result<Option<Line>, AllocError>
-    ensures { IfOk result (λ line. line ≡ response_line at (view tree.now)) }
+    ensures { IfOk result (λ line. line ≡ response_line profile at (view tree.now)) }
 {
     if !has_only(tree, &["op", "message"]) {
         return Ok(None);
     }
-    let event = response_event(read_message(alloc, tree.get("message"))?);
+    let event = response_event(read_message(alloc, profile, tree.get("message"))?);
     Ok(line_at(at, Actor::Stream, event))
 }
 
@@ -57,10 +57,14 @@ fn response_event(response: Option<Response>) -> Option<Event>
     }
 }
 
-// The response that a message is.
-fn read_message(alloc: Global, message: Option<&Value>) -> Result<Option<Response>, AllocError>
+// The response that a message is, whose resources are read by the profile.
+fn read_message(
+    alloc: Global,
+    _profile: Profile,
+    message: Option<&Value>,
+) -> Result<Option<Response>, AllocError>
     ensures { IfOk result (λ response. response
-        ≡ option_and_then response_of (option_map (λ message. view message.now) message.entry)) }
+        ≡ option_and_then (message_of _profile) (option_map (λ message. view message.now) message.entry)) }
 {
     let Some(message) = message else {
         return Ok(None);
