@@ -1,8 +1,8 @@
--- Where a connection goes, chosen in a picture by eight rules, of which the first that applies decides. Source: the Envoy v3
--- API on virtual hosts, routes and weighted clusters, and on priorities and weights of hosts; the pick number is this
--- project's own, for Envoy's load balancing policies.
-use Rattle.std.specs.Prelude.{ℕ, ◌-◌, ◌+◌, ◌/◌, ◌%◌, min, Bool, not, ◌&&◌, ◌==◌, nat_lt, if◌then◌else◌, List, [], ◌∷◌, ◌++◌, filter, find, map, take, drop, length, Option, Some, None, codes, option_map, slice_get}
-use Rattle.std.specs.List.{flat_map, range_with_len, sum}
+-- Where a connection goes, chosen in a picture: by the listener, its filter chain, what that serves, a route and its action, a
+-- cluster, and a host of it. Source: the Envoy v3 API on listeners, filter chains, virtual hosts, routes and weighted clusters,
+-- and on priorities and weights of hosts; the pick number is this project's own, for Envoy's load balancing policies.
+use Rattle.std.specs.Prelude.{ℕ, ◌-◌, ◌+◌, ◌/◌, ◌%◌, min, Bool, not, ◌&&◌, ◌==◌, nat_lt, if◌then◌else◌, List, [], ◌∷◌, filter, find, map, take, drop, length, Option, Some, None, codes, option_map, slice_get}
+use Rattle.std.specs.List.{flat_map, list_any, range_with_len, sum}
 use Rattle.std.specs.Option.{option_or}
 use Rattle.std.specs.Str.{bytes_eq, str_to_ascii_lowercase}
 use Rattle.ev_types.specs.Hosts.{HostRowParts}
@@ -10,26 +10,58 @@ use Rattle.ev_types.specs.SameHosts.{host_same}
 use Rattle.ev_types.specs.Weights.{weight_sum}
 use Rattle.ev_types.specs.declared.hosts.Host.{Host}
 use Rattle.ev_types.specs.declared.events.Ask.{Ask}
+use Rattle.ev_types.specs.declared.ips.Ip.{Ip}
+use Rattle.ev_types.specs.declared.ips.Ip.TheVariants.{V4, V6}
 use Rattle.ev_types.specs.declared.routes.Action.{Action}
-use Rattle.ev_types.specs.declared.routes.Action.TheVariants.{Forward, Redirect as redirect, Local as local}
+use Rattle.ev_types.specs.declared.routes.Action.TheVariants.{Forward, Redirect as redirect, Local as local, Elsewhere as by_filter}
 use Rattle.ev_types.specs.declared.routes.Route.{Route}
 use Rattle.ev_types.specs.declared.routes.RouteTable.{RouteTable}
 use Rattle.ev_types.specs.declared.routes.Target.{Target}
-use Rattle.ev_types.specs.declared.routes.Target.TheVariants.{One, Weighted}
+use Rattle.ev_types.specs.declared.routes.Target.TheVariants.{One, Weighted, Elsewhere as elsewhere}
 use Rattle.ev_types.specs.declared.routes.VirtualHost.{VirtualHost}
 use Rattle.ev_types.specs.declared.routes.WeightedCluster.{WeightedCluster}
-use Rattle.ev_model.specs.Paths.{begins_with, ends_with, is_path_taken}
+use Rattle.ev_model.specs.Paths.{begins_with, ends_with}
+use Rattle.ev_model.specs.Conditions.{Requested, is_no, match_says}
+use Rattle.ev_model.specs.Narrowing.{Incoming, chains_left}
 use Rattle.ev_model.specs.declared.pictures.Picture.{Picture}
 use Rattle.ev_model.specs.declared.pictures.Routing.{Routing}
-use Rattle.ev_model.specs.declared.pictures.Routing.TheVariants.{Table, Tcp}
+use Rattle.ev_model.specs.declared.pictures.Routing.TheVariants.{Table, Tcp, Other}
+use Rattle.ev_model.specs.declared.pictures.ServedChain.{ServedChain}
 use Rattle.ev_model.specs.declared.pictures.ServedCluster.{ServedCluster}
 use Rattle.ev_model.specs.declared.pictures.ServedListener.{ServedListener}
 use Rattle.ev_model.specs.declared.pictures.Choice.{Choice}
-use Rattle.ev_model.specs.declared.pictures.Choice.TheVariants.{NoListener, NoRoute, Local, Redirect, NoCluster, NoEndpoint, Served}
+use Rattle.ev_model.specs.declared.pictures.Choice.TheVariants.{NoListener, NoChain, Undecided, Elsewhere, NoRoute, Local, Redirect, NoCluster, NoEndpoint, Served}
+use Rattle.ev_model.specs.declared.pictures.Taken.{Taken}
+use Rattle.ev_model.specs.declared.pictures.Taken.TheVariants.{No, Yes, Undecided as undecided}
 
--- 1. the first listener of the picture at this address and port
+-- the first of these listeners at this address and port
 abbrev pub listener_at : List ServedListener → Host → Option ServedListener
 listener_at listeners address = find (λ (l : ServedListener). host_same l.address address) listeners
+
+-- the first of these listeners at this address and port that takes every address
+abbrev pub listener_for_every : List ServedListener → ℕ → List ℕ → Option ServedListener
+listener_for_every listeners port address =
+    listener_at (filter (λ (l : ServedListener). l.takes_every_address) listeners) (record { address = address; port = port })
+
+-- a listener that takes every address, for an IP address: at `0.0.0.0`, for IPv4 alone, else at `::`
+abbrev pub listener_of_any : List ServedListener → ℕ → Option Ip → Option ServedListener
+listener_of_any listeners port None = None
+listener_of_any listeners port (Some (V4 bits)) =
+    option_or (listener_for_every listeners port (codes "0.0.0.0")) (listener_for_every listeners port (codes "::"))
+listener_of_any listeners port (Some (V6 bits)) = listener_for_every listeners port (codes "::")
+
+-- the listener that a connection comes to: at its address and port, else one that takes every address
+abbrev pub listener_for : List ServedListener → Ask → Option ServedListener
+listener_for listeners ask = option_or (listener_at listeners ask.address) (listener_of_any listeners ask.address.port ask.ip)
+
+-- what chains look at
+abbrev pub incoming_of : Ask → Incoming
+incoming_of ask =
+    record { port = ask.address.port; ip = ask.ip; server_name = ask.server_name; tls = ask.tls; alpn = ask.alpn }
+
+-- what routes look at
+abbrev pub requested_of : Ask → Requested
+requested_of ask = record { host = ask.host; path = ask.path; headers = ask.headers }
 
 -- a domain of a virtual host
 pub record HostDomain : Type 0 where
@@ -87,22 +119,17 @@ by_prefix ds host = longest (filter (has_prefix host) ds)
 abbrev pub domain_for : List HostDomain → List ℕ → Option HostDomain
 domain_for ds host = option_or (find (is_domain host) ds) (option_or (by_suffix ds host) (option_or (by_prefix ds host) (find is_any ds)))
 
--- 3. the virtual host that a host text goes to
+-- the virtual host that a host text goes to
 abbrev pub virtual_host_for : RouteTable → List ℕ → Option VirtualHost
 virtual_host_for table host = option_map (λ (d : HostDomain). d.host) (domain_for (domains_of table) (str_to_ascii_lowercase host))
 
--- 4. the first route that takes the path
-abbrev pub route_for : VirtualHost → List ℕ → Option Route
-route_for h path = find (λ (r : Route). is_path_taken path r.path) h.routes
+-- the first route that doesn't say no
+abbrev pub route_for : VirtualHost → Requested → Option Route
+route_for h request = find (λ (r : Route). not (is_no (match_says request r.route_match))) h.routes
 
 -- the first place where the weights up to it, and its own, sum to more than n
 abbrev pub place_above : ℕ → List ℕ → Option ℕ
 place_above n weights = find (λ place. nat_lt n (sum (take (place + 1) weights))) (range_with_len 0 (length weights))
-
--- what the weights of a target sum to; that of a single cluster is 1
-abbrev pub target_weight : Target → ℕ
-target_weight (One name) = 1
-target_weight (Weighted clusters) = weight_sum clusters
 
 -- the name of a weighted cluster, if there is one
 abbrev pub name_in : Option WeightedCluster → List ℕ
@@ -114,12 +141,11 @@ abbrev pub name_at : List WeightedCluster → Option ℕ → List ℕ
 name_at clusters None = []
 name_at clusters (Some place) = name_in (slice_get clusters place)
 
--- 6. the name of the cluster that a pick takes: of weighted ones the first where the sum of the first weights is above the pick modulo the sum
-abbrev pub target_name : Target → ℕ → List ℕ
-target_name (One name) pick = name
-target_name (Weighted clusters) pick = name_at clusters (place_above (pick % weight_sum clusters) (map (λ (c : WeightedCluster). c.weight) clusters))
+-- the name of the cluster that a pick takes: the first where the sum of the first weights is above the pick modulo the whole sum
+abbrev pub name_picked : List WeightedCluster → ℕ → List ℕ
+name_picked clusters pick = name_at clusters (place_above (pick % weight_sum clusters) (map (λ (c : WeightedCluster). c.weight) clusters))
 
--- 7. the first cluster of the picture of this name
+-- the first of these clusters with this name
 abbrev pub cluster_named : List ServedCluster → List ℕ → Option ServedCluster
 cluster_named clusters name = find (λ (c : ServedCluster). bytes_eq c.name name) clusters
 
@@ -137,52 +163,86 @@ weight_at priority h = if h.priority == priority then h.weight else 0
 abbrev pub counted_weights : List HostRowParts → List ℕ
 counted_weights hosts = map (weight_at (lowest_priority hosts)) hosts
 
--- 8. the place of the host that a pick takes: the first of the lowest priority where the sum of the first weights is above the
+-- the place of the host that a pick takes: the first of the lowest priority where the sum of the first weights is above the
 -- pick modulo the whole sum; there is none where there is no host
 abbrev pub host_place : List HostRowParts → ℕ → Option ℕ
 host_place [] pick = None
 host_place (h ∷ hs) pick = place_above (pick % sum (counted_weights (h ∷ hs))) (counted_weights (h ∷ hs))
 
--- rule 8 at a cluster
+-- the host is there, or none may be chosen
 abbrev pub served_at : ℕ → ℕ → Option ℕ → Choice
 served_at listener cluster None = NoEndpoint listener
 served_at listener cluster (Some place) = Served listener cluster place
 
--- rules 7 and 8
+-- to a host of the cluster, or where Envoy finds one by itself
+abbrev pub in_cluster : ℕ → ServedCluster → ℕ → Choice
+in_cluster listener cluster pick =
+    if cluster.elsewhere
+    then Elsewhere listener (Some cluster.number)
+    else served_at listener cluster.number (host_place cluster.hosts pick)
+
+-- with the cluster, if there is one
 abbrev pub choice_in : ℕ → Option ServedCluster → ℕ → Choice
 choice_in listener None pick = NoCluster listener
-choice_in listener (Some cluster) pick = served_at listener cluster.number (host_place cluster.hosts pick)
+choice_in listener (Some cluster) pick = in_cluster listener cluster pick
 
--- rules 6 to 8: a weighted target takes the pick modulo its sum, and its hosts the pick divided by it
+-- to a target: of several clusters one is picked, and its hosts get the pick divided by the sum of the weights
 abbrev pub forwarded : Picture → ℕ → ℕ → Target → Choice
-forwarded picture pick listener target = choice_in listener (cluster_named picture.shown.clusters (target_name target pick)) (pick / target_weight target)
+forwarded picture pick listener (One name) = choice_in listener (cluster_named picture.shown.clusters name) pick
+forwarded picture pick listener (Weighted clusters) =
+    choice_in listener (cluster_named picture.shown.clusters (name_picked clusters pick)) (pick / weight_sum clusters)
+forwarded picture pick listener elsewhere = Elsewhere listener None
 
--- rules 5 to 8: a direct response and a redirect are answered at once
+-- by an action: a direct response and a redirect are answered at once
 abbrev pub acted : Picture → ℕ → ℕ → Action → Choice
 acted picture pick listener (Forward target) = forwarded picture pick listener target
 acted picture pick listener redirect = Redirect listener
 acted picture pick listener (local status) = Local listener status
+acted picture pick listener by_filter = Elsewhere listener None
 
--- rules 4 to 8, with the route that takes the path
-abbrev pub by_route : Picture → ℕ → ℕ → Option Route → Choice
-by_route picture pick listener None = NoRoute listener
-by_route picture pick listener (Some route) = acted picture pick listener route.action
+-- by what a route says, and its action
+abbrev pub by_word : Picture → ℕ → ℕ → Action → Taken → Choice
+by_word picture pick listener action No = NoRoute listener
+by_word picture pick listener action Yes = acted picture pick listener action
+by_word picture pick listener action undecided = Undecided listener
 
--- rules 3 to 8, with the virtual host
+-- by the route, if there is one
+abbrev pub by_route : Picture → Ask → ℕ → Option Route → Choice
+by_route picture ask listener None = NoRoute listener
+by_route picture ask listener (Some route) = by_word picture ask.pick listener route.action (match_says (requested_of ask) route.route_match)
+
+-- by the virtual host, if there is one
 abbrev pub by_host : Picture → Ask → ℕ → Option VirtualHost → Choice
 by_host picture ask listener None = NoRoute listener
-by_host picture ask listener (Some h) = by_route picture ask.pick listener (route_for h ask.path)
+by_host picture ask listener (Some h) = by_route picture ask listener (route_for h (requested_of ask))
 
--- rules 2 to 8: a TCP listener has its target, and goes on with the sixth
+-- by what a chain serves
 abbrev pub by_routing : Picture → Ask → ℕ → Routing → Choice
 by_routing picture ask listener (Table table) = by_host picture ask listener (virtual_host_for table ask.host)
 by_routing picture ask listener (Tcp target) = forwarded picture ask.pick listener target
+by_routing picture ask listener Other = Elsewhere listener None
 
--- rules 1 to 8, with the listener
+-- by the chain, if there is one
+abbrev pub by_chain : Picture → Ask → ℕ → Option Routing → Choice
+by_chain picture ask listener None = NoChain
+by_chain picture ask listener (Some routing) = by_routing picture ask listener routing
+
+-- what is served: by the chain that is left, else by the default chain
+abbrev pub routing_left : List ServedChain → Option Routing → Option Routing
+routing_left chains default = option_or (option_map (λ (c : ServedChain). c.routing) (slice_get chains 0)) default
+
+-- by the chains that are left; where one of them asks for a source, nothing in a script decides
+abbrev pub by_chains : Picture → Ask → ServedListener → List ServedChain → Choice
+by_chains picture ask listener chains =
+    if list_any (λ (c : ServedChain). c.criteria.asks_source) chains
+    then Undecided listener.number
+    else by_chain picture ask listener.number (routing_left chains listener.default_filter_chain)
+
+-- by the listener, if there is one
 abbrev pub by_listener : Picture → Ask → Option ServedListener → Choice
 by_listener picture ask None = NoListener
-by_listener picture ask (Some listener) = by_routing picture ask listener.number listener.routing
+by_listener picture ask (Some listener) = by_chains picture ask listener (chains_left (incoming_of ask) listener.filter_chains)
 
 -- where a connection goes
 abbrev pub choice_of : Picture → Ask → Choice
-choice_of picture ask = by_listener picture ask (listener_at picture.shown.listeners ask.address)
+choice_of picture ask = by_listener picture ask (listener_for picture.shown.listeners ask)

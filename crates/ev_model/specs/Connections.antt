@@ -7,12 +7,12 @@ use Rattle.ev_types.specs.Hosts.{HostRowParts}
 use Rattle.ev_types.specs.declared.hosts.Host.{Host}
 use Rattle.ev_types.specs.declared.events.Ask.{Ask}
 use Rattle.ev_types.specs.declared.events.Answer.{Answer}
-use Rattle.ev_types.specs.declared.events.Answer.TheVariants.{InUse, NoListener as no_listener, NoRoute as no_route, Redirect as redirect, NoCluster as no_cluster, NoEndpoint as no_endpoint, Local as local, Served as served, Done, NotOpen, Settled}
+use Rattle.ev_types.specs.declared.events.Answer.TheVariants.{InUse, NoListener as no_listener, NoChain as no_chain, Undecided as undecided, Elsewhere as elsewhere, NoRoute as no_route, Redirect as redirect, NoCluster as no_cluster, NoEndpoint as no_endpoint, Local as local, Served as served, Done, NotOpen, Settled}
 use Rattle.ev_model.specs.declared.pictures.Picture.{Picture}
 use Rattle.ev_model.specs.declared.pictures.Shown.{Shown}
 use Rattle.ev_model.specs.declared.pictures.ServedCluster.{ServedCluster}
 use Rattle.ev_model.specs.declared.pictures.Choice.{Choice}
-use Rattle.ev_model.specs.declared.pictures.Choice.TheVariants.{NoListener, NoRoute, Local, Redirect, NoCluster, NoEndpoint, Served}
+use Rattle.ev_model.specs.declared.pictures.Choice.TheVariants.{NoListener, NoChain, Undecided, Elsewhere, NoRoute, Local, Redirect, NoCluster, NoEndpoint, Served}
 use Rattle.ev_model.specs.World.{World, OpenMember, last_version}
 use Rattle.ev_model.specs.Choice.{choice_of}
 use Rattle.ev_model.specs.Picture.{has_number}
@@ -47,6 +47,9 @@ served_by listener cluster (Some host) = served listener cluster host
 -- a choice as an answer
 abbrev pub answer_of : Picture → Choice → Answer
 answer_of picture NoListener = no_listener
+answer_of picture NoChain = no_chain
+answer_of picture (Undecided listener) = undecided listener
+answer_of picture (Elsewhere listener cluster) = elsewhere listener cluster
 answer_of picture (NoRoute listener) = no_route listener
 answer_of picture (Local listener status) = local listener status
 answer_of picture (Redirect listener) = redirect listener
@@ -59,9 +62,12 @@ abbrev pub member_on : ℕ → ℕ → ℕ → Option ℕ → OpenMember
 member_on worker connection listener cluster =
     record { worker = worker; connection = connection; listener = listener; cluster = cluster }
 
--- what a choice opens: nothing without a listener
+-- what a choice opens: nothing without a listener or a chain
 abbrev pub members_of : ℕ → ℕ → Choice → List OpenMember
 members_of worker connection NoListener = []
+members_of worker connection NoChain = []
+members_of worker connection (Undecided listener) = member_on worker connection listener None ∷ []
+members_of worker connection (Elsewhere listener cluster) = member_on worker connection listener cluster ∷ []
 members_of worker connection (NoRoute listener) = member_on worker connection listener None ∷ []
 members_of worker connection (Local listener status) = member_on worker connection listener None ∷ []
 members_of worker connection (Redirect listener) = member_on worker connection listener None ∷ []

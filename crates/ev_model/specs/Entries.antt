@@ -1,5 +1,5 @@
 -- What an entry of a journal tells by itself. This project's own.
-use Rattle.std.specs.Prelude.{ℕ, zero, suc, Bool, true, false, ◌&&◌, ◌||◌, ◌==◌, if◌then◌else◌, List, [], ◌∷◌, filter_map, Option, Some, None, unwrap_or, slice_get, option_map}
+use Rattle.std.specs.Prelude.{ℕ, zero, suc, ◌-◌, Bool, true, false, ◌&&◌, ◌||◌, ◌==◌, nat_le, if◌then◌else◌, List, [], ◌∷◌, filter_map, length, Option, Some, None, unwrap_or, slice_get, option_map}
 use Rattle.std.specs.List.{flat_map, last_or, list_any, zip}
 use Rattle.std.specs.Str.{bytes_eq}
 use Rattle.ev_types.specs.Items.{ItemParts, ResponseParts}
@@ -13,13 +13,14 @@ use Rattle.ev_types.specs.declared.events.Actor.{Actor}
 use Rattle.ev_types.specs.declared.events.Event.{Event}
 use Rattle.ev_types.specs.declared.events.Event.TheVariants.{Response, FetchTimeout, Accept, Close, Settle}
 use Rattle.ev_types.specs.declared.events.Answer.{Answer}
-use Rattle.ev_types.specs.declared.events.Answer.TheVariants.{Done, Moved, Replied, Version, Reaped, NoRoute, Redirect, NoCluster, NoEndpoint, Local, Served, Settled}
+use Rattle.ev_types.specs.declared.events.Answer.TheVariants.{Done, Moved, Replied, Version, Reaped, Undecided, Elsewhere, NoRoute, Redirect, NoCluster, NoEndpoint, Local, Served, Settled}
 use Rattle.ev_types.specs.declared.events.Verdict.{Verdict}
 use Rattle.ev_types.specs.declared.events.Verdict.TheVariants.{New, Same, Kept, Unasked, Renewed, Refused}
 use Rattle.ev_types.specs.declared.events.Entry.{Entry}
 use Rattle.ev_model.specs.Watching.{Dependency}
 use Rattle.ev_model.specs.Verdicts.{is_removed}
 use Rattle.ev_model.specs.Picture.{has_number}
+use Rattle.ev_model.specs.Dead.{is_forwarded_to}
 use Rattle.ev_model.specs.Operations.{actor_same}
 
 -- a generation as its resource made it
@@ -59,6 +60,8 @@ made_of journal (suc place) = slice_get (made_rows journal) place
 
 -- the answer names the generation of this number, as a listener or as a cluster
 abbrev pub names_row : ℕ → Answer → Bool
+names_row number (Undecided listener) = listener == number
+names_row number (Elsewhere listener cluster) = (listener == number) || is_forwarded_to number cluster
 names_row number (NoRoute listener) = listener == number
 names_row number (Redirect listener) = listener == number
 names_row number (NoCluster listener) = listener == number
@@ -104,9 +107,20 @@ abbrev pub answers_wait : Dependency → Entry → Bool
 answers_wait d entry =
     tells_of_name d.kind d.name entry.event entry.answer || (d.limited && times_out d.kind d.name entry.event entry.answer)
 
--- one of these entries ends the wait for this dependency
-abbrev pub has_ended_wait : List Entry → Dependency → Bool
-has_ended_wait entries d = list_any (answers_wait d) entries
+-- those of these entries that come after the one that made the generation of this number
+abbrev pub entries_since : ℕ → List Entry → List Entry
+entries_since number [] = []
+entries_since number (entry ∷ entries) =
+    let made = length (made_in entry.event entry.answer) in
+    if nat_le number made then entries else entries_since (number - made) entries
+
+-- those of these entries that count for a dependency of the generation of this number: of a fresh one only those since it was made
+abbrev pub entries_for : ℕ → List Entry → Dependency → List Entry
+entries_for number entries d = if d.fresh then entries_since number entries else entries
+
+-- one of these entries ends the wait of the generation of this number for this dependency
+abbrev pub has_ended_wait : ℕ → List Entry → Dependency → Bool
+has_ended_wait number entries d = list_any (answers_wait d) (entries_for number entries d)
 
 -- the event is an accept
 abbrev pub is_accept : Event → Bool

@@ -60,11 +60,12 @@ pub record IsServing (world : World) (number : ℕ) : Type 0 where
   pub active : row.status ≡ Active
   pub ready : IsTrue (is_ready world row)
 
--- the generation of this number was made, and each of its waits was ended by an entry not after place q
+-- the generation of this number was made, and each of its waits was ended by an entry not after place q: for what has to come anew,
+-- by one since it was made
 pub record WasAnswered (told : Told) (number q : ℕ) : Type 0 where
   pub row : MadeRow
   pub made : made_of told.journal number ≡ Some row
-  pub answered : IsTrue (list_all (has_ended_wait (take (q + 1) told.journal)) (dependencies_of row.content))
+  pub answered : IsTrue (list_all (has_ended_wait number (take (q + 1) told.journal)) (dependencies_of row.content))
 
 -- it served and was ready after some entry before place p
 pub record HadWarmed (told : Told) (number p : ℕ) : Type 0 where

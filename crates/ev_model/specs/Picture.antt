@@ -1,14 +1,15 @@
 -- What workers may serve: a picture shows it, and has a version. This project's own, for Envoy's snapshots of clusters and
 -- listeners on its worker threads.
-use Rattle.std.specs.Prelude.{ℕ, ◌≡◌, Bool, false, ◌&&◌, ◌==◌, if◌then◌else◌, List, [], ◌∷◌, ◌++◌, filter, map, length, Option, Some, None}
+use Rattle.std.specs.Prelude.{ℕ, ◌≡◌, Bool, true, false, ◌&&◌, ◌==◌, if◌then◌else◌, List, [], ◌∷◌, ◌++◌, filter, map, length, Option, Some, None, option_map, refl}
 use Rattle.std.specs.List.{list_any, flat_map}
+use Rattle.std.specs.Option.{option_eq}
 use Rattle.std.specs.Str.{bytes_eq}
 use Rattle.std.specs.Bool.{Decides}
 use Rattle.std.proofs.Common.{ap}
 use lib.Pointwise.{pointwise, pointwise_decides}
 use Rattle.ev_types.specs.FilterChains.{filter_chain_match_same, filter_chain_match_decides}
 use Rattle.ev_types.specs.Kinds.{kind_same}
-use Rattle.ev_types.specs.Same.{both_decide, decides_as, bytes_decide, numbers_decide}
+use Rattle.ev_types.specs.Same.{bool_same, bool_decides, both_decide, decides_as, bytes_decide, numbers_decide, option_decides}
 use Rattle.ev_types.specs.SameHosts.{host_same, rows_same, host_decides, rows_decide}
 use Rattle.ev_types.specs.SameRoutes.{target_same, route_table_same, target_decides, route_table_decides}
 use Rattle.ev_types.specs.Statuses.{is_active}
@@ -16,14 +17,17 @@ use Rattle.ev_types.specs.declared.contents.Kind.{Kind}
 use Rattle.ev_types.specs.declared.contents.Kind.TheVariants.{Cds, Rds, Lds}
 use Rattle.ev_types.specs.declared.contents.Content.{Content}
 use Rattle.ev_types.specs.declared.contents.Content.TheVariants.{Cluster as a_cluster, Assignment as an_assignment, Listener as a_listener, Routes as routes}
+use Rattle.ev_types.specs.declared.clusters.Discovery.{Discovery}
+use Rattle.ev_types.specs.declared.clusters.Discovery.TheVariants.{Static, Eds as by_eds, Elsewhere}
+use Rattle.ev_types.specs.declared.listeners.FilterChain.{FilterChain}
 use Rattle.ev_types.specs.declared.listeners.Serve.{Serve}
-use Rattle.ev_types.specs.declared.listeners.Serve.TheVariants.{Rds as by_rds, Inline, Tcp as by_tcp}
+use Rattle.ev_types.specs.declared.listeners.Serve.TheVariants.{Rds as by_rds, Inline, Tcp as by_tcp, Other as by_other}
 use Rattle.ev_types.specs.declared.routes.RouteTable.{RouteTable}
 use Rattle.ev_types.specs.declared.rows.GenRow.{GenRow}
 use Rattle.ev_model.specs.declared.pictures.Picture.{Picture}
 use Rattle.ev_model.specs.declared.pictures.Shown.{Shown}
 use Rattle.ev_model.specs.declared.pictures.Routing.{Routing}
-use Rattle.ev_model.specs.declared.pictures.Routing.TheVariants.{Table, Tcp}
+use Rattle.ev_model.specs.declared.pictures.Routing.TheVariants.{Table, Tcp, Other}
 use Rattle.ev_model.specs.declared.pictures.ServedChain.{ServedChain}
 use Rattle.ev_model.specs.declared.pictures.ServedCluster.{ServedCluster}
 use Rattle.ev_model.specs.declared.pictures.ServedListener.{ServedListener}
@@ -41,10 +45,27 @@ by_name rows = sorted_by (λ (row other : GenRow). is_before row.name other.name
 abbrev pub active_rows : List GenRow → Kind → List GenRow
 active_rows rows kind = by_name (filter (λ (row : GenRow). kind_same row.kind kind && is_active row.status) rows)
 
+-- Envoy, or an extension of it, finds the hosts
+abbrev pub is_discovered_elsewhere : Discovery → Bool
+is_discovered_elsewhere (Static rows) = false
+is_discovered_elsewhere (by_eds service limited fresh) = false
+is_discovered_elsewhere Elsewhere = true
+
+-- a cluster whose hosts are found so
+abbrev pub is_elsewhere : Content → Bool
+is_elsewhere (a_cluster cluster) = is_discovered_elsewhere cluster.discovery
+is_elsewhere (an_assignment rows) = false
+is_elsewhere (a_listener listener) = false
+is_elsewhere (routes table) = false
+
 -- an active cluster, with the hosts that may be chosen in the order of its assignment
 abbrev pub served_cluster : List Arrived → List HealthResult → GenRow → ServedCluster
-served_cluster arrivals results row =
-    record { number = row.number; name = row.name; hosts = filter (is_eligible_by results row) (assignment_by arrivals row.content) }
+served_cluster arrivals results row = record {
+  number = row.number;
+  name = row.name;
+  hosts = filter (is_eligible_by results row) (assignment_by arrivals row.content);
+  elsewhere = is_elsewhere row.content;
+}
 
 -- the active clusters, in the order of their names
 abbrev pub served_clusters : List Arrived → List HealthResult → List GenRow → List ServedCluster
@@ -58,18 +79,29 @@ table_in (Some (an_assignment rows)) = record { hosts = [] }
 table_in (Some (a_listener listener)) = record { hosts = [] }
 table_in (Some (routes table)) = table
 
--- where a listener's connections go: by the routes that are its name's value, by its own, or to its target
+-- where a chain's connections go: by the routes that are its name's value, by its own, to its target, or elsewhere
 abbrev pub routing_of : List Arrived → Serve → Routing
 routing_of arrivals (by_rds name limited) = Table (table_in (value_by arrivals Rds name))
 routing_of arrivals (Inline table) = Table table
 routing_of arrivals (by_tcp target) = Tcp target
+routing_of arrivals by_other = Other
+
+-- a chain, with where its connections go
+abbrev pub served_chain : List Arrived → FilterChain → ServedChain
+served_chain arrivals chain = record { criteria = chain.criteria; routing = routing_of arrivals chain.serve }
 
 -- an active listener; what is no listener isn't shown
 abbrev pub served_listener : List Arrived → GenRow → Content → List ServedListener
 served_listener arrivals row (a_cluster cluster) = []
 served_listener arrivals row (an_assignment rows) = []
-served_listener arrivals row (a_listener listener) =
-    record { number = row.number; name = row.name; address = listener.address; routing = routing_of arrivals listener.serve } ∷ []
+served_listener arrivals row (a_listener listener) = record {
+  number = row.number;
+  name = row.name;
+  address = listener.address;
+  takes_every_address = listener.takes_every_address;
+  filter_chains = map (served_chain arrivals) listener.filter_chains;
+  default_filter_chain = option_map (routing_of arrivals) listener.default_filter_chain;
+} ∷ []
 served_listener arrivals row (routes table) = []
 
 -- the active listeners, in the order of their names
@@ -87,24 +119,31 @@ shown_of world = record {
 abbrev pub picture_of : World → Picture
 picture_of world = record { version = length world.pictures; shown = shown_of world }
 
--- the same generation of the same cluster, with the same hosts
+-- the same generation of the same cluster, with the same hosts and the same mark
 abbrev pub served_cluster_same : ServedCluster → ServedCluster → Bool
-served_cluster_same a b = (a.number == b.number) && bytes_eq a.name b.name && rows_same a.hosts b.hosts
+served_cluster_same a b =
+    (a.number == b.number) && bytes_eq a.name b.name && rows_same a.hosts b.hosts && bool_same a.elsewhere b.elsewhere
 
--- the same routes, or the same target
+-- the same routes, or the same target; what isn't read is one
 abbrev pub routing_same : Routing → Routing → Bool
 routing_same (Table a) (Table b) = route_table_same a b
-routing_same (Table a) (Tcp b) = false
-routing_same (Tcp a) (Table b) = false
 routing_same (Tcp a) (Tcp b) = target_same a b
+routing_same Other Other = true
+routing_same a b = false
 
 -- the same connections are taken, with the same routing
 abbrev pub served_chain_same : ServedChain → ServedChain → Bool
 served_chain_same a b = filter_chain_match_same a.criteria b.criteria && routing_same a.routing b.routing
 
--- the same generation of the same listener, at the same address, with the same routing
+-- the same generation of the same listener, at the same address with the same mark, with the same chains in the same order
 abbrev pub served_listener_same : ServedListener → ServedListener → Bool
-served_listener_same a b = (a.number == b.number) && bytes_eq a.name b.name && host_same a.address b.address && routing_same a.routing b.routing
+served_listener_same a b =
+    (a.number == b.number)
+    && bytes_eq a.name b.name
+    && host_same a.address b.address
+    && bool_same a.takes_every_address b.takes_every_address
+    && pointwise served_chain_same a.filter_chains b.filter_chains
+    && option_eq routing_same a.default_filter_chain b.default_filter_chain
 
 -- the same clusters and the same listeners
 abbrev pub shown_same : Shown → Shown → Bool
@@ -124,15 +163,19 @@ is_shown number shown = has_number number (numbers_shown shown)
 
 pub served_cluster_decides : (a b : ServedCluster) → Decides (served_cluster_same a b) (a ≡ b)
 served_cluster_decides a b = decides_as
-    (both_decide (both_decide (numbers_decide a.number b.number) (bytes_decide a.name b.name)) (rows_decide a.hosts b.hosts))
-    (λ p. λ i. record { number = p.0.0 i; name = p.0.1 i; hosts = p.1 i })
-    (λ e. ((ap (λ (c : ServedCluster). c.number) e, ap (λ (c : ServedCluster). c.name) e), ap (λ (c : ServedCluster). c.hosts) e))
+    (both_decide (both_decide (both_decide (numbers_decide a.number b.number) (bytes_decide a.name b.name)) (rows_decide a.hosts b.hosts))
+    (bool_decides a.elsewhere b.elsewhere))
+    (λ p. λ i. record { number = p.0.0.0 i; name = p.0.0.1 i; hosts = p.0.1 i; elsewhere = p.1 i })
+    (λ e. (
+      ((ap (λ (c : ServedCluster). c.number) e, ap (λ (c : ServedCluster). c.name) e), ap (λ (c : ServedCluster). c.hosts) e),
+      ap (λ (c : ServedCluster). c.elsewhere) e,
+    ))
 
 pub routing_decides : (a b : Routing) → Decides (routing_same a b) (a ≡ b)
 routing_decides (Table a) (Table b) = decides_as (route_table_decides a b) (λ e. ap Table e) (λ e. cc)
-routing_decides (Table a) (Tcp b) = (λ h. cc, λ e. cc)
-routing_decides (Tcp a) (Table b) = (λ h. cc, λ e. cc)
 routing_decides (Tcp a) (Tcp b) = decides_as (target_decides a b) (λ e. ap Tcp e) (λ e. cc)
+routing_decides Other Other = (λ h. refl, λ e. refl)
+routing_decides a b = (λ h. cc, λ e. cc)
 
 pub served_chain_decides : (a b : ServedChain) → Decides (served_chain_same a b) (a ≡ b)
 served_chain_decides a b = decides_as (both_decide (filter_chain_match_decides a.criteria b.criteria) (routing_decides a.routing b.routing))
@@ -141,9 +184,34 @@ served_chain_decides a b = decides_as (both_decide (filter_chain_match_decides a
 
 pub served_listener_decides : (a b : ServedListener) → Decides (served_listener_same a b) (a ≡ b)
 served_listener_decides a b = decides_as
-    (both_decide (both_decide (both_decide (numbers_decide a.number b.number) (bytes_decide a.name b.name)) (host_decides a.address b.address)) (routing_decides a.routing b.routing))
-    (λ p. λ i. record { number = p.0.0.0 i; name = p.0.0.1 i; address = p.0.1 i; routing = p.1 i })
-    (λ e. (((ap (λ (l : ServedListener). l.number) e, ap (λ (l : ServedListener). l.name) e), ap (λ (l : ServedListener). l.address) e), ap (λ (l : ServedListener). l.routing) e))
+    (both_decide (both_decide (both_decide (both_decide (both_decide
+    (numbers_decide a.number b.number)
+    (bytes_decide a.name b.name))
+    (host_decides a.address b.address))
+    (bool_decides a.takes_every_address b.takes_every_address))
+    (pointwise_decides served_chain_decides a.filter_chains b.filter_chains))
+    (option_decides routing_decides a.default_filter_chain b.default_filter_chain))
+    (λ p. λ i. record {
+      number = p.0.0.0.0.0 i;
+      name = p.0.0.0.0.1 i;
+      address = p.0.0.0.1 i;
+      takes_every_address = p.0.0.1 i;
+      filter_chains = p.0.1 i;
+      default_filter_chain = p.1 i;
+    })
+    (λ e. (
+      (
+        (
+          (
+            (ap (λ (l : ServedListener). l.number) e, ap (λ (l : ServedListener). l.name) e),
+            ap (λ (l : ServedListener). l.address) e,
+          ),
+          ap (λ (l : ServedListener). l.takes_every_address) e,
+        ),
+        ap (λ (l : ServedListener). l.filter_chains) e,
+      ),
+      ap (λ (l : ServedListener). l.default_filter_chain) e,
+    ))
 
 -- the test holds of what is equal alone
 pub shown_decides : (a b : Shown) → Decides (shown_same a b) (a ≡ b)

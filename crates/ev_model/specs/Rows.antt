@@ -57,9 +57,9 @@ is_version_left kind response kept = not (kind_same kept.kind kind && is_removed
 abbrev pub versions_left : Kind → ResponseParts → List KeptVersion → List KeptVersion
 versions_left kind response versions = filter (is_version_left kind response) versions
 
--- something more came for a name of this kind
-abbrev pub arrived : Kind → Arrival → List ℕ → Arrived
-arrived kind arrival name = record { kind = kind; name = name; arrival = arrival }
+-- something more came for a name of this kind, when so many numbers were drawn
+abbrev pub arrived : ℕ → Kind → Arrival → List ℕ → Arrived
+arrived made kind arrival name = record { kind = kind; name = name; arrival = arrival; made = made }
 
 -- clusters or listeners that a response of this kind removes drain or are dropped, and their versions go
 abbrev pub without_rows : Kind → ResponseParts → World → World
@@ -76,7 +76,7 @@ absent_names kind response world =
 -- a watched name of endpoints or routes that a response removes is told of; its value stays, and its version goes
 abbrev pub with_absences : Kind → ResponseParts → World → World
 with_absences kind response world = record world {
-  arrivals = world.arrivals ++ map (arrived kind Absent) (absent_names kind response world);
+  arrivals = world.arrivals ++ map (arrived world.made kind Absent) (absent_names kind response world);
   versions = versions_left kind response world.versions;
 }
 
@@ -117,7 +117,7 @@ add_row kind item content world = keep_version kind item (record world {
 -- the value of a watched name is kept with its version
 abbrev pub keep_value : Kind → ItemParts → Content → World → World
 keep_value kind item content world =
-    keep_version kind item (record world { arrivals = world.arrivals ++ arrived kind (Value content) item.name ∷ [] })
+    keep_version kind item (record world { arrivals = world.arrivals ++ arrived world.made kind (Value content) item.name ∷ [] })
 
 -- what is done with a good resource; with a bad one nothing is
 abbrev pub with_content : (Content → World → World) → Body → World → World
@@ -128,7 +128,9 @@ with_content change Beat world = world
 -- a watched name whose resource was refused is told of
 abbrev pub told_of_refusal : Kind → List ℕ → World → World
 told_of_refusal kind name world =
-    if is_watched (lives_of world) kind name then record world { arrivals = world.arrivals ++ arrived kind bad name ∷ [] } else world
+    if is_watched (lives_of world) kind name
+    then record world { arrivals = world.arrivals ++ arrived world.made kind bad name ∷ [] }
+    else world
 
 -- the world after a refusal: one of a cluster or listener changes nothing
 abbrev pub refuse : Kind → List ℕ → World → World

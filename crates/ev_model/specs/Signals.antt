@@ -11,14 +11,14 @@ use Rattle.ev_types.specs.declared.events.Answer.{Answer}
 use Rattle.ev_types.specs.declared.events.Answer.TheVariants.{Ignored, Done, Moved}
 use Rattle.ev_types.specs.declared.contents.Content.{Content}
 use Rattle.ev_types.specs.declared.contents.Content.TheVariants.{Assignment as an_assignment, Routes as routes}
-use Rattle.ev_types.specs.declared.rows.Arrival.TheVariants.{Value, TimedOut}
+use Rattle.ev_types.specs.declared.rows.Arrival.TheVariants.{TimedOut, Ended}
 use Rattle.ev_types.specs.declared.rows.RowStatus.{RowStatus}
 use Rattle.ev_types.specs.declared.rows.RowStatus.TheVariants.{Warming, Active, Draining, Dropped}
 use Rattle.ev_types.specs.declared.rows.GenRow.{GenRow}
 use Rattle.ev_model.specs.World.{World, Arrived, HealthResult}
 use Rattle.ev_model.specs.Versions.{is_bounded, without_version}
-use Rattle.ev_model.specs.Watching.{has_limited_dependency}
-use Rattle.ev_model.specs.Warming.{is_checked, assignment_by, is_told_by, is_timed_by}
+use Rattle.ev_model.specs.Watching.{Dependency, dependencies_of, is_dependency}
+use Rattle.ev_model.specs.Warming.{is_checked, assignment_by, has_word, has_timeout}
 use Rattle.ev_model.specs.Phase.{is_clusters}
 use Rattle.ev_model.specs.Rows.{is_row_of, arrived, removed_status, with_statuses}
 use Rattle.ev_model.specs.Picture.{has_number}
@@ -55,20 +55,24 @@ health_of host healthy (row ∷ rows) world = moved world (with_results host hea
 abbrev pub health : List ℕ → Host → Bool → World → World × Answer
 health name host healthy world = health_of host healthy (rows_meant world.arrivals name host world.rows) world
 
--- a live row whose wait is limited depends on the name
-abbrev pub is_waiting : Kind → List ℕ → GenRow → Bool
-is_waiting kind name row = is_live row.status && has_limited_dependency kind name row.content
+-- the generation of this number waits for the name within a limit: it was neither told of it, nor has the wait timed out
+abbrev pub awaits : List Arrived → Kind → List ℕ → ℕ → Dependency → Bool
+awaits arrivals kind name number d =
+    is_dependency kind name d && d.limited && not (has_word arrivals number d || has_timeout arrivals number d)
 
--- the name is awaited within a limit: a row waits for it, and it was neither told of nor timed out
+-- a live row waits so for the name
+abbrev pub is_waiting : List Arrived → Kind → List ℕ → GenRow → Bool
+is_waiting arrivals kind name row = is_live row.status && list_any (awaits arrivals kind name row.number) (dependencies_of row.content)
+
+-- one of these rows waits so for the name
 abbrev pub is_awaited : List Arrived → List GenRow → Kind → List ℕ → Bool
-is_awaited arrivals rows kind name =
-    list_any (is_waiting kind name) rows && not (is_told_by arrivals kind name || is_timed_by arrivals kind name)
+is_awaited arrivals rows kind name = list_any (is_waiting arrivals kind name) rows
 
 -- the fetch timeout of a name of endpoints or routes
 abbrev pub name_timeout : Kind → List ℕ → World → World × Answer
 name_timeout kind name world =
     if is_awaited world.arrivals world.rows kind name
-    then moved world (record world { arrivals = world.arrivals ++ arrived kind TimedOut name ∷ [] })
+    then moved world (record world { arrivals = world.arrivals ++ arrived world.made kind TimedOut name ∷ [] })
     else (world, Ignored)
 
 -- the same where there may be no name
@@ -135,12 +139,13 @@ no_hosts = an_assignment []
 abbrev pub no_routes : Content
 no_routes = routes (record { hosts = [] })
 
--- a resource has come to its end: a cluster or listener goes as if it were removed, and endpoints or routes become none
+-- a resource has come to its end: a cluster or listener goes as if it were removed, and endpoints or routes become none, of which
+-- the control plane has said nothing
 abbrev pub with_end : Kind → List ℕ → World → World
 with_end Cds name world = record world { rows = rows_ended Cds name world.rows }
-with_end Eds name world = record world { arrivals = world.arrivals ++ arrived Eds (Value no_hosts) name ∷ [] }
+with_end Eds name world = record world { arrivals = world.arrivals ++ arrived world.made Eds (Ended no_hosts) name ∷ [] }
 with_end Lds name world = record world { rows = rows_ended Lds name world.rows }
-with_end Rds name world = record world { arrivals = world.arrivals ++ arrived Rds (Value no_routes) name ∷ [] }
+with_end Rds name world = record world { arrivals = world.arrivals ++ arrived world.made Rds (Ended no_routes) name ∷ [] }
 
 -- the version of the resource goes, and with it the mark that its life is bounded
 abbrev pub forget_version : Kind → List ℕ → World → World

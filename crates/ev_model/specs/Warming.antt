@@ -1,8 +1,9 @@
 -- What a generation waits for, and which hosts may be chosen. Source: cluster manager warming of Envoy's documentation: a
 -- cluster waits for its endpoints and, where it is health checked, for a first result of each host; a listener waits for its
--- routes; a wait ends with a response, a refusal, a notice of absence, or the initial fetch timeout. Each word looks at what
--- came and at the health results; the same word of a world takes that world's.
-use Rattle.std.specs.Prelude.{ℕ, Bool, true, false, not, ◌&&◌, ◌||◌, ◌==◌, List, [], filter, filter_map, map, Option, Some, None, unwrap_or}
+-- routes; a wait ends with a response, a refusal, a notice of absence, or the initial fetch timeout. An updated cluster waits until
+-- its endpoints are sent anew, though they may be as before: of a fresh dependency only what came since the generation was made
+-- counts. Each word looks at what came and at the health results; the same word of a world takes that world's.
+use Rattle.std.specs.Prelude.{ℕ, Bool, true, false, not, ◌&&◌, ◌||◌, ◌==◌, nat_le, List, [], filter, filter_map, map, Option, Some, None, unwrap_or}
 use Rattle.std.specs.List.{list_any, list_all, last_or}
 use Rattle.std.specs.Str.{bytes_eq}
 use Rattle.ev_types.specs.Hosts.{HostRowParts}
@@ -14,26 +15,30 @@ use Rattle.ev_types.specs.declared.contents.Kind.TheVariants.{Eds}
 use Rattle.ev_types.specs.declared.contents.Content.{Content}
 use Rattle.ev_types.specs.declared.contents.Content.TheVariants.{Cluster as a_cluster, Assignment as an_assignment, Listener as a_listener, Routes as routes}
 use Rattle.ev_types.specs.declared.clusters.Discovery.{Discovery}
-use Rattle.ev_types.specs.declared.clusters.Discovery.TheVariants.{Static, Eds as by_eds}
+use Rattle.ev_types.specs.declared.clusters.Discovery.TheVariants.{Static, Eds as by_eds, Elsewhere}
 use Rattle.ev_types.specs.declared.rows.Arrival.{Arrival}
-use Rattle.ev_types.specs.declared.rows.Arrival.TheVariants.{Value, Absent, Bad, TimedOut}
+use Rattle.ev_types.specs.declared.rows.Arrival.TheVariants.{Value, Absent, Bad, TimedOut, Ended}
 use Rattle.ev_types.specs.declared.rows.GenRow.{GenRow}
 use Rattle.ev_model.specs.World.{World, Arrived, HealthResult}
 use Rattle.ev_model.specs.Watching.{Dependency, dependencies_of}
 
+-- it came for the name of this kind
+abbrev pub is_for : Kind → List ℕ → Arrived → Bool
+is_for kind name a = kind_same a.kind kind && bytes_eq a.name name
+
 -- what came for a name of this kind, in order of coming
 abbrev pub came_for : List Arrived → Kind → List ℕ → List Arrival
-came_for arrivals kind name =
-    map (λ (a : Arrived). a.arrival) (filter (λ (a : Arrived). kind_same a.kind kind && bytes_eq a.name name) arrivals)
+came_for arrivals kind name = map (λ (a : Arrived). a.arrival) (filter (is_for kind name) arrivals)
 
--- the resource that came, where it was one
+-- the resource that came, where it was one, or what is held since its time to live ended
 abbrev pub content_in : Arrival → Option Content
 content_in (Value content) = Some content
 content_in Absent = None
 content_in Bad = None
 content_in TimedOut = None
+content_in (Ended content) = Some content
 
--- the value of a name by what came: its last resource
+-- the value of a name by what came: its last resource, or what is held since that ended
 abbrev pub value_by : List Arrived → Kind → List ℕ → Option Content
 value_by arrivals kind name = last_or None (filter_map content_in (came_for arrivals kind name))
 
@@ -47,6 +52,7 @@ is_word (Value content) = true
 is_word Absent = true
 is_word Bad = true
 is_word TimedOut = false
+is_word (Ended content) = false
 
 -- the initial fetch timeout came
 abbrev pub is_timeout : Arrival → Bool
@@ -54,34 +60,53 @@ is_timeout (Value content) = false
 is_timeout Absent = false
 is_timeout Bad = false
 is_timeout TimedOut = true
+is_timeout (Ended content) = false
 
 -- the name was told of, by what came
 abbrev pub is_told_by : List Arrived → Kind → List ℕ → Bool
 is_told_by arrivals kind name = list_any is_word (came_for arrivals kind name)
 
--- the wait for the name timed out, by what came
-abbrev pub is_timed_by : List Arrived → Kind → List ℕ → Bool
-is_timed_by arrivals kind name = list_any is_timeout (came_for arrivals kind name)
-
 -- the name was told of
 abbrev pub is_told : World → Kind → List ℕ → Bool
 is_told world kind name = is_told_by world.arrivals kind name
 
--- the wait for the name timed out
-abbrev pub is_timed : World → Kind → List ℕ → Bool
-is_timed world kind name = is_timed_by world.arrivals kind name
+-- how many numbers were drawn when the last of this sort came for the name, if one did
+abbrev pub last_made : (Arrival → Bool) → List Arrived → Kind → List ℕ → Option ℕ
+last_made is arrivals kind name =
+    last_or None (map (λ (a : Arrived). a.made) (filter (λ (a : Arrived). is_for kind name a && is a.arrival) arrivals))
 
--- what is depended on was told of, or timed out where the wait is limited
-abbrev pub has_answer : List Arrived → Dependency → Bool
-has_answer arrivals d = is_told_by arrivals d.kind d.name || (is_timed_by arrivals d.kind d.name && d.limited)
+-- how many were drawn when the name was last told of
+abbrev pub last_told : List Arrived → Kind → List ℕ → Option ℕ
+last_told arrivals kind name = last_made is_word arrivals kind name
 
--- a generation of this content is answered: each of its dependencies is
-abbrev pub is_answered_by : List Arrived → Content → Bool
-is_answered_by arrivals content = list_all (has_answer arrivals) (dependencies_of content)
+-- how many were drawn when the wait for the name last timed out
+abbrev pub last_timed : List Arrived → Kind → List ℕ → Option ℕ
+last_timed arrivals kind name = last_made is_timeout arrivals kind name
+
+-- what came when so many numbers were drawn counts for the generation of this number; of a fresh dependency only if that stood by then
+abbrev pub counts_for : ℕ → Dependency → Option ℕ → Bool
+counts_for number d None = false
+counts_for number d (Some made) = not d.fresh || nat_le number made
+
+-- the generation of this number was told of what it depends on
+abbrev pub has_word : List Arrived → ℕ → Dependency → Bool
+has_word arrivals number d = counts_for number d (last_told arrivals d.kind d.name)
+
+-- its wait timed out
+abbrev pub has_timeout : List Arrived → ℕ → Dependency → Bool
+has_timeout arrivals number d = counts_for number d (last_timed arrivals d.kind d.name)
+
+-- it was told of what it depends on, or timed out where the wait is limited
+abbrev pub has_answer : List Arrived → ℕ → Dependency → Bool
+has_answer arrivals number d = has_word arrivals number d || (has_timeout arrivals number d && d.limited)
+
+-- the generation of this number and content is answered: each of its dependencies is
+abbrev pub is_answered_by : List Arrived → ℕ → Content → Bool
+is_answered_by arrivals number content = list_all (has_answer arrivals number) (dependencies_of content)
 
 -- the row is answered
 abbrev pub is_answered : World → GenRow → Bool
-is_answered world row = is_answered_by world.arrivals row.content
+is_answered world row = is_answered_by world.arrivals row.number row.content
 
 -- the hosts of a value
 abbrev pub rows_in : Option Content → List HostRowParts
@@ -94,7 +119,8 @@ rows_in (Some (routes table)) = []
 -- the hosts that stand in a cluster, or the value of its service, or none
 abbrev pub discovered : List Arrived → Discovery → List HostRowParts
 discovered arrivals (Static rows) = rows
-discovered arrivals (by_eds service limited) = rows_in (value_by arrivals Eds service)
+discovered arrivals (by_eds service limited fresh) = rows_in (value_by arrivals Eds service)
+discovered arrivals Elsewhere = []
 
 -- the assignment of a content, by what came
 abbrev pub assignment_by : List Arrived → Content → List HostRowParts
@@ -129,7 +155,7 @@ has_all_results results number hosts = list_all (λ (h : HostRowParts). has_resu
 -- a row is ready where it is answered and, as a checked cluster, has a result of each host
 abbrev pub is_ready_by : List Arrived → List HealthResult → GenRow → Bool
 is_ready_by arrivals results row =
-    is_answered_by arrivals row.content
+    is_answered_by arrivals row.number row.content
     && (not (is_checked row.content) || has_all_results results row.number (assignment_by arrivals row.content))
 
 -- the row is ready

@@ -10,11 +10,12 @@ use Rattle.ev_types.specs.declared.rows.Phase.{Phase}
 use Rattle.ev_types.specs.declared.rows.Phase.TheVariants.{Clusters}
 use Rattle.ev_model.specs.declared.pictures.Shown.{Shown}
 
--- something came for a name of this kind
+-- something came for a name of this kind, when so many numbers were drawn: for the generations up to the last of them
 pub record Arrived : Type 0 where
   pub kind : Kind
   pub name : List ℕ
   pub arrival : Arrival
+  pub made : ℕ
 
 -- a health result of a host, for the generation of this number
 pub record HealthResult : Type 0 where

@@ -9,6 +9,8 @@ pub struct ServedCluster {
     pub number: Gen,
     pub name: Name,
     pub hosts: Assignment,
+    /// Whether Envoy, or an extension of it, finds the host of each connection by itself.
+    pub elsewhere: bool,
 }
 
 impl TryCopy for ServedCluster {
@@ -17,6 +19,7 @@ impl TryCopy for ServedCluster {
             number: self.number,
             name: self.name.copy(alloc)?,
             hosts: self.hosts.copy(alloc)?,
+            elsewhere: self.elsewhere,
         })
     }
 }
@@ -30,7 +33,10 @@ impl PartialEq for ServedCluster {
     ghost laws = { partial_equiv_from_equiv (decided served_cluster_same served_cluster_decides) };
 
     fn eq(&self, other: &ServedCluster) -> bool {
-        self.number == other.number && self.name == other.name && self.hosts == other.hosts
+        self.number == other.number
+            && self.name == other.name
+            && self.hosts == other.hosts
+            && self.elsewhere == other.elsewhere
     }
 }
 
@@ -41,13 +47,15 @@ impl Eq for ServedCluster {
     ghost laws = { decided served_cluster_same served_cluster_decides };
 }
 
-/// Where a listener's connections go.
+/// Where the connections of a filter chain go.
 #[derive(Drop)]
 pub enum Routing {
     /// By routes, which are shared with the resource that brought them.
     Table(Shared<RouteTable>),
     /// By a TCP proxy to this target.
     Tcp(Target),
+    /// By other filters, or routes by scopes, where no script tells.
+    Other,
 }
 
 impl TryCopy for Routing {
@@ -55,6 +63,7 @@ impl TryCopy for Routing {
         match self {
             Routing::Table(table) => Ok(Routing::Table(table.copy(alloc)?)),
             Routing::Tcp(target) => Ok(Routing::Tcp(target.copy(alloc)?)),
+            Routing::Other => Ok(Routing::Other),
         }
     }
 }
@@ -71,6 +80,7 @@ impl PartialEq for Routing {
         match (self, other) {
             (Routing::Table(table), Routing::Table(other)) => table == other,
             (Routing::Tcp(target), Routing::Tcp(other)) => target == other,
+            (Routing::Other, Routing::Other) => true,
             _ => false,
         }
     }
@@ -86,7 +96,8 @@ impl Eq for Routing {
 /// A filter chain of an active listener as workers see it: which connections it takes, and where they go.
 #[derive(Drop)]
 pub struct ServedChain {
-    pub criteria: FilterChainMatch,
+    /// Which connections it takes. It is shared with the resource that brought it.
+    pub criteria: Shared<FilterChainMatch>,
     pub routing: Routing,
 }
 
@@ -125,7 +136,12 @@ pub struct ServedListener {
     pub number: Gen,
     pub name: Name,
     pub address: Host,
-    pub routing: Routing,
+    /// Whether its address stands for every address of its port, where no listener has that address itself.
+    pub takes_every_address: bool,
+    /// Its chains in order.
+    pub filter_chains: Seq<ServedChain>,
+    /// Where connections go that no chain takes, if they go anywhere.
+    pub default_filter_chain: Option<Routing>,
 }
 
 impl TryCopy for ServedListener {
@@ -134,7 +150,9 @@ impl TryCopy for ServedListener {
             number: self.number,
             name: self.name.copy(alloc)?,
             address: self.address.copy(alloc)?,
-            routing: self.routing.copy(alloc)?,
+            takes_every_address: self.takes_every_address,
+            filter_chains: self.filter_chains.copy(alloc)?,
+            default_filter_chain: self.default_filter_chain.copy(alloc)?,
         })
     }
 }
@@ -151,7 +169,9 @@ impl PartialEq for ServedListener {
         self.number == other.number
             && self.name == other.name
             && self.address == other.address
-            && self.routing == other.routing
+            && self.takes_every_address == other.takes_every_address
+            && self.filter_chains == other.filter_chains
+            && self.default_filter_chain == other.default_filter_chain
     }
 }
 
@@ -229,6 +249,17 @@ pub enum Taken {
 pub enum Choice {
     /// No listener has the address.
     NoListener,
+    /// No filter chain of the listener takes it.
+    NoChain,
+    /// Its way depends on what no script tells.
+    Undecided {
+        listener: Gen,
+    },
+    /// It goes where no script tells: to a host of the cluster where there is one, else by a filter or an extension.
+    Elsewhere {
+        listener: Gen,
+        cluster: Option<Gen>,
+    },
     /// The listener has no route for it.
     NoRoute {
         listener: Gen,

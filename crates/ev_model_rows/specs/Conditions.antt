@@ -73,19 +73,19 @@ Missing = map (condition_says request)
     ∷ [])
     ≡ No ∷ Yes ∷ No ∷ No ∷ No ∷ Yes ∷ Yes ∷ Yes ∷ []
 
--- a match of a path alone
-abbrev pub at_path : PathSpecifier → List RouteCondition → RouteMatch
-at_path path conditions = record { path = path; conditions = conditions }
+-- a match of a path, with conditions
+abbrev pub matched : PathSpecifier → List RouteCondition → RouteMatch
+matched path conditions = record { path = path; conditions = conditions }
 
 -- a path with its case and without, a CONNECT, and what isn't decided: beside a no it is a no
 abbrev pub Paths : Type 0
 Paths = map (match_says request)
-    (at_path (Cased (path_prefix (codes "/Shop"))) []
-    ∷ at_path (Cased (whole_path (codes "/shop/cart"))) []
-    ∷ at_path (Folded (whole_path (codes "/shop/CART"))) []
-    ∷ at_path Connect []
-    ∷ at_path open_path (Grpc ∷ [])
-    ∷ at_path open_path (Grpc ∷ on (codes "role") Present false false ∷ [])
-    ∷ at_path (Cased (path_prefix (codes "/"))) (Grpc ∷ open_condition ∷ [])
+    (matched (Cased (path_prefix (codes "/Shop"))) []
+    ∷ matched (Cased (whole_path (codes "/shop/cart"))) []
+    ∷ matched (Folded (whole_path (codes "/shop/CART"))) []
+    ∷ matched Connect []
+    ∷ matched open_path (Grpc ∷ [])
+    ∷ matched open_path (Grpc ∷ on (codes "role") Present false false ∷ [])
+    ∷ matched (Cased (path_prefix (codes "/"))) (Grpc ∷ open_condition ∷ [])
     ∷ [])
     ≡ Yes ∷ No ∷ Yes ∷ No ∷ Undecided ∷ No ∷ Undecided ∷ []

@@ -8,14 +8,14 @@ use Rattle.ev_types.specs.declared.routes.Action.TheVariants.{Local as local}
 use Rattle.ev_types.specs.declared.routes.PathMatch.TheVariants.{Prefix}
 use Rattle.ev_types.specs.declared.routes.VirtualHost.{VirtualHost}
 use Rattle.ev_types.specs.declared.routes.RouteTable.{RouteTable}
-use Rattle.ev_model_rows.specs.Words.{Deed, answers_to, pictures_of, listener_at, connect, response, fetch_timeout, publish, accept_with, settle, ask, ask_first, ack, settled}
+use Rattle.ev_model_rows.specs.Words.{Deed, answers_to, pictures_of, listener_at, at_path, connect, response, fetch_timeout, publish, accept_with, settle, ask, ask_first, ack, settled}
 
 -- a virtual host of one domain that answers each path with a status
 abbrev pub answering : List ℕ → List ℕ → ℕ → VirtualHost
 answering name domain status = record {
   name = name;
   domains = domain ∷ [];
-  routes = record { path = Prefix (codes "/"); action = local status } ∷ [];
+  routes = record { route_match = at_path (Prefix (codes "/")); action = local status } ∷ [];
 }
 
 -- three virtual hosts, of the domains `*`, `*.a.com` and `b.a.com`

@@ -24,3 +24,11 @@ pub mod FullBatch
 pub mod Findings
 pub mod Narrowing
 pub mod Conditions
+pub mod FreshEndpoints
+pub mod LateTimeouts
+pub mod SharedRoutes
+pub mod TwoMarks
+pub mod ChainsInOrder
+pub mod OpenRoutes
+pub mod WhatOpens
+pub mod EveryAddress

@@ -3,23 +3,13 @@ use Rattle.std.specs.Prelude.{◌≡◌, ℕ, ◌*◌, ◌+◌, ◌^◌, true, f
 use Rattle.ev_types.specs.declared.filter_chains.FilterChainMatch.{FilterChainMatch}
 use Rattle.ev_types.specs.declared.ips.Ip.{Ip}
 use Rattle.ev_types.specs.declared.ips.Ip.TheVariants.{V4, V6}
-use Rattle.ev_types.specs.declared.routes.Target.TheVariants.{One, Weighted}
+use Rattle.ev_types.specs.declared.routes.Target.TheVariants.{One, Weighted, Elsewhere}
 use Rattle.ev_types.specs.Ips.{range_about}
 use Rattle.ev_model.specs.declared.pictures.Routing.{Routing}
-use Rattle.ev_model.specs.declared.pictures.Routing.TheVariants.{Table, Tcp}
+use Rattle.ev_model.specs.declared.pictures.Routing.TheVariants.{Table, Tcp, Other}
 use Rattle.ev_model.specs.declared.pictures.ServedChain.{ServedChain}
 use Rattle.ev_model.specs.Narrowing.{Incoming, chains_left}
-
--- a match that asks for nothing
-abbrev pub any : FilterChainMatch
-any = record {
-  destination_port = None;
-  prefix_ranges = [];
-  server_names = [];
-  transport_protocol = None;
-  application_protocols = [];
-  asks_source = false;
-}
+use Rattle.ev_model_rows.specs.Words.{no_criteria}
 
 -- a chain that forwards to a cluster, by whose name it is told from others
 abbrev pub chain : List ℕ → FilterChainMatch → ServedChain
@@ -30,6 +20,8 @@ abbrev pub name_of : Routing → List ℕ
 name_of (Table table) = []
 name_of (Tcp (One name)) = name
 name_of (Tcp (Weighted clusters)) = []
+name_of (Tcp Elsewhere) = []
+name_of Other = []
 
 -- the names of the chains that are left
 abbrev pub names_left : Incoming → List ServedChain → List (List ℕ)
@@ -46,27 +38,27 @@ address = V4 (10 * 2 ^ 24 + 1 * 2 ^ 16 + 2 * 2 ^ 8 + 3)
 -- a chain that asks for the port goes before one that asks for none, and is not given up where it asks for another name
 abbrev pub NoWayBack : Type 0
 NoWayBack = names_left (record plain { server_name = codes "y" })
-    (chain (codes "port") (record any { destination_port = Some 443; server_names = codes "x" ∷ [] }) ∷ chain (codes "name") (record any { server_names = codes "y" ∷ [] }) ∷ [])
+    (chain (codes "port") (record no_criteria { destination_port = Some 443; server_names = codes "x" ∷ [] }) ∷ chain (codes "name") (record no_criteria { server_names = codes "y" ∷ [] }) ∷ [])
     ≡ []
 
 -- the longest range that holds the address; of another family, or of no IP address, none does
 abbrev pub Ranges : Type 0
 Ranges =
     (names_left (record plain { ip = Some address })
-    (chain (codes "8") (record any { prefix_ranges = range_about address 8 ∷ [] }) ∷ chain (codes "16") (record any { prefix_ranges = range_about address 16 ∷ [] }) ∷ chain (codes "none") any ∷ [])
+    (chain (codes "8") (record no_criteria { prefix_ranges = range_about address 8 ∷ [] }) ∷ chain (codes "16") (record no_criteria { prefix_ranges = range_about address 16 ∷ [] }) ∷ chain (codes "none") no_criteria ∷ [])
     ≡ codes "16" ∷ [])
     × (names_left (record plain { ip = Some (V6 1) })
-    (chain (codes "8") (record any { prefix_ranges = range_about address 8 ∷ [] }) ∷ chain (codes "none") any ∷ [])
+    (chain (codes "8") (record no_criteria { prefix_ranges = range_about address 8 ∷ [] }) ∷ chain (codes "none") no_criteria ∷ [])
     ≡ codes "none" ∷ [])
-    × (names_left plain (chain (codes "8") (record any { prefix_ranges = range_about address 8 ∷ [] }) ∷ [])
+    × (names_left plain (chain (codes "8") (record no_criteria { prefix_ranges = range_about address 8 ∷ [] }) ∷ [])
     ≡ [])
 
 -- chains for a name, for names that end with its last two labels, and for those that end with the last one
 abbrev pub named : List ServedChain
 named =
-    chain (codes "last") (record any { server_names = codes "*.c" ∷ [] })
-    ∷ chain (codes "two") (record any { server_names = codes "*.b.c" ∷ [] })
-    ∷ chain (codes "whole") (record any { server_names = codes "a.b.c" ∷ [] })
+    chain (codes "last") (record no_criteria { server_names = codes "*.c" ∷ [] })
+    ∷ chain (codes "two") (record no_criteria { server_names = codes "*.b.c" ∷ [] })
+    ∷ chain (codes "whole") (record no_criteria { server_names = codes "a.b.c" ∷ [] })
     ∷ []
 
 -- a name goes by itself, then by the longest end of it; ASCII letters in either case
@@ -81,14 +73,14 @@ Names =
 abbrev pub Transports : Type 0
 Transports =
     (names_left (record plain { tls = true })
-    (chain (codes "tls") (record any { transport_protocol = Some (codes "tls") }) ∷ chain (codes "none") any ∷ [])
+    (chain (codes "tls") (record no_criteria { transport_protocol = Some (codes "tls") }) ∷ chain (codes "none") no_criteria ∷ [])
     ≡ codes "tls" ∷ [])
     × (names_left plain
-    (chain (codes "tls") (record any { transport_protocol = Some (codes "tls") }) ∷ chain (codes "none") any ∷ [])
+    (chain (codes "tls") (record no_criteria { transport_protocol = Some (codes "tls") }) ∷ chain (codes "none") no_criteria ∷ [])
     ≡ codes "none" ∷ [])
 
 -- the first protocol that the connection offers and some chain asks for
 abbrev pub Protocols : Type 0
 Protocols = names_left (record plain { alpn = codes "h3" ∷ codes "h2" ∷ codes "http/1.1" ∷ [] })
-    (chain (codes "old") (record any { application_protocols = codes "http/1.1" ∷ [] }) ∷ chain (codes "new") (record any { application_protocols = codes "h2" ∷ [] }) ∷ [])
+    (chain (codes "old") (record no_criteria { application_protocols = codes "http/1.1" ∷ [] }) ∷ chain (codes "new") (record no_criteria { application_protocols = codes "h2" ∷ [] }) ∷ [])
     ≡ codes "new" ∷ []

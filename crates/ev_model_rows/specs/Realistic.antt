@@ -9,11 +9,11 @@ use Rattle.ev_types.specs.declared.routes.PathMatch.TheVariants.{Prefix}
 use Rattle.ev_types.specs.declared.routes.Target.TheVariants.{One}
 use Rattle.ev_types.specs.declared.routes.Route.{Route}
 use Rattle.ev_types.specs.declared.routes.RouteTable.{RouteTable}
-use Rattle.ev_model_rows.specs.Words.{Deed, script_with, answers_in, pictures_in, by_worker, host_row, eds_cluster, checked_cluster, hosts_of, rds_listener, routes_of, connect, response, health, publish, reap, accept_with, close, settle, ask, ask_first, ack, subscribe, served, settled}
+use Rattle.ev_model_rows.specs.Words.{Deed, script_with, answers_in, pictures_in, by_worker, host_row, eds_cluster, checked_cluster, hosts_of, rds_listener, at_path, routes_of, connect, response, health, publish, reap, accept_with, close, settle, ask, ask_first, ack, subscribe, served, settled}
 
 -- a route by the beginning of the path
 abbrev pub route_to : List ℕ → List ℕ → Route
-route_to front cluster = record { path = Prefix front; action = Forward (One cluster) }
+route_to front cluster = record { route_match = at_path (Prefix front); action = Forward (One cluster) }
 
 -- three routes, by `/api`, `/img` and `/`
 abbrev pub table : RouteTable

@@ -1,5 +1,5 @@
 -- Short words for the scripts and answers of worked rows. This project's own.
-use Rattle.std.specs.Prelude.{ℕ, ◌+◌, Bool, true, false, List, [], ◌∷◌, ◌++◌, length, map, codes, Option, Some, None}
+use Rattle.std.specs.Prelude.{ℕ, ◌+◌, ◌*◌, ◌^◌, Bool, true, false, List, [], ◌∷◌, ◌++◌, length, map, codes, Option, Some, None}
 use Rattle.ev_types.specs.Hosts.{HostRowParts}
 use Rattle.ev_types.specs.Items.{ItemParts}
 use Rattle.ev_types.specs.Scripts.{ScriptParts}
@@ -11,10 +11,19 @@ use Rattle.ev_types.specs.declared.contents.Content.TheVariants.{Cluster, Assign
 use Rattle.ev_types.specs.declared.contents.Request.{Request}
 use Rattle.ev_types.specs.declared.clusters.Discovery.{Discovery}
 use Rattle.ev_types.specs.declared.clusters.Discovery.TheVariants.{Static, Eds as by_eds}
+use Rattle.ev_types.specs.declared.filter_chains.FilterChainMatch.{FilterChainMatch}
+use Rattle.ev_types.specs.declared.ips.Ip.TheVariants.{V4}
+use Rattle.ev_types.specs.declared.listeners.FilterChain.{FilterChain}
 use Rattle.ev_types.specs.declared.listeners.Serve.{Serve}
 use Rattle.ev_types.specs.declared.listeners.Serve.TheVariants.{Rds as by_rds, Tcp}
 use Rattle.ev_types.specs.declared.routes.Target.TheVariants.{One}
+use Rattle.ev_types.specs.declared.matchers.PathSpecifier.TheVariants.{Cased}
+use Rattle.ev_types.specs.declared.matchers.RouteMatch.{RouteMatch}
+use Rattle.ev_types.specs.declared.routes.Action.TheVariants.{Local}
+use Rattle.ev_types.specs.declared.routes.PathMatch.{PathMatch}
+use Rattle.ev_types.specs.declared.routes.PathMatch.TheVariants.{Prefix}
 use Rattle.ev_types.specs.declared.routes.RouteTable.{RouteTable}
+use Rattle.ev_types.specs.declared.events.Ask.{Ask}
 use Rattle.ev_types.specs.declared.events.Actor.{Actor}
 use Rattle.ev_types.specs.declared.events.Actor.TheVariants.{Stream, Health as health_checker, Timer, Main, Worker}
 use Rattle.ev_types.specs.declared.events.Event.{Event}
@@ -23,6 +32,7 @@ use Rattle.ev_types.specs.declared.events.Answer.{Answer}
 use Rattle.ev_types.specs.declared.events.Answer.TheVariants.{Served, Settled}
 use Rattle.ev_types.specs.declared.events.Entry.{Entry}
 use Rattle.ev_types.specs.declared.events.Line.{Line}
+use Rattle.ev_types.specs.declared.events.Profile.TheVariants.{Own}
 use Rattle.ev_types.specs.declared.journals.Format.{Format}
 use Rattle.ev_types.specs.declared.journals.Format.TheVariants.{Two}
 use Rattle.ev_model.specs.declared.pictures.Shown.{Shown}
@@ -40,14 +50,18 @@ host last = record { address = codes "10.0.0." ++ last; port = 80 }
 abbrev pub host_row : List ℕ → HostRowParts
 host_row last = record { host = host last; weight = 1; priority = 0; usable = true }
 
--- a cluster, under the version `v1`
-abbrev pub cluster_of : List ℕ → Discovery → Bool → ItemParts
-cluster_of name discovery checked = record {
+-- a cluster with the text of its body, under the version `v1`
+abbrev pub cluster_with : List ℕ → Discovery → Bool → List ℕ → ItemParts
+cluster_with name discovery checked text = record {
   name = name;
   version = codes "v1";
   ttl = false;
-  body = Good (Cluster (record { name = name; discovery = discovery; checked = checked }));
+  body = Good (Cluster (record { name = name; discovery = discovery; checked = checked; body_text = text }));
 }
+
+-- the same without the text
+abbrev pub cluster_of : List ℕ → Discovery → Bool → ItemParts
+cluster_of name discovery checked = cluster_with name discovery checked []
 
 -- a static cluster with these hosts
 abbrev pub static_cluster : List ℕ → List HostRowParts → ItemParts
@@ -55,28 +69,70 @@ static_cluster name hosts = cluster_of name (Static hosts) false
 
 -- a cluster whose hosts come under the name of a service
 abbrev pub eds_cluster : List ℕ → List ℕ → ItemParts
-eds_cluster name service = cluster_of name (by_eds service true) false
+eds_cluster name service = cluster_of name (by_eds service true false) false
 
 -- the same with an initial fetch timeout of 0: it waits without limit
 abbrev pub patient_cluster : List ℕ → List ℕ → ItemParts
-patient_cluster name service = cluster_of name (by_eds service false) false
+patient_cluster name service = cluster_of name (by_eds service false false) false
 
 -- a cluster whose hosts come under its own name and are health checked
 abbrev pub checked_cluster : List ℕ → ItemParts
-checked_cluster name = cluster_of name (by_eds name true) true
+checked_cluster name = cluster_of name (by_eds name true false) true
+
+-- a cluster whose hosts come under its own name and have to come anew, with the text of its body
+abbrev pub fresh_cluster : List ℕ → List ℕ → ItemParts
+fresh_cluster name text = cluster_with name (by_eds name true true) false text
 
 -- the hosts of a service
 abbrev pub hosts_of : List ℕ → List HostRowParts → ItemParts
 hosts_of name hosts = record { name = name; version = codes "e1"; ttl = false; body = Good (Assignment hosts) }
 
--- a listener at 10.1.0.1 and a port
-abbrev pub listener_at : List ℕ → ℕ → Serve → ItemParts
-listener_at name port serve = record {
+-- a match of chains that asks for nothing
+abbrev pub no_criteria : FilterChainMatch
+no_criteria = record {
+  destination_port = None;
+  prefix_ranges = [];
+  server_names = [];
+  transport_protocol = None;
+  application_protocols = [];
+  asks_source = false;
+}
+
+-- a chain that serves the connections that its match takes
+abbrev pub chain_by : FilterChainMatch → Serve → FilterChain
+chain_by criteria serve = record { criteria = criteria; serve = serve }
+
+-- a chain that serves every connection
+abbrev pub open_chain : Serve → FilterChain
+open_chain serve = chain_by no_criteria serve
+
+-- a chain that serves the connections to a server
+abbrev pub chain_for : List ℕ → Serve → FilterChain
+chain_for name serve = chain_by (record no_criteria { server_names = name ∷ [] }) serve
+
+-- a listener at a host, with its mark, chains, default chain and the text of its body, under the version `v1`
+abbrev pub listener_by : List ℕ → Host → Bool → List FilterChain → Option Serve → List ℕ → ItemParts
+listener_by name address every chains default text = record {
   name = name;
   version = codes "v1";
   ttl = false;
-  body = Good (Listener (record { name = name; address = record { address = codes "10.1.0.1"; port = port }; serve = serve }));
+  body = Good (Listener (record {
+    name = name;
+    address = address;
+    takes_every_address = every;
+    filter_chains = chains;
+    default_filter_chain = default;
+    body_text = text;
+  }));
 }
+
+-- a listener at 10.1.0.1 and a port, with chains and a default chain
+abbrev pub listener_with : List ℕ → ℕ → List FilterChain → Option Serve → ItemParts
+listener_with name port chains default = listener_by name (record { address = codes "10.1.0.1"; port = port }) false chains default []
+
+-- a listener at 10.1.0.1 and a port that serves every connection
+abbrev pub listener_at : List ℕ → ℕ → Serve → ItemParts
+listener_at name port serve = listener_with name port (open_chain serve ∷ []) None
 
 -- a TCP listener that forwards to a cluster
 abbrev pub tcp_listener : List ℕ → ℕ → List ℕ → ItemParts
@@ -85,6 +141,20 @@ tcp_listener name port cluster = listener_at name port (Tcp (One cluster))
 -- a listener whose routes come under a name
 abbrev pub rds_listener : List ℕ → ℕ → List ℕ → ItemParts
 rds_listener name port routes = listener_at name port (by_rds routes true)
+
+-- a match of a path in its case, without a condition
+abbrev pub at_path : PathMatch → RouteMatch
+at_path path = record { path = Cased path; conditions = [] }
+
+-- routes that answer each request with a status
+abbrev pub answering_all : ℕ → RouteTable
+answering_all status = record {
+  hosts = record {
+    name = codes "v";
+    domains = codes "*" ∷ [];
+    routes = record { route_match = at_path (Prefix []); action = Local status } ∷ [];
+  } ∷ [];
+}
 
 -- the routes of a name
 abbrev pub routes_of : List ℕ → RouteTable → ItemParts
@@ -144,18 +214,32 @@ reap = record { actor = Main; event = Reap }
 abbrev pub by_worker : ℕ → Deed → Deed
 by_worker worker deed = record { actor = Worker worker; event = deed.event }
 
+-- a connection to 10.1.0.1, port 8080, with the path `/`, the pick 0, and nothing else
+abbrev pub asked : ℕ → Ask
+asked connection = record {
+  conn = connection;
+  address = record { address = codes "10.1.0.1"; port = 8080 };
+  ip = Some (V4 (10 * 2 ^ 24 + 2 ^ 16 + 1));
+  server_name = [];
+  tls = false;
+  alpn = [];
+  host = [];
+  path = codes "/";
+  headers = [];
+  pick = 0;
+}
+
+-- the same to another port
+abbrev pub asked_at : ℕ → ℕ → Ask
+asked_at connection port = record (asked connection) { address = record { address = codes "10.1.0.1"; port = port } }
+
+-- worker 0 accepts a connection
+abbrev pub accept_of : Ask → Deed
+accept_of ask = record { actor = Worker 0; event = Accept ask }
+
 -- worker 0 accepts a connection at 10.1.0.1, port 8080, with a host, a path and a pick
 abbrev pub accept_with : ℕ → List ℕ → List ℕ → ℕ → Deed
-accept_with connection named path pick = record {
-  actor = Worker 0;
-  event = Accept (record {
-    conn = connection;
-    address = record { address = codes "10.1.0.1"; port = 8080 };
-    host = named;
-    path = path;
-    pick = pick;
-  });
-}
+accept_with connection named path pick = accept_of (record (asked connection) { host = named; path = path; pick = pick })
 
 -- the same without a host, with the path `/` and the pick 0
 abbrev pub accept : ℕ → Deed
@@ -177,7 +261,7 @@ lines_from at (deed ∷ deeds) = record { at = at; actor = deed.actor; event = d
 -- a script of these deeds for so many workers and a node; the header is its first line
 abbrev pub script_with : ℕ → Bool → List ℕ → List Deed → ScriptParts
 script_with workers auto node deeds =
-    record { workers = workers; auto = auto; node = node; lines = lines_from 2 deeds; count = length deeds + 1 }
+    record { workers = workers; auto = auto; profile = Own; node = node; lines = lines_from 2 deeds; count = length deeds + 1 }
 
 -- the same with one worker and the default node
 abbrev pub script_of : List Deed → ScriptParts

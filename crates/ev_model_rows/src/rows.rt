@@ -23,6 +23,14 @@ ghost use Rattle.ev_model_rows.specs.FullBatch.{IsFull};
 ghost use Rattle.ev_model_rows.specs.Findings.{Found};
 ghost use Rattle.ev_model_rows.specs.Narrowing.{NoWayBack, Ranges, Names, Transports, Protocols};
 ghost use Rattle.ev_model_rows.specs.Conditions.{There, Missing, Paths};
+ghost use Rattle.ev_model_rows.specs.FreshEndpoints.{Answers as FreshEndpointsAnswers, Pictures as FreshEndpointsPictures};
+ghost use Rattle.ev_model_rows.specs.LateTimeouts.{Answers as LateTimeoutsAnswers};
+ghost use Rattle.ev_model_rows.specs.SharedRoutes.{Answers as SharedRoutesAnswers};
+ghost use Rattle.ev_model_rows.specs.TwoMarks.{Answers as TwoMarksAnswers};
+ghost use Rattle.ev_model_rows.specs.ChainsInOrder.{Answers as ChainsInOrderAnswers};
+ghost use Rattle.ev_model_rows.specs.OpenRoutes.{Answers as OpenRoutesAnswers};
+ghost use Rattle.ev_model_rows.specs.WhatOpens.{Answers as WhatOpensAnswers};
+ghost use Rattle.ev_model_rows.specs.EveryAddress.{Answers as EveryAddressAnswers};
 
 /// A content that returns: an update that never warmed is dropped, and the generation that served goes once nothing holds it. It does nothing.
 pub fn content_returns()
@@ -168,4 +176,45 @@ pub fn conditions()
     ensures there { There }
     ensures missing { Missing }
     ensures paths { Paths }
+{}
+
+/// An updated cluster waits until its endpoints are sent anew, though they are known, and the same ones wake it. It does nothing.
+pub fn fresh_endpoints()
+    ensures answers { FreshEndpointsAnswers }
+    ensures pictures { FreshEndpointsPictures }
+{}
+
+/// A fetch timeout that came before an update doesn't count for it. It does nothing.
+pub fn late_timeouts()
+    ensures answers { LateTimeoutsAnswers }
+{}
+
+/// Listeners share what came for a name of routes. It does nothing.
+pub fn shared_routes()
+    ensures answers { SharedRoutesAnswers }
+{}
+
+/// Two chains of a listener wait for one name, one within a limit and one without. It does nothing.
+pub fn two_marks()
+    ensures answers { TwoMarksAnswers }
+{}
+
+/// Connections go to the filter chain that is left by each criterion in its order, else to the default chain, or to none. It does nothing.
+pub fn chains_in_order()
+    ensures answers { ChainsInOrderAnswers }
+{}
+
+/// The first route that doesn't say no decides, or where it is open, nothing in a script does. It does nothing.
+pub fn open_routes()
+    ensures answers { OpenRoutesAnswers }
+{}
+
+/// What a connection is open on that no chain takes, or whose way no script tells. It does nothing.
+pub fn what_opens()
+    ensures answers { WhatOpensAnswers }
+{}
+
+/// A listener that takes every address of its port serves what no other listener has. It does nothing.
+pub fn every_address()
+    ensures answers { EveryAddressAnswers }
 {}
