@@ -11,6 +11,7 @@ pub mod Items
 pub mod SameContents
 pub mod Timeouts
 pub mod Events
+pub mod Profiles
 pub mod Scripts
 pub mod Kinds
 pub mod Statuses

@@ -355,6 +355,18 @@ pub enum Profile {
     Envoy,
 }
 
+impl Profile {
+    ghost use Rattle.std.specs.Prelude.{◌≡◌};
+    ghost use Rattle.ev_types.specs.Profiles.{is_envoy};
+
+    /// Whether resources are read as Envoy reads them.
+    pub fn is_envoy(self) -> bool
+        ensures { result ≡ is_envoy self }
+    {
+        matches!(self, Profile::Envoy)
+    }
+}
+
 /// A script. It has 1 to `MAX_WORKERS` workers, a node of 1 to 512 bytes, and its lines' numbers rise from 2 at least to `count`
 /// at most, which is below `LINE_LIMIT`; each line has an actor that its event allows, and its responses have fewer than
 /// `ITEM_LIMIT` resources together.
