@@ -29,6 +29,13 @@ impl Text {
         })
     }
 
+    /// The text of a string. It takes no memory.
+    pub fn from_string(text: String) -> Text
+        ensures bytes { result ≡ string_bytes text }
+    {
+        Text { text }
+    }
+
     /// The text itself.
     pub fn as_str(&self) -> &str
         ensures bytes { result.now ≡ self.now }
