@@ -32,7 +32,7 @@ impl HeaderName {
         let mut lower = String::from_str(alloc, text)?;
         lower.make_ascii_lowercase();
         Ok(HeaderName {
-            text: Text::new(alloc, lower.as_str())?,
+            text: Text::from_string(lower),
         })
     }
 
