@@ -54,9 +54,9 @@ pub(crate) fn ask_in(alloc: Global, tree: &Value) -> Result<Option<Ask>, AllocEr
 /// that it offers.
 #[derive(Drop)]
 pub(crate) struct Handshake {
-    server_name: Text,
-    tls: bool,
-    alpn: Seq<Text>,
+    pub server_name: Text,
+    pub tls: bool,
+    pub alpn: Seq<Text>,
 }
 
 // The handshake of a connection.
@@ -92,9 +92,9 @@ fn alpn_in(alloc: Global, tree: &Value) -> Result<Option<Seq<Text>>, AllocError>
 /// The request that a connection brings: the host that it names, the path that it asks for, and its headers.
 #[derive(Drop)]
 pub(crate) struct HttpRequest {
-    host: Text,
-    path: Text,
-    headers: Seq<(Text, Text)>,
+    pub host: Text,
+    pub path: Text,
+    pub headers: Seq<(Text, Text)>,
 }
 
 // The request of a connection.

@@ -1,7 +1,7 @@
 ghost use Rattle.std.specs.Prelude.{◌≡◌, ℕ, Option, option_map, IfOk, IfSome};
 ghost use Rattle.serde_json.specs.Data.{Data};
 ghost use Rattle.serde_json.specs.View.{view};
-ghost use Rattle.ev_types.specs.declared.events.Profile.{Profile as a_profile};
+ghost use Rattle.ev_types.specs.declared.events.Profile.{Profile};
 ghost use Rattle.ev_script.specs.Faults.{LineForms, worker_of};
 
 use crate::header::read_settings;
@@ -35,7 +35,7 @@ pub trait Forms {
     ghost forms: { LineForms };
 
     // This may be kept of the line, by the profile, the line's number and its tree.
-    ghost keeps: { a_profile → ℕ → Data → Self.Kept → Type 0 };
+    ghost keeps: { Profile → ℕ → Data → Self.Kept → Type 0 };
 
     /// What a tree sets as the first line, or none where it is no header.
     ///

@@ -103,7 +103,7 @@ impl Ord for HeaderName {
 }
 
 // Headers by their names, in order, each name once.
-type Headers = BTreeMap<HeaderName, Text>;
+type HeaderMap = BTreeMap<HeaderName, Text>;
 
 // The headers that an object's members are, or none: `tree` is another value, or a member is no text.
 pub(crate) fn headers_of(
@@ -136,7 +136,7 @@ fn headers_in(
 }
 
 // One header more.
-fn add(alloc: Global, headers: &mut Headers, name: &str, text: &str) -> Result<(), AllocError>
+fn add(alloc: Global, headers: &mut HeaderMap, name: &str, text: &str) -> Result<(), AllocError>
     ensures { OnOk result (headers.new.entries ≡ with_header (str_to_ascii_lowercase name.now) text.now headers.old.entries) }
 {
     let name = HeaderName::new(alloc, name)?;
@@ -157,7 +157,7 @@ fn is_member_of_ask(name: &str) -> bool
 }
 
 // Headers as a list, in the order of their names.
-fn listed(alloc: Global, headers: Headers) -> Result<Seq<(Text, Text)>, AllocError>
+fn listed(alloc: Global, headers: HeaderMap) -> Result<Seq<(Text, Text)>, AllocError>
     ensures { IfOk result (λ list. list ≡ headers.entries) }
 {
     let mut list = Vec::with_capacity(alloc, headers.len())?;
