@@ -9,7 +9,7 @@ use Rattle.ev_types.specs.Scripts.{IsScript}
 use Rattle.ev_script.specs.declared.trees.ScriptTrees.{ScriptTrees}
 use Rattle.ev_script.specs.Faults.{LineForms, HasNoFault, plain_lines}
 use Rattle.ev_script.specs.Script.{script_of}
-use Rattle.ev_trees.specs.Floats.{whole}
+use Rattle.ev_tree.specs.Floats.{whole}
 use Rattle.ev_trees.specs.Trees.{AreWithinLimits}
 use Rattle.ev_expand.specs.Expanding.{Rules, gives, given_by, written_by, IsExpanded}
 use Rattle.ev_expand.specs.Fronts.{Front, fronts, behind}

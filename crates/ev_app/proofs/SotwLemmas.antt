@@ -10,7 +10,7 @@ use Rattle.ev_model.specs.Laws.{RunsHaveLaws}
 use Rattle.ev_model.specs.Runs.{IsRun}
 use Rattle.ev_model_laws.specs.OneReplay.{ReplayIsRunOf}
 use Rattle.ev_actors.specs.Journals.{HasReplayed, JournalParts}
-use Rattle.ev_trees.specs.Floats.{whole}
+use Rattle.ev_tree.specs.Floats.{whole}
 use Rattle.ev_script.specs.declared.trees.ScriptTrees.{ScriptTrees}
 use Rattle.ev_script.specs.Faults.{Input, IsFaultOf}
 use Rattle.ev_script.specs.ReadTrees.{IsTreesAnswer}

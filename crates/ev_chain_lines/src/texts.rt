@@ -2,7 +2,7 @@ ghost use Rattle.std.specs.Prelude.{◌≡◌, ◌+◌, ◌<◌, ◌^◌, ◌↔
 ghost use Rattle.serde_json.specs.View.{view};
 ghost use Rattle.ev_io.specs.declared.limits.TheConstants.{MAX_LINES};
 ghost use Rattle.ev_journal.specs.Rendering.{end_tree, number_tree};
-ghost use Rattle.ev_listener_json.specs.Listeners.{chains_of};
+ghost use Rattle.ev_listener_json.specs.Chains.{chains_of};
 ghost use Rattle.ev_chains.specs.Events.{seen};
 ghost use Rattle.ev_chains.specs.Steps.{Update, chain_step};
 ghost use Rattle.ev_chain_lines.specs.Texts.{answer_tree, line_tree, chains_text};

@@ -8,7 +8,8 @@ use Rattle.ev_tree.specs.Forms.{is_wrong, is_given, inside, text_of, object_of, 
 use Rattle.ev_tree.specs.Addresses.{socket_of, address_text_of, port_of, address_broken}
 use Rattle.ev_tree.specs.Broken.{none_broken, either_broken, any_broken, least_of}
 use Rattle.ev_listener_json.specs.Filters.{chain_serve, chain_refused}
-use Rattle.ev_listener_json.specs.Listeners.{chains_of, is_udp}
+use Rattle.ev_listener_json.specs.Chains.{chains_of}
+use Rattle.ev_listener_json.specs.Listeners.{is_udp}
 use Rattle.ev_chains.specs.declared.matches.ChainMatch.{ChainMatch}
 use Rattle.ev_chains.specs.declared.rows.Listening.{Listening}
 use Rattle.ev_chains.specs.declared.rows.Chain.{Chain}

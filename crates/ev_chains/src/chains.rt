@@ -2,7 +2,7 @@ ghost use Rattle.std.specs.Prelude.{◌≡◌, ◌+◌, ◌<◌, ◌≤◌, ◌^
 ghost use Rattle.serde_json.specs.View.{view};
 ghost use Rattle.ev_tree.specs.Rules.{ReadsAs};
 ghost use Rattle.ev_model.specs.Connections.{is_open};
-ghost use Rattle.ev_listener_json.specs.Listeners.{chains_of};
+ghost use Rattle.ev_listener_json.specs.Chains.{chains_of};
 ghost use Rattle.ev_chains.specs.Listeners.{chains_in};
 ghost use Rattle.ev_chains.specs.State.{opening, accepted, listener_reading};
 ghost use Rattle.ev_chains.specs.Steps.{accept, close, drain, drained_by, reap, reaped_by};

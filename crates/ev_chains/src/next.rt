@@ -1,7 +1,7 @@
 ghost use Rattle.std.specs.Prelude.{◌≡◌, ◌+◌, ◌<◌, ◌≤◌, ◌^◌, length, map, false, IfOk, OnOk, Bool};
 ghost use Rattle.serde_json.specs.View.{view};
 ghost use Rattle.ev_tree.specs.Rules.{ReadsAs, judged};
-ghost use Rattle.ev_listener_json.specs.Listeners.{chains_of};
+ghost use Rattle.ev_listener_json.specs.Chains.{chains_of};
 ghost use Rattle.ev_chains.specs.Rows.{has_clash, match_of};
 ghost use Rattle.ev_chains.specs.Listeners.{chains_in, rule_told};
 ghost use Rattle.ev_chains.specs.State.{numbered, made_by};

@@ -3,11 +3,12 @@ use Rattle.std.specs.Prelude.{ℕ, ◌||◌, ◌==◌, List, map, Bool, nat_lt, 
 use Rattle.std.specs.List.{flat_map, sum_by}
 use Rattle.serde_json.specs.Data.{Data}
 use Rattle.ev_types.specs.Hosts.{HostRowParts}
+use Rattle.ev_types.specs.declared.events.Profile.{Profile}
 use Rattle.ev_types.specs.declared.limits.TheConstants.{MAX_WEIGHT_SUM}
 use Rattle.ev_tree.specs.declared.broken.BrokenRules.{BrokenRules}
 use Rattle.ev_tree.specs.declared.tables.EnumTable.TheVariants.{Health}
 use Rattle.ev_tree.specs.Forms.{is_wrong, given_or, inside, listed, text_of, number_of, object_of, objects_of, enumeration_of}
-use Rattle.ev_tree.specs.Addresses.{address_text_of, port_of, address_broken}
+use Rattle.ev_tree.specs.Addresses.{text_in_profile, port_in_profile, address_broken_in}
 use Rattle.ev_tree.specs.Rules.{judged}
 use Rattle.ev_tree.specs.Broken.{none_broken, either_broken, any_broken, least_of}
 use Rattle.ev_cluster_json.specs.declared.groups.TheConstants.{MAX_PRIORITY}
@@ -29,17 +30,17 @@ is_usable_status status = status == 0 || status == 1 || status == 5
 unfoldable pub is_usable : Data → Bool
 is_usable host = is_usable_status (given_or 0 (enumeration_of (codes "health_status") Health host))
 
-unfoldable pub row_of : ℕ → Data → HostRowParts
-row_of priority host = record {
-  host = record { address = address_text_of (endpoint_of host); port = port_of (endpoint_of host) };
+unfoldable pub row_of : Profile → ℕ → Data → HostRowParts
+row_of profile priority host = record {
+  host = record { address = text_in_profile profile (endpoint_of host); port = port_in_profile profile (endpoint_of host) };
   weight = weight_of host;
   priority = priority;
   usable = is_usable host;
 }
 
 -- What a host breaks: what its address breaks, and what it breaks itself. V13: its weight is 0.
-unfoldable pub host_broken : Data → BrokenRules
-host_broken host = either_broken (address_broken (endpoint_of host)) (record none_broken {
+unfoldable pub host_broken : Profile → Data → BrokenRules
+host_broken profile host = either_broken (address_broken_in profile (endpoint_of host)) (record none_broken {
   v6 =
       is_wrong (object_of (codes "endpoint") host)
       || is_wrong (enumeration_of (codes "health_status") Health host)
@@ -57,14 +58,14 @@ priority_of group = given_or 0 (number_of (codes "priority") group)
 
 -- What a group breaks: what one of its hosts breaks, and what it breaks itself. V13: its priority is too great, or the
 -- weights of all its hosts, unusable ones too, sum to more than 32 bits hold.
-unfoldable pub group_broken : Data → BrokenRules
-group_broken group = either_broken (any_broken host_broken (hosts_of group)) (record none_broken {
+unfoldable pub group_broken : Profile → Data → BrokenRules
+group_broken profile group = either_broken (any_broken (host_broken profile) (hosts_of group)) (record none_broken {
   v6 = is_wrong (number_of (codes "priority") group) || is_wrong (objects_of (codes "lb_endpoints") group);
   v13 = nat_lt MAX_PRIORITY (priority_of group) || nat_lt MAX_WEIGHT_SUM (sum_by weight_of (hosts_of group));
 })
 
-unfoldable pub group_rows : Data → List HostRowParts
-group_rows group = map (row_of (priority_of group)) (hosts_of group)
+unfoldable pub group_rows : Profile → Data → List HostRowParts
+group_rows profile group = map (row_of profile (priority_of group)) (hosts_of group)
 
 -- ---- an assignment
 
@@ -72,15 +73,15 @@ unfoldable pub groups_of : Data → List Data
 groups_of tree = listed (objects_of (codes "endpoints") tree)
 
 -- what an assignment breaks: what it breaks itself, and what one of its groups breaks
-unfoldable pub assignment_broken : Data → BrokenRules
-assignment_broken tree = either_broken (record none_broken {
+unfoldable pub assignment_broken : Profile → Data → BrokenRules
+assignment_broken profile tree = either_broken (record none_broken {
   v6 = is_wrong (text_of (codes "cluster_name") tree) || is_wrong (objects_of (codes "endpoints") tree);
-}) (any_broken group_broken (groups_of tree))
+}) (any_broken (group_broken profile) (groups_of tree))
 
 -- the hosts, in order, repeated ones too
-unfoldable pub rows_of : Data → List HostRowParts
-rows_of tree = flat_map group_rows (groups_of tree)
+unfoldable pub rows_of : Profile → Data → List HostRowParts
+rows_of profile tree = flat_map (group_rows profile) (groups_of tree)
 
 -- what an assignment reads as
-abbrev pub assignment_reading : Data → Result (List HostRowParts) ℕ
-assignment_reading tree = judged (least_of (assignment_broken tree)) (rows_of tree)
+abbrev pub assignment_reading : Profile → Data → Result (List HostRowParts) ℕ
+assignment_reading profile tree = judged (least_of (assignment_broken profile tree)) (rows_of profile tree)

@@ -1,9 +1,12 @@
--- Clusters (`envoy.config.cluster.v3.Cluster`), and the rules that they break.
-use Rattle.std.specs.Prelude.{ℕ, ◌||◌, ◌&&◌, ◌==◌, List, [], length, Bool, not, nat_lt, if◌then◌else◌, Result, codes}
+-- Clusters (`envoy.config.cluster.v3.Cluster`), and the rules that they break, by this project's own rules and as Envoy reads them.
+use Rattle.std.specs.Prelude.{ℕ, ◌||◌, ◌&&◌, ◌==◌, List, [], length, Bool, not, nat_lt, nat_le, if◌then◌else◌, Result, codes}
 use Rattle.serde_json.specs.Data.{Data}
 use Rattle.ev_types.specs.declared.clusters.Cluster.{Cluster}
 use Rattle.ev_types.specs.declared.clusters.Discovery.{Discovery}
-use Rattle.ev_types.specs.declared.clusters.Discovery.TheVariants.{Static, Eds}
+use Rattle.ev_types.specs.declared.clusters.Discovery.TheVariants.{Static, Eds, Elsewhere}
+use Rattle.ev_types.specs.declared.events.Profile.{Profile}
+use Rattle.ev_types.specs.declared.events.Profile.TheVariants.{Own, Envoy}
+use Rattle.ev_types.specs.Profiles.{is_envoy}
 use Rattle.ev_tree.specs.declared.broken.BrokenRules.{BrokenRules}
 use Rattle.ev_tree.specs.declared.limits.TheConstants.{MAX_NAME_BYTES}
 use Rattle.ev_tree.specs.declared.tables.EnumTable.TheVariants.{Discovery as DiscoveryTable}
@@ -11,8 +14,9 @@ use Rattle.ev_tree.specs.Forms.{is_wrong, is_given, is_absent, given_or, inside,
 use Rattle.ev_tree.specs.Rules.{judged, is_name}
 use Rattle.ev_tree.specs.Broken.{none_broken, either_broken, broken_where, least_of}
 use Rattle.ev_tree.specs.Spans.{is_not_positive}
-use Rattle.ev_tree.specs.Sources.{source_broken, source_is_limited}
-use Rattle.ev_cluster_json.specs.declared.parts.TheConstants.{STATIC, EDS}
+use Rattle.ev_tree.specs.Floats.{body_text_of}
+use Rattle.ev_tree.specs.Sources.{source_broken_in, source_is_limited}
+use Rattle.ev_cluster_json.specs.declared.parts.TheConstants.{STATIC, LOGICAL_DNS, EDS}
 use Rattle.ev_cluster_json.specs.Assignments.{rows_of, assignment_broken}
 
 -- ---- the parts of a cluster
@@ -31,6 +35,28 @@ is_static tree = type_of tree == STATIC
 -- EDS
 abbrev pub is_eds : Data → Bool
 is_eds tree = type_of tree == EDS
+
+-- a custom type is given
+abbrev pub has_custom_type : Data → Bool
+has_custom_type tree = is_given (object_of (codes "cluster_type") tree)
+
+-- the hosts stand in a cluster of this type: by the own rules of type STATIC alone; as Envoy reads it also of STRICT_DNS and
+-- LOGICAL_DNS, whose hosts may be names, unless a custom type decides
+abbrev pub is_in_cluster : Profile → Bool → ℕ → Bool
+is_in_cluster Own custom type = type == STATIC
+is_in_cluster Envoy custom type = not custom && nat_le type LOGICAL_DNS
+
+-- the hosts come by EDS: as Envoy reads it, unless a custom type decides
+abbrev pub is_by_eds : Profile → Bool → ℕ → Bool
+is_by_eds Own custom type = type == EDS
+is_by_eds Envoy custom type = not custom && (type == EDS)
+
+-- the same of a cluster
+abbrev pub holds_hosts : Profile → Data → Bool
+holds_hosts profile tree = is_in_cluster profile (has_custom_type tree) (type_of tree)
+
+abbrev pub asks_hosts : Profile → Data → Bool
+asks_hosts profile tree = is_by_eds profile (has_custom_type tree) (type_of tree)
 
 unfoldable pub eds_of : Data → Data
 eds_of tree = inside (object_of (codes "eds_cluster_config") tree)
@@ -58,9 +84,10 @@ is_checked tree = not (length (listed (objects_of (codes "health_checks") tree))
 
 -- What the fields of the cluster itself break.
 -- V3, in the one case that shows in the cluster alone: a name that is no name differs from each outer name.
--- V7: the type is neither STATIC nor EDS, or a custom type is given. V11: a connect timeout is given that isn't positive.
-unfoldable pub own_broken : Data → BrokenRules
-own_broken tree = record none_broken {
+-- V7, by the own rules alone: the type is neither STATIC nor EDS, or a custom type is given. V11: a connect timeout is given that isn't
+-- positive.
+unfoldable pub own_broken : Profile → Data → BrokenRules
+own_broken profile tree = record none_broken {
   v3 = not (is_wrong (text_of (codes "name") tree)) && not (is_name (name_of tree));
   v6 =
       is_wrong (text_of (codes "name") tree)
@@ -68,15 +95,15 @@ own_broken tree = record none_broken {
       || is_wrong (object_of (codes "cluster_type") tree)
       || is_wrong (duration_of (codes "connect_timeout") tree)
       || is_wrong (objects_of (codes "health_checks") tree);
-  v7 = not (is_static tree || is_eds tree) || is_given (object_of (codes "cluster_type") tree);
+  v7 = not (is_envoy profile) && (not (is_static tree || is_eds tree) || has_custom_type tree);
   v11 = is_not_positive (duration_of (codes "connect_timeout") tree);
 }
 
--- What the configuration of EDS breaks, by whether the type is EDS: what its source breaks, and what it breaks itself.
+-- What the configuration of EDS breaks, by whether the hosts come by it: what its source breaks, and what it breaks itself.
 -- V2: the service's name is too long, whatever the type is. V8: EDS without its configuration. V9: the configuration of
--- EDS with another type.
-unfoldable pub eds_broken : Bool → Data → BrokenRules
-eds_broken by_eds tree = either_broken (broken_where (is_given (object_of (codes "eds_cluster_config") tree)) (source_broken (eds_source_of tree))) (record none_broken {
+-- EDS where the hosts don't come by it.
+unfoldable pub eds_broken : Profile → Bool → Data → BrokenRules
+eds_broken profile by_eds tree = either_broken (broken_where (is_given (object_of (codes "eds_cluster_config") tree)) (source_broken_in profile (eds_source_of tree))) (record none_broken {
   v2 = nat_lt MAX_NAME_BYTES (length (service_name_of tree));
   v6 =
       is_wrong (object_of (codes "eds_cluster_config") tree)
@@ -87,26 +114,35 @@ eds_broken by_eds tree = either_broken (broken_where (is_given (object_of (codes
 })
 
 -- what the hosts that stand in the cluster break
-unfoldable pub load_assignment_broken : Data → BrokenRules
-load_assignment_broken tree = either_broken (assignment_broken (load_assignment_of tree)) (record none_broken {
+unfoldable pub load_assignment_broken : Profile → Data → BrokenRules
+load_assignment_broken profile tree = either_broken (assignment_broken profile (load_assignment_of tree)) (record none_broken {
   v6 = is_wrong (object_of (codes "load_assignment") tree);
 })
 
--- What a cluster breaks. The hosts that stand in it are read where the type is STATIC, and passed over else.
-unfoldable pub cluster_broken : Data → BrokenRules
-cluster_broken tree =
-    either_broken (own_broken tree) (either_broken (eds_broken (is_eds tree) tree) (broken_where (is_static tree) (load_assignment_broken tree)))
+-- What a cluster breaks. The hosts that stand in it are read where its type says so, and passed over else.
+unfoldable pub cluster_broken : Profile → Data → BrokenRules
+cluster_broken profile tree =
+    either_broken (own_broken profile tree)
+    (either_broken (eds_broken profile (asks_hosts profile tree) tree) (broken_where (holds_hosts profile tree) (load_assignment_broken profile tree)))
 
 -- ---- the value
 
-unfoldable pub discovery_of : Data → Discovery
-discovery_of tree =
-    if is_static tree then Static (rows_of (load_assignment_of tree))
-    else Eds (service_of tree) (source_is_limited (eds_source_of tree))
+-- As Envoy reads it, endpoints have to come anew for each generation. What is neither in the cluster nor by EDS is found elsewhere;
+-- by the own rules that breaks V7, so it never shows.
+unfoldable pub discovery_of : Profile → Data → Discovery
+discovery_of profile tree =
+    if holds_hosts profile tree then Static (rows_of profile (load_assignment_of tree))
+    else if asks_hosts profile tree then Eds (service_of tree) (source_is_limited (eds_source_of tree)) (is_envoy profile)
+    else Elsewhere
 
-abbrev pub cluster_of : Data → Cluster
-cluster_of tree = record { name = name_of tree; discovery = discovery_of tree; checked = is_checked tree }
+abbrev pub cluster_of : Profile → Data → Cluster
+cluster_of profile tree = record {
+  name = name_of tree;
+  discovery = discovery_of profile tree;
+  checked = is_checked tree;
+  body_text = body_text_of profile tree;
+}
 
 -- what a cluster reads as
-abbrev pub cluster_reading : Data → Result Cluster ℕ
-cluster_reading tree = judged (least_of (cluster_broken tree)) (cluster_of tree)
+abbrev pub cluster_reading : Profile → Data → Result Cluster ℕ
+cluster_reading profile tree = judged (least_of (cluster_broken profile tree)) (cluster_of profile tree)

@@ -1,13 +1,14 @@
 ghost use Rattle.std.specs.Prelude.{◌≡◌, IfOk};
 ghost use Rattle.serde_json.specs.Data.{Data};
 ghost use Rattle.serde_json.specs.View.{view};
+ghost use Rattle.ev_types.specs.declared.events.Profile.{Profile};
 ghost use Rattle.ev_tree.specs.Rules.{ReadsAs, IsLeast};
 ghost use Rattle.ev_tree.specs.Broken.{rules_of, least_of};
 ghost use Rattle.ev_cluster_json.specs.Assignments.{assignment_reading, assignment_broken};
 
 use crate::groups::inspect_assignment;
 use ev_tree::ReadError;
-use ev_types::{Assignment, HostRow, ROW_LIMIT, Seq};
+use ev_types::{Assignment, HostRow, Profile, ROW_LIMIT, Seq};
 use serde_json::Value;
 use std::alloc::{AllocError, Global};
 
@@ -16,10 +17,14 @@ use std::alloc::{AllocError, Global};
 /// # Errors
 /// `Rule` has the least form rule that it breaks: V6, V12 or V13. `OutOfMemory` comes without memory, and
 /// for 2^32 - 1 hosts or more.
-pub fn read_assignment(alloc: Global, value: &Value) -> Result<Assignment, ReadError>
-    ensures { ReadsAs result (assignment_reading (view value.now)) }
+pub fn read_assignment(
+    alloc: Global,
+    profile: Profile,
+    value: &Value,
+) -> Result<Assignment, ReadError>
+    ensures { ReadsAs result (assignment_reading profile (view value.now)) }
 {
-    let tally = inspect_assignment(alloc, Some(value))?;
+    let tally = inspect_assignment(alloc, profile, Some(value))?;
     if let Some(rule) = tally.broken.least() {
         return Err(ReadError::Rule(rule));
     }
@@ -30,7 +35,7 @@ pub fn read_assignment(alloc: Global, value: &Value) -> Result<Assignment, ReadE
 /// The rule by which an assignment is refused is the least of all that it breaks, and where there is none,
 /// it breaks none: a law of the definitions.
 pub fn assignment_rule_is_least()
-    ensures { (tree : Data) → IsLeast (rules_of (assignment_broken tree)) (least_of (assignment_broken tree)) }
+    ensures { (profile : Profile) (tree : Data) → IsLeast (rules_of (assignment_broken profile tree)) (least_of (assignment_broken profile tree)) }
 {}
 
 /// The assignment of these rows, if there are few enough. Health results look hosts up in it, so it is indexed.

@@ -3,43 +3,53 @@ ghost use Rattle.serde_json.specs.Data.{Data};
 ghost use Rattle.serde_json.specs.View.{view};
 ghost use Rattle.ev_tree.specs.Rules.{ReadsAs, IsLeast};
 ghost use Rattle.ev_tree.specs.Broken.{rules_of, least_of};
+ghost use Rattle.ev_types.specs.declared.events.Profile.{Profile};
 ghost use Rattle.ev_cluster_json.specs.Clusters.{cluster_reading, cluster_broken, service_with};
 ghost use Rattle.ev_cluster_json.specs.Made.{discovery_with, cluster_with};
 
 use crate::assignments::make_assignment;
 use crate::hosts::make_name;
-use crate::parts::{EDS, STATIC, inspect_eds, inspect_hosts, inspect_own};
-use ev_tree::ReadError;
-use ev_types::{Cluster, Discovery, HostRow};
+use crate::parts::{inspect_eds, inspect_hosts, inspect_own, is_by_eds, is_in_cluster};
+use ev_tree::{ReadError, body_text};
+use ev_types::{Cluster, Discovery, HostRow, Profile, Text};
 use serde_json::Value;
 use std::alloc::{AllocError, Global};
 
 /// Reads a cluster (`envoy.config.cluster.v3.Cluster`): its name, how it finds its hosts, and whether they
-/// are health checked. All other fields are passed over.
+/// are health checked. All other fields are passed over; as Envoy reads it, the text of the whole body is kept.
 ///
 /// # Errors
-/// `Rule` has the least form rule that it breaks: V2 and V3 as far as they show in the cluster alone, and V6
-/// to V13. `OutOfMemory` comes without memory, and for 2^32 - 1 hosts or more.
-pub fn read_cluster(alloc: Global, value: &Value) -> Result<Cluster, ReadError>
-    ensures { ReadsAs result (cluster_reading (view value.now)) }
+/// `Rule` has the least form rule of the profile that it breaks: V2 and V3 as far as they show in the cluster alone,
+/// and V6 to V13. `OutOfMemory` comes without memory, and for 2^32 - 1 hosts or more.
+pub fn read_cluster(alloc: Global, profile: Profile, value: &Value) -> Result<Cluster, ReadError>
+    ensures { ReadsAs result (cluster_reading profile (view value.now)) }
 {
-    let own = inspect_own(alloc, value)?;
-    let eds = inspect_eds(alloc, value, own.kind == EDS)?;
-    let hosts = inspect_hosts(alloc, value, own.kind == STATIC)?;
+    let own = inspect_own(alloc, profile, value)?;
+    let by_eds = is_by_eds(profile, own.custom, own.kind);
+    let in_cluster = is_in_cluster(profile, own.custom, own.kind);
+    let eds = inspect_eds(alloc, profile, value, by_eds)?;
+    let hosts = inspect_hosts(alloc, profile, value, in_cluster)?;
     let broken = own.broken.or(eds.broken.or(hosts.broken));
     if let Some(rule) = broken.least() {
         return Err(ReadError::Rule(rule));
     }
     let service = choose_service(own.name, eds.service_name);
-    let discovery = make_discovery(alloc, own.kind == STATIC, hosts.rows, service, eds.limited)?;
-    let cluster = make_cluster(alloc, own.name, discovery, own.checked)?;
+    let way = Way {
+        in_cluster,
+        by_eds,
+        limited: eds.limited,
+        fresh: profile.is_envoy(),
+    };
+    let discovery = make_discovery(alloc, way, hosts.rows, service)?;
+    let text = body_text(alloc, profile, value)?;
+    let cluster = make_cluster(alloc, own.name, discovery, own.checked, text)?;
     Ok(cluster.unwrap())
 }
 
 /// The rule by which a cluster is refused is the least of all that it breaks, and where there is none, it
 /// breaks none: a law of the definitions.
 pub fn cluster_rule_is_least()
-    ensures { (tree : Data) → IsLeast (rules_of (cluster_broken tree)) (least_of (cluster_broken tree)) }
+    ensures { (profile : Profile) (tree : Data) → IsLeast (rules_of (cluster_broken profile tree)) (least_of (cluster_broken profile tree)) }
 {}
 
 // The name that a cluster's hosts are asked for by.
@@ -53,22 +63,37 @@ fn choose_service<'a>(name: &'a str, service_name: &'a str) -> &'a str
     }
 }
 
+// How a cluster finds its hosts, by its type and its configuration of EDS.
+#[derive(Clone, Copy)]
+struct Way {
+    in_cluster: bool,
+    by_eds: bool,
+    limited: bool,
+    fresh: bool,
+}
+
 // How a cluster finds its hosts, if the service's name is a name.
 fn make_discovery(
     alloc: Global,
-    in_cluster: bool,
+    way: Way,
     rows: Vec<HostRow>,
     service: &str,
-    limited: bool,
 ) -> Result<Option<Discovery>, AllocError>
-    ensures { IfOk result (λ d. d ≡ discovery_with in_cluster rows.items service.now limited) }
+    ensures { IfOk result (λ d. d ≡ discovery_with way.in_cluster way.by_eds rows.items service.now way.limited way.fresh) }
 {
-    if in_cluster {
+    if way.in_cluster {
         let rows = make_assignment(alloc, rows)?;
         return Ok(Some(Discovery::Static(rows)));
     }
+    if !way.by_eds {
+        return Ok(Some(Discovery::Elsewhere));
+    }
     match make_name(alloc, service)? {
-        Some(service) => Ok(Some(Discovery::Eds { service, limited })),
+        Some(service) => Ok(Some(Discovery::Eds {
+            service,
+            limited: way.limited,
+            fresh: way.fresh,
+        })),
         None => Ok(None),
     }
 }
@@ -76,17 +101,19 @@ fn make_discovery(
 // The cluster, if its name is a name.
 fn make_cluster(
     alloc: Global,
-    text: &str,
+    name: &str,
     discovery: Option<Discovery>,
     checked: bool,
+    body_text: Text,
 ) -> Result<Option<Cluster>, AllocError>
-    ensures { IfOk result (λ c. c ≡ cluster_with text.now discovery checked) }
+    ensures { IfOk result (λ c. c ≡ cluster_with name.now discovery checked body_text) }
 {
-    match (make_name(alloc, text)?, discovery) {
+    match (make_name(alloc, name)?, discovery) {
         (Some(name), Some(discovery)) => Ok(Some(Cluster {
             name,
             discovery,
             checked,
+            body_text,
         })),
         _ => Ok(None),
     }

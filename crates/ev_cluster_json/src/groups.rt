@@ -9,7 +9,7 @@ ghost use Rattle.ev_cluster_json.specs.Tallies.{GainsOne, GainsAll};
 use crate::hosts::{HostParts, inspect_host};
 use crate::tally::Tally;
 use ev_tree::{BrokenRules, member};
-use ev_types::{HostRow, MAX_WEIGHT_SUM};
+use ev_types::{HostRow, MAX_WEIGHT_SUM, Profile};
 use serde_json::Value;
 use std::alloc::{AllocError, Global};
 
@@ -17,15 +17,21 @@ use std::alloc::{AllocError, Global};
 pub const MAX_PRIORITY: u32 = 128;
 
 /// Adds a host to the tally, and gives its weight.
-pub fn add_host(tally: &mut Tally, alloc: Global, host: &Value, rank: u8) -> Result<u32, AllocError>
+pub fn add_host(
+    tally: &mut Tally,
+    alloc: Global,
+    profile: Profile,
+    host: &Value,
+    rank: u8,
+) -> Result<u32, AllocError>
     ensures weight { IfOk result (λ weight. weight ≡ weight_of (view host.now)) }
-    ensures gains { OnOk result (GainsOne host_broken (host_rows rank) tally.old tally.new (view host.now)) }
+    ensures gains { OnOk result (GainsOne (host_broken profile) (host_rows profile rank) tally.old tally.new (view host.now)) }
 {
     let HostParts {
         row,
         weight,
         broken,
-    } = inspect_host(alloc, host, rank)?;
+    } = inspect_host(alloc, profile, host, rank)?;
     push_row(&mut tally.rows, row)?;
     tally.broken = tally.broken.or(broken);
     Ok(weight)
@@ -45,15 +51,16 @@ fn push_row(rows: &mut Vec<HostRow>, row: Option<HostRow>) -> Result<(), AllocEr
 pub fn add_hosts(
     tally: &mut Tally,
     alloc: Global,
+    profile: Profile,
     hosts: &[Value],
     rank: u8,
 ) -> Result<u64, AllocError>
     ensures weight { IfOk result (λ sum. sum ≡ min (sum_by weight_of (map view hosts.now)) (2 ^ 64 - 1)) }
-    ensures gains { OnOk result (GainsAll host_broken (host_rows rank) tally.old tally.new (map view hosts.now)) }
+    ensures gains { OnOk result (GainsAll (host_broken profile) (host_rows profile rank) tally.old tally.new (map view hosts.now)) }
 {
     let mut sum = 0u64;
     for host in hosts {
-        let weight = add_host(tally, alloc, host, rank)?;
+        let weight = add_host(tally, alloc, profile, host, rank)?;
         sum = sum.saturating_add(u64::from(weight));
     }
     Ok(sum)
@@ -71,8 +78,13 @@ fn clamp_priority(priority: u32) -> u8
 }
 
 /// Adds a group of hosts to the tally: an element of `endpoints`.
-pub fn add_group(tally: &mut Tally, alloc: Global, group: &Value) -> Result<(), AllocError>
-    ensures { OnOk result (GainsOne group_broken made_group tally.old tally.new (view group.now)) }
+pub fn add_group(
+    tally: &mut Tally,
+    alloc: Global,
+    profile: Profile,
+    group: &Value,
+) -> Result<(), AllocError>
+    ensures { OnOk result (GainsOne (group_broken profile) (made_group profile) tally.old tally.new (view group.now)) }
 {
     let priority = member::number32(alloc, Some(group), "priority")?;
     let hosts = member::objects(alloc, Some(group), "lb_endpoints")?;
@@ -80,6 +92,7 @@ pub fn add_group(tally: &mut Tally, alloc: Global, group: &Value) -> Result<(), 
     let sum = add_hosts(
         tally,
         alloc,
+        profile,
         member::elements(hosts),
         clamp_priority(number),
     )?;
@@ -93,19 +106,28 @@ pub fn add_group(tally: &mut Tally, alloc: Global, group: &Value) -> Result<(), 
 }
 
 /// Adds groups of hosts to the tally.
-pub fn add_groups(tally: &mut Tally, alloc: Global, groups: &[Value]) -> Result<(), AllocError>
-    ensures { OnOk result (GainsAll group_broken made_group tally.old tally.new (map view groups.now)) }
+pub fn add_groups(
+    tally: &mut Tally,
+    alloc: Global,
+    profile: Profile,
+    groups: &[Value],
+) -> Result<(), AllocError>
+    ensures { OnOk result (GainsAll (group_broken profile) (made_group profile) tally.old tally.new (map view groups.now)) }
 {
     for group in groups {
-        add_group(tally, alloc, group)?;
+        add_group(tally, alloc, profile, group)?;
     }
     Ok(())
 }
 
 /// Inspects an assignment, which may be missing.
-pub fn inspect_assignment(alloc: Global, assignment: Option<&Value>) -> Result<Tally, AllocError>
-    ensures rows { IfOk result (λ t. t.rows.items ≡ made_rows (tree_of assignment.entry)) }
-    ensures broken { IfOk result (λ t. t.broken ≡ assignment_broken (tree_of assignment.entry)) }
+pub fn inspect_assignment(
+    alloc: Global,
+    profile: Profile,
+    assignment: Option<&Value>,
+) -> Result<Tally, AllocError>
+    ensures rows { IfOk result (λ t. t.rows.items ≡ made_rows profile (tree_of assignment.entry)) }
+    ensures broken { IfOk result (λ t. t.broken ≡ assignment_broken profile (tree_of assignment.entry)) }
 {
     let cluster_name = member::text(alloc, assignment, "cluster_name")?;
     let groups = member::objects(alloc, assignment, "endpoints")?;
@@ -116,6 +138,6 @@ pub fn inspect_assignment(alloc: Global, assignment: Option<&Value>) -> Result<T
             ..BrokenRules::none()
         },
     };
-    add_groups(&mut tally, alloc, member::elements(groups))?;
+    add_groups(&mut tally, alloc, profile, member::elements(groups))?;
     Ok(tally)
 }

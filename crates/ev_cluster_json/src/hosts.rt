@@ -1,10 +1,11 @@
 ghost use Rattle.std.specs.Prelude.{◌≡◌, IfOk};
 ghost use Rattle.serde_json.specs.View.{view};
 ghost use Rattle.ev_cluster_json.specs.Assignments.{weight_of, is_usable_status, host_broken};
+ghost use Rattle.ev_tree.specs.Addresses.{text_found};
 ghost use Rattle.ev_cluster_json.specs.Made.{name_in, row_with, made_row};
 
-use ev_tree::{BrokenRules, EnumTable, member, socket_address};
-use ev_types::{Host, HostRow, Name, NameError};
+use ev_tree::{AddressText, BrokenRules, EnumTable, any_address, member};
+use ev_types::{Host, HostRow, Name, NameError, Profile};
 use serde_json::Value;
 use std::alloc::{AllocError, Global};
 
@@ -20,13 +21,18 @@ pub struct HostParts {
 }
 
 /// Inspects a host of an assignment.
-pub fn inspect_host(alloc: Global, host: &Value, priority: u8) -> Result<HostParts, AllocError>
-    ensures row { IfOk result (λ h. h.row ≡ made_row priority (view host.now)) }
+pub fn inspect_host(
+    alloc: Global,
+    profile: Profile,
+    host: &Value,
+    priority: u8,
+) -> Result<HostParts, AllocError>
+    ensures row { IfOk result (λ h. h.row ≡ made_row profile priority (view host.now)) }
     ensures weight { IfOk result (λ h. h.weight ≡ weight_of (view host.now)) }
-    ensures broken { IfOk result (λ h. h.broken ≡ host_broken (view host.now)) }
+    ensures broken { IfOk result (λ h. h.broken ≡ host_broken profile (view host.now)) }
 {
     let endpoint = member::object(alloc, Some(host), "endpoint")?;
-    let address = socket_address(alloc, member::inner(endpoint))?;
+    let address = any_address(alloc, profile, member::inner(endpoint))?;
     let status = member::enumeration(alloc, Some(host), "health_status", EnumTable::Health)?;
     let given_weight = member::number32(alloc, Some(host), "load_balancing_weight")?;
     let weight = given_weight.given_or(1);
@@ -37,14 +43,7 @@ pub fn inspect_host(alloc: Global, host: &Value, priority: u8) -> Result<HostPar
         ..BrokenRules::none()
     };
     Ok(HostParts {
-        row: make_row(
-            alloc,
-            address.address,
-            address.port,
-            weight,
-            priority,
-            usable,
-        )?,
+        row: make_row(alloc, address.text, address.port, weight, priority, usable)?,
         weight,
         broken: address.broken.or(own),
     })
@@ -60,18 +59,18 @@ fn is_usable(status: u32) -> bool
 // A row, where the address has 1 to 512 bytes and the weight isn't 0.
 fn make_row(
     alloc: Global,
-    address: &str,
+    address: AddressText<'_>,
     port: u16,
     weight: u32,
     priority: u8,
     usable: bool,
 ) -> Result<Option<HostRow>, AllocError>
-    ensures { IfOk result (λ row. row ≡ row_with address.now port weight priority usable) }
+    ensures { IfOk result (λ row. row ≡ row_with (text_found address.entry) port weight priority usable) }
 {
     if weight == 0 {
         return Ok(None);
     }
-    match make_name(alloc, address)? {
+    match make_address(alloc, address)? {
         Some(address) => Ok(Some(HostRow {
             host: Host { address, port },
             weight,
@@ -80,6 +79,17 @@ fn make_row(
         })),
         None => Ok(None),
     }
+}
+
+// The name that the text of an address is, if it has 1 to 512 bytes. That of a socket is copied once.
+fn make_address(alloc: Global, address: AddressText<'_>) -> Result<Option<Name>, AllocError>
+    ensures { IfOk result (λ name. name ≡ name_in (text_found address.entry)) }
+{
+    if let AddressText::Socket(text) = address {
+        return make_name(alloc, text);
+    }
+    let text = address.to_text(alloc)?;
+    make_name(alloc, text.as_str())
 }
 
 /// The name that a text is, if it has 1 to 512 bytes.

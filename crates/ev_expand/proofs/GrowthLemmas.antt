@@ -9,7 +9,7 @@ use Rattle.serde_json.specs.Data.{Data}
 use Rattle.serde_json.specs.Written.{compact_text}
 use Rattle.ev_io.specs.declared.limits.TheConstants.{MAX_LINE_BYTES}
 use Rattle.ev_journal.specs.Rendering.{line_text}
-use Rattle.ev_trees.specs.Floats.{whole}
+use Rattle.ev_tree.specs.Floats.{whole}
 use Rattle.ev_trees.specs.Trees.{text_of_trees, AreWithinLimits, IsReadable, ReadsBack}
 use Rattle.ev_expand.specs.Expanding.{Rules, given_by, written_by, gives, lines_due, ReadBack, GrowsTooLarge, IsExpanded}
 use Rattle.ev_expand.specs.Following.{DueParts, following_line}

@@ -1,7 +1,7 @@
 ghost use Rattle.std.specs.Prelude.{◌≡◌, ◌↔◌, ◌++◌, List, [], ◌∷◌, true, false, IsTrue, Ok, OnErr};
 ghost use Rattle.serde_json.specs.Data.{Data};
 ghost use Rattle.serde_json.specs.View.{view};
-ghost use Rattle.ev_trees.specs.Floats.{whole};
+ghost use Rattle.ev_tree.specs.Floats.{whole};
 ghost use Rattle.ev_trees.specs.Trees.{AreWithinLimits, ReadsBack, IsReadable};
 ghost use Rattle.ev_expand.specs.Room.{HasRoom, IsTextSoFar, IsSameText};
 

@@ -33,7 +33,7 @@ use Rattle.ev_script.specs.TimerLines.{timeout_of, timeout_line, drain_line, exp
 use Rattle.ev_script.specs.WorkerLines.{worker_in, conn_in, ask_in, worker_line, accept_line, close_line, settle_line}
 use Rattle.ev_script.proofs.KeptLemmas.{kept_line}
 use Rattle.ev_script.proofs.ScriptLemmas.{script_kept}
-use Rattle.ev_trees.specs.Floats.{whole}
+use Rattle.ev_tree.specs.Floats.{whole}
 use Rattle.ev_trees.specs.Trees.{AreWithinLimits, text_of_trees}
 use Rattle.ev_expand_laws.specs.Said.{AllAt, HasLine, lines_said}
 use Rattle.ev_expand_laws.proofs.ElementLemmas.{elements, get_elements, objects_count, text_elements, whole_elements}

@@ -14,7 +14,7 @@ use Rattle.ev_tree.specs.declared.outcome.Found.TheVariants.{Absent, Wrong, Give
 use Rattle.ev_tree.specs.Forms.{present_member, value_or_absent, either_spelling, field_of, in_form, value_or_wrong, is_object, objects_in, objects_of, listed}
 use Rattle.ev_tree.specs.Scalars.{elements_of, list_in}
 use Rattle.ev_tree.specs.Spelling.{camel_of}
-use Rattle.ev_trees.specs.Floats.{whole, whole_items, whole_members}
+use Rattle.ev_tree.specs.Floats.{whole, whole_items, whole_members}
 
 -- the elements of the arrays in a tree
 abbrev mutual

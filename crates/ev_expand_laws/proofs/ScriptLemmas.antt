@@ -11,7 +11,7 @@ use Rattle.ev_script.specs.Header.{header_of}
 use Rattle.ev_script.specs.Lines.{line_of}
 use Rattle.ev_script.specs.ReadScript.{script_made}
 use Rattle.ev_script.specs.Script.{script_of}
-use Rattle.ev_trees.specs.Floats.{whole}
+use Rattle.ev_tree.specs.Floats.{whole}
 use Rattle.ev_trees.specs.Trees.{text_of_trees, ReadsBack, IsReadable, AreWithinLimits}
 use Rattle.ev_trees.specs.Scripts.{AreScript, input_of_trees}
 use Rattle.ev_trees.proofs.ScriptLemmas.{script_is}

@@ -7,3 +7,4 @@ pub mod ServerNames
 pub mod CidrRanges
 pub mod SourceCriteria
 pub mod ChainMatches
+pub mod Chains

@@ -9,13 +9,13 @@ ghost use Rattle.ev_listener_json.specs.Filters.{chain_serve, chain_broken, chai
 
 use crate::filters::inspect_filters;
 use crate::objects::has_member;
-use ev_route_json::exactly_one;
-use ev_tree::{BrokenRules, Inspection, ReadError, member};
-use ev_types::{RouteTable, Seq, Serve, Shared};
+use ev_tree::{BrokenRules, Inspection, ReadError, exactly_one, member};
+use ev_types::{Profile, RouteTable, Seq, Serve, Shared};
 use serde_json::Value;
 use std::alloc::{AllocError, Global};
 
-/// What a filter chain serves, where several chains may stand and each has a match: the match's members aren't looked at.
+/// What a filter chain serves by the own rules, where several chains may stand and each has a match: the match's members
+/// aren't looked at.
 ///
 /// # Errors
 /// `Rule` with the least rule that it breaks, of V2, V6, V10 and V17 to V24, and `OutOfMemory`.
@@ -45,15 +45,15 @@ fn without_match(broken: BrokenRules) -> BrokenRules
     }
 }
 
-/// Inspects a filter chain (`envoy.config.listener.v3.FilterChain`): what its first filter serves that serves, and the
-/// rules that it breaks, of V2, V6, V10 and V16 to V24.
+/// Inspects a filter chain (`envoy.config.listener.v3.FilterChain`) by the own rules: what its first filter serves that
+/// serves, and the rules that it breaks, of V2, V6, V10 and V16 to V24.
 pub fn inspect_chain(alloc: Global, chain: &Value) -> Result<Inspection<Option<Serve>>, AllocError>
     ensures value { IfOk result (λ found. found.value ≡ chain_serve (view chain.now)) }
     ensures broken { IfOk result (λ found. found.broken ≡ chain_broken (view chain.now)) }
 {
     let matched = member::object(alloc, Some(chain), "filter_chain_match")?;
     let filters = member::objects(alloc, Some(chain), "filters")?;
-    let below = inspect_filters(alloc, member::elements(filters))?;
+    let below = inspect_filters(alloc, Profile::Own, member::elements(filters))?;
     let own = BrokenRules {
         v6: matched.is_wrong() | filters.is_wrong(),
         v16: has_member(member::inner(matched)),

@@ -1,16 +1,17 @@
-ghost use Rattle.std.specs.Prelude.{◌≡◌, option_to_list};
+ghost use Rattle.std.specs.Prelude.{◌≡◌, map, option_to_list};
 ghost use Rattle.std.specs.List.{list_any};
 ghost use Rattle.ev_types.specs.FilterChains.{has_value, overlap, collide, has_collision};
+ghost use Rattle.ev_types.specs.declared.listeners.FilterChain as declared;
 
-use ev_types::FilterChainMatch;
+use ev_types::{FilterChain, FilterChainMatch};
 
 /// Whether two filter chains may take one connection: neither asks for a source, and by each criterion they have a
 /// value in common, or none in both. Each chain is compared with each one after it.
-pub fn has_collision(matches: &[FilterChainMatch]) -> bool
-    ensures { result ≡ has_collision matches.now }
+pub fn has_collision(chains: &[FilterChain]) -> bool
+    ensures { result ≡ has_collision (map (λ (c : declared.FilterChain). c.criteria) chains.now) }
 {
-    for (place, one) in matches.iter().enumerate() {
-        if collides_with_any(one, &matches[place + 1..]) {
+    for (place, one) in chains.iter().enumerate() {
+        if collides_with_any(one.criteria.get(), &chains[place + 1..]) {
             return true;
         }
     }
@@ -18,10 +19,12 @@ pub fn has_collision(matches: &[FilterChainMatch]) -> bool
 }
 
 // Whether a chain and one of these may take one connection.
-fn collides_with_any(one: &FilterChainMatch, others: &[FilterChainMatch]) -> bool
-    ensures { result ≡ list_any (collide one.now) others.now }
+fn collides_with_any(one: &FilterChainMatch, others: &[FilterChain]) -> bool
+    ensures { result ≡ list_any (λ (c : declared.FilterChain). collide one.now c.criteria) others.now }
 {
-    others.iter().any(|other| collides(one, other))
+    others
+        .iter()
+        .any(|other| collides(one, other.criteria.get()))
 }
 
 // Whether two chains may take one connection.

@@ -2,8 +2,8 @@
 //!
 //! # Choices
 //!
-//! - The default filter chain is looked for, and not into: it is refused by V16, whatever stands in it, so a wrong
-//!   form inside it isn't V6.
+//! - By the own rules the default filter chain is looked for, and not into: it is refused by V16, whatever stands in it,
+//!   so a wrong form inside it isn't V6. As Envoy reads it, it is read but for its match.
 //! - Rules below V16 are looked for in all chains and all filters: of two chains of which one asks for routes by an
 //!   empty name the answer is V2.
 //! - A filter serves where it is worth something to serve: so V17 counts the filters that are, and no second test
@@ -19,13 +19,15 @@
 //!   asked for, since no script tells where a connection comes from. A range that is none stands for all IPv4
 //!   addresses in the definition of the value; it breaks V16, so this never shows.
 //! - `source_ports` and `source_type` have readers here, since ev_tree has none for a list of numbers, nor this enum.
-//! - A TCP proxy's other specifiers (`cluster_header` and the like) break V22 as in a route: it is the same reader.
+//! - By the own rules a TCP proxy's other specifiers (`cluster_header` and the like) break V22 as in a route: it is the
+//!   same reader. As Envoy reads it, it has no other specifiers, so they are passed over.
 #![tactic(auto)]
 
 mod chain_matches;
 mod chains;
 mod cidr_ranges;
 mod collisions;
+mod envoy_chains;
 mod filters;
 mod listeners;
 mod managers;
@@ -36,4 +38,5 @@ mod source_criteria;
 pub use chain_matches::inspect_filter_chain_match;
 pub use chains::{chain_rule_is_least, inspect_chain, read_chain};
 pub use collisions::has_collision;
+pub use envoy_chains::{ChainsFound, inspect_envoy_chains};
 pub use listeners::{listener_rule_is_least, read_listener};

@@ -1,46 +1,159 @@
 ghost use Rattle.std.specs.Prelude.{◌≡◌, ◌==◌, IfOk, true, length};
 ghost use Rattle.serde_json.specs.Data.{Data};
 ghost use Rattle.serde_json.specs.View.{view};
+ghost use Rattle.std.specs.String.{string_bytes};
+ghost use Rattle.ev_types.specs.declared.events.Profile.{Profile};
 ghost use Rattle.ev_tree.specs.Addresses.{address_text_of, port_of};
 ghost use Rattle.ev_tree.specs.Rules.{ReadsAs, IsLeast, is_name};
 ghost use Rattle.ev_tree.specs.Broken.{rules_of, least_of};
-ghost use Rattle.ev_listener_json.specs.Listeners.{listener_reading, listener_broken, name_of, serve_of, is_udp};
+ghost use Rattle.ev_listener_json.specs.Listeners.{listener_reading, listener_broken, own_listener_broken, name_of, serve_of, is_udp, is_every_address, listening_text, listening_port, envoy_parts_broken, named_with};
 
 use crate::chains::{inspect_chains, serve_or_none};
-use ev_tree::{BrokenRules, EnumTable, Found, ReadError, is_name, member, socket_address};
-use ev_types::{Host, Listener, Name, NameError, Serve};
+use crate::envoy_chains::{has_api, inspect_envoy_chains, no_criteria};
+use ev_tree::{
+    BrokenRules, EnumTable, Found, ReadError, any_address, body_text, is_name, member,
+    socket_address,
+};
+use ev_types::{FilterChain, Host, Listener, Name, NameError, Profile, Seq, Serve, Shared};
 use serde_json::Value;
 use std::alloc::{AllocError, Global};
 
-/// A listener (`envoy.config.listener.v3.Listener`).
+/// A listener (`envoy.config.listener.v3.Listener`) in a profile.
 ///
 /// # Errors
 /// `Rule` with the least rule that it breaks, of V2 (the name of the routes that it asks for), V3 (its own
-/// name, where it is no name), V6, V10, V14 and V16 to V24, and `OutOfMemory`.
-pub fn read_listener(alloc: Global, value: &Value) -> Result<Listener, ReadError>
-    ensures { ReadsAs result (listener_reading (view value.now)) }
+/// name, where it is no name), V6, V10, V14, V16 to V24 and, as Envoy reads it, V26 and V27, and `OutOfMemory`.
+pub fn read_listener(alloc: Global, profile: Profile, value: &Value) -> Result<Listener, ReadError>
+    ensures { ReadsAs result (listener_reading profile (view value.now)) }
+{
+    match profile {
+        Profile::Own => read_own_listener(alloc, value),
+        Profile::Envoy => read_envoy_listener(alloc, value),
+    }
+}
+
+// A listener by the own rules: it has one chain, without a match.
+fn read_own_listener(alloc: Global, value: &Value) -> Result<Listener, ReadError>
+    ensures { ReadsAs result (listener_reading Profile.Own (view value.now)) }
 {
     let found = inspect_listener(alloc, value)?;
-    match found.broken.least() {
-        Some(rule) => Err(ReadError::Rule(rule)),
-        None => Ok(Listener {
-            name: make_name(alloc, found.name)?,
-            address: Host {
-                address: make_name(alloc, found.address)?,
-                port: found.port,
-            },
-            serve: found.serve,
-        }),
+    if let Some(rule) = found.broken.least() {
+        return Err(ReadError::Rule(rule));
     }
+    let mut chains = Vec::new(alloc);
+    chains.push(FilterChain {
+        criteria: Shared::new(alloc, no_criteria(alloc))?,
+        serve: found.serve,
+    })?;
+    Ok(Listener {
+        name: make_name(alloc, found.name)?,
+        address: Host {
+            address: make_name(alloc, found.address)?,
+            port: found.port,
+        },
+        takes_every_address: false,
+        filter_chains: Seq::from_vec(chains),
+        default_filter_chain: None,
+        body_text: body_text(alloc, Profile::Own, value)?,
+    })
+}
+
+// A listener as Envoy reads it.
+fn read_envoy_listener(alloc: Global, value: &Value) -> Result<Listener, ReadError>
+    ensures { ReadsAs result (listener_reading Profile.Envoy (view value.now)) }
+{
+    let own = inspect_envoy_listener(alloc, value)?;
+    let below = inspect_envoy_chains(alloc, value)?;
+    if let Some(rule) = below.broken.or(own.broken).least() {
+        return Err(ReadError::Rule(rule));
+    }
+    let takes_every_address = is_every_address(own.address.as_str());
+    Ok(Listener {
+        name: make_name(alloc, own.name)?,
+        address: Host {
+            address: make_name(alloc, own.address.as_str())?,
+            port: own.port,
+        },
+        takes_every_address,
+        filter_chains: Seq::from_vec(below.chains),
+        default_filter_chain: below.default,
+        body_text: body_text(alloc, Profile::Envoy, value)?,
+    })
+}
+
+// What is found of a listener itself, as Envoy reads it. The values count where no rule is broken.
+#[derive(Drop)]
+struct EnvoyParts<'a> {
+    broken: BrokenRules,
+    name: &'a str,
+    address: String,
+    port: u16,
+}
+
+// Inspects a listener itself, as Envoy reads it: its name and its address.
+fn inspect_envoy_listener(alloc: Global, value: &Value) -> Result<EnvoyParts<'_>, AllocError>
+    ensures name { IfOk result (λ found. found.name.now ≡ name_of (view value.now)) }
+    ensures address { IfOk result (λ found. string_bytes found.address ≡ listening_text (view value.now)) }
+    ensures port { IfOk result (λ found. found.port ≡ listening_port (view value.now)) }
+    ensures broken { IfOk result (λ found. found.broken ≡ envoy_parts_broken (view value.now)) }
+{
+    let name = member::text(alloc, Some(value), "name")?;
+    let text = member::text_or_empty(name);
+    let outer = member::object(alloc, Some(value), "address")?;
+    let internal = member::object(alloc, Some(value), "internal_listener")?;
+    let address = any_address(alloc, Profile::Envoy, Some(value))?;
+    let protocol = member::enumeration(alloc, address.socket, "protocol", EnumTable::Protocol)?;
+    let lacks = outer.is_absent();
+    let listening = if lacks {
+        named_address(alloc, text, has_api(alloc, value)?, internal.is_given())?
+    } else {
+        address.text.to_text(alloc)?
+    };
+    let bad = if lacks {
+        !is_name(listening.as_str())
+    } else {
+        address.broken.v12
+    };
+    let broken = BrokenRules {
+        v3: !name.is_wrong() & !is_name(text),
+        v6: name.is_wrong() | address.broken.v6 | protocol.is_wrong() | internal.is_wrong(),
+        v14: bad | is_udp(protocol),
+        ..BrokenRules::none()
+    };
+    Ok(EnvoyParts {
+        broken,
+        name: text,
+        address: listening,
+        port: if lacks { 0 } else { address.port },
+    })
+}
+
+// The text of an address by a listener's own name: of an API listener, of one inside Envoy, or none.
+fn named_address(alloc: Global, name: &str, api: bool, internal: bool) -> Result<String, AllocError>
+    ensures { IfOk result (λ text. string_bytes text ≡ named_with api internal name.now) }
+{
+    if !api && !internal {
+        return Ok(String::new(alloc));
+    }
+    let mut text = String::from_str(alloc, if api { "api:" } else { "internal:" })?;
+    text.push_str(name)?;
+    Ok(text)
+}
+
+// Whether the text of an address stands for every address.
+fn is_every_address(text: &str) -> bool
+    ensures { result ≡ is_every_address text.now }
+{
+    text == "0.0.0.0" || text == "::"
 }
 
 /// The rule by which a listener is refused is the least of all that it breaks, and where there is none, it
 /// breaks none: a law of the definitions.
 pub fn listener_rule_is_least()
-    ensures { (tree : Data) → IsLeast (rules_of (listener_broken tree)) (least_of (listener_broken tree)) }
+    ensures { (profile : Profile) (tree : Data) → IsLeast (rules_of (listener_broken profile tree)) (least_of (listener_broken profile tree)) }
 {}
 
-/// What is found of a listener. The values count where no rule is broken.
+/// What is found of a listener by the own rules. The values count where no rule is broken.
 #[derive(Drop)]
 struct ListenerParts<'a> {
     broken: BrokenRules,
@@ -50,9 +163,9 @@ struct ListenerParts<'a> {
     serve: Serve,
 }
 
-// Inspects a listener.
+// Inspects a listener by the own rules.
 fn inspect_listener(alloc: Global, value: &Value) -> Result<ListenerParts<'_>, AllocError>
-    ensures broken { IfOk result (λ found. found.broken ≡ listener_broken (view value.now)) }
+    ensures broken { IfOk result (λ found. found.broken ≡ own_listener_broken (view value.now)) }
     ensures name { IfOk result (λ found. found.name.now ≡ name_of (view value.now)) }
     ensures address { IfOk result (λ found. found.address.now ≡ address_text_of (view value.now)) }
     ensures port { IfOk result (λ found. found.port ≡ port_of (view value.now)) }

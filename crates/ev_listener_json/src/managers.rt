@@ -1,62 +1,83 @@
-ghost use Rattle.std.specs.Prelude.{◌≡◌, IfOk, Some};
+ghost use Rattle.std.specs.Prelude.{◌≡◌, [], false, IfOk, Some};
 ghost use Rattle.ev_tree.specs.Forms.{tree_of};
 ghost use Rattle.ev_listener_json.specs.Managers.{manager_broken, manager_serve, serve_with};
 
-use ev_route_json::{exactly_one, inspect_table};
-use ev_tree::{BrokenRules, Inspection, config_source, is_name, member};
-use ev_types::{Name, NameError, RouteTable, Serve, Shared};
+use ev_route_json::inspect_table;
+use ev_tree::{BrokenRules, Inspection, config_source, exactly_one, is_name, member};
+use ev_types::{Name, NameError, Profile, RouteTable, Serve, Shared};
 use serde_json::Value;
 use std::alloc::{AllocError, Global};
 
-/// Inspects an HTTP connection manager.
+/// Inspects an HTTP connection manager in a profile.
 pub fn inspect_manager(
     alloc: Global,
+    profile: Profile,
     config: Option<&Value>,
 ) -> Result<Inspection<Option<Serve>>, AllocError>
-    ensures value { IfOk result (λ found. found.value ≡ Some (manager_serve (tree_of config.entry))) }
-    ensures broken { IfOk result (λ found. found.broken ≡ manager_broken (tree_of config.entry)) }
+    ensures value { IfOk result (λ found. found.value ≡ Some (manager_serve profile (tree_of config.entry))) }
+    ensures broken { IfOk result (λ found. found.broken ≡ manager_broken profile (tree_of config.entry)) }
 {
     let rds = member::object(alloc, config, "rds")?;
     let source = member::object(alloc, member::inner(rds), "config_source")?;
-    let from = config_source(alloc, member::inner(source))?;
+    let from = config_source(alloc, profile, member::inner(source))?;
     let name = member::text(alloc, member::inner(rds), "route_config_name")?;
     let inline = member::object(alloc, config, "route_config")?;
-    let table = inspect_table(alloc, member::inner(inline))?;
-    let scoped = member::field(alloc, config, "scoped_routes")?;
+    let table = inspect_table(alloc, profile, member::inner(inline))?;
+    let any_scoped = member::field(alloc, config, "scoped_routes")?;
+    let scoped = member::object(alloc, config, "scoped_routes")?;
     let asks = rds.is_given();
     let text = member::text_or_empty(name);
+    let (scoped_wrong, ways_bad) = match profile {
+        Profile::Own => (
+            any_scoped.is_wrong(),
+            !exactly_one(&[asks, inline.is_given()]) | any_scoped.is_given(),
+        ),
+        Profile::Envoy => (
+            scoped.is_wrong(),
+            !exactly_one(&[asks, inline.is_given(), scoped.is_given()]),
+        ),
+    };
     let own = BrokenRules {
         v2: asks & !name.is_wrong() & !is_name(text),
-        v6: rds.is_wrong()
-            | source.is_wrong()
-            | name.is_wrong()
-            | inline.is_wrong()
-            | scoped.is_wrong(),
-        v18: !exactly_one(&[asks, inline.is_given()]) | scoped.is_given(),
+        v6: rds.is_wrong() | source.is_wrong() | name.is_wrong() | inline.is_wrong() | scoped_wrong,
+        v18: ways_bad,
         ..BrokenRules::none()
     };
+    let by_scopes = profile.is_envoy() & scoped.is_given();
+    let serve = make_serve(alloc, asks, text, from.limited, by_scopes, table.value)?;
     Ok(Inspection {
         broken: table.broken.or(from.broken.only_if(asks).or(own)),
-        value: Some(make_serve(alloc, asks, text, from.limited, table.value)?),
+        value: Some(serve),
     })
 }
 
-// The routes of this name, where one is asked for, and else those that stand in the manager.
+// The routes of this name, where one is asked for, else something that isn't read, or those that stand in the manager.
 fn make_serve(
     alloc: Global,
     asks: bool,
     name: &str,
     limited: bool,
+    scoped: bool,
     table: RouteTable,
 ) -> Result<Serve, AllocError>
-    ensures { IfOk result (λ serve. serve ≡ serve_with asks name.now limited table) }
+    ensures { IfOk result (λ serve. serve ≡ serve_with asks name.now limited scoped table) }
 {
     if !asks {
-        return Ok(Serve::Inline(Shared::new(alloc, table)?));
+        return other_serve(alloc, scoped, table);
     }
     match Name::new(alloc, name) {
         Ok(name) => Ok(Serve::Rds { name, limited }),
-        Err(NameError::Length) => Ok(Serve::Inline(Shared::new(alloc, table)?)),
+        Err(NameError::Length) => other_serve(alloc, scoped, table),
         Err(NameError::OutOfMemory) => Err(AllocError),
     }
+}
+
+// Something that isn't read, or these routes.
+fn other_serve(alloc: Global, scoped: bool, table: RouteTable) -> Result<Serve, AllocError>
+    ensures { IfOk result (λ serve. serve ≡ serve_with false [] false scoped table) }
+{
+    if scoped {
+        return Ok(Serve::Other);
+    }
+    Ok(Serve::Inline(Shared::new(alloc, table)?))
 }

@@ -7,7 +7,6 @@ use Rattle.ev_types.specs.declared.routes.PathMatch.{PathMatch}
 use Rattle.ev_types.specs.declared.routes.PathMatch.TheVariants.{Prefix as by_prefix, Path as by_path, Separated as by_separated}
 use Rattle.ev_types.specs.declared.matchers.StringPattern.{StringPattern}
 use Rattle.ev_types.specs.declared.matchers.StringPattern.TheVariants.{Exact, Prefix, Suffix, Contains}
-use Rattle.ev_types.specs.declared.matchers.StringMatcher.{StringMatcher}
 use Rattle.ev_types.specs.declared.matchers.HeaderTest.{HeaderTest}
 use Rattle.ev_types.specs.declared.matchers.HeaderTest.TheVariants.{Text as by_text, Present, Open as open_test}
 use Rattle.ev_types.specs.declared.matchers.HeaderMatcher.{HeaderMatcher}

@@ -11,13 +11,13 @@ use Rattle.ev_types.specs.declared.events.Event.{Event}
 use Rattle.ev_types.specs.declared.events.Event.TheVariants.{Connect, Disconnect, Response, Health, FetchTimeout, DrainTimeout, TtlExpired, Publish, Reap, Accept, Close, Settle}
 use Rattle.ev_types.specs.declared.events.Answer.{Answer}
 use Rattle.ev_types.specs.declared.events.Ask.{Ask}
-use Rattle.ev_types.specs.declared.events.Answer.TheVariants.{Ignored, Done, Moved, Replied, InUse, NotOpen, NoListener as no_listener, NoRoute as no_route, Redirect as redirect, NoCluster as no_cluster, NoEndpoint as no_endpoint, Local as local, Served as served}
+use Rattle.ev_types.specs.declared.events.Answer.TheVariants.{Ignored, Done, Moved, Replied, InUse, NotOpen, NoListener as no_listener, NoChain as no_chain, Undecided as undecided, Elsewhere as elsewhere, NoRoute as no_route, Redirect as redirect, NoCluster as no_cluster, NoEndpoint as no_endpoint, Local as local, Served as served}
 use Rattle.ev_types.specs.declared.events.Verdict.{Verdict}
 use Rattle.ev_types.specs.declared.journals.Format.{Format}
 use Rattle.ev_types.specs.declared.rows.GenRow.{GenRow}
 use Rattle.ev_model.specs.declared.pictures.Picture.{Picture}
 use Rattle.ev_model.specs.declared.pictures.Choice.{Choice}
-use Rattle.ev_model.specs.declared.pictures.Choice.TheVariants.{NoListener, NoRoute, Local, Redirect, NoCluster, NoEndpoint, Served}
+use Rattle.ev_model.specs.declared.pictures.Choice.TheVariants.{NoListener, NoChain, Undecided, Elsewhere, NoRoute, Local, Redirect, NoCluster, NoEndpoint, Served}
 use Rattle.ev_model.specs.World.{World, OpenMember}
 use Rattle.ev_model.specs.Choice.{choice_of}
 use Rattle.ev_model.specs.Connections.{Worked, is_member, is_open, host_at, served_by, answer_of, opened_by, accepted, closed}
@@ -40,6 +40,9 @@ pub record HoldsOfAnswers (Q : Answer → Type 0) : Type 0 where
   pub in_use : Q InUse
   pub not_open : Q NotOpen
   pub no_listener : Q no_listener
+  pub no_chain : Q no_chain
+  pub undecided : (listener : ℕ) → Q (undecided listener)
+  pub elsewhere : (listener : ℕ) (cluster : Option ℕ) → Q (elsewhere listener cluster)
   pub no_route : (listener : ℕ) → Q (no_route listener)
   pub redirect : (listener : ℕ) → Q (redirect listener)
   pub no_cluster : (listener : ℕ) → Q (no_cluster listener)
@@ -99,6 +102,9 @@ module _ (Q : Answer → Type 0) (each : HoldsOfAnswers Q) where
 
   choice_answer : (picture : Picture) (choice : Choice) → Q (answer_of picture choice)
   choice_answer picture NoListener = each.no_listener
+  choice_answer picture NoChain = each.no_chain
+  choice_answer picture (Undecided listener) = each.undecided listener
+  choice_answer picture (Elsewhere listener cluster) = each.elsewhere listener cluster
   choice_answer picture (NoRoute listener) = each.no_route listener
   choice_answer picture (Local listener status) = each.local listener status
   choice_answer picture (Redirect listener) = each.redirect listener

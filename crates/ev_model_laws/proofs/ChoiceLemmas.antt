@@ -1,29 +1,38 @@
 -- A choice in a picture names generations that the picture shows, and so does the connection that it opens.
-use Rattle.std.proofs.Common.{◌≡◌, ℕ, Bool, true, false, ◌==◌, ◌/◌, List, [], ◌∷◌, map, Option, Some, None, refl, ◌∙◌, subst}
+use Rattle.std.proofs.Common.{◌≡◌, ℕ, Bool, true, false, ◌==◌, ◌/◌, List, [], ◌∷◌, map, filter, Option, Some, None, refl, ◌∙◌, subst, codes}
 use Rattle.std.specs.Bool.{⊤}
 use Rattle.std.specs.List.{find, list_any}
-use Rattle.std.specs.Option.{IfSome}
+use Rattle.std.specs.Option.{IfSome, option_or}
 use Rattle.std.proofs.lemmas.Bool.{false≢true, cond_both, or_left, or_right}
 use Rattle.std.proofs.lemmas.Option.{IfSome_then}
 use Rattle.std.proofs.lemmas.List.Folds.{list_any-append}
 use Rattle.ev_types.specs.Same.{numbers_decide}
 use Rattle.ev_types.specs.declared.events.Ask.{Ask}
+use Rattle.ev_types.specs.declared.hosts.Host.{Host}
+use Rattle.ev_types.specs.declared.ips.Ip.{Ip}
+use Rattle.ev_types.specs.declared.ips.Ip.TheVariants.{V4, V6}
 use Rattle.ev_types.specs.declared.routes.Action.{Action}
-use Rattle.ev_types.specs.declared.routes.Action.TheVariants.{Forward, Redirect as redirect, Local as local}
+use Rattle.ev_types.specs.declared.routes.Action.TheVariants.{Forward, Redirect as redirect, Local as local, Elsewhere as by_filter}
 use Rattle.ev_types.specs.declared.routes.Route.{Route}
 use Rattle.ev_types.specs.declared.routes.Target.{Target}
+use Rattle.ev_types.specs.declared.routes.Target.TheVariants.{One, Weighted, Elsewhere as elsewhere}
 use Rattle.ev_types.specs.declared.routes.VirtualHost.{VirtualHost}
 use Rattle.ev_model.specs.declared.pictures.Picture.{Picture}
 use Rattle.ev_model.specs.declared.pictures.Shown.{Shown}
 use Rattle.ev_model.specs.declared.pictures.Routing.{Routing}
-use Rattle.ev_model.specs.declared.pictures.Routing.TheVariants.{Table, Tcp}
+use Rattle.ev_model.specs.declared.pictures.Routing.TheVariants.{Table, Tcp, Other}
+use Rattle.ev_model.specs.declared.pictures.ServedChain.{ServedChain}
+use Rattle.ev_model.specs.declared.pictures.Taken.{Taken}
+use Rattle.ev_model.specs.declared.pictures.Taken.TheVariants.{No, Yes, Undecided as undecided}
 use Rattle.ev_model.specs.declared.pictures.ServedCluster.{ServedCluster}
 use Rattle.ev_model.specs.declared.pictures.ServedListener.{ServedListener}
 use Rattle.ev_model.specs.declared.pictures.Choice.{Choice}
-use Rattle.ev_model.specs.declared.pictures.Choice.TheVariants.{NoListener, NoRoute, Local, Redirect, NoCluster, NoEndpoint, Served}
+use Rattle.ev_model.specs.declared.pictures.Choice.TheVariants.{NoListener, NoChain, Undecided, Elsewhere, NoRoute, Local, Redirect, NoCluster, NoEndpoint, Served}
 use Rattle.ev_model.specs.Picture.{has_number, is_shown}
 use Rattle.ev_model.specs.Dead.{is_open_on}
-use Rattle.ev_model.specs.Choice.{listener_at, virtual_host_for, route_for, target_name, target_weight, cluster_named, host_place, served_at, choice_in, forwarded, acted, by_route, by_host, by_routing, by_listener, choice_of}
+use Rattle.ev_model.specs.Choice.{listener_at, listener_for_every, listener_of_any, listener_for, incoming_of, requested_of, virtual_host_for, route_for, name_picked, cluster_named, host_place, served_at, in_cluster, choice_in, forwarded, acted, by_word, by_route, by_host, by_routing, by_chain, routing_left, by_chains, by_listener, choice_of}
+use Rattle.ev_model.specs.Conditions.{match_says}
+use Rattle.ev_model.specs.Narrowing.{chains_left}
 use Rattle.ev_model.specs.Connections.{member_on, members_of}
 use Rattle.ev_model_laws.proofs.AnyLemmas.{or_so, any_only}
 
@@ -36,6 +45,25 @@ found_number number_of test (x ∷ xs) =
     (λ passes. or_left (number_of x == number_of x) _ ((numbers_decide (number_of x) (number_of x)).1 refl))
     (λ fails. IfSome_then (find test xs) (found_number number_of test xs) (λ y h. or_right (number_of x == number_of y) _ h))
 
+-- the same of one that is found among those that a test keeps
+found_kept : {X : Type 0} (number_of : X → ℕ) (keep test : X → Bool) (xs : List X)
+    → IfSome (find test (filter keep xs)) (λ x. has_number (number_of x) (map number_of xs) ≡ true)
+found_kept number_of keep test [] = tt
+found_kept {X} number_of keep test (x ∷ xs) =
+    let among : X → Type 0 = λ y. has_number (number_of y) (map number_of (x ∷ xs)) ≡ true in
+    let rest : IfSome (find test (filter keep xs)) among =
+    IfSome_then (find test (filter keep xs)) (found_kept number_of keep test xs) (λ y h. or_right (number_of x == number_of y) _ h) in
+    cond_both (keep x) (x ∷ filter keep xs) (filter keep xs) (λ ys. IfSome (find test ys) among)
+    (λ kept. cond_both (test x) (Some x) (find test (filter keep xs)) (λ o. IfSome o among)
+    (λ passes. or_left (number_of x == number_of x) _ ((numbers_decide (number_of x) (number_of x)).1 refl))
+    (λ fails. rest))
+    (λ left. rest)
+
+-- what holds of either value holds of the first that is there
+either_some : {X : Type 0} (P : X → Type 0) (one other : Option X) → IfSome one P → IfSome other P → IfSome (option_or one other) P
+either_some P None other first second = second
+either_some P (Some x) other first second = first
+
 cluster_shown : (shown : Shown) (number : ℕ) → has_number number (map (λ (c : ServedCluster). c.number) shown.clusters) ≡ true → is_shown number shown ≡ true
 cluster_shown shown number h = list_any-append (λ n. n == number) _ _ ∙ or_left _ _ h
 
@@ -47,6 +75,9 @@ listener_shown shown number h =
 -- the generations that a choice names are shown
 abbrev pub ShowsChosen : Shown → Choice → Type 0
 ShowsChosen shown NoListener = ⊤
+ShowsChosen shown NoChain = ⊤
+ShowsChosen shown (Undecided listener) = is_shown listener shown ≡ true
+ShowsChosen shown (Elsewhere listener cluster) = (is_shown listener shown ≡ true) × IfSome cluster (λ c. is_shown c shown ≡ true)
 ShowsChosen shown (NoRoute listener) = is_shown listener shown ≡ true
 ShowsChosen shown (Local listener status) = is_shown listener shown ≡ true
 ShowsChosen shown (Redirect listener) = is_shown listener shown ≡ true
@@ -62,44 +93,91 @@ module _ (picture : Picture) (listener : ℕ) (shown : is_shown listener picture
   cluster_chosen : (cluster : Option ServedCluster) (pick : ℕ) → IfSome cluster (λ c. is_shown c.number picture.shown ≡ true)
       → ShowsChosen picture.shown (choice_in listener cluster pick)
   cluster_chosen None pick also = shown
-  cluster_chosen (Some cluster) pick also = served_chosen cluster.number (host_place cluster.hosts pick) also
+  cluster_chosen (Some cluster) pick also =
+      cond_both cluster.elsewhere (Elsewhere listener (Some cluster.number)) (served_at listener cluster.number (host_place cluster.hosts pick))
+      (ShowsChosen picture.shown)
+      (λ is. (shown, also))
+      (λ isnt. served_chosen cluster.number (host_place cluster.hosts pick) also)
 
-  target_chosen : (pick : ℕ) (target : Target) → ShowsChosen picture.shown (forwarded picture pick listener target)
-  target_chosen pick target =
-      cluster_chosen (cluster_named picture.shown.clusters (target_name target pick)) (pick / target_weight target)
-      (IfSome_then (cluster_named picture.shown.clusters (target_name target pick))
+  named_chosen : (name : List ℕ) (pick : ℕ) → ShowsChosen picture.shown (choice_in listener (cluster_named picture.shown.clusters name) pick)
+  named_chosen name pick =
+      cluster_chosen (cluster_named picture.shown.clusters name) pick
+      (IfSome_then (cluster_named picture.shown.clusters name)
       (found_number (λ (c : ServedCluster). c.number) _ picture.shown.clusters)
       (λ (c : ServedCluster). cluster_shown picture.shown c.number))
+
+  target_chosen : (pick : ℕ) (target : Target) → ShowsChosen picture.shown (forwarded picture pick listener target)
+  target_chosen pick (One name) = named_chosen name pick
+  target_chosen pick (Weighted clusters) = named_chosen (name_picked clusters pick) _
+  target_chosen pick elsewhere = (shown, tt)
 
   action_chosen : (pick : ℕ) (action : Action) → ShowsChosen picture.shown (acted picture pick listener action)
   action_chosen pick (Forward target) = target_chosen pick target
   action_chosen pick redirect = shown
   action_chosen pick (local status) = shown
+  action_chosen pick by_filter = (shown, tt)
 
-  route_chosen : (pick : ℕ) (route : Option Route) → ShowsChosen picture.shown (by_route picture pick listener route)
-  route_chosen pick None = shown
-  route_chosen pick (Some route) = action_chosen pick route.action
+  word_chosen : (pick : ℕ) (action : Action) (said : Taken) → ShowsChosen picture.shown (by_word picture pick listener action said)
+  word_chosen pick action No = shown
+  word_chosen pick action Yes = action_chosen pick action
+  word_chosen pick action undecided = shown
+
+  route_chosen : (ask : Ask) (route : Option Route) → ShowsChosen picture.shown (by_route picture ask listener route)
+  route_chosen ask None = shown
+  route_chosen ask (Some route) = word_chosen ask.pick route.action (match_says (requested_of ask) route.route_match)
 
   host_chosen : (ask : Ask) (host : Option VirtualHost) → ShowsChosen picture.shown (by_host picture ask listener host)
   host_chosen ask None = shown
-  host_chosen ask (Some host) = route_chosen ask.pick (route_for host ask.path)
+  host_chosen ask (Some host) = route_chosen ask (route_for host (requested_of ask))
 
   routing_chosen : (ask : Ask) (routing : Routing) → ShowsChosen picture.shown (by_routing picture ask listener routing)
   routing_chosen ask (Table table) = host_chosen ask (virtual_host_for table ask.host)
   routing_chosen ask (Tcp target) = target_chosen ask.pick target
+  routing_chosen ask Other = (shown, tt)
+
+  chain_chosen : (ask : Ask) (routing : Option Routing) → ShowsChosen picture.shown (by_chain picture ask listener routing)
+  chain_chosen ask None = tt
+  chain_chosen ask (Some routing) = routing_chosen ask routing
+
+chains_chosen : (picture : Picture) (ask : Ask) (listener : ServedListener) (chains : List ServedChain)
+    → is_shown listener.number picture.shown ≡ true → ShowsChosen picture.shown (by_chains picture ask listener chains)
+chains_chosen picture ask listener chains shown =
+    cond_both (list_any (λ (c : ServedChain). c.criteria.asks_source) chains) (Undecided listener.number)
+    (by_chain picture ask listener.number (routing_left chains listener.default_filter_chain)) (ShowsChosen picture.shown)
+    (λ asks. shown)
+    (λ none. chain_chosen picture listener.number shown ask (routing_left chains listener.default_filter_chain))
 
 listener_chosen : (picture : Picture) (ask : Ask) (listener : Option ServedListener)
     → IfSome listener (λ l. is_shown l.number picture.shown ≡ true) → ShowsChosen picture.shown (by_listener picture ask listener)
 listener_chosen picture ask None shown = tt
-listener_chosen picture ask (Some listener) shown = routing_chosen picture listener.number shown ask listener.routing
+listener_chosen picture ask (Some listener) shown = chains_chosen picture ask listener (chains_left (incoming_of ask) listener.filter_chains) shown
+
+abbrev IsShown : Shown → ServedListener → Type 0
+IsShown shown l = is_shown l.number shown ≡ true
+
+-- a listener that is found is shown: at an address, among those that take every address, or by either
+module _ (shown : Shown) where
+  at_shown : (address : Host) → IfSome (listener_at shown.listeners address) (IsShown shown)
+  at_shown address =
+      IfSome_then (listener_at shown.listeners address) (found_number (λ (l : ServedListener). l.number) _ shown.listeners)
+      (λ (l : ServedListener). listener_shown shown l.number)
+
+  every_shown : (port : ℕ) (address : List ℕ) → IfSome (listener_for_every shown.listeners port address) (IsShown shown)
+  every_shown port address =
+      IfSome_then (listener_for_every shown.listeners port address)
+      (found_kept (λ (l : ServedListener). l.number) (λ (l : ServedListener). l.takes_every_address) _ shown.listeners)
+      (λ (l : ServedListener). listener_shown shown l.number)
+
+  any_shown : (port : ℕ) (ip : Option Ip) → IfSome (listener_of_any shown.listeners port ip) (IsShown shown)
+  any_shown port None = tt
+  any_shown port (Some (V4 bits)) = either_some (IsShown shown) _ _ (every_shown port (codes "0.0.0.0")) (every_shown port (codes "::"))
+  any_shown port (Some (V6 bits)) = every_shown port (codes "::")
 
 -- a choice in a picture names what the picture shows
 pub choice_shown : (picture : Picture) (ask : Ask) → ShowsChosen picture.shown (choice_of picture ask)
 choice_shown picture ask =
-    listener_chosen picture ask (listener_at picture.shown.listeners ask.address)
-    (IfSome_then (listener_at picture.shown.listeners ask.address)
-    (found_number (λ (l : ServedListener). l.number) _ picture.shown.listeners)
-    (λ (l : ServedListener). listener_shown picture.shown l.number))
+    listener_chosen picture ask (listener_for picture.shown.listeners ask)
+    (either_some (IsShown picture.shown) _ _ (at_shown picture.shown ask.address) (any_shown picture.shown ask.address.port ask.ip))
 
 -- a connection is open on the generations that it was opened on
 open_on : (shown : Shown) (worker connection listener number : ℕ) (cluster : Option ℕ)
@@ -124,6 +202,9 @@ one_open_on shown worker connection listener number cluster first second h =
 pub opens_shown : (shown : Shown) (worker connection number : ℕ) (choice : Choice) → ShowsChosen shown choice
     → list_any (is_open_on number) (members_of worker connection choice) ≡ true → is_shown number shown ≡ true
 opens_shown shown worker connection number NoListener chosen h = absurd (false≢true h)
+opens_shown shown worker connection number NoChain chosen h = absurd (false≢true h)
+opens_shown shown worker connection number (Undecided listener) chosen h = one_open_on shown worker connection listener number None chosen tt h
+opens_shown shown worker connection number (Elsewhere listener cluster) chosen h = one_open_on shown worker connection listener number cluster chosen.0 chosen.1 h
 opens_shown shown worker connection number (NoRoute listener) chosen h = one_open_on shown worker connection listener number None chosen tt h
 opens_shown shown worker connection number (Local listener status) chosen h = one_open_on shown worker connection listener number None chosen tt h
 opens_shown shown worker connection number (Redirect listener) chosen h = one_open_on shown worker connection listener number None chosen tt h

@@ -44,7 +44,7 @@ pub record LeadsEach (Q : World × Answer → Type 0) (format : Format) (world :
   pub resulted : (cluster : List ℕ) (host : Host) (healthy : Bool) (rows : List GenRow) → event ≡ Health cluster host healthy
       → Q (moved world (with_results host healthy rows world))
   pub timed : (timeout : TimeoutParts) (name : List ℕ) → event ≡ FetchTimeout timeout → timeout.name ≡ Some name
-      → Q (moved world (record world { arrivals = world.arrivals ++ arrived timeout.kind TimedOut name ∷ [] }))
+      → Q (moved world (record world { arrivals = world.arrivals ++ arrived world.made timeout.kind TimedOut name ∷ [] }))
   pub clusters_late : (timeout : TimeoutParts) → event ≡ FetchTimeout timeout → Q (moved world (record world { late_clusters = true }))
   pub listeners_late : (timeout : TimeoutParts) → event ≡ FetchTimeout timeout → Q (moved world (record world { late_listeners = true }))
   pub expired : (name : List ℕ) (numbers : List ℕ) → event ≡ DrainTimeout name → Q (tidy (record world { expired = world.expired ++ numbers }), Done)
@@ -76,9 +76,9 @@ module _ (Q : World × Answer → Type 0) (format : Format) (world : World) (act
   name_leads timeout kind None of named each = each.ignored
   name_leads timeout kind (Some name) of named each =
       cond_both (is_awaited world.arrivals world.rows kind name)
-      (moved world (record world { arrivals = world.arrivals ++ arrived kind TimedOut name ∷ [] })) (world, Ignored) Q
+      (moved world (record world { arrivals = world.arrivals ++ arrived world.made kind TimedOut name ∷ [] })) (world, Ignored) Q
       (λ awaited.
-      subst (λ (k : Kind). Q (moved world (record world { arrivals = world.arrivals ++ arrived k TimedOut name ∷ [] }))) of
+      subst (λ (k : Kind). Q (moved world (record world { arrivals = world.arrivals ++ arrived world.made k TimedOut name ∷ [] }))) of
       (each.timed timeout name refl named))
       (λ isnt. each.ignored)
 

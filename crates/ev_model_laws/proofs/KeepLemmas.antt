@@ -220,7 +220,7 @@ module _ (Fact : List GenRow → ℕ → Phase → List KeptVersion → Seen →
   name_timeout-keeps kind None world after = after
   name_timeout-keeps kind (Some name) world after =
       either After _ _ _
-      (keeps.tidied (record world { arrivals = world.arrivals ++ arrived kind TimedOut name ∷ [] }) (keeps.untidied world after)) after
+      (keeps.tidied (record world { arrivals = world.arrivals ++ arrived world.made kind TimedOut name ∷ [] }) (keeps.untidied world after)) after
 
   fetch_timeout-keeps : (kind : Kind) (name : Option (List ℕ)) (world : World)
       → After world → After (fetch_timeout kind name world).0

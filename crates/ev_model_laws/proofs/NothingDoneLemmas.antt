@@ -12,7 +12,7 @@ use Rattle.ev_types.specs.declared.events.Ask.{Ask}
 use Rattle.ev_types.specs.declared.rows.GenRow.{GenRow}
 use Rattle.ev_model.specs.declared.pictures.Picture.{Picture}
 use Rattle.ev_model.specs.declared.pictures.Choice.{Choice}
-use Rattle.ev_model.specs.declared.pictures.Choice.TheVariants.{NoListener, NoRoute, Local, Redirect, NoCluster, NoEndpoint, Served}
+use Rattle.ev_model.specs.declared.pictures.Choice.TheVariants.{NoListener, NoChain, Undecided, Elsewhere, NoRoute, Local, Redirect, NoCluster, NoEndpoint, Served}
 use Rattle.ev_model.specs.World.{World, OpenMember, last_version}
 use Rattle.ev_model.specs.Choice.{choice_of}
 use Rattle.ev_model.specs.Picture.{shown_of, shown_same}
@@ -70,6 +70,9 @@ served_done listener cluster (Some host) = refl
 -- an accepted connection is answered by its choice, and never as nothing done
 choice_done : (picture : Picture) (choice : Choice) → is_nothing_done (answer_of picture choice) ≡ false
 choice_done picture NoListener = refl
+choice_done picture NoChain = refl
+choice_done picture (Undecided listener) = refl
+choice_done picture (Elsewhere listener cluster) = refl
 choice_done picture (NoRoute listener) = refl
 choice_done picture (Local listener status) = refl
 choice_done picture (Redirect listener) = refl

@@ -20,7 +20,7 @@ use Rattle.ev_types.specs.declared.events.Event.TheVariants.{Connect, Disconnect
 use Rattle.ev_types.specs.declared.journals.Format.{Format}
 use Rattle.ev_model.specs.declared.pictures.Picture.{Picture}
 use Rattle.ev_model.specs.declared.pictures.Choice.{Choice}
-use Rattle.ev_model.specs.declared.pictures.Choice.TheVariants.{NoListener, NoRoute, Local, Redirect, NoCluster, NoEndpoint, Served}
+use Rattle.ev_model.specs.declared.pictures.Choice.TheVariants.{NoListener, NoChain, Undecided, Elsewhere, NoRoute, Local, Redirect, NoCluster, NoEndpoint, Served}
 use Rattle.ev_model.specs.World.{World, OpenMember}
 use Rattle.ev_model.specs.Operations.{actor_same, actor_decides}
 use Rattle.ev_model.specs.Picture.{has_number}
@@ -160,6 +160,9 @@ module _ (worker connection number : ℕ) where
   choice_opens : (picture : Picture) (choice : Choice) → names_row number (answer_of picture choice) ≡ true
       → list_any (is_open_for (Worker worker) connection number) (members_of worker connection choice) ≡ true
   choice_opens picture NoListener names = absurd (false≢true names)
+  choice_opens picture NoChain names = absurd (false≢true names)
+  choice_opens picture (Undecided listener) names = member_opens listener None (or_left (listener == number) _ names)
+  choice_opens picture (Elsewhere listener cluster) names = member_opens listener cluster names
   choice_opens picture (NoRoute listener) names = member_opens listener None (or_left (listener == number) _ names)
   choice_opens picture (Local listener status) names = member_opens listener None (or_left (listener == number) _ names)
   choice_opens picture (Redirect listener) names = member_opens listener None (or_left (listener == number) _ names)

@@ -124,9 +124,10 @@ value_silent arrivals more kind name silent =
     ∙ ap (λ (contents : List Content). filter_map content_in (came_for arrivals kind name) ++ contents) (no_contents kind name more silent)
     ∙ append-nil (filter_map content_in (came_for arrivals kind name)))
 
-absences_silent : (kind : Kind) (name : List ℕ) (names : List (List ℕ)) → ByRecursion (IsSilent kind name) (map (arrived kind Absent) names)
-absences_silent kind name [] = tt
-absences_silent kind name (one ∷ names) = (λ of. refl, absences_silent kind name names)
+absences_silent : (made : ℕ) (kind : Kind) (name : List ℕ) (names : List (List ℕ))
+    → ByRecursion (IsSilent kind name) (map (arrived made kind Absent) names)
+absences_silent made kind name [] = tt
+absences_silent made kind name (one ∷ names) = (λ of. refl, absences_silent made kind name names)
 
 -- rows, version and value of the name are as they were, and what came where the kind is one of generations
 record IsLeft (kind : Kind) (name : List ℕ) (before after : World) : Type 0 where
@@ -201,16 +202,16 @@ module _ (kind : Kind) (name : List ℕ) (before : World) where
   kept_left : (item : ItemParts) (body : Body) (w : World) → is_by_name kind ≡ true → bytes_eq item.name name ≡ false → IsLeft kind name before w
       → IsLeft kind name before (with_content (keep_value kind item) body w)
   kept_left item (Good content) w by_name apart left =
-      version_left item (record w { arrivals = w.arrivals ++ arrived kind (Value content) item.name ∷ [] }) apart
-      (silent_left (arrived kind (Value content) item.name ∷ []) w by_name
+      version_left item (record w { arrivals = w.arrivals ++ arrived w.made kind (Value content) item.name ∷ [] }) apart
+      (silent_left (arrived w.made kind (Value content) item.name ∷ []) w by_name
       (λ is. absurd (both_ways (bytes_eq item.name name) apart (second_so (kind_same kind kind) (bytes_eq item.name name) is)), tt) left)
   kept_left item (Bad rule) w by_name apart left = left
   kept_left item Beat w by_name apart left = left
 
   told_left : (other : List ℕ) (w : World) → is_by_name kind ≡ true → IsLeft kind name before w → IsLeft kind name before (told_of_refusal kind other w)
   told_left other w by_name left =
-      cond_both (is_watched (lives_of w) kind other) (record w { arrivals = w.arrivals ++ arrived kind bad other ∷ [] }) w (IsLeft kind name before)
-      (λ watched. silent_left (arrived kind bad other ∷ []) w by_name (λ is. refl, tt) left)
+      cond_both (is_watched (lives_of w) kind other) (record w { arrivals = w.arrivals ++ arrived w.made kind bad other ∷ [] }) w (IsLeft kind name before)
+      (λ watched. silent_left (arrived w.made kind bad other ∷ []) w by_name (λ is. refl, tt) left)
       (λ unwatched. left)
 
   renew_left : (other : List ℕ) (w : World) → bytes_eq other name ≡ false → IsLeft kind name before w → IsLeft kind name before (renew kind other w)
@@ -295,8 +296,8 @@ module _ (name : List ℕ) (response : ResponseParts) (stands : is_removed respo
   absences_left kind world by_name = record {
     rows = refl;
     version = versions_stay kind world.versions;
-    value = value_silent world.arrivals (map (arrived kind Absent) (absent_names kind response world)) kind name
-        (absences_silent kind name (absent_names kind response world));
+    value = value_silent world.arrivals (map (arrived world.made kind Absent) (absent_names kind response world)) kind name
+        (absences_silent world.made kind name (absent_names kind response world));
     arrivals = λ isnt. absurd (both_ways (is_by_name kind) isnt by_name);
     results = refl;
   }

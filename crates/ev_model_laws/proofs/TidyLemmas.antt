@@ -18,17 +18,18 @@ use Rattle.ev_types.specs.declared.contents.Kind.TheVariants.{Eds}
 use Rattle.ev_types.specs.declared.contents.Content.{Content}
 use Rattle.ev_types.specs.declared.contents.Content.TheVariants.{Cluster as a_cluster, Assignment as an_assignment, Listener as a_listener, Routes as routes}
 use Rattle.ev_types.specs.declared.clusters.Discovery.{Discovery}
-use Rattle.ev_types.specs.declared.clusters.Discovery.TheVariants.{Static, Eds as by_eds}
+use Rattle.ev_types.specs.declared.clusters.Discovery.TheVariants.{Static, Eds as by_eds, Elsewhere}
 use Rattle.ev_types.specs.declared.rows.RowStatus.{RowStatus}
 use Rattle.ev_types.specs.declared.rows.RowStatus.TheVariants.{Warming, Active, Draining, Dropped}
 use Rattle.ev_types.specs.declared.rows.Phase.{Phase}
 use Rattle.ev_types.specs.declared.rows.Phase.TheVariants.{Clusters, Listeners, Serving}
+use Rattle.ev_types.specs.declared.rows.Arrival.{Arrival}
 use Rattle.ev_types.specs.declared.rows.GenRow.{GenRow}
 use Rattle.ev_types.specs.declared.rows.Live.{Live}
 use Rattle.ev_model.specs.World.{World, Arrived, HealthResult}
 use Rattle.ev_model.specs.Live.{lives_of, live_of}
 use Rattle.ev_model.specs.Watching.{Dependency, dependencies_of, discovery_dependencies, has_dependency, is_dependency, is_watched}
-use Rattle.ev_model.specs.Warming.{came_for, content_in, rows_in, is_word, is_timeout, has_answer, is_answered_by, discovered, assignment_by, is_checked, is_result_of, has_result, has_all_results, is_ready_by}
+use Rattle.ev_model.specs.Warming.{came_for, content_in, rows_in, is_word, is_timeout, has_answer, is_answered_by, discovered, assignment_by, is_checked, is_result_of, has_result, has_all_results, is_ready_by, is_for, last_made, counts_for}
 use Rattle.ev_model.specs.Rows.{is_row_of}
 use Rattle.ev_model.specs.Phase.{phase_from, phase_after, clusters_have_come, listeners_have_come}
 use Rattle.ev_model.specs.Tidy.{is_due, has_successor, status_by, promoted_status, promoted_rows, promoted, arrivals_watched, is_version_due, without_unwatched, is_result_due, without_old_results, with_phase, tidy}
@@ -53,30 +54,44 @@ kept world row there live = λ d among.
     (any_at (is_dependency d.kind d.name) (dependencies_of row.content) d among (own_dependency d)))
 
 -- what came for a watched name stays, in order
+watched_too : (lives : List Live) (kind : Kind) (name : List ℕ) → is_watched lives kind name ≡ true
+    → (a : Arrived) → is_for kind name a ≡ true → is_watched lives a.kind a.name ≡ true
+watched_too lives kind name watched a h =
+    ap (λ k. is_watched lives k a.name) ((kind_decides a.kind kind).0 (first_so (kind_same a.kind kind) (bytes_eq a.name name) h))
+    ∙ ap (is_watched lives kind) ((bytes_decide a.name name).0 (second_so (kind_same a.kind kind) (bytes_eq a.name name) h))
+    ∙ watched
+
 pub came_same : (lives : List Live) (arrivals : List Arrived) (kind : Kind) (name : List ℕ) → is_watched lives kind name ≡ true
     → came_for (arrivals_watched lives arrivals) kind name ≡ came_for arrivals kind name
 came_same lives arrivals kind name watched =
     ap (map (λ (a : Arrived). a.arrival))
-    (filter_within (λ (a : Arrived). kind_same a.kind kind && bytes_eq a.name name) (λ (a : Arrived). is_watched lives a.kind a.name)
-    (λ (a : Arrived) h.
-    ap (λ k. is_watched lives k a.name) ((kind_decides a.kind kind).0 (first_so (kind_same a.kind kind) (bytes_eq a.name name) h))
-    ∙ ap (is_watched lives kind) ((bytes_decide a.name name).0 (second_so (kind_same a.kind kind) (bytes_eq a.name name) h))
-    ∙ watched)
+    (filter_within (is_for kind name) (λ (a : Arrived). is_watched lives a.kind a.name) (watched_too lives kind name watched) arrivals)
+
+-- and so when the last of a sort came for it
+pub last_same : (is : Arrival → Bool) (lives : List Live) (arrivals : List Arrived) (kind : Kind) (name : List ℕ) → is_watched lives kind name ≡ true
+    → last_made is (arrivals_watched lives arrivals) kind name ≡ last_made is arrivals kind name
+last_same is lives arrivals kind name watched =
+    ap (λ (came : List Arrived). last_or None (map (λ (a : Arrived). a.made) came))
+    (filter_within (λ (a : Arrived). is_for kind name a && is a.arrival) (λ (a : Arrived). is_watched lives a.kind a.name)
+    (λ (a : Arrived) h. watched_too lives kind name watched a (first_so (is_for kind name a) (is a.arrival) h))
     arrivals)
 
 -- so whether the control plane has answered for each dependency
-answers_same : (lives : List Live) (arrivals : List Arrived) (ds : List Dependency) → IsKept lives ds
-    → list_all (has_answer (arrivals_watched lives arrivals)) ds ≡ list_all (has_answer arrivals) ds
-answers_same lives arrivals ds watched =
-    all_agree (has_answer (arrivals_watched lives arrivals)) (has_answer arrivals) ds
-    (λ d among. ap (λ came. list_any is_word came || (list_any is_timeout came && d.limited)) (came_same lives arrivals d.kind d.name (watched d among)))
+answers_same : (lives : List Live) (arrivals : List Arrived) (number : ℕ) (ds : List Dependency) → IsKept lives ds
+    → list_all (has_answer (arrivals_watched lives arrivals) number) ds ≡ list_all (has_answer arrivals number) ds
+answers_same lives arrivals number ds watched =
+    all_agree (has_answer (arrivals_watched lives arrivals) number) (has_answer arrivals number) ds
+    (λ d among. λ i.
+    counts_for number d (last_same is_word lives arrivals d.kind d.name (watched d among) i)
+    || (counts_for number d (last_same is_timeout lives arrivals d.kind d.name (watched d among) i) && d.limited))
 
 -- and so the hosts of a content whose dependencies are watched
 discovered_same : (lives : List Live) (arrivals : List Arrived) (discovery : Discovery) → IsKept lives (discovery_dependencies discovery)
     → discovered (arrivals_watched lives arrivals) discovery ≡ discovered arrivals discovery
 discovered_same lives arrivals (Static rows) watched = refl
-discovered_same lives arrivals (by_eds service limited) watched =
-    let d : Dependency = record { kind = Eds; name = service; limited = limited } in
+discovered_same lives arrivals Elsewhere watched = refl
+discovered_same lives arrivals (by_eds service limited fresh) watched =
+    let d : Dependency = record { kind = Eds; name = service; limited = limited; fresh = fresh } in
     ap (λ came. rows_in (last_or None (filter_map content_in came))) (came_same lives arrivals Eds service (watched d (Contains-push [] d)))
 
 hosts_same : (lives : List Live) (arrivals : List Arrived) (content : Content) → IsKept lives (dependencies_of content)
@@ -93,8 +108,8 @@ pub watched_ready : (lives : List Live) (arrivals : List Arrived) (results : Lis
 watched_ready lives arrivals results row watched =
     ap (λ answered. answered && (not (is_checked row.content)
     || has_all_results results row.number (assignment_by (arrivals_watched lives arrivals) row.content)))
-    (answers_same lives arrivals (dependencies_of row.content) watched)
-    ∙ ap (λ hosts. is_answered_by arrivals row.content && (not (is_checked row.content) || has_all_results results row.number hosts))
+    (answers_same lives arrivals row.number (dependencies_of row.content) watched)
+    ∙ ap (λ hosts. is_answered_by arrivals row.number row.content && (not (is_checked row.content) || has_all_results results row.number hosts))
     (hosts_same lives arrivals row.content watched)
 
 -- a live row's results for hosts of its assignment stay: the row itself is why
@@ -136,7 +151,7 @@ pub results_ready : (arrivals : List Arrived) (rows : List GenRow) (results : Li
     → Contains rows row → is_live row.status ≡ true
     → is_ready_by arrivals (filter (is_result_due arrivals rows) results) row ≡ is_ready_by arrivals results row
 results_ready arrivals rows results row there live =
-    ap (λ resulted. is_answered_by arrivals row.content && (not (is_checked row.content) || resulted))
+    ap (λ resulted. is_answered_by arrivals row.number row.content && (not (is_checked row.content) || resulted))
     (all_results_same arrivals rows results row there live)
 
 due_by : (status : RowStatus) (a b : Bool) → (is_live status ≡ true → a ≡ b) → (is_warming status && a) ≡ (is_warming status && b)

@@ -2,6 +2,7 @@
 use Rattle.std.proofs.Common.{◌≡◌, ℕ, ◌<◌, true, ◌==◌, length, take, Option, Some, None, sym, ap, ◌∙◌, subst, arith}
 use Rattle.std.proofs.lemmas.Bool.{false≢true, cond_both}
 use Rattle.std.proofs.lemmas.Option.{slice_get_within}
+use Rattle.std.specs.Option.{IfSome}
 use Rattle.ev_types.specs.Events.{MayMake}
 use Rattle.ev_types.specs.Same.{numbers_decide}
 use Rattle.ev_types.specs.declared.hosts.Host.{Host}
@@ -14,10 +15,10 @@ use Rattle.ev_types.specs.declared.events.Event.{Event}
 use Rattle.ev_types.specs.declared.events.Event.TheVariants.{Accept}
 use Rattle.ev_model.specs.declared.pictures.Picture.{Picture}
 use Rattle.ev_model.specs.declared.pictures.Choice.{Choice}
-use Rattle.ev_model.specs.declared.pictures.Choice.TheVariants.{NoListener, NoRoute, Local, Redirect, NoCluster, NoEndpoint, Served}
+use Rattle.ev_model.specs.declared.pictures.Choice.TheVariants.{NoListener, NoChain, Undecided, Elsewhere, NoRoute, Local, Redirect, NoCluster, NoEndpoint, Served}
 use Rattle.ev_model.specs.World.{World}
 use Rattle.ev_model.specs.Picture.{is_shown}
-use Rattle.ev_model.specs.Dead.{shown_at, version_held, picture_held}
+use Rattle.ev_model.specs.Dead.{shown_at, version_held, picture_held, is_forwarded_to}
 use Rattle.ev_model.specs.Choice.{choice_of}
 use Rattle.ev_model.specs.Connections.{Worked, is_open, host_at, served_by, answer_of, opened_by, accept}
 use Rattle.ev_model.specs.Step.{step}
@@ -39,9 +40,18 @@ module _ (picture : Picture) (number : ℕ) where
   served_names listener cluster (Some host) first second names =
       or_so (listener == number) (cluster == number) (is_number listener first) (is_number cluster second) names
 
+  cluster_names : (cluster : Option ℕ) → IfSome cluster (λ c. is_shown c picture.shown ≡ true) → is_forwarded_to number cluster ≡ true
+      → is_shown number picture.shown ≡ true
+  cluster_names None chosen names = absurd (false≢true names)
+  cluster_names (Some cluster) chosen names = is_number cluster chosen names
+
   -- an answer names generations that are chosen
   chosen_names : (choice : Choice) → ShowsChosen picture.shown choice → names_row number (answer_of picture choice) ≡ true → is_shown number picture.shown ≡ true
   chosen_names NoListener chosen names = absurd (false≢true names)
+  chosen_names NoChain chosen names = absurd (false≢true names)
+  chosen_names (Undecided listener) chosen names = is_number listener chosen names
+  chosen_names (Elsewhere listener cluster) chosen names =
+      or_so (listener == number) (is_forwarded_to number cluster) (is_number listener chosen.0) (cluster_names cluster chosen.1) names
   chosen_names (NoRoute listener) chosen names = is_number listener chosen names
   chosen_names (Local listener status) chosen names = is_number listener chosen names
   chosen_names (Redirect listener) chosen names = is_number listener chosen names

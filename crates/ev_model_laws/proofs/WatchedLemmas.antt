@@ -16,7 +16,7 @@ use Rattle.ev_types.specs.declared.events.Event.{Event}
 use Rattle.ev_types.specs.declared.events.Verdict.{Verdict}
 use Rattle.ev_types.specs.declared.events.Verdict.TheVariants.{New, Same, Kept, Unasked, Renewed, Refused}
 use Rattle.ev_types.specs.declared.journals.Format.{Format}
-use Rattle.ev_types.specs.declared.rows.Arrival.TheVariants.{Value, Absent, Bad as bad, TimedOut}
+use Rattle.ev_types.specs.declared.rows.Arrival.TheVariants.{Value, Absent, Bad as bad, TimedOut, Ended}
 use Rattle.ev_types.specs.declared.rows.KeptVersion.{KeptVersion}
 use Rattle.ev_model.specs.World.{World, Arrived, opening}
 use Rattle.ev_model.specs.Live.{lives_of, live_of}
@@ -96,11 +96,11 @@ left_heard test world heard = All-filter test (IsVersionHeard world.arrivals) wo
 removals_heard : (kind : Kind) (response : ResponseParts) (world : World) → AreHeard world → AreHeard (with_removals kind response world)
 removals_heard Cds response world heard = left_heard (is_version_left Cds response) world heard
 removals_heard Eds response world heard =
-    more_heard (map (arrived Eds Absent) (absent_names Eds response world))
+    more_heard (map (arrived world.made Eds Absent) (absent_names Eds response world))
     (record world { versions = versions_left Eds response world.versions }) (left_heard (is_version_left Eds response) world heard)
 removals_heard Lds response world heard = left_heard (is_version_left Lds response) world heard
 removals_heard Rds response world heard =
-    more_heard (map (arrived Rds Absent) (absent_names Rds response world))
+    more_heard (map (arrived world.made Rds Absent) (absent_names Rds response world))
     (record world { versions = versions_left Rds response world.versions }) (left_heard (is_version_left Rds response) world heard)
 
 module _ (kind : Kind) (item : ItemParts) where
@@ -118,12 +118,12 @@ module _ (kind : Kind) (item : ItemParts) where
 
   value_heard : (body : Body) (world : World) → AreHeard world → AreHeard (with_content (keep_value kind item) body world)
   value_heard (Good content) world heard =
-      let more : List Arrived = arrived kind (Value content) item.name ∷ [] in
+      let more : List Arrived = arrived world.made kind (Value content) item.name ∷ [] in
       new_heard (version_in kind item) (record world { arrivals = world.arrivals ++ more })
       (λ is.
       heard_is (world.arrivals ++ more) kind item.name
       ∙ any_second (is_word_for kind item.name) world.arrivals more
-      (or_left (is_word_for kind item.name (arrived kind (Value content) item.name)) false
+      (or_left (is_word_for kind item.name (arrived world.made kind (Value content) item.name)) false
       (and_from (kind_same kind kind && bytes_eq item.name item.name) true
       (and_from (kind_same kind kind) (bytes_eq item.name item.name) ((kind_decides kind kind).1 refl) ((bytes_decide item.name item.name).1 refl)) refl)))
       (more_heard more world heard)
@@ -132,8 +132,8 @@ module _ (kind : Kind) (item : ItemParts) where
 
 refusal_heard : (kind : Kind) (name : List ℕ) (world : World) → AreHeard world → AreHeard (told_of_refusal kind name world)
 refusal_heard kind name world heard =
-    cond_both (is_watched (lives_of world) kind name) (record world { arrivals = world.arrivals ++ arrived kind bad name ∷ [] }) world AreHeard
-    (λ watched. more_heard (arrived kind bad name ∷ []) world heard) (λ unwatched. heard)
+    cond_both (is_watched (lives_of world) kind name) (record world { arrivals = world.arrivals ++ arrived world.made kind bad name ∷ [] }) world AreHeard
+    (λ watched. more_heard (arrived world.made kind bad name ∷ []) world heard) (λ unwatched. heard)
 
 refused_heard : (kind : Kind) (name : List ℕ) (world : World) → AreHeard world → AreHeard (refuse kind name world)
 refused_heard Cds name world heard = heard
@@ -164,9 +164,9 @@ first_heard Rds names world heard = heard
 
 end_heard : (kind : Kind) (name : List ℕ) (world : World) → AreHeard world → AreHeard (with_end kind name world)
 end_heard Cds name world heard = heard
-end_heard Eds name world heard = more_heard (arrived Eds (Value no_hosts) name ∷ []) world heard
+end_heard Eds name world heard = more_heard (arrived world.made Eds (Ended no_hosts) name ∷ []) world heard
 end_heard Lds name world heard = heard
-end_heard Rds name world heard = more_heard (arrived Rds (Value no_routes) name ∷ []) world heard
+end_heard Rds name world heard = more_heard (arrived world.made Rds (Ended no_routes) name ∷ []) world heard
 
 due_heard : (lives : List Live) (arrivals : List Arrived) (kept : KeptVersion) (by_name : Bool) → is_by_name kept.kind ≡ by_name
     → is_version_due lives kept ≡ true → IsVersionHeard arrivals kept → IsVersionHeard (arrivals_watched lives arrivals) kept
@@ -227,7 +227,7 @@ step-watched format world actor event watched =
           (λ lives (item : ItemParts). verdict_fits kind response lives world.versions item) (lives_left kind response (lives_of world)) response.items)
           (removals_heard kind response world heard)));
       resulted = λ cluster host healthy rows is. tidied_watched _ heard;
-      timed = λ timeout name is named. tidied_watched _ (more_heard (arrived timeout.kind TimedOut name ∷ []) world heard);
+      timed = λ timeout name is named. tidied_watched _ (more_heard (arrived world.made timeout.kind TimedOut name ∷ []) world heard);
       clusters_late = λ timeout is. tidied_watched _ heard;
       listeners_late = λ timeout is. tidied_watched _ heard;
       expired = λ name numbers is. tidied_watched _ heard;

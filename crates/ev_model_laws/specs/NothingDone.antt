@@ -3,7 +3,7 @@ use Rattle.std.specs.Prelude.{◌≡◌, Bool, true, false, IsTrue}
 use Rattle.ev_types.specs.declared.events.Actor.{Actor}
 use Rattle.ev_types.specs.declared.events.Event.{Event}
 use Rattle.ev_types.specs.declared.events.Answer.{Answer}
-use Rattle.ev_types.specs.declared.events.Answer.TheVariants.{Ignored, Done, Moved, Replied, Version, Unchanged, Reaped, InUse, NoListener, NoRoute, Redirect, NoCluster, NoEndpoint, Local, Served, NotOpen, Settled}
+use Rattle.ev_types.specs.declared.events.Answer.TheVariants.{Ignored, Done, Moved, Replied, Version, Unchanged, Reaped, InUse, NoListener, NoChain, Undecided, Elsewhere, NoRoute, Redirect, NoCluster, NoEndpoint, Local, Served, NotOpen, Settled}
 use Rattle.ev_types.specs.declared.journals.Format.{Format}
 use Rattle.ev_model.specs.World.{World}
 use Rattle.ev_model.specs.Step.{step}
@@ -19,6 +19,9 @@ is_nothing_done Unchanged = true
 is_nothing_done (Reaped numbers) = false
 is_nothing_done InUse = true
 is_nothing_done NoListener = false
+is_nothing_done NoChain = false
+is_nothing_done (Undecided listener) = false
+is_nothing_done (Elsewhere listener cluster) = false
 is_nothing_done (NoRoute listener) = false
 is_nothing_done (Redirect listener) = false
 is_nothing_done (NoCluster listener) = false

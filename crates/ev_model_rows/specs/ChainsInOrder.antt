@@ -1,12 +1,11 @@
 -- Connections go to the filter chain that is left by port, address, server name and transport protocol, in this order; what was given
 -- up doesn't come back, and where nothing is left the default chain serves, or nothing does.
-use Rattle.std.specs.Prelude.{◌≡◌, ℕ, ◌*◌, ◌+◌, ◌^◌, List, [], ◌∷◌, codes, true, Option, Some, None}
+use Rattle.std.specs.Prelude.{◌≡◌, ℕ, ◌*◌, ◌+◌, ◌^◌, List, [], ◌∷◌, codes, true, Some, None}
 use Rattle.ev_types.specs.Ips.{range_about}
 use Rattle.ev_types.specs.Items.{ItemParts}
 use Rattle.ev_types.specs.declared.contents.Kind.TheVariants.{Cds, Lds}
 use Rattle.ev_types.specs.declared.events.Answer.TheVariants.{Moved, Replied, Version, Local, NoChain}
 use Rattle.ev_types.specs.declared.events.Verdict.TheVariants.{New}
-use Rattle.ev_types.specs.declared.filter_chains.FilterChainMatch.{FilterChainMatch}
 use Rattle.ev_types.specs.declared.ips.Ip.{Ip}
 use Rattle.ev_types.specs.declared.ips.Ip.TheVariants.{V4}
 use Rattle.ev_types.specs.declared.listeners.FilterChain.{FilterChain}

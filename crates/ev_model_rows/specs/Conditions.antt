@@ -10,7 +10,6 @@ use Rattle.ev_types.specs.declared.matchers.RouteCondition.TheVariants.{Header, 
 use Rattle.ev_types.specs.declared.matchers.PathSpecifier.{PathSpecifier}
 use Rattle.ev_types.specs.declared.matchers.PathSpecifier.TheVariants.{Cased, Folded, Connect, Open as open_path}
 use Rattle.ev_types.specs.declared.matchers.RouteMatch.{RouteMatch}
-use Rattle.ev_model.specs.declared.pictures.Taken.{Taken}
 use Rattle.ev_model.specs.declared.pictures.Taken.TheVariants.{No, Yes, Undecided}
 use Rattle.ev_model.specs.Conditions.{Requested, condition_says, match_says}
 

@@ -1,5 +1,5 @@
 -- Which filter chains of a listener are left for a connection: by one criterion after the other, and nothing comes back.
-use Rattle.std.specs.Prelude.{◌≡◌, ℕ, ◌*◌, ◌+◌, ◌^◌, true, false, List, [], ◌∷◌, codes, Option, Some, None, map}
+use Rattle.std.specs.Prelude.{◌≡◌, ℕ, ◌*◌, ◌+◌, ◌^◌, true, false, List, [], ◌∷◌, codes, Some, None, map}
 use Rattle.ev_types.specs.declared.filter_chains.FilterChainMatch.{FilterChainMatch}
 use Rattle.ev_types.specs.declared.ips.Ip.{Ip}
 use Rattle.ev_types.specs.declared.ips.Ip.TheVariants.{V4, V6}

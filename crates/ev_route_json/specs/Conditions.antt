@@ -6,6 +6,8 @@ use Rattle.std.specs.Map.Iter.{deref}
 use Rattle.std.specs.Str.{str_to_ascii_lowercase}
 use denote.Ref.{Bor}
 use Rattle.serde_json.specs.Data.{Data}
+use Rattle.ev_types.specs.declared.events.Profile.{Profile}
+use Rattle.ev_types.specs.declared.events.Profile.TheVariants.{Own, Envoy}
 use Rattle.ev_types.specs.declared.routes.PathMatch.{PathMatch}
 use Rattle.ev_types.specs.declared.matchers.StringPattern.{StringPattern}
 use Rattle.ev_types.specs.declared.matchers.StringPattern.TheVariants.{Exact, Prefix, Suffix, Contains}
@@ -21,9 +23,9 @@ use Rattle.ev_tree.specs.declared.broken.BrokenRules.{BrokenRules}
 use Rattle.ev_tree.specs.declared.outcome.Found.{Found}
 use Rattle.ev_tree.specs.Forms.{found_map, is_wrong, is_given, given_or, inside, listed, text_of, boolean_of, object_of, objects_of}
 use Rattle.ev_tree.specs.Broken.{none_broken, either_broken, any_broken, broken_where}
-use Rattle.ev_route_json.specs.Presence.{exactly_one, more_than_one}
+use Rattle.ev_tree.specs.Counts.{exactly_one, more_than_one}
 use Rattle.ev_route_json.specs.Targets.{is_empty_text}
-use Rattle.ev_route_json.specs.Matches.{path_of, is_false, separated_is_bad}
+use Rattle.ev_route_json.specs.Matches.{path_of, match_broken, is_false, separated_is_bad}
 
 -- ---- a text that a header's value is held against
 
@@ -235,3 +237,17 @@ route_match_of tree = record { path = path_specifier_of tree; conditions = condi
 -- what a match breaks: what its path and its conditions break. One that is missing has no kind of path, so it breaks V21.
 unfoldable pub route_match_broken : Data → BrokenRules
 route_match_broken tree = either_broken (path_specifier_broken tree) (conditions_broken tree)
+
+-- ---- in a profile
+
+-- by this project's own rules a match has a path in its case, and no condition
+abbrev pub own_match_of : Data → RouteMatch
+own_match_of tree = record { path = Cased (path_of tree); conditions = [] }
+
+abbrev pub match_in : Profile → Data → RouteMatch
+match_in Own tree = own_match_of tree
+match_in Envoy tree = route_match_of tree
+
+abbrev pub match_broken_in : Profile → Data → BrokenRules
+match_broken_in Own tree = match_broken tree
+match_broken_in Envoy tree = route_match_broken tree

@@ -5,3 +5,4 @@ pub mod Conditions
 pub mod Routes
 pub mod Domains
 pub mod Tables
+pub mod Given

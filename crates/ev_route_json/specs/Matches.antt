@@ -12,7 +12,8 @@ use Rattle.ev_tree.specs.declared.outcome.Found.{Found}
 use Rattle.ev_tree.specs.declared.outcome.Found.TheVariants.{Absent, Wrong, Given}
 use Rattle.ev_tree.specs.Forms.{found_map, is_wrong, is_given, given_or, text_of, boolean_of}
 use Rattle.ev_tree.specs.Broken.{none_broken}
-use Rattle.ev_route_json.specs.Presence.{any_given, any_doubled, any_filled, exactly_one}
+use Rattle.ev_tree.specs.Counts.{exactly_one}
+use Rattle.ev_route_json.specs.Presence.{any_given, any_doubled, any_filled}
 
 -- conditions that break V21 in any form
 abbrev pub barred_conditions : List (List ℕ)

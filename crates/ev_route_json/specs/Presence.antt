@@ -1,5 +1,5 @@
 -- Fields that only count as given, of any form but `null`: in both spellings they are a wrong form.
-use Rattle.std.specs.Prelude.{ℕ, ◌==◌, List, Bool, true, false, not, Option, Some, None, nat_lt, count_by}
+use Rattle.std.specs.Prelude.{ℕ, List, Bool, true, false, not, Option, Some, None}
 use Rattle.std.specs.List.{list_any}
 use Rattle.serde_json.specs.Data.{Data, Items, no_items, item}
 use Rattle.serde_json.specs.Find.{as_array}
@@ -32,11 +32,3 @@ is_filled (Given d) = not (is_empty_array d)
 -- one of these fields is given and isn't an empty array
 abbrev pub any_filled : List (List ℕ) → Data → Bool
 any_filled names tree = list_any (λ name. is_filled (field_of name tree)) names
-
--- exactly one of these holds
-abbrev pub exactly_one : List Bool → Bool
-exactly_one tests = count_by (λ test. test) tests == 1
-
--- more than one of these holds
-abbrev pub more_than_one : List Bool → Bool
-more_than_one tests = nat_lt 1 (count_by (λ test. test) tests)

@@ -1,6 +1,7 @@
 -- Route configurations (`envoy.config.route.v3.RouteConfiguration`), and the rules that they break.
 use Rattle.std.specs.Prelude.{ℕ, ◌||◌, ◌==◌, List, [], length, map, Result, codes}
 use Rattle.serde_json.specs.Data.{Data}
+use Rattle.ev_types.specs.declared.events.Profile.{Profile}
 use Rattle.ev_types.specs.declared.routes.VirtualHost.{VirtualHost}
 use Rattle.ev_types.specs.declared.routes.RouteTable.{RouteTable}
 use Rattle.ev_tree.specs.declared.broken.BrokenRules.{BrokenRules}
@@ -22,8 +23,8 @@ unfoldable pub routes_of : Data → List Data
 routes_of host = listed (objects_of (codes "routes") host)
 
 -- What a virtual host breaks: what one of its routes breaks, and what it breaks itself. V19: no name, or no domains.
-unfoldable pub virtual_host_broken : Data → BrokenRules
-virtual_host_broken host = either_broken (any_broken route_broken (routes_of host)) (record none_broken {
+unfoldable pub virtual_host_broken : Profile → Data → BrokenRules
+virtual_host_broken profile host = either_broken (any_broken (route_broken profile) (routes_of host)) (record none_broken {
   v6 =
       is_wrong (text_of (codes "name") host)
       || is_wrong (texts_of (codes "domains") host)
@@ -31,25 +32,29 @@ virtual_host_broken host = either_broken (any_broken route_broken (routes_of hos
   v19 = length (virtual_host_name host) == 0 || length (domains_of host) == 0;
 })
 
-unfoldable pub virtual_host_of : Data → VirtualHost
-virtual_host_of host = record { name = virtual_host_name host; domains = domains_of host; routes = map route_of (routes_of host) }
+unfoldable pub virtual_host_of : Profile → Data → VirtualHost
+virtual_host_of profile host = record {
+  name = virtual_host_name host;
+  domains = domains_of host;
+  routes = map (route_of profile) (routes_of host);
+}
 
 -- ---- a route configuration
 
 unfoldable pub virtual_hosts_of : Data → List Data
 virtual_hosts_of tree = listed (objects_of (codes "virtual_hosts") tree)
 
-unfoldable pub table_of : Data → RouteTable
-table_of tree = record { hosts = map virtual_host_of (virtual_hosts_of tree) }
+unfoldable pub table_of : Profile → Data → RouteTable
+table_of profile tree = record { hosts = map (virtual_host_of profile) (virtual_hosts_of tree) }
 
 -- What a route configuration breaks: what one of its virtual hosts breaks, and what it breaks itself. V20: a domain
 -- stands twice in the whole configuration.
-unfoldable pub table_broken : Data → BrokenRules
-table_broken tree = either_broken (any_broken virtual_host_broken (virtual_hosts_of tree)) (record none_broken {
+unfoldable pub table_broken : Profile → Data → BrokenRules
+table_broken profile tree = either_broken (any_broken (virtual_host_broken profile) (virtual_hosts_of tree)) (record none_broken {
   v6 = is_wrong (text_of (codes "name") tree) || is_wrong (objects_of (codes "virtual_hosts") tree);
-  v20 = repeats_domain (map virtual_host_of (virtual_hosts_of tree));
+  v20 = repeats_domain (map (virtual_host_of profile) (virtual_hosts_of tree));
 })
 
 -- what a route configuration reads as
-abbrev pub table_reading : Data → Result RouteTable ℕ
-table_reading tree = judged (least_of (table_broken tree)) (table_of tree)
+abbrev pub table_reading : Profile → Data → Result RouteTable ℕ
+table_reading profile tree = judged (least_of (table_broken profile tree)) (table_of profile tree)

@@ -1,13 +1,13 @@
 ghost use Rattle.std.specs.Prelude.{◌≡◌, IfOk, map};
 ghost use Rattle.serde_json.specs.View.{view};
 ghost use Rattle.ev_tree.specs.Forms.{tree_of, found_map};
-ghost use Rattle.ev_route_json.specs.Conditions.{has_elements, is_open, open_wrong, with_condition, conditions_with, conditions_of, conditions_broken, specifier_with, path_specifier_of, path_specifier_broken, route_match_of, route_match_broken};
+ghost use Rattle.ev_route_json.specs.Conditions.{has_elements, is_open, open_wrong, with_condition, conditions_with, conditions_of, conditions_broken, specifier_with, path_specifier_of, path_specifier_broken, route_match_of, route_match_broken, own_match_of, match_in, match_broken_in};
+ghost use Rattle.ev_route_json.specs.Matches.{match_broken};
 
-use crate::matches::{is_false, make_path, separated_is_bad};
+use crate::matches::{inspect_match, is_false, make_path, separated_is_bad};
 use crate::parts::inspect_all;
-use crate::presence::exactly_one;
-use ev_tree::{BrokenRules, Found, Inspection, member};
-use ev_types::{PathMatch, PathSpecifier, RouteCondition, RouteMatch, Seq};
+use ev_tree::{BrokenRules, Found, Inspection, exactly_one, member};
+use ev_types::{PathMatch, PathSpecifier, Profile, RouteCondition, RouteMatch, Seq};
 use serde_json::Value;
 use std::alloc::{AllocError, Global};
 
@@ -90,7 +90,11 @@ fn inspect_conditions(
     let headers = member::objects(alloc, tree, "headers")?;
     let grpc = member::object(alloc, tree, "grpc")?;
     let undecided = inspect_open(alloc, tree)?;
-    let below = inspect_all::<RouteCondition>(alloc, member::elements(headers))?;
+    let below = inspect_all::<Profile, RouteCondition>(
+        alloc,
+        Profile::Envoy,
+        member::elements(headers),
+    )?;
     let own = BrokenRules {
         v6: headers.is_wrong() | grpc.is_wrong() | undecided.wrong,
         ..BrokenRules::none()
@@ -158,8 +162,41 @@ fn inspect_path_specifier(
     })
 }
 
-/// Inspects the match of a route, which may be missing, as Envoy reads it: its path and its conditions.
-pub fn inspect_route_match(
+/// Inspects the match of a route in a profile, which may be missing: by the own rules it has a path alone.
+pub fn inspect_match_in(
+    alloc: Global,
+    profile: Profile,
+    tree: Option<&Value>,
+) -> Result<Inspection<RouteMatch>, AllocError>
+    ensures value { IfOk result (λ found. found.value ≡ match_in profile (tree_of tree.entry)) }
+    ensures broken { IfOk result (λ found. found.broken ≡ match_broken_in profile (tree_of tree.entry)) }
+{
+    match profile {
+        Profile::Own => inspect_own_match(alloc, tree),
+        Profile::Envoy => inspect_route_match(alloc, tree),
+    }
+}
+
+// Inspects a match by the own rules.
+fn inspect_own_match(
+    alloc: Global,
+    tree: Option<&Value>,
+) -> Result<Inspection<RouteMatch>, AllocError>
+    ensures value { IfOk result (λ found. found.value ≡ own_match_of (tree_of tree.entry)) }
+    ensures broken { IfOk result (λ found. found.broken ≡ match_broken (tree_of tree.entry)) }
+{
+    let found = inspect_match(alloc, tree)?;
+    Ok(Inspection {
+        broken: found.broken,
+        value: RouteMatch {
+            path: PathSpecifier::Cased(found.value),
+            conditions: Seq::new(alloc),
+        },
+    })
+}
+
+// Inspects the match of a route as Envoy reads it: its path and its conditions.
+pub(crate) fn inspect_route_match(
     alloc: Global,
     tree: Option<&Value>,
 ) -> Result<Inspection<RouteMatch>, AllocError>

@@ -6,21 +6,26 @@ ghost use Rattle.ev_route_json.specs.Conditions.{pattern_found, string_test, str
 
 use crate::matches::is_false;
 use crate::parts::Inspect;
-use crate::presence::{exactly_one, more_than_one};
 use crate::targets::is_empty_text;
-use ev_tree::{BrokenRules, Found, Inspection, member};
-use ev_types::{HeaderMatcher, HeaderTest, RouteCondition, StringMatcher, StringPattern, Text};
+use ev_tree::{BrokenRules, Found, Inspection, exactly_one, member, more_than_one};
+use ev_types::{
+    HeaderMatcher, HeaderTest, Profile, RouteCondition, StringMatcher, StringPattern, Text,
+};
 use serde_json::Value;
 use std::alloc::{AllocError, Global};
 
-impl Inspect for RouteCondition {
+impl Inspect<Profile> for RouteCondition {
     ghost use Rattle.ev_route_json.specs.Conditions.{header_condition_of, header_matcher_broken};
 
-    ghost value_of = { header_condition_of };
+    ghost value_of = { λ _. header_condition_of };
 
-    ghost broken_of = { header_matcher_broken };
+    ghost broken_of = { λ _. header_matcher_broken };
 
-    fn inspect(alloc: Global, tree: &Value) -> Result<Inspection<RouteCondition>, AllocError> {
+    fn inspect(
+        alloc: Global,
+        _mode: Profile,
+        tree: &Value,
+    ) -> Result<Inspection<RouteCondition>, AllocError> {
         let found = inspect_header_matcher(alloc, tree)?;
         Ok(Inspection {
             value: RouteCondition::Header(found.value),

@@ -14,7 +14,8 @@
 //! - The same name may stand twice among weighted clusters, and two virtual hosts may have the same name.
 //! - A domain is compared by its bytes, ASCII letters as lower case; other letters stay as they are.
 //! - `read_routes` and `read_target` have no condition on the value.
-//! - `inspect_route_match` reads a match as Envoy reads it. No reader of a route stands on it yet. Where several kinds
+//! - Each part has a definition by this project's own rules, one as Envoy reads it where that differs, and one that takes
+//!   the profile. Of a match as Envoy reads it: where several kinds
 //!   of path, tests of a header or patterns are given, its value has one of them: that breaks V21. Conditions that
 //!   aren't decided here are one condition, since nothing that is read tells them apart.
 #![tactic(auto)]
@@ -30,12 +31,12 @@ mod routes;
 mod tables;
 mod targets;
 
-pub use conditions::inspect_route_match;
+pub use conditions::inspect_match_in;
 pub use domains::repeats_domain;
 pub use matches::inspect_match;
 pub use parts::{Inspect, inspect_all};
-pub use presence::{Presence, exactly_one, inspect_fields, more_than_one};
+pub use presence::{Presence, inspect_fields};
 pub use readers::{read_routes, read_target, table_rule_is_least, target_rule_is_least};
 pub use routes::{MAX_STATUS, MIN_STATUS};
 pub use tables::inspect_table;
-pub use targets::inspect_target;
+pub use targets::{inspect_proxy_target, inspect_target};

@@ -3,8 +3,8 @@ ghost use Rattle.ev_tree.specs.Forms.{tree_of, found_map};
 ghost use Rattle.ev_route_json.specs.Matches.{match_broken, path_of, path_found, is_false, is_bad_separated, separated_is_bad, ends_a_path};
 ghost use Rattle.std.specs.List.{list_any};
 
-use crate::presence::{exactly_one, inspect_fields};
-use ev_tree::{BrokenRules, Found, Inspection, member};
+use crate::presence::inspect_fields;
+use ev_tree::{BrokenRules, Found, Inspection, exactly_one, member};
 use ev_types::{PathMatch, Text};
 use serde_json::Value;
 use std::alloc::{AllocError, Global};

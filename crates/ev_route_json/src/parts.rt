@@ -8,30 +8,31 @@ use ev_tree::{BrokenRules, Inspection};
 use serde_json::Value;
 use std::alloc::{AllocError, Global};
 
-/// A part of a body that stands in lists.
-pub trait Inspect: Drop {
-    ghost value_of: { Data → Self };
+/// A part of a body that stands in lists, and is read in a mode: a profile, or as a TCP proxy has it.
+pub trait Inspect<M: Copy>: Drop {
+    ghost value_of: { M → Data → Self };
 
-    ghost broken_of: { Data → BrokenRules };
+    ghost broken_of: { M → Data → BrokenRules };
 
     /// Inspects an element.
-    fn inspect(alloc: Global, tree: &Value) -> Result<Inspection<Self>, AllocError>
-        ensures value { IfOk result (λ found. found.value ≡ value_of (view tree.now)) }
-        ensures broken { IfOk result (λ found. found.broken ≡ broken_of (view tree.now)) };
+    fn inspect(alloc: Global, mode: M, tree: &Value) -> Result<Inspection<Self>, AllocError>
+        ensures value { IfOk result (λ found. found.value ≡ value_of mode (view tree.now)) }
+        ensures broken { IfOk result (λ found. found.broken ≡ broken_of mode (view tree.now)) };
 }
 
 /// Inspects the elements of a list: their values in order, and the rules that one of them breaks.
-pub fn inspect_all<T: Inspect>(
+pub fn inspect_all<M: Copy, T: Inspect<M>>(
     alloc: Global,
+    mode: M,
     trees: &[Value],
 ) -> Result<Inspection<Vec<T>>, AllocError>
-    ensures values { IfOk result (λ found. found.value.items ≡ map T.value_of (map view trees.now)) }
-    ensures broken { IfOk result (λ found. found.broken ≡ any_broken T.broken_of (map view trees.now)) }
+    ensures values { IfOk result (λ found. found.value.items ≡ map (T.value_of mode) (map view trees.now)) }
+    ensures broken { IfOk result (λ found. found.broken ≡ any_broken (T.broken_of mode) (map view trees.now)) }
 {
     let mut values = Vec::new(alloc);
     let mut broken = BrokenRules::none();
     for tree in trees {
-        let found = T::inspect(alloc, tree)?;
+        let found = T::inspect(alloc, mode, tree)?;
         broken = broken.or(found.broken);
         values.push(found.value)?;
     }

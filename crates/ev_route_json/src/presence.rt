@@ -2,7 +2,7 @@ ghost use Rattle.std.specs.Prelude.{◌≡◌, IfOk, map};
 ghost use Rattle.std.specs.Map.Iter.{deref};
 ghost use Rattle.ev_tree.specs.Forms.{tree_of, found_map};
 ghost use Rattle.serde_json.specs.View.{view};
-ghost use Rattle.ev_route_json.specs.Presence.{any_given, any_doubled, any_filled, is_filled, exactly_one, more_than_one, is_empty_array};
+ghost use Rattle.ev_route_json.specs.Presence.{any_given, any_doubled, any_filled, is_filled, is_empty_array};
 
 use ev_tree::{Found, member};
 use serde_json::Value;
@@ -63,18 +63,4 @@ fn is_empty_array(value: &Value) -> bool
         Some(elements) => elements.as_slice().is_empty(),
         None => false,
     }
-}
-
-/// Whether exactly one of these holds.
-pub fn exactly_one(tests: &[bool]) -> bool
-    ensures { result ≡ exactly_one tests.now }
-{
-    tests.iter().filter(|test| **test).count() == 1
-}
-
-/// Whether more than one of these holds.
-pub fn more_than_one(tests: &[bool]) -> bool
-    ensures { result ≡ more_than_one tests.now }
-{
-    tests.iter().filter(|test| **test).count() > 1
 }

@@ -6,19 +6,23 @@ ghost use Rattle.ev_route_json.specs.Tables.{virtual_host_of, virtual_host_broke
 use crate::domains::repeats_domain;
 use crate::parts::{Inspect, inspect_all};
 use ev_tree::{BrokenRules, Inspection, member};
-use ev_types::{Route, RouteTable, Seq, Text, VirtualHost};
+use ev_types::{Profile, Route, RouteTable, Seq, Text, VirtualHost};
 use serde_json::Value;
 use std::alloc::{AllocError, Global};
 
-impl Inspect for VirtualHost {
+impl Inspect<Profile> for VirtualHost {
     ghost use Rattle.ev_route_json.specs.Tables.{virtual_host_of, virtual_host_broken};
 
     ghost value_of = { virtual_host_of };
 
     ghost broken_of = { virtual_host_broken };
 
-    fn inspect(alloc: Global, tree: &Value) -> Result<Inspection<VirtualHost>, AllocError> {
-        inspect_virtual_host(alloc, tree)
+    fn inspect(
+        alloc: Global,
+        mode: Profile,
+        tree: &Value,
+    ) -> Result<Inspection<VirtualHost>, AllocError> {
+        inspect_virtual_host(alloc, mode, tree)
     }
 }
 
@@ -34,16 +38,20 @@ fn copy_texts(alloc: Global, elements: &[Value]) -> Result<Vec<Text>, AllocError
 }
 
 // Inspects a virtual host.
-fn inspect_virtual_host(alloc: Global, host: &Value) -> Result<Inspection<VirtualHost>, AllocError>
-    ensures value { IfOk result (λ found. found.value ≡ virtual_host_of (view host.now)) }
-    ensures broken { IfOk result (λ found. found.broken ≡ virtual_host_broken (view host.now)) }
+fn inspect_virtual_host(
+    alloc: Global,
+    profile: Profile,
+    host: &Value,
+) -> Result<Inspection<VirtualHost>, AllocError>
+    ensures value { IfOk result (λ found. found.value ≡ virtual_host_of profile (view host.now)) }
+    ensures broken { IfOk result (λ found. found.broken ≡ virtual_host_broken profile (view host.now)) }
 {
     let name = member::text(alloc, Some(host), "name")?;
     let domains = member::texts(alloc, Some(host), "domains")?;
     let routes = member::objects(alloc, Some(host), "routes")?;
     let text = member::text_or_empty(name);
     let domain_texts = Seq::from_vec(copy_texts(alloc, member::elements(domains))?);
-    let below = inspect_all::<Route>(alloc, member::elements(routes))?;
+    let below = inspect_all::<Profile, Route>(alloc, profile, member::elements(routes))?;
     let own = BrokenRules {
         v6: name.is_wrong() | domains.is_wrong() | routes.is_wrong(),
         v19: text.is_empty() | (domain_texts.len() == 0),
@@ -62,14 +70,15 @@ fn inspect_virtual_host(alloc: Global, host: &Value) -> Result<Inspection<Virtua
 /// Inspects a route configuration, which may be missing. Its name isn't compared with anything.
 pub fn inspect_table(
     alloc: Global,
+    profile: Profile,
     tree: Option<&Value>,
 ) -> Result<Inspection<RouteTable>, AllocError>
-    ensures value { IfOk result (λ found. found.value ≡ table_of (tree_of tree.entry)) }
-    ensures broken { IfOk result (λ found. found.broken ≡ table_broken (tree_of tree.entry)) }
+    ensures value { IfOk result (λ found. found.value ≡ table_of profile (tree_of tree.entry)) }
+    ensures broken { IfOk result (λ found. found.broken ≡ table_broken profile (tree_of tree.entry)) }
 {
     let name = member::text(alloc, tree, "name")?;
     let hosts = member::objects(alloc, tree, "virtual_hosts")?;
-    let below = inspect_all::<VirtualHost>(alloc, member::elements(hosts))?;
+    let below = inspect_all::<Profile, VirtualHost>(alloc, profile, member::elements(hosts))?;
     let repeats = repeats_domain(alloc, below.value.as_slice())?;
     let own = BrokenRules {
         v6: name.is_wrong() | hosts.is_wrong(),

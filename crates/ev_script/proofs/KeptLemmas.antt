@@ -13,11 +13,12 @@ use Rattle.ev_types.specs.declared.events.Event.{Event}
 use Rattle.ev_types.specs.declared.events.Event.TheVariants.{Connect, Disconnect, Response, Health, FetchTimeout, DrainTimeout, TtlExpired, Publish, Reap, Accept, Close, Settle}
 use Rattle.ev_types.specs.declared.events.Line.{Line}
 use Rattle.ev_types.specs.declared.events.Profile.{Profile}
+use Rattle.ev_wire.specs.Responses.{response_of}
 use Rattle.ev_script.specs.Faults.{worker_of}
 use Rattle.ev_script.specs.Content.{is_above}
 use Rattle.ev_script.specs.Members.{has_only, name_of, member_of}
 use Rattle.ev_script.specs.LineForms.{line_at, host_in, kind_in}
-use Rattle.ev_script.specs.StreamLines.{message_of, connect_line, disconnect_line, response_line}
+use Rattle.ev_script.specs.StreamLines.{connect_line, disconnect_line, response_line}
 use Rattle.ev_script.specs.HealthLines.{health_line}
 use Rattle.ev_script.specs.TimerLines.{timeout_of, timeout_line, drain_line, expired_line}
 use Rattle.ev_script.specs.MainLines.{publish_line, reap_line}
@@ -61,7 +62,7 @@ disconnect_kept : (at : ℕ) (tree : Data) → IfSome (disconnect_line at tree) 
 disconnect_kept at tree = tested (IsLineAt at) (has_only (codes "op" ∷ []) tree) (line_at at Stream (Some Disconnect)) (kept_at at Stream (Some Disconnect) (λ workers h. tt))
 
 response_kept : (profile : Profile) (at : ℕ) (tree : Data) → IfSome (response_line profile at tree) (IsLineAt at)
-response_kept profile at tree = tested (IsLineAt at) _ _ (kept_at at Stream _ (mapped (MayMakeIn Stream) (λ response. Response response) (member_of (message_of profile) (codes "message") tree) (λ response workers h. tt)))
+response_kept profile at tree = tested (IsLineAt at) _ _ (kept_at at Stream _ (mapped (MayMakeIn Stream) (λ response. Response response) (member_of (response_of profile) (codes "message") tree) (λ response workers h. tt)))
 
 health_kept : (at : ℕ) (tree : Data) → IfSome (health_line at tree) (IsLineAt at)
 health_kept at tree =

@@ -5,7 +5,6 @@ use Rattle.ev_types.specs.declared.events.Line.{Line}
 use Rattle.ev_types.specs.declared.events.Profile.{Profile}
 use Rattle.ev_types.specs.declared.events.Actor.TheVariants.{Stream}
 use Rattle.ev_types.specs.declared.events.Event.TheVariants.{Connect, Disconnect, Response}
-use Rattle.ev_types.specs.Items.{ResponseParts}
 use Rattle.ev_wire.specs.Responses.{response_of}
 use Rattle.ev_script.specs.Members.{member_of}
 use Rattle.ev_script.specs.LineForms.{line_at, with_only}
@@ -18,12 +17,9 @@ connect_line at tree = with_only [] tree (line_at at Stream (Some Connect))
 abbrev pub disconnect_line : ℕ → Data → Option Line
 disconnect_line at tree = with_only [] tree (line_at at Stream (Some Disconnect))
 
--- the response that a message is, whose resources are read by the profile
-abbrev pub message_of : Profile → Data → Option ResponseParts
-message_of profile tree = response_of tree
-
--- `response`: a message comes on the stream. `message` is a response of incremental xDS.
+-- `response`: a message comes on the stream. `message` is a response of incremental xDS, whose resources are read by the
+-- profile.
 abbrev pub response_line : Profile → ℕ → Data → Option Line
 response_line profile at tree =
     with_only (codes "message" ∷ []) tree
-    (line_at at Stream (option_map (λ response. Response response) (member_of (message_of profile) (codes "message") tree)))
+    (line_at at Stream (option_map (λ response. Response response) (member_of (response_of profile) (codes "message") tree)))

@@ -1,7 +1,8 @@
 ghost use Rattle.std.specs.Prelude.{◌≡◌, option_map, option_and_then, codes, IfOk};
 ghost use Rattle.serde_json.specs.View.{view};
+ghost use Rattle.ev_wire.specs.Responses.{response_of};
 ghost use Rattle.ev_script.specs.Members.{member_of};
-ghost use Rattle.ev_script.specs.StreamLines.{message_of, connect_line, disconnect_line, response_line};
+ghost use Rattle.ev_script.specs.StreamLines.{connect_line, disconnect_line, response_line};
 ghost use Rattle.ev_types.specs.declared.events.Event.TheVariants.{Response as response_event};
 
 use crate::line_forms::line_at;
@@ -60,16 +61,16 @@ fn response_event(response: Option<Response>) -> Option<Event>
 // The response that a message is, whose resources are read by the profile.
 fn read_message(
     alloc: Global,
-    _profile: Profile,
+    profile: Profile,
     message: Option<&Value>,
 ) -> Result<Option<Response>, AllocError>
     ensures { IfOk result (λ response. response
-        ≡ option_and_then (message_of _profile) (option_map (λ message. view message.now) message.entry)) }
+        ≡ option_and_then (response_of profile) (option_map (λ message. view message.now) message.entry)) }
 {
     let Some(message) = message else {
         return Ok(None);
     };
-    match read_response(alloc, message) {
+    match read_response(alloc, profile, message) {
         Ok(response) => Ok(Some(response)),
         Err(WireError::NotResponse) => Ok(None),
         Err(WireError::OutOfMemory) => Err(AllocError),

@@ -7,7 +7,7 @@ use Rattle.ev_script.specs.declared.trees.ScriptTrees.{ScriptTrees}
 use Rattle.ev_script.specs.ReadScript.{script_made}
 use Rattle.ev_expand.specs.Room.{IsTextSoFar}
 use Rattle.ev_expand.specs.declared.text_so_far.TextSoFar.{TextSoFar}
-use Rattle.ev_trees.specs.Floats.{whole}
+use Rattle.ev_tree.specs.Floats.{whole}
 use Rattle.ev_trees.specs.Trees.{ReadsBack, IsReadable, AreWithinLimits}
 use Rattle.ev_expand_laws.specs.Said.{lines_in, lines_said}
 use Rattle.ev_sotw_lines.specs.Deltas.{deltas_of}

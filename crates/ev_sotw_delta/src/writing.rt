@@ -4,7 +4,7 @@ ghost use Rattle.serde_json.specs.View.{view};
 ghost use Rattle.ev_script.specs.Faults.{Input, plain_lines, HasNoFault};
 ghost use Rattle.ev_script.specs.Script.{script_of};
 ghost use Rattle.ev_script.specs.ReadTrees.{IsTreesAnswer};
-ghost use Rattle.ev_trees.specs.Floats.{whole};
+ghost use Rattle.ev_tree.specs.Floats.{whole};
 ghost use Rattle.ev_trees.specs.Trees.{text_of_trees};
 ghost use Rattle.ev_expand_laws.specs.Said.{input_of_text};
 ghost use Rattle.ev_sotw_lines.specs.Lines.{sotw_lines};

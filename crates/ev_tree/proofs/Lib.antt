@@ -5,3 +5,4 @@ pub mod Units
 pub mod Outcomes
 pub mod Leasts
 pub mod Unions
+pub mod FloatLemmas

@@ -4,5 +4,7 @@ pub mod Forms
 pub mod Rules
 pub mod Broken
 pub mod Spans
+pub mod Counts
+pub mod Floats
 pub mod Addresses
 pub mod Sources

@@ -1,12 +1,15 @@
 ghost use Rattle.std.specs.Prelude.{◌≡◌, IfOk};
+ghost use Rattle.std.specs.String.{string_bytes};
 ghost use Rattle.ev_tree.specs.Forms.{tree_of};
-ghost use Rattle.ev_tree.specs.Addresses.{socket_of, address_text_of, port_of, address_broken, is_port, port_or_none};
+ghost use Rattle.ev_tree.specs.Addresses.{socket_of, address_text_of, port_of, address_broken, is_port, port_or_none, text_found, pipe_text, internal_text, any_text_of, any_port_of, any_address_broken, text_in_profile, port_in_profile, address_broken_in};
 
 use crate::broken::BrokenRules;
+use crate::counts::exactly_one;
 use crate::limits::MAX_PORT;
 use crate::member;
 use crate::outcome::Found;
 use crate::rules::is_name;
+use ev_types::Profile;
 use serde_json::Value;
 use std::alloc::{AllocError, Global};
 
@@ -70,4 +73,151 @@ fn port_or_none(port: Found<u32>) -> u16
         Found::Given(number) if number <= MAX_PORT => number as u16,
         _ => 0,
     }
+}
+
+/// The text of an address, by the parts that are found.
+#[derive(Clone, Copy, Debug)]
+pub enum AddressText<'a> {
+    /// Of a socket, as it stands.
+    Socket(&'a str),
+    /// Of a pipe: `pipe:` and its path.
+    Pipe(&'a str),
+    /// Of an address inside Envoy: `internal:`, the name of a listener, and an id after a slash where it isn't empty.
+    Internal { name: &'a str, id: &'a str },
+}
+
+impl AddressText<'_> {
+    /// The text itself, which is empty where no path or name is found.
+    pub fn to_text(self, alloc: Global) -> Result<String, AllocError>
+        ensures { IfOk result (λ text. string_bytes text ≡ text_found self.entry) }
+    {
+        match self {
+            AddressText::Socket(text) => String::from_str(alloc, text),
+            AddressText::Pipe(path) => pipe_text(alloc, path),
+            AddressText::Internal { name, id } => internal_text(alloc, name, id),
+        }
+    }
+}
+
+// The text of a pipe.
+fn pipe_text(alloc: Global, path: &str) -> Result<String, AllocError>
+    ensures { IfOk result (λ text. string_bytes text ≡ pipe_text path.now) }
+{
+    if path.len() == 0 {
+        return Ok(String::new(alloc));
+    }
+    let mut text = String::from_str(alloc, "pipe:")?;
+    text.push_str(path)?;
+    Ok(text)
+}
+
+// The text of an address inside Envoy.
+fn internal_text(alloc: Global, name: &str, id: &str) -> Result<String, AllocError>
+    ensures { IfOk result (λ text. string_bytes text ≡ internal_text name.now id.now) }
+{
+    if name.len() == 0 {
+        return Ok(String::new(alloc));
+    }
+    let mut text = String::from_str(alloc, "internal:")?;
+    text.push_str(name)?;
+    if id.len() != 0 {
+        text.push_str("/")?;
+        text.push_str(id)?;
+    }
+    Ok(text)
+}
+
+/// What a look at the address in an object finds, of any kind that the profile takes.
+#[derive(Clone, Copy, Debug)]
+pub struct AnyAddress<'a> {
+    /// The object of the socket address, if one is given.
+    pub socket: Option<&'a Value>,
+    /// Its text. Where V12 isn't broken, it has 1 to 512 bytes.
+    pub text: AddressText<'a>,
+    /// The port: 0 of a pipe and of an address inside Envoy, and where V12 is broken.
+    pub port: u16,
+    /// The rules that it breaks, of V6 and V12.
+    pub broken: BrokenRules,
+}
+
+/// The address in the field `address` of an object, in a profile.
+pub fn any_address(
+    alloc: Global,
+    profile: Profile,
+    holder: Option<&Value>,
+) -> Result<AnyAddress<'_>, AllocError>
+    ensures socket { IfOk result (λ a. tree_of a.socket ≡ socket_of (tree_of holder.entry)) }
+    ensures text { IfOk result (λ a. text_found a.text ≡ text_in_profile profile (tree_of holder.entry)) }
+    ensures port { IfOk result (λ a. a.port ≡ port_in_profile profile (tree_of holder.entry)) }
+    ensures broken { IfOk result (λ a. a.broken ≡ address_broken_in profile (tree_of holder.entry)) }
+{
+    match profile {
+        Profile::Own => own_address(alloc, holder),
+        Profile::Envoy => envoy_address(alloc, holder),
+    }
+}
+
+// A socket address.
+fn own_address(alloc: Global, holder: Option<&Value>) -> Result<AnyAddress<'_>, AllocError>
+    ensures socket { IfOk result (λ a. tree_of a.socket ≡ socket_of (tree_of holder.entry)) }
+    ensures text { IfOk result (λ a. text_found a.text ≡ address_text_of (tree_of holder.entry)) }
+    ensures port { IfOk result (λ a. a.port ≡ port_of (tree_of holder.entry)) }
+    ensures broken { IfOk result (λ a. a.broken ≡ address_broken (tree_of holder.entry)) }
+{
+    let found = socket_address(alloc, holder)?;
+    Ok(AnyAddress {
+        socket: found.socket,
+        text: AddressText::Socket(found.address),
+        port: found.port,
+        broken: found.broken,
+    })
+}
+
+// An address of any kind.
+fn envoy_address(alloc: Global, holder: Option<&Value>) -> Result<AnyAddress<'_>, AllocError>
+    ensures socket { IfOk result (λ a. tree_of a.socket ≡ socket_of (tree_of holder.entry)) }
+    ensures text { IfOk result (λ a. text_found a.text ≡ any_text_of (tree_of holder.entry)) }
+    ensures port { IfOk result (λ a. a.port ≡ any_port_of (tree_of holder.entry)) }
+    ensures broken { IfOk result (λ a. a.broken ≡ any_address_broken (tree_of holder.entry)) }
+{
+    let found = socket_address(alloc, holder)?;
+    let outer = member::object(alloc, holder, "address")?;
+    let inner = member::inner(outer);
+    let socket = member::object(alloc, inner, "socket_address")?;
+    let port = member::number32(alloc, found.socket, "port_value")?;
+    let pipe = member::object(alloc, inner, "pipe")?;
+    let path = member::text(alloc, member::inner(pipe), "path")?;
+    let internal = member::object(alloc, inner, "envoy_internal_address")?;
+    let name = member::text(alloc, member::inner(internal), "server_listener_name")?;
+    let id = member::text(alloc, member::inner(internal), "endpoint_id")?;
+    let text = if pipe.is_given() {
+        AddressText::Pipe(member::text_or_empty(path))
+    } else if internal.is_given() {
+        AddressText::Internal {
+            name: member::text_or_empty(name),
+            id: member::text_or_empty(id),
+        }
+    } else {
+        AddressText::Socket(found.address)
+    };
+    let named = text.to_text(alloc)?;
+    let given = [socket.is_given(), pipe.is_given(), internal.is_given()];
+    let no_port = pipe.is_given() | internal.is_given();
+    Ok(AnyAddress {
+        socket: found.socket,
+        text,
+        port: if no_port { 0 } else { found.port },
+        broken: BrokenRules {
+            v6: found.broken.v6
+                | pipe.is_wrong()
+                | path.is_wrong()
+                | internal.is_wrong()
+                | name.is_wrong()
+                | id.is_wrong(),
+            v12: !exactly_one(&given)
+                | !is_name(named.as_str())
+                | (socket.is_given() & !is_port(port)),
+            ..BrokenRules::none()
+        },
+    })
 }

@@ -14,7 +14,10 @@
 //!   each reader can answer `OutOfMemory`.
 //! - Beside the eight readers, which stop at the first wrong form, stands the module `member`, for callers that go on
 //!   and report the least rule: it gives an outcome instead of an error.
-//! - Socket addresses and config sources are read here, since hosts, clusters and listeners share them.
+//! - The plain text of a tree has -1 for each float, of which `serde_json` doesn't say how it is written. Commands that
+//!   write scripts write trees so (ev_trees), and bodies are compared by it.
+//! - Addresses and config sources are read here, in either profile, since hosts, clusters and listeners share them. The
+//!   text of an address that isn't a socket's is made of its parts (`AddressText`), so that a socket's is never copied.
 //! - The broken rules of a body are a struct with a field a rule, in place of a list or of bits: a part's definition
 //!   then has a line for each rule that it breaks, and a rule to come costs a line. V4, V5 and V15 have no field,
 //!   since they aren't rules of form.
@@ -24,7 +27,9 @@
 
 mod addresses;
 mod broken;
+mod counts;
 mod durations;
+mod floats;
 mod inspections;
 mod limits;
 mod lists;
@@ -38,8 +43,10 @@ mod span;
 mod spelling;
 mod tables;
 
-pub use addresses::{SocketAddress, socket_address};
+pub use addresses::{AddressText, AnyAddress, SocketAddress, any_address, socket_address};
 pub use broken::{BrokenRules, least_is_least};
+pub use counts::{exactly_one, more_than_one};
+pub use floats::{body_text, has_float, plain_text, whole_copy};
 pub use inspections::Inspection;
 pub use limits::{
     MAX_FRACTION_DIGITS, MAX_NAME_BYTES, MAX_PORT, MAX_SECONDS, MAX_SECONDS_DIGITS, MAX_U32_DIGITS,

@@ -7,9 +7,9 @@ use Rattle.serde_json.specs.Read.{read, max_depth}
 use Rattle.serde_json.specs.Written.{has_float, compact_text}
 use Rattle.ev_script.specs.Members.{tree_of}
 use Rattle.ev_script.proofs.MemberLemmas.{tree_read}
-use Rattle.ev_trees.specs.Floats.{whole}
+use Rattle.ev_tree.specs.Floats.{whole}
 use Rattle.ev_trees.specs.Trees.{ReadsBack, IsReadable}
-use Rattle.ev_trees.proofs.FloatLemmas.{made_whole}
+use Rattle.ev_tree.proofs.FloatLemmas.{made_whole}
 
 reads_back : (bytes : List ℕ) (tree : Data) → bytes ≡ compact_text tree → IsUtf8 bytes → read bytes ≡ Some tree → ReadsBack tree
 reads_back bytes tree is text back = subst (λ (xs : List ℕ). tree_of xs ≡ Some tree) is (sym (tree_read bytes tree text back))

@@ -1,6 +1,5 @@
 pub mod FeedLemmas
 pub mod BackLemmas
-pub mod FloatLemmas
 pub mod LineLemmas
 pub mod LimitLemmas
 pub mod MoveLemmas

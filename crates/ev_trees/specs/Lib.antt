@@ -1,3 +1,2 @@
-pub mod Floats
 pub mod Trees
 pub mod Scripts

@@ -9,7 +9,7 @@ use Rattle.ev_io.specs.Lines.{lines_of}
 use Rattle.ev_io.specs.LineFaults.{IsSoundUpTo}
 use Rattle.ev_journal.specs.Rendering.{line_text}
 use Rattle.ev_script.specs.Members.{tree_of}
-use Rattle.ev_trees.specs.Floats.{whole}
+use Rattle.ev_tree.specs.Floats.{whole}
 
 -- the text of trees: a line each
 abbrev pub text_of_trees : List Data → List ℕ
@@ -36,13 +36,3 @@ pub record AreWithinLimits (trees : List Data) : Type 0 where
 -- so no fault of the limits stands in it
 abbrev pub StaysWithinLimits : Type 0
 StaysWithinLimits = (trees : List Data) → AreWithinLimits trees → IsSoundUpTo (text_of_trees trees) (length (text_of_trees trees))
-
--- a tree without floats, as deep as another, which is it where it has none
-pub record IsWholeOf (tree made : Data) : Type 0 where
-  pub none : has_float made ≡ false
-  pub deep : depth made ≡ depth tree
-  pub same : has_float tree ≡ false → made ≡ tree
-
--- with -1 for each float a tree is one
-abbrev pub MakesWhole : Type 0
-MakesWhole = (tree : Data) → IsWholeOf tree (whole tree)

@@ -1,4 +1,5 @@
-ghost use Rattle.ev_trees.specs.Trees.{LinesOfTrees, MakesWhole, StaysWithinLimits};
+ghost use Rattle.ev_tree.specs.Floats.{MakesWhole};
+ghost use Rattle.ev_trees.specs.Trees.{LinesOfTrees, StaysWithinLimits};
 ghost use Rattle.ev_trees.specs.Scripts.{LinesMove, TreesAreScript};
 
 /// A law: the lines of the text of trees are the texts of the trees. It does nothing.

@@ -13,7 +13,6 @@
 //!   127 aren't. So it is a clause of the calls that write one.
 #![tactic(auto)]
 
-mod floats;
 mod laws;
 mod writing;
 

@@ -2,10 +2,10 @@ ghost use Rattle.std.specs.Prelude.{◌≡◌, ◌++◌, false, IfOk, OnOk, OnEr
 ghost use Rattle.serde_json.specs.View.{view};
 ghost use Rattle.serde_json.specs.Written.{has_float, compact_text};
 ghost use Rattle.ev_journal.specs.Rendering.{line_text};
-ghost use Rattle.ev_trees.specs.Floats.{whole};
+ghost use Rattle.ev_tree.specs.Floats.{whole};
 ghost use Rattle.ev_trees.specs.Trees.{ReadsBack, IsReadable};
 
-use crate::floats::{has_float, whole_copy};
+use ev_tree::{has_float, whole_copy};
 use serde_json::Value;
 use std::alloc::{AllocError, Global};
 

@@ -6,7 +6,7 @@ use Rattle.ev_tree.specs.Forms.{is_wrong, given_or, inside, text_of, number_of, 
 use Rattle.ev_tree.specs.Rules.{is_name}
 use Rattle.ev_tree.specs.Broken.{none_broken}
 use Rattle.ev_tree.specs.Addresses.{socket_of, address_text_of, is_port, port_or_none, port_of, address_broken}
-use Rattle.ev_trees.specs.Floats.{whole}
+use Rattle.ev_tree.specs.Floats.{whole}
 use Rattle.ev_whole_laws.proofs.Forms.{inside-object, number_of-whole, object-is_wrong, text_of-whole}
 
 pub socket_of-whole : (tree : Data) → socket_of (whole tree) ≡ whole (socket_of tree)

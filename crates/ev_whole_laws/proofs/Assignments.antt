@@ -11,7 +11,7 @@ use Rattle.ev_tree.specs.Rules.{judged}
 use Rattle.ev_tree.specs.Broken.{none_broken, either_broken, any_broken, least_of}
 use Rattle.ev_cluster_json.specs.declared.groups.TheConstants.{MAX_PRIORITY}
 use Rattle.ev_cluster_json.specs.Assignments.{endpoint_of, weight_of, is_usable_status, is_usable, row_of, host_broken, hosts_of, priority_of, group_broken, group_rows, groups_of, assignment_broken, rows_of, assignment_reading}
-use Rattle.ev_trees.specs.Floats.{whole}
+use Rattle.ev_tree.specs.Floats.{whole}
 use Rattle.ev_whole_laws.proofs.Addresses.{address_broken-whole, address_text_of-whole, port_of-whole}
 use Rattle.ev_whole_laws.proofs.Forms.{enumeration_of-whole, inside-object, listed-objects, number_of-whole, object-is_wrong, objects-is_wrong, text_of-whole}
 use Rattle.ev_whole_laws.proofs.Parts.{any_broken-whole, flat_map-whole, map-whole, sum_by-whole}

@@ -16,7 +16,7 @@ use Rattle.ev_tree.specs.Rules.{is_name}
 use Rattle.ev_tree.specs.Broken.{none_broken, least_of}
 use Rattle.ev_wire.specs.Requests.{type_url}
 use Rattle.ev_wire.specs.Bodies.{is_positive, is_heartbeat, is_of_type, breaks_v1, breaks_v2, name_field, differs, breaks_v3, own_broken, content_with, content_of, body_with, resource_of, body_of}
-use Rattle.ev_trees.specs.Floats.{whole}
+use Rattle.ev_tree.specs.Floats.{whole}
 use Rattle.ev_whole_laws.proofs.Assignments.{assignment_reading-whole}
 use Rattle.ev_whole_laws.proofs.Clusters.{cluster_reading-whole}
 use Rattle.ev_whole_laws.proofs.Forms.{is_object-whole, text_of-whole}

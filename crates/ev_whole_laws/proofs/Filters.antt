@@ -5,13 +5,13 @@ use Rattle.serde_json.specs.Data.{Data}
 use Rattle.ev_types.specs.declared.listeners.Serve.TheVariants.{Tcp}
 use Rattle.ev_tree.specs.Forms.{is_wrong, inside, text_of, object_of}
 use Rattle.ev_tree.specs.Broken.{none_broken, either_broken, any_broken}
-use Rattle.ev_route_json.specs.Presence.{exactly_one}
+use Rattle.ev_tree.specs.Counts.{exactly_one}
 use Rattle.ev_listener_json.specs.declared.filters.FilterKind.{FilterKind}
 use Rattle.ev_listener_json.specs.declared.filters.FilterKind.TheVariants.{Manager, TcpProxy, Other}
 use Rattle.ev_listener_json.specs.Parts.{first_of}
 use Rattle.ev_listener_json.specs.Members.{has_member}
 use Rattle.ev_listener_json.specs.Filters.{kind_in, config_of, filter_kind_of, config_serve, config_broken, filter_serve, filter_serves, filter_broken, filters_of, chain_serve, chain_broken}
-use Rattle.ev_trees.specs.Floats.{whole}
+use Rattle.ev_tree.specs.Floats.{whole}
 use Rattle.ev_whole_laws.proofs.Forms.{inside-object, listed-objects, object-is_wrong, objects-is_wrong, text_of-whole}
 use Rattle.ev_whole_laws.proofs.Managers.{manager_broken-whole, manager_serve-whole}
 use Rattle.ev_whole_laws.proofs.Members.{has_member-whole}

@@ -12,7 +12,7 @@ use Rattle.ev_tree.specs.declared.tables.EnumTable.{EnumTable}
 use Rattle.ev_tree.specs.Spelling.{camel_of}
 use Rattle.ev_tree.specs.Scalars.{u32_in, list_in, elements_of, span_of, enum_in}
 use Rattle.ev_tree.specs.Forms.{found_map, is_wrong, is_given, is_absent, inside, listed, present_member, value_or_absent, either_spelling, field_of, value_or_wrong, in_form, object_in, is_object, is_text, objects_in, texts_in, text_of, number_of, boolean_of, duration_of, object_of, list_of, objects_of, texts_of, enumeration_of, text_in}
-use Rattle.ev_trees.specs.Floats.{whole, whole_items}
+use Rattle.ev_tree.specs.Floats.{whole, whole_items}
 use Rattle.ev_whole_laws.proofs.Parts.{is_wrong-map, is_given-map, is_absent-map, inside-map, listed-map, get-whole, as_bool-whole, as_str-whole, as_array-whole, elements_of-whole, list_all-whole}
 
 -- ---- single values

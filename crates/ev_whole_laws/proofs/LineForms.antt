@@ -16,12 +16,13 @@ use Rattle.ev_types.specs.declared.events.Event.TheVariants.{Response, Health, F
 use Rattle.ev_types.specs.declared.events.Line.{Line}
 use Rattle.ev_types.specs.declared.events.Profile.{Profile}
 use Rattle.ev_types.specs.declared.events.Profile.TheVariants.{Own}
+use Rattle.ev_wire.specs.Responses.{response_of}
 use Rattle.ev_script.specs.declared.limits.TheConstants.{MAX_WORKER, MAX_NUMBER, MAX_PATH_LENGTH}
 use Rattle.ev_script.specs.Faults.{worker_of}
 use Rattle.ev_script.specs.Header.{profile_with, profile_of, header_of, settings_of}
 use Rattle.ev_script.specs.Members.{whole_within, text_within, name_of, texts_in, member_of}
 use Rattle.ev_script.specs.LineForms.{line_at, with_only, host_in, kind_with, kind_in}
-use Rattle.ev_script.specs.StreamLines.{message_of, connect_line, disconnect_line, response_line}
+use Rattle.ev_script.specs.StreamLines.{connect_line, disconnect_line, response_line}
 use Rattle.ev_script.specs.HealthLines.{health_in, health_line}
 use Rattle.ev_script.specs.TimerLines.{timeout_of, timeout_line, drain_line, expired_in, expired_line}
 use Rattle.ev_script.specs.MainLines.{publish_line, reap_line}
@@ -31,7 +32,7 @@ use Rattle.ev_script.specs.Headers.{Headers, headers_of}
 use Rattle.ev_script.specs.Asks.{conn_in, pick_in, server_name_in, tls_in, alpn_in, handshake_in, named_host_in, path_in, headers_in, request_in, ask_in}
 use Rattle.ev_script.specs.WorkerLines.{worker_in, worker_line, accept_members, accept_in, accept_line, close_line, settle_line}
 use Rattle.ev_script.specs.Lines.{main_side_line, line_by, line_of}
-use Rattle.ev_trees.specs.Floats.{whole}
+use Rattle.ev_tree.specs.Floats.{whole}
 use Rattle.ev_whole_laws.specs.OneForm.{NumbersHaveOneForm}
 use Rattle.ev_whole_laws.proofs.Parts.{as_str-whole, as_bool-whole, and_then-by}
 use Rattle.ev_whole_laws.proofs.Responses.{response_of-whole}
@@ -84,14 +85,11 @@ publish_line-whole at tree = with_only-whole [] tree _ _ refl
 reap_line-whole : (at : ℕ) (tree : Data) → reap_line at (whole tree) ≡ reap_line at tree
 reap_line-whole at tree = with_only-whole [] tree _ _ refl
 
-message_of-whole : (profile : Profile) (tree : Data) → message_of profile (whole tree) ≡ message_of profile tree
-message_of-whole profile tree = response_of-whole tree
-
 response_line-whole : (profile : Profile) (at : ℕ) (tree : Data) → response_line profile at (whole tree) ≡ response_line profile at tree
 response_line-whole profile at tree =
     with_only-whole (codes "message" ∷ []) tree _ _
     (λ i. line_at at Stream
-    (option_map (λ (response : ResponseParts). Response response) (member_of-whole (message_of profile) (message_of-whole profile) (codes "message") tree i)))
+    (option_map (λ (response : ResponseParts). Response response) (member_of-whole (response_of profile) (response_of-whole profile) (codes "message") tree i)))
 
 health_in-whole : (tree : Data) → health_in (whole tree) ≡ health_in tree
 health_in-whole tree = λ i. option_and_then
@@ -248,7 +246,7 @@ pub one_form : NumbersHaveOneForm
 one_form tree = record {
   header = header_of-whole tree;
   line = λ profile at. line_of-whole profile at tree;
-  response = response_of-whole tree;
+  response = λ profile. response_of-whole profile tree;
   journal = has_format-whole tree;
   heads = ap (option_map settings_of) (header_of-whole tree);
   lines = λ profile at. ap (option_map (λ (line : Line). worker_of line.actor)) (line_of-whole profile at tree);

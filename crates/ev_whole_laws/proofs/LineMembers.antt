@@ -8,7 +8,7 @@ use Rattle.ev_types.specs.declared.limits.TheConstants.{MAX_NAME_LENGTH}
 use Rattle.ev_script.specs.Members.{names_only, has_only, whole_within, text_within, name_of, texts_of, texts_in, or_default, member_of, member_or}
 use Rattle.ev_script.specs.Headers.{Headers, with_header, headers_with, headers_of}
 use Rattle.ev_script.specs.Faults.{has_format}
-use Rattle.ev_trees.specs.Floats.{whole, whole_items, whole_members}
+use Rattle.ev_tree.specs.Floats.{whole, whole_items, whole_members}
 use Rattle.ev_whole_laws.proofs.Parts.{get-whole, as_str-whole, as_u64-whole, as_array-whole, as_object-whole, is_some-map, and_then-same, and_then-by}
 
 names_only-whole : (names : List (List ℕ)) (members : Members) → names_only names (whole_members members) ≡ names_only names members

@@ -11,7 +11,7 @@ use Rattle.ev_tree.specs.Broken.{none_broken, either_broken, any_broken, least_o
 use Rattle.ev_listener_json.specs.Parts.{first_of}
 use Rattle.ev_listener_json.specs.Filters.{chain_serve, chain_broken}
 use Rattle.ev_listener_json.specs.Listeners.{name_of, chains_of, is_udp, serve_of, listener_broken, listener_of, listener_reading}
-use Rattle.ev_trees.specs.Floats.{whole}
+use Rattle.ev_tree.specs.Floats.{whole}
 use Rattle.ev_whole_laws.proofs.Addresses.{address_broken-whole, address_text_of-whole, port_of-whole, socket_of-whole}
 use Rattle.ev_whole_laws.proofs.Filters.{chain_broken-whole, chain_serve-whole}
 use Rattle.ev_whole_laws.proofs.Forms.{enumeration_of-whole, listed-objects, object-is_given, object-is_wrong, objects-is_wrong, text_of-whole}

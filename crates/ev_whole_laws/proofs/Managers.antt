@@ -6,10 +6,10 @@ use Rattle.ev_tree.specs.Forms.{is_wrong, given_or, inside, text_of, object_of}
 use Rattle.ev_tree.specs.Rules.{is_name}
 use Rattle.ev_tree.specs.Broken.{none_broken, either_broken, broken_where}
 use Rattle.ev_tree.specs.Sources.{source_broken, source_is_limited}
-use Rattle.ev_route_json.specs.Presence.{exactly_one}
+use Rattle.ev_tree.specs.Counts.{exactly_one}
 use Rattle.ev_route_json.specs.Tables.{table_of, table_broken}
 use Rattle.ev_listener_json.specs.Managers.{rds_of, rds_source_of, route_name_of, inline_of, manager_broken, serve_with, manager_serve}
-use Rattle.ev_trees.specs.Floats.{whole}
+use Rattle.ev_tree.specs.Floats.{whole}
 use Rattle.ev_whole_laws.proofs.Forms.{field-is_given, field-is_wrong, inside-object, object-is_given, object-is_wrong, text_of-whole}
 use Rattle.ev_whole_laws.proofs.Sources.{source_broken-whole, source_is_limited-whole}
 use Rattle.ev_whole_laws.proofs.Tables.{table_broken-whole, table_of-whole}

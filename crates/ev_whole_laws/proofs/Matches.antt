@@ -4,9 +4,9 @@ use Rattle.std.specs.Prelude.{◌||◌, [], ◌∷◌, not, codes}
 use Rattle.serde_json.specs.Data.{Data}
 use Rattle.ev_tree.specs.Forms.{is_wrong, is_given}
 use Rattle.ev_tree.specs.Broken.{none_broken}
-use Rattle.ev_route_json.specs.Presence.{exactly_one}
+use Rattle.ev_tree.specs.Counts.{exactly_one}
 use Rattle.ev_route_json.specs.Matches.{barred_conditions, listed_conditions, is_false, separated_is_bad, match_broken, path_with, path_of}
-use Rattle.ev_trees.specs.Floats.{whole}
+use Rattle.ev_tree.specs.Floats.{whole}
 use Rattle.ev_whole_laws.proofs.Forms.{boolean_of-whole, text_of-whole}
 use Rattle.ev_whole_laws.proofs.Presence.{any_doubled-whole, any_filled-whole, any_given-whole}
 

@@ -3,10 +3,10 @@ use Rattle.std.proofs.Common.{◌≡◌, refl}
 use Rattle.std.specs.Prelude.{◌||◌, not, is_some}
 use Rattle.serde_json.specs.Data.{Data, Members, no_members, member}
 use Rattle.ev_listener_json.specs.Members.{any_present, has_member}
-use Rattle.ev_trees.specs.Floats.{whole}
+use Rattle.ev_tree.specs.Floats.{whole}
 use Rattle.ev_whole_laws.proofs.Parts.{as_null-whole}
 use Rattle.serde_json.specs.Data.{null, boolean, number, string, array, object}
-use Rattle.ev_trees.specs.Floats.{whole_members}
+use Rattle.ev_tree.specs.Floats.{whole_members}
 
 some_there : (members : Members) → any_present (whole_members members) ≡ any_present members
 some_there no_members = refl

@@ -12,7 +12,7 @@ use Rattle.ev_tree.specs.declared.outcome.Found.TheVariants.{Absent, Wrong, Give
 use Rattle.ev_tree.specs.Forms.{found_map, is_wrong, is_given, is_absent, inside, listed}
 use Rattle.ev_tree.specs.Broken.{any_broken}
 use Rattle.ev_tree.specs.Scalars.{elements_of}
-use Rattle.ev_trees.specs.Floats.{whole, whole_number, whole_items, whole_members}
+use Rattle.ev_tree.specs.Floats.{whole, whole_number, whole_items, whole_members}
 
 -- ---- members and values
 

@@ -7,7 +7,7 @@ use Rattle.ev_tree.specs.declared.outcome.Found.{Found}
 use Rattle.ev_tree.specs.declared.outcome.Found.TheVariants.{Absent, Wrong, Given}
 use Rattle.ev_tree.specs.Forms.{field_of}
 use Rattle.ev_route_json.specs.Presence.{any_given, any_doubled, is_empty_array, is_filled, any_filled}
-use Rattle.ev_trees.specs.Floats.{whole}
+use Rattle.ev_tree.specs.Floats.{whole}
 use Rattle.ev_whole_laws.proofs.Forms.{field-is_given, field-is_wrong, field_of-whole}
 use Rattle.serde_json.specs.Data.{boolean, null, number, string, array, object}
 use Rattle.ev_tree.specs.Forms.{found_map}

@@ -8,7 +8,7 @@ use Rattle.ev_tree.specs.Forms.{is_wrong, given_or, listed, text_in, field_of, t
 use Rattle.ev_wire.specs.Requests.{type_url}
 use Rattle.ev_wire.specs.Bodies.{is_positive, body_of}
 use Rattle.ev_wire.specs.Responses.{entry_name, ttl_of, is_entry, item_of, kind_with, response_kind, nonce_of, entries_of, removed_of, has_head, has_lists, has_lists_of, is_response, parts_of, given_if, response_of}
-use Rattle.ev_trees.specs.Floats.{whole}
+use Rattle.ev_tree.specs.Floats.{whole}
 use Rattle.ev_whole_laws.proofs.Bodies.{body_of-whole}
 use Rattle.ev_whole_laws.proofs.Forms.{duration_of-whole, field_of-whole, is_object-whole, listed-objects, listed-texts, objects-is_wrong, text_in-whole, text_of-whole, texts-is_wrong}
 use Rattle.ev_whole_laws.proofs.Parts.{list_all-whole, map-whole}

@@ -4,11 +4,11 @@ use Rattle.std.specs.Prelude.{◌||◌, ◌&&◌, [], ◌∷◌, not, codes}
 use Rattle.serde_json.specs.Data.{Data}
 use Rattle.ev_tree.specs.Broken.{none_broken, either_broken, broken_where}
 use Rattle.ev_tree.specs.Forms.{is_wrong, given_or, inside, number_of, object_of}
-use Rattle.ev_route_json.specs.Presence.{exactly_one}
+use Rattle.ev_tree.specs.Counts.{exactly_one}
 use Rattle.ev_route_json.specs.Targets.{target_of, target_broken}
 use Rattle.ev_route_json.specs.Matches.{path_of, match_broken}
 use Rattle.ev_route_json.specs.Routes.{forward_of, status_of, is_status, action_broken, action_with, action_of, match_of, route_broken, route_of}
-use Rattle.ev_trees.specs.Floats.{whole}
+use Rattle.ev_tree.specs.Floats.{whole}
 use Rattle.ev_whole_laws.proofs.Forms.{inside-object, number_of-whole, object-is_given, object-is_wrong}
 use Rattle.ev_whole_laws.proofs.Matches.{match_broken-whole, path_of-whole}
 use Rattle.ev_whole_laws.proofs.Targets.{target_broken-whole, target_of-whole}

@@ -6,7 +6,7 @@ use Rattle.ev_tree.specs.Forms.{is_wrong}
 use Rattle.ev_tree.specs.Spans.{is_negative, is_zero}
 use Rattle.ev_tree.specs.Broken.{none_broken}
 use Rattle.ev_tree.specs.Sources.{one_of, has_other_source, source_broken, source_is_limited}
-use Rattle.ev_trees.specs.Floats.{whole}
+use Rattle.ev_tree.specs.Floats.{whole}
 use Rattle.ev_whole_laws.proofs.Forms.{duration_of-whole, field-is_given, field-is_wrong, object-is_given, object-is_wrong}
 
 pub has_other_source-whole : (source : Data) → has_other_source (whole source) ≡ has_other_source source

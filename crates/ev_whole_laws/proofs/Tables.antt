@@ -8,7 +8,7 @@ use Rattle.ev_tree.specs.Broken.{none_broken, either_broken, any_broken, least_o
 use Rattle.ev_route_json.specs.Routes.{route_of, route_broken}
 use Rattle.ev_route_json.specs.Domains.{repeats_domain}
 use Rattle.ev_route_json.specs.Tables.{virtual_host_name, domains_of, routes_of, virtual_host_broken, virtual_host_of, virtual_hosts_of, table_of, table_broken, table_reading}
-use Rattle.ev_trees.specs.Floats.{whole}
+use Rattle.ev_tree.specs.Floats.{whole}
 use Rattle.ev_whole_laws.proofs.Forms.{listed-objects, listed-texts, objects-is_wrong, text_in-whole, text_of-whole, texts-is_wrong}
 use Rattle.ev_whole_laws.proofs.Parts.{any_broken-whole, map-whole}
 use Rattle.ev_whole_laws.proofs.Routes.{route_broken-whole, route_of-whole}

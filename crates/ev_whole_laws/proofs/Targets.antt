@@ -5,9 +5,9 @@ use Rattle.serde_json.specs.Data.{Data}
 use Rattle.ev_tree.specs.Forms.{is_wrong, is_given, given_or, inside, listed, object_of, objects_of}
 use Rattle.ev_tree.specs.Rules.{judged}
 use Rattle.ev_tree.specs.Broken.{none_broken, either_broken, any_broken, least_of}
-use Rattle.ev_route_json.specs.Presence.{exactly_one}
+use Rattle.ev_tree.specs.Counts.{exactly_one}
 use Rattle.ev_route_json.specs.Targets.{entry_of, entry_broken, other_specifiers, entries_of, clusters_of, has_weight, is_empty_text, target_broken, target_with, target_of, target_reading}
-use Rattle.ev_trees.specs.Floats.{whole}
+use Rattle.ev_tree.specs.Floats.{whole}
 use Rattle.ev_whole_laws.proofs.Forms.{field-is_given, field-is_wrong, inside-object, listed-objects, number_of-whole, object-is_given, object-is_wrong, objects-is_wrong, text_of-whole}
 use Rattle.ev_whole_laws.proofs.Parts.{any_broken-whole, map-whole}
 use Rattle.ev_whole_laws.proofs.Presence.{any_doubled-whole, any_given-whole}

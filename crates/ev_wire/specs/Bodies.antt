@@ -3,6 +3,7 @@
 use Rattle.std.specs.Prelude.{ℕ, ◌&&◌, List, [], Bool, true, false, not, min, if◌then◌else◌, Option, Some, None, Result, Ok, Err, codes}
 use Rattle.std.specs.Str.{bytes_eq}
 use Rattle.serde_json.specs.Data.{Data}
+use Rattle.ev_types.specs.declared.events.Profile.{Profile}
 use Rattle.ev_types.specs.declared.contents.Kind.{Kind}
 use Rattle.ev_types.specs.declared.contents.Kind.TheVariants.{Cds, Eds, Lds, Rds}
 use Rattle.ev_types.specs.declared.contents.Content.{Content}
@@ -82,11 +83,11 @@ abbrev pub content_with : {A : Type 0} → (A → Content) → Result A ℕ → 
 content_with content (Ok value) = Ok (content value)
 content_with content (Err rule) = Err rule
 
-unfoldable pub content_of : Kind → Data → Result Content ℕ
-content_of Cds body = content_with Cluster (cluster_reading body)
-content_of Eds body = content_with Assignment (assignment_reading body)
-content_of Lds body = content_with Listener (listener_reading body)
-content_of Rds body = content_with Routes (table_reading body)
+unfoldable pub content_of : Profile → Kind → Data → Result Content ℕ
+content_of profile Cds body = content_with Cluster (cluster_reading profile body)
+content_of profile Eds body = content_with Assignment (assignment_reading profile body)
+content_of profile Lds body = content_with Listener (listener_reading profile body)
+content_of profile Rds body = content_with Routes (table_reading profile body)
 
 -- the content, where no rule is broken, and else the least of those that are: by the item itself, and by its content
 abbrev pub body_with : Option ℕ → Result Content ℕ → Body
@@ -97,30 +98,30 @@ body_with (Some rule) (Err other) = Bad (min rule other)
 
 -- The body of an item that is no heartbeat. What isn't a resource of the type is looked at no further: no rule is
 -- less than V1.
-unfoldable pub resource_of : Kind → List ℕ → Found Span → Data → Body
-resource_of kind name ttl body =
+unfoldable pub resource_of : Profile → Kind → List ℕ → Found Span → Data → Body
+resource_of profile kind name ttl body =
     if breaks_v1 kind body then Bad 1
-    else body_with (least_of (own_broken kind name ttl body)) (content_of kind body)
+    else body_with (least_of (own_broken kind name ttl body)) (content_of profile kind body)
 
 -- the body of an item of this name and time to live
-unfoldable pub body_of : Kind → List ℕ → Found Span → Found Data → Body
-body_of kind name ttl resource =
-    if is_heartbeat name ttl resource then Beat else resource_of kind name ttl (inside resource)
+unfoldable pub body_of : Profile → Kind → List ℕ → Found Span → Found Data → Body
+body_of profile kind name ttl resource =
+    if is_heartbeat name ttl resource then Beat else resource_of profile kind name ttl (inside resource)
 
 -- ---- all form rules, of which the least refuses
 
 -- what the reader of the type finds broken
-abbrev pub content_broken : Kind → Data → BrokenRules
-content_broken Cds body = cluster_broken body
-content_broken Eds body = assignment_broken body
-content_broken Lds body = listener_broken body
-content_broken Rds body = table_broken body
+abbrev pub content_broken : Profile → Kind → Data → BrokenRules
+content_broken profile Cds body = cluster_broken profile body
+content_broken profile Eds body = assignment_broken profile body
+content_broken profile Lds body = listener_broken profile body
+content_broken profile Rds body = table_broken profile body
 
 -- what an item breaks: a heartbeat nothing
-abbrev pub item_broken : Kind → List ℕ → Found Span → Found Data → BrokenRules
-item_broken kind name ttl resource =
+abbrev pub item_broken : Profile → Kind → List ℕ → Found Span → Found Data → BrokenRules
+item_broken profile kind name ttl resource =
     if is_heartbeat name ttl resource then none_broken
-    else either_broken (own_broken kind name ttl (inside resource)) (content_broken kind (inside resource))
+    else either_broken (own_broken kind name ttl (inside resource)) (content_broken profile kind (inside resource))
 
 -- the rule that refuses a body
 abbrev pub rule_in : Body → Option ℕ

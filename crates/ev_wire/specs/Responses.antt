@@ -4,6 +4,7 @@ use Rattle.std.specs.Prelude.{◌≡◌, ℕ, ◌&&◌, ◌==◌, List, [], map,
 use Rattle.std.specs.List.{list_all}
 use Rattle.std.specs.Str.{bytes_eq}
 use Rattle.serde_json.specs.Data.{Data}
+use Rattle.ev_types.specs.declared.events.Profile.{Profile}
 use Rattle.ev_types.specs.declared.contents.Kind.{Kind}
 use Rattle.ev_types.specs.declared.contents.Kind.TheVariants.{Cds, Eds, Lds, Rds}
 use Rattle.ev_types.specs.Items.{ItemParts, ResponseParts}
@@ -30,12 +31,12 @@ ttl_of entry = duration_of (codes "ttl") entry
 unfoldable pub is_entry : Data → Bool
 is_entry entry = not (is_wrong (text_of (codes "name") entry)) && not (is_wrong (text_of (codes "version") entry))
 
-unfoldable pub item_of : Kind → Data → ItemParts
-item_of kind entry = record {
+unfoldable pub item_of : Profile → Kind → Data → ItemParts
+item_of profile kind entry = record {
   name = entry_name entry;
   version = given_or [] (text_of (codes "version") entry);
   ttl = is_positive (ttl_of entry);
-  body = body_of kind (entry_name entry) (ttl_of entry) (field_of (codes "resource") entry);
+  body = body_of profile kind (entry_name entry) (ttl_of entry) (field_of (codes "resource") entry);
 }
 
 -- ---- the message
@@ -84,12 +85,12 @@ abbrev pub is_response : Data → Bool
 is_response tree = has_head tree && has_lists_of (response_kind tree) tree
 
 -- the response of this type and nonce
-abbrev pub parts_of : Option Kind → List ℕ → Data → ResponseParts
-parts_of None nonce tree = record { kind = None; nonce = nonce; items = []; removed = [] }
-parts_of (Some kind) nonce tree = record {
+abbrev pub parts_of : Profile → Option Kind → List ℕ → Data → ResponseParts
+parts_of profile None nonce tree = record { kind = None; nonce = nonce; items = []; removed = [] }
+parts_of profile (Some kind) nonce tree = record {
   kind = Some kind;
   nonce = nonce;
-  items = map (item_of kind) (entries_of tree);
+  items = map (item_of profile kind) (entries_of tree);
   removed = removed_of tree;
 }
 
@@ -98,16 +99,16 @@ abbrev pub given_if : {A : Type 0} → Bool → A → Option A
 given_if test value = if test then Some value else None
 
 -- the resources that these entries are, or none where one of them isn't one
-abbrev pub items_in : Kind → List Data → Option (List ItemParts)
-items_in kind entries = given_if (list_all is_entry entries) (map (item_of kind) entries)
+abbrev pub items_in : Profile → Kind → List Data → Option (List ItemParts)
+items_in profile kind entries = given_if (list_all is_entry entries) (map (item_of profile kind) entries)
 
 -- the type and the nonce of the response that a tree is, or none where it lacks them
 abbrev pub head_of : Data → Option Head
 head_of tree = given_if (has_head tree) (record { kind = response_kind tree; nonce = nonce_of tree })
 
 -- the response that a tree is, or none where it isn't one
-unfoldable pub response_of : Data → Option ResponseParts
-response_of tree = given_if (is_response tree) (parts_of (response_kind tree) (nonce_of tree) tree)
+unfoldable pub response_of : Profile → Data → Option ResponseParts
+response_of profile tree = given_if (is_response tree) (parts_of profile (response_kind tree) (nonce_of tree) tree)
 
 -- ---- what a reader answers
 

@@ -8,13 +8,14 @@ ghost use Rattle.ev_tree.specs.declared.outcome.Found.{Found};
 ghost use Rattle.ev_tree.specs.declared.span.Span.{Span};
 ghost use Rattle.ev_wire.specs.Bodies.{is_positive, is_heartbeat, is_of_type, breaks_v3, differs, own_broken, content_of, body_with, resource_of, body_of, item_broken, rule_in};
 ghost use Rattle.ev_types.specs.declared.contents.Kind.{Kind};
+ghost use Rattle.ev_types.specs.declared.events.Profile.{Profile};
 
 use crate::kinds::{name_field, type_url};
 use ev_cluster_json::{read_assignment, read_cluster};
 use ev_listener_json::read_listener;
 use ev_route_json::read_routes;
 use ev_tree::{BrokenRules, Found, ReadError, Span, is_name, is_not_positive, member};
-use ev_types::{Body, Content, Kind, Shared};
+use ev_types::{Body, Content, Kind, Profile, Shared};
 use serde_json::Value;
 use std::alloc::{AllocError, Global};
 
@@ -23,17 +24,18 @@ use std::alloc::{AllocError, Global};
 #[tactic(auto, unfolding(crate::specs::Bodies::body_of))]
 pub(crate) fn read_body(
     alloc: Global,
+    profile: Profile,
     kind: Kind,
     name: &str,
     ttl: Found<Span>,
     resource: Found<&Value>,
 ) -> Result<Body, AllocError>
-    ensures { IfOk result (λ read. read ≡ body_of kind name.now ttl (found_map (λ v. view v.now) resource.entry)) }
+    ensures { IfOk result (λ read. read ≡ body_of profile kind name.now ttl (found_map (λ v. view v.now) resource.entry)) }
 {
     if is_heartbeat(name, ttl, resource) {
         return Ok(Body::Beat);
     }
-    read_resource(alloc, kind, name, ttl, member::inner(resource))
+    read_resource(alloc, profile, kind, name, ttl, member::inner(resource))
 }
 
 // Whether an item gives its time to live anew, and nothing else.
@@ -54,12 +56,13 @@ pub(crate) fn is_positive(ttl: Found<Span>) -> bool
 #[tactic(auto, using(crate::proofs::BodyLemmas::no_body), unfolding(crate::specs::Bodies::resource_of))]
 fn read_resource(
     alloc: Global,
+    profile: Profile,
     kind: Kind,
     name: &str,
     ttl: Found<Span>,
     body: Option<&Value>,
 ) -> Result<Body, AllocError>
-    ensures { IfOk result (λ read. read ≡ resource_of kind name.now ttl (tree_of body.entry)) }
+    ensures { IfOk result (λ read. read ≡ resource_of profile kind name.now ttl (tree_of body.entry)) }
 {
     let Some(body) = body else {
         return Ok(Body::Bad(1));
@@ -68,7 +71,7 @@ fn read_resource(
     if broken.v1 {
         return Ok(Body::Bad(1));
     }
-    match read_content(alloc, kind, body) {
+    match read_content(alloc, profile, kind, body) {
         Ok(content) => Ok(body_with(broken.least(), Ok(content))),
         Err(ReadError::Rule(rule)) => Ok(body_with(broken.least(), Err(rule))),
         Err(ReadError::OutOfMemory) => Err(AllocError),
@@ -99,8 +102,8 @@ fn inspect_own(
 /// break none: a law of the definitions.
 #[tactic(auto, using(crate::proofs::LeastLemmas::body_least))]
 pub fn body_rule_is_least()
-    ensures { (kind : Kind) (name : List ℕ) (ttl : Found Span) (resource : Found Data)
-        → IsLeast (rules_of (item_broken kind name ttl resource)) (rule_in (body_of kind name ttl resource)) }
+    ensures { (profile : Profile) (kind : Kind) (name : List ℕ) (ttl : Found Span) (resource : Found Data)
+        → IsLeast (rules_of (item_broken profile kind name ttl resource)) (rule_in (body_of profile kind name ttl resource)) }
 {}
 
 // Whether a body is an object whose `@type` is that of the kind.
@@ -135,14 +138,31 @@ fn differs(name: &str, own: Found<&str>) -> bool
 
 // The content of a body, by the reader of its kind.
 #[tactic(auto, unfolding(crate::specs::Bodies::content_of))]
-fn read_content(alloc: Global, kind: Kind, body: &Value) -> Result<Content, ReadError>
-    ensures { ReadsAs result (content_of kind (view body.now)) }
+fn read_content(
+    alloc: Global,
+    profile: Profile,
+    kind: Kind,
+    body: &Value,
+) -> Result<Content, ReadError>
+    ensures { ReadsAs result (content_of profile kind (view body.now)) }
 {
     match kind {
-        Kind::Cds => Ok(Content::Cluster(Shared::new(alloc, read_cluster(alloc, body)?)?)),
-        Kind::Eds => Ok(Content::Assignment(Shared::new(alloc, read_assignment(alloc, body)?)?)),
-        Kind::Lds => Ok(Content::Listener(Shared::new(alloc, read_listener(alloc, body)?)?)),
-        Kind::Rds => Ok(Content::Routes(Shared::new(alloc, read_routes(alloc, body)?)?)),
+        Kind::Cds => {
+            let read = read_cluster(alloc, profile, body)?;
+            Ok(Content::Cluster(Shared::new(alloc, read)?))
+        }
+        Kind::Eds => {
+            let read = read_assignment(alloc, profile, body)?;
+            Ok(Content::Assignment(Shared::new(alloc, read)?))
+        }
+        Kind::Lds => {
+            let read = read_listener(alloc, profile, body)?;
+            Ok(Content::Listener(Shared::new(alloc, read)?))
+        }
+        Kind::Rds => {
+            let read = read_routes(alloc, profile, body)?;
+            Ok(Content::Routes(Shared::new(alloc, read)?))
+        }
     }
 }
 

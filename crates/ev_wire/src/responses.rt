@@ -8,7 +8,7 @@ use crate::bodies::{is_positive, read_body};
 use crate::kinds::kind_with;
 use crate::outcome::WireError;
 use ev_tree::member;
-use ev_types::{Body, Item, Kind, Response, Seq, Text};
+use ev_types::{Body, Item, Kind, Profile, Response, Seq, Text};
 use serde_json::Value;
 use std::alloc::{AllocError, Global};
 
@@ -23,14 +23,14 @@ use std::alloc::{AllocError, Global};
 /// `NotResponse` comes where the tree is no object, `nonce` is empty or one of the fields of the message itself
 /// has a wrong form: `type_url` and `nonce` are texts, `removed_resources` is a list of texts, and `resources` a
 /// list of objects whose `name` and `version` are texts. `OutOfMemory` comes without memory.
-pub fn read_response(alloc: Global, value: &Value) -> Result<Response, WireError>
-    ensures { Reads result (response_of (view value.now)) }
+pub fn read_response(alloc: Global, profile: Profile, value: &Value) -> Result<Response, WireError>
+    ensures { Reads result (response_of profile (view value.now)) }
 {
     let Some(head) = read_head(alloc, value)? else {
         return Err(WireError::NotResponse);
     };
     match head.kind {
-        Some(kind) => read_lists(alloc, kind, head.nonce, value),
+        Some(kind) => read_lists(alloc, profile, kind, head.nonce, value),
         None => Ok(Response {
             kind: None,
             nonce: head.nonce,
@@ -66,16 +66,22 @@ fn read_head(alloc: Global, value: &Value) -> Result<Option<Head>, AllocError>
 
 // A response of a type that is read, with its lists.
 #[tactic(auto, unfolding(crate::specs::Responses::has_lists))]
-fn read_lists(alloc: Global, kind: Kind, nonce: Text, value: &Value) -> Result<Response, WireError>
+fn read_lists(
+    alloc: Global,
+    profile: Profile,
+    kind: Kind,
+    nonce: Text,
+    value: &Value,
+) -> Result<Response, WireError>
     requires { 1 ≤ length nonce }
-    ensures { Reads result (given_if (has_lists (view value.now)) (parts_of (Some kind) nonce (view value.now))) }
+    ensures { Reads result (given_if (has_lists (view value.now)) (parts_of profile (Some kind) nonce (view value.now))) }
 {
     let resources = member::objects(alloc, Some(value), "resources")?;
     let removed = member::texts(alloc, Some(value), "removed_resources")?;
     if resources.is_wrong() | removed.is_wrong() {
         return Err(WireError::NotResponse);
     }
-    let items = read_items(alloc, kind, member::elements(resources))?;
+    let items = read_items(alloc, profile, kind, member::elements(resources))?;
     let removed = read_texts(alloc, member::elements(removed))?;
     Ok(Response {
         kind: Some(kind),
@@ -86,20 +92,25 @@ fn read_lists(alloc: Global, kind: Kind, nonce: Text, value: &Value) -> Result<R
 }
 
 // The resources of a response, in order.
-fn read_items(alloc: Global, kind: Kind, entries: &[Value]) -> Result<Seq<Item>, WireError>
-    ensures { Reads result (items_in kind (map view entries.now)) }
+fn read_items(
+    alloc: Global,
+    profile: Profile,
+    kind: Kind,
+    entries: &[Value],
+) -> Result<Seq<Item>, WireError>
+    ensures { Reads result (items_in profile kind (map view entries.now)) }
 {
     let mut items = Vec::with_capacity(alloc, entries.len())?;
     for entry in entries {
-        items.push(read_item(alloc, kind, entry)?)?;
+        items.push(read_item(alloc, profile, kind, entry)?)?;
     }
     Ok(Seq::from_vec(items))
 }
 
 // A resource of a response.
 #[tactic(auto, unfolding(crate::specs::Responses::is_entry, crate::specs::Responses::ttl_of, crate::specs::Responses::item_of))]
-fn read_item(alloc: Global, kind: Kind, entry: &Value) -> Result<Item, WireError>
-    ensures { Reads result (given_if (is_entry (view entry.now)) (item_of kind (view entry.now))) }
+fn read_item(alloc: Global, profile: Profile, kind: Kind, entry: &Value) -> Result<Item, WireError>
+    ensures { Reads result (given_if (is_entry (view entry.now)) (item_of profile kind (view entry.now))) }
 {
     let name = member::text(alloc, Some(entry), "name")?;
     let version = member::text(alloc, Some(entry), "version")?;
@@ -109,7 +120,7 @@ fn read_item(alloc: Global, kind: Kind, entry: &Value) -> Result<Item, WireError
     let name = member::text_or_empty(name);
     let ttl = member::duration(alloc, Some(entry), "ttl")?;
     let resource = member::field(alloc, Some(entry), "resource")?;
-    let body = read_body(alloc, kind, name, ttl, resource)?;
+    let body = read_body(alloc, profile, kind, name, ttl, resource)?;
     let version = member::text_or_empty(version);
     Ok(make_item(alloc, name, version, is_positive(ttl), body)?)
 }

@@ -3,7 +3,7 @@ use Rattle.std.proofs.lemmas.List.{length-map}
 use lib.Dec.{leb}
 use Rattle.serde_json.specs.View.{view}
 use Rattle.ev_tree.specs.Forms.{listed}
-use Rattle.ev_listener_json.specs.Listeners.{chains_of}
+use Rattle.ev_listener_json.specs.Chains.{chains_of}
 use Rattle.ev_chain_lines.proofs.TextLemmas.{room_is}
 use Rattle.ev_chain_lines.proofs.texts.has_room.Goals as goal
 

@@ -6,7 +6,8 @@ use Rattle.ev_tree.specs.declared.tables.EnumTable.TheVariants.{Protocol}
 use Rattle.ev_tree.specs.Forms.{is_wrong, listed, enumeration_of}
 use Rattle.ev_tree.specs.Broken.{either_broken, any_broken}
 use Rattle.ev_tree.proofs.Outcomes.{or_same}
-use Rattle.ev_listener_json.specs.Listeners.{chains_of, is_udp}
+use Rattle.ev_listener_json.specs.Chains.{chains_of}
+use Rattle.ev_listener_json.specs.Listeners.{is_udp}
 use Rattle.ev_chains.specs.Listeners.{chain_of, one_broken, listening_of, chains_in, parts_broken}
 use Rattle.ev_chains.proofs.listeners.inspect_listener.Goals as goal
 

@@ -1,7 +1,7 @@
 use Rattle.std.proofs.Common.{◌≡◌, ◌∙◌, ap, sym, length, Ok, arith}
 use Rattle.std.proofs.lemmas.List.{length-map}
 use Rattle.serde_json.specs.View.{view}
-use Rattle.ev_listener_json.specs.Listeners.{chains_of}
+use Rattle.ev_listener_json.specs.Chains.{chains_of}
 use Rattle.ev_chains.specs.Listeners.{chain_of, listening_of, chains_in, rule_told}
 use Rattle.ev_chains.specs.State.{numbered, made_by}
 use Rattle.ev_chains.proofs.NextLemmas.{judged_some, judged_none, told_is}

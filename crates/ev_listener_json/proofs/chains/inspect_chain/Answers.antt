@@ -2,7 +2,7 @@ use Rattle.std.proofs.Common.{◌∙◌, ap, map}
 use Rattle.ev_tree.specs.Forms.{inside, listed}
 use Rattle.ev_tree.specs.Broken.{either_broken, any_broken}
 use Rattle.ev_tree.proofs.Outcomes.{or_same, not_same}
-use Rattle.ev_route_json.specs.Presence.{exactly_one}
+use Rattle.ev_tree.specs.Counts.{exactly_one}
 use Rattle.ev_listener_json.specs.Parts.{first_of}
 use Rattle.ev_listener_json.specs.Members.{has_member}
 use Rattle.ev_listener_json.specs.Filters.{filters_of, filter_serves, filter_serve, filter_broken, chain_serve, chain_broken}

@@ -4,7 +4,7 @@ use Rattle.ev_tree.specs.Rules.{is_name}
 use Rattle.ev_tree.specs.Broken.{either_broken, broken_where}
 use Rattle.ev_tree.specs.Sources.{source_broken, source_is_limited}
 use Rattle.ev_tree.proofs.Outcomes.{or_same, and_same, not_same}
-use Rattle.ev_route_json.specs.Presence.{exactly_one}
+use Rattle.ev_tree.specs.Counts.{exactly_one}
 use Rattle.ev_route_json.specs.Tables.{table_of, table_broken}
 use Rattle.ev_listener_json.specs.Managers.{rds_of, rds_source_of, route_name_of, inline_of, manager_serve, serve_with, manager_broken}
 use Rattle.ev_listener_json.proofs.managers.inspect_manager.Goals as goal

@@ -2,7 +2,7 @@ use Rattle.std.proofs.Common.{◌∙◌, ap, ◌∷◌, []}
 use Rattle.ev_tree.specs.Forms.{is_wrong, is_given, inside}
 use Rattle.ev_tree.specs.Broken.{either_broken, broken_where}
 use Rattle.ev_tree.proofs.Outcomes.{or_same}
-use Rattle.ev_route_json.specs.Presence.{more_than_one}
+use Rattle.ev_tree.specs.Counts.{more_than_one}
 use Rattle.ev_route_json.specs.Targets.{is_empty_text}
 use Rattle.ev_route_json.specs.Conditions.{pattern_with, string_matcher_of, string_matcher_broken, string_match_of, header_test_with, header_test_of, header_test_broken}
 use Rattle.ev_route_json.proofs.header_matchers.inspect_header_test.Goals as goal

@@ -1,7 +1,7 @@
 use Rattle.std.proofs.Common.{◌∙◌, ap, ◌∷◌, [], false}
 use Rattle.ev_tree.specs.Forms.{is_wrong, given_or}
 use Rattle.ev_tree.proofs.Outcomes.{or_same, not_same}
-use Rattle.ev_route_json.specs.Presence.{exactly_one}
+use Rattle.ev_tree.specs.Counts.{exactly_one}
 use Rattle.ev_route_json.specs.Targets.{is_empty_text}
 use Rattle.ev_route_json.specs.Conditions.{pattern_with, string_test, string_matcher_of, string_matcher_broken}
 use Rattle.ev_route_json.proofs.header_matchers.inspect_string_matcher.Goals as goal

@@ -1,7 +1,7 @@
 use Rattle.std.proofs.Common.{◌∙◌, ap, ◌∷◌, []}
 use Rattle.ev_tree.specs.Forms.{is_wrong}
 use Rattle.ev_tree.proofs.Outcomes.{or_same, not_same}
-use Rattle.ev_route_json.specs.Presence.{exactly_one}
+use Rattle.ev_tree.specs.Counts.{exactly_one}
 use Rattle.ev_route_json.specs.Matches.{path_of, path_with, match_broken, is_false, separated_is_bad}
 use Rattle.ev_route_json.proofs.matches.inspect_match.Goals as goal
 

@@ -7,6 +7,6 @@ abbrev pub invariant-loop-tree : goal.invariant-loop-tree
 invariant-loop-tree g l =
     let seen = map view (take l.tree-index l.trees) in
     record {
-      values : l.values.items ≡ map g.T.Inspect.value_of seen;
-      broken : l.broken ≡ any_broken g.T.Inspect.broken_of seen;
+      values : l.values.items ≡ map (g.T.Inspect.value_of l.mode) seen;
+      broken : l.broken ≡ any_broken (g.T.Inspect.broken_of l.mode) seen;
     }

@@ -2,7 +2,7 @@ use Rattle.std.proofs.Common.{◌∙◌, ap, ◌∷◌, [], codes}
 use Rattle.ev_tree.specs.Forms.{is_wrong, given_or, inside, number_of}
 use Rattle.ev_tree.specs.Broken.{either_broken, broken_where}
 use Rattle.ev_tree.proofs.Outcomes.{or_same, and_same, not_same}
-use Rattle.ev_route_json.specs.Presence.{exactly_one}
+use Rattle.ev_tree.specs.Counts.{exactly_one}
 use Rattle.ev_route_json.specs.Targets.{target_of, target_broken}
 use Rattle.ev_route_json.specs.Routes.{action_of, action_with, action_broken, forward_of, status_of, is_status}
 use Rattle.ev_route_json.proofs.routes.inspect_action.Goals as goal

@@ -4,9 +4,9 @@ use Rattle.std.proofs.lemmas.Bool.{leb-true, leb-false}
 use Rattle.std.proofs.lemmas.List.Elements.{All-push}
 use Rattle.serde_json.specs.Data.{Data, depth}
 use Rattle.serde_json.specs.View.{view}
-use Rattle.ev_trees.specs.Floats.{whole}
+use Rattle.ev_tree.specs.Floats.{whole}
 use Rattle.ev_trees.specs.Trees.{ReadsBack, IsReadable}
-use Rattle.ev_trees.proofs.FloatLemmas.{made_whole}
+use Rattle.ev_tree.proofs.FloatLemmas.{made_whole}
 use Rattle.ev_sotw_delta.proofs.LimitLemmas.{all_last}
 use Rattle.ev_sotw_delta.proofs.writing.push_readable.Goals as goal
 

@@ -4,7 +4,7 @@ use Rattle.serde_json.specs.View.{view}
 use Rattle.serde_json.specs.Written.{has_float}
 use Rattle.ev_journal.specs.Rendering.{line_text}
 use Rattle.ev_trees.proofs.BackLemmas.{whole_back}
-use Rattle.ev_trees.proofs.FloatLemmas.{made_whole, stays}
+use Rattle.ev_tree.proofs.FloatLemmas.{made_whole, stays}
 use Rattle.ev_trees.proofs.writing.push_whole.Goals as goal
 
 pub push_line-requires : goal.push_line-requires

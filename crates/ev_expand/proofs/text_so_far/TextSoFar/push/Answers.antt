@@ -3,7 +3,7 @@ use Rattle.std.proofs.lemmas.Bool.{false≢true}
 use Rattle.serde_json.specs.Data.{Data}
 use Rattle.serde_json.specs.View.{view}
 use Rattle.ev_journal.specs.Rendering.{line_text}
-use Rattle.ev_trees.specs.Floats.{whole}
+use Rattle.ev_tree.specs.Floats.{whole}
 use Rattle.ev_expand.specs.Room.{HasRoom}
 use Rattle.ev_expand.proofs.RoomLemmas.{room_for, room_had}
 use Rattle.ev_expand.proofs.text_so_far.TextSoFar.push.Goals as goal

@@ -7,8 +7,7 @@ use Rattle.serde_json.specs.Find.{is_float}
 use Rattle.serde_json.specs.View.{view, items_of, items_view}
 use Rattle.serde_json.specs.Written.{has_float, items_have_float, members_have_float}
 use Rattle.serde_json.specs.declared.value.Value.{Value}
-use Rattle.ev_trees.specs.Floats.{whole_number, whole, whole_items, whole_members}
-use Rattle.ev_trees.specs.Trees.{MakesWhole}
+use Rattle.ev_tree.specs.Floats.{whole_number, whole, whole_items, whole_members, MakesWhole}
 
 -- ---- no float is left
 

@@ -6,9 +6,9 @@ use Rattle.std.specs.String.{string_cmp}
 use Rattle.serde_json.specs.View.{view, items_of, items_view, members_view}
 use Rattle.serde_json.specs.declared.value.Value.{Value}
 use Rattle.serde_json.proofs.Views.{Entry, members_view-insert_entry, put_last}
-use Rattle.ev_trees.specs.Floats.{whole, whole_items, whole_members}
-use Rattle.ev_trees.proofs.FloatLemmas.{items_copied, put_copied}
-use Rattle.ev_trees.proofs.floats.+whole_copy.Goals as goal
+use Rattle.ev_tree.specs.Floats.{whole, whole_items, whole_members}
+use Rattle.ev_tree.proofs.FloatLemmas.{items_copied, put_copied}
+use Rattle.ev_tree.proofs.floats.+whole_copy.Goals as goal
 
 pub whole_items-returns : goal.whole_items-returns
 whole_items-returns t c =

@@ -2,8 +2,8 @@ use Rattle.std.proofs.Common.{◌≡◌, List, ◌++◌, take, map}
 use Rattle.serde_json.specs.View.{view, members_view}
 use Rattle.serde_json.specs.declared.value.Value.{Value}
 use Rattle.serde_json.proofs.Views.{Entry}
-use Rattle.ev_trees.specs.Floats.{whole, whole_members}
-use Rattle.ev_trees.proofs.floats.+whole_copy.Given as goal
+use Rattle.ev_tree.specs.Floats.{whole, whole_members}
+use Rattle.ev_tree.proofs.floats.+whole_copy.Given as goal
 
 abbrev pub invariant-whole_items-loop-item : goal.invariant-whole_items-loop-item
 invariant-whole_items-loop-item l = map view l.copies.items ≡ map (λ (v : Value). whole (view v)) (take l.item-index l.item-items)

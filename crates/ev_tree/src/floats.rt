@@ -1,15 +1,17 @@
 ghost use Rattle.std.specs.Prelude.{◌≡◌, IfOk};
 ghost use Rattle.serde_json.specs.View.{view, number_view, items_view, members_view};
 ghost use Rattle.serde_json.specs.Written.{has_float, items_have_float, members_have_float};
-ghost use Rattle.ev_trees.specs.Floats.{whole, whole_number, whole_items, whole_members};
+ghost use Rattle.ev_tree.specs.Floats.{whole, whole_number, whole_items, whole_members, plain_text, body_text_of};
+ghost use Rattle.std.specs.String.{string_bytes};
 
+use ev_types::{Profile, Text};
 use serde_json::{Map, Number, Value};
-use std::alloc::AllocError;
+use std::alloc::{AllocError, Global};
 use std::default::Emptied;
 
-// Whether a tree has a float.
+/// Whether a tree has a float.
 #[cycle(has_float)]
-pub(crate) fn has_float(value: &Value) -> bool
+pub fn has_float(value: &Value) -> bool
     ensures { result ≡ has_float (view value.now) }
 {
     match value {
@@ -57,9 +59,9 @@ fn whole_number(number: Number) -> Number
     }
 }
 
-// The copy of a tree, with -1 for each float in it.
+/// The copy of a tree, with -1 for each float in it.
 #[cycle(whole_copy)]
-pub(crate) fn whole_copy(value: &Value) -> Result<Value, AllocError>
+pub fn whole_copy(value: &Value) -> Result<Value, AllocError>
     ensures { IfOk result (λ copy. view copy ≡ whole (view value.now)) }
 {
     match value {
@@ -93,4 +95,27 @@ fn whole_members(members: &Map<String, Value>) -> Result<Map<String, Value>, All
         drop(copies.insert(name, whole_copy(member)?)?);
     }
     Ok(copies)
+}
+
+/// The plain text of a tree: without spaces, with -1 for each float in it.
+#[tactic(auto, using(crate::proofs::FloatLemmas::made_whole))]
+pub fn plain_text(alloc: Global, tree: &Value) -> Result<String, AllocError>
+    ensures { IfOk result (λ text. string_bytes text ≡ plain_text (view tree.now)) }
+{
+    if has_float(tree) {
+        let copy = whole_copy(tree)?;
+        copy.to_string(alloc)
+    } else {
+        tree.to_string(alloc)
+    }
+}
+
+/// The text of a body, or an empty one where the fields that are read count alone.
+pub fn body_text(alloc: Global, profile: Profile, body: &Value) -> Result<Text, AllocError>
+    ensures { IfOk result (λ text. text ≡ body_text_of profile (view body.now)) }
+{
+    match profile {
+        Profile::Own => Ok(Text::from_string(String::new(alloc))),
+        Profile::Envoy => Ok(Text::from_string(plain_text(alloc, body)?)),
+    }
 }

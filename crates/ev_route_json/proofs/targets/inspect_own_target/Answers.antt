@@ -2,9 +2,9 @@ use Rattle.std.proofs.Common.{◌∙◌, ap, ◌∷◌, [], map, codes}
 use Rattle.ev_tree.specs.Forms.{is_wrong, given_or, inside, listed, objects_of}
 use Rattle.ev_tree.proofs.Outcomes.{or_same, and_same, not_same}
 use Rattle.ev_tree.specs.Broken.{either_broken, any_broken}
-use Rattle.ev_route_json.specs.Presence.{exactly_one}
+use Rattle.ev_tree.specs.Counts.{exactly_one}
 use Rattle.ev_route_json.specs.Targets.{entry_of, entry_broken, entries_of, target_of, target_with, target_broken, is_empty_text, has_weight}
-use Rattle.ev_route_json.proofs.targets.inspect_target.Goals as goal
+use Rattle.ev_route_json.proofs.targets.inspect_own_target.Goals as goal
 
 pub returns-clause-value : goal.returns-clause-value
 unfolding entries_of target_of

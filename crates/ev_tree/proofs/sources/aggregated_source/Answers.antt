@@ -3,7 +3,7 @@ use Rattle.ev_tree.specs.Sources.{source_broken, one_of}
 use Rattle.ev_tree.specs.Spans.{is_negative}
 use Rattle.ev_tree.specs.Forms.{is_wrong}
 use Rattle.ev_tree.proofs.Outcomes.{or_same, not_same}
-use Rattle.ev_tree.proofs.sources.config_source.Goals as goal
+use Rattle.ev_tree.proofs.sources.aggregated_source.Goals as goal
 
 pub returns-clause-broken : goal.returns-clause-broken
 unfolding source_broken

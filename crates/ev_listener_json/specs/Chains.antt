@@ -1,0 +1,130 @@
+-- Filter chains of a listener as Envoy reads them: each with its match, a default chain, and the one of an API listener.
+use Rattle.std.specs.Prelude.{ℕ, ◌||◌, ◌==◌, ◌&&◌, List, [], ◌∷◌, length, map, Bool, true, false, not, if◌then◌else◌, Option, Some, None, unwrap_or, codes}
+use Rattle.serde_json.specs.Data.{Data}
+use Rattle.ev_types.specs.FilterChains.{has_collision}
+use Rattle.ev_types.specs.declared.events.Profile.TheVariants.{Envoy}
+use Rattle.ev_types.specs.declared.filter_chains.FilterChainMatch.{FilterChainMatch}
+use Rattle.ev_types.specs.declared.listeners.FilterChain.{FilterChain}
+use Rattle.ev_types.specs.declared.listeners.Serve.{Serve}
+use Rattle.ev_types.specs.declared.listeners.Serve.TheVariants.{Other as other_serve}
+use Rattle.ev_tree.specs.declared.broken.BrokenRules.{BrokenRules}
+use Rattle.ev_tree.specs.Forms.{is_wrong, is_given, is_absent, inside, listed, field_of, text_of, object_of, objects_of}
+use Rattle.ev_tree.specs.Broken.{none_broken, either_broken, any_broken, broken_where}
+use Rattle.ev_tree.specs.Counts.{more_than_one}
+use Rattle.ev_listener_json.specs.declared.filters.FilterKind.{FilterKind}
+use Rattle.ev_listener_json.specs.declared.filters.FilterKind.TheVariants.{Manager, TcpProxy, Other}
+use Rattle.ev_listener_json.specs.Parts.{first_of}
+use Rattle.ev_listener_json.specs.Filters.{kind_in, config_serve, config_broken, filter_serve, filter_serves, filter_broken, filters_of}
+use Rattle.ev_listener_json.specs.ChainMatches.{filter_chain_match_of, filter_chain_match_broken}
+
+-- a match that asks for nothing
+abbrev pub no_criteria : FilterChainMatch
+no_criteria = record {
+  destination_port = None;
+  prefix_ranges = [];
+  server_names = [];
+  transport_protocol = None;
+  application_protocols = [];
+  asks_source = false;
+}
+
+-- ---- a chain
+
+-- what is served: what the first filter does that serves, or something that isn't read
+abbrev pub serve_or_other : Option Serve → Serve
+serve_or_other serve = unwrap_or serve other_serve
+
+unfoldable pub served_by : Data → Serve
+served_by chain = serve_or_other (first_of (map (filter_serve Envoy) (filters_of chain)))
+
+-- What a chain breaks beside its match: what one of its filters breaks, and what it breaks itself. V17: more than one filter serves.
+unfoldable pub filters_broken : Data → BrokenRules
+filters_broken chain = either_broken (any_broken (filter_broken Envoy) (filters_of chain)) (record none_broken {
+  v6 = is_wrong (objects_of (codes "filters") chain);
+  v17 = more_than_one (map (filter_serves Envoy) (filters_of chain));
+})
+
+-- the tree of its match
+unfoldable pub chain_match_of : Data → Data
+chain_match_of chain = inside (object_of (codes "filter_chain_match") chain)
+
+unfoldable pub envoy_chain_broken : Data → BrokenRules
+envoy_chain_broken chain =
+    either_broken (filters_broken chain)
+    (either_broken (filter_chain_match_broken (chain_match_of chain)) (record none_broken { v6 = is_wrong (object_of (codes "filter_chain_match") chain) }))
+
+unfoldable pub envoy_chain_of : Data → FilterChain
+envoy_chain_of chain = record { criteria = filter_chain_match_of (chain_match_of chain); serve = served_by chain }
+
+-- what a default chain breaks, if there is one: its match is left aside
+abbrev pub default_broken : Option Data → BrokenRules
+default_broken None = none_broken
+default_broken (Some chain) = filters_broken chain
+
+-- ---- an API listener: its connection manager stands for the one filter of one chain without a match
+
+-- it is given, in any form, and hides the chains
+abbrev pub has_api : Data → Bool
+has_api listener = not (is_absent (field_of (codes "api_listener") listener))
+
+-- the tree of its own `api_listener`
+unfoldable pub api_outer_of : Data → Data
+api_outer_of listener = inside (object_of (codes "api_listener") listener)
+
+unfoldable pub api_config_of : Data → Data
+api_config_of listener = inside (object_of (codes "api_listener") (api_outer_of listener))
+
+unfoldable pub api_kind_of : Data → FilterKind
+api_kind_of listener = kind_in (text_of (codes "@type") (api_config_of listener))
+
+abbrev pub is_manager : FilterKind → Bool
+is_manager Manager = true
+is_manager TcpProxy = false
+is_manager Other = false
+
+-- what it breaks: what its configuration breaks, and what it breaks itself. V17: it is no connection manager.
+unfoldable pub api_broken : Data → BrokenRules
+api_broken listener = either_broken (config_broken Envoy (api_kind_of listener) (api_config_of listener)) (record none_broken {
+  v6 =
+      is_wrong (object_of (codes "api_listener") listener)
+      || is_wrong (object_of (codes "api_listener") (api_outer_of listener))
+      || is_wrong (text_of (codes "@type") (api_config_of listener));
+  v17 = not (is_manager (api_kind_of listener));
+})
+
+unfoldable pub api_serve_of : Data → Serve
+api_serve_of listener = serve_or_other (config_serve Envoy (api_kind_of listener) (api_config_of listener))
+
+-- ---- all chains of a listener
+
+unfoldable pub chains_of : Data → List Data
+chains_of tree = listed (objects_of (codes "filter_chains") tree)
+
+unfoldable pub default_chain_of : Data → Data
+default_chain_of tree = inside (object_of (codes "default_filter_chain") tree)
+
+abbrev pub has_default : Data → Bool
+has_default tree = is_given (object_of (codes "default_filter_chain") tree)
+
+-- What they break: what one of them breaks, the default chain's match left aside, and what they break together. V16: there is none.
+-- V26: two of them, neither of which asks for a source, take a connection in common.
+unfoldable pub given_chains_broken : Data → BrokenRules
+given_chains_broken tree =
+    either_broken (any_broken envoy_chain_broken (chains_of tree))
+    (either_broken (broken_where (has_default tree) (filters_broken (default_chain_of tree))) (record none_broken {
+      v6 = is_wrong (objects_of (codes "filter_chains") tree) || is_wrong (object_of (codes "default_filter_chain") tree);
+      v16 = (length (chains_of tree) == 0) && not (has_default tree);
+      v26 = has_collision (map (λ (c : FilterChain). c.criteria) (map envoy_chain_of (chains_of tree)));
+    }))
+
+abbrev pub envoy_chains_broken : Data → BrokenRules
+envoy_chains_broken tree = if has_api tree then api_broken tree else given_chains_broken tree
+
+-- the one of an API listener, or those that are given
+unfoldable pub envoy_chains_of : Data → List FilterChain
+envoy_chains_of tree =
+    if has_api tree then record { criteria = no_criteria; serve = api_serve_of tree } ∷ []
+    else map envoy_chain_of (chains_of tree)
+
+unfoldable pub envoy_default_of : Data → Option Serve
+envoy_default_of tree = if not (has_api tree) && has_default tree then Some (served_by (default_chain_of tree)) else None

@@ -1,0 +1,199 @@
+//! Filter chains of a listener as Envoy reads them: each with its match, a default chain, and the one of an API listener.
+ghost use Rattle.std.specs.Prelude.{◌≡◌, Some, None, [], ◌∷◌, IfOk, map, option_map};
+ghost use Rattle.serde_json.specs.View.{view};
+ghost use Rattle.ev_tree.specs.Broken.{any_broken};
+ghost use Rattle.ev_listener_json.specs.Chains.{no_criteria, served_by, serve_or_other, filters_broken, envoy_chain_of, envoy_chain_broken, has_api, is_manager, api_serve_of, api_broken, default_broken, given_chains_broken, envoy_chains_broken, envoy_chains_of, envoy_default_of};
+
+use crate::chain_matches::inspect_filter_chain_match;
+use crate::collisions::has_collision;
+use crate::filters::{FilterKind, choose_kind, inspect_config, inspect_filters};
+use ev_tree::{BrokenRules, Inspection, member, more_than_one};
+use ev_types::{FilterChain, FilterChainMatch, Profile, Seq, Serve, Shared};
+use serde_json::Value;
+use std::alloc::{AllocError, Global};
+
+/// What is found of the chains of a listener.
+#[derive(Drop)]
+pub struct ChainsFound {
+    /// The chains in order.
+    pub chains: Vec<FilterChain>,
+    /// What the default chain serves, if there is one.
+    pub default: Option<Serve>,
+    /// The rules that they break.
+    pub broken: BrokenRules,
+}
+
+/// Inspects the chains of a listener as Envoy reads them. An API listener hides those that are given.
+pub fn inspect_envoy_chains(alloc: Global, listener: &Value) -> Result<ChainsFound, AllocError>
+    ensures chains { IfOk result (λ found. found.chains.items ≡ envoy_chains_of (view listener.now)) }
+    ensures default { IfOk result (λ found. found.default ≡ envoy_default_of (view listener.now)) }
+    ensures broken { IfOk result (λ found. found.broken ≡ envoy_chains_broken (view listener.now)) }
+{
+    if has_api(alloc, listener)? {
+        return inspect_api(alloc, listener);
+    }
+    let chains = member::objects(alloc, Some(listener), "filter_chains")?;
+    let default = member::object(alloc, Some(listener), "default_filter_chain")?;
+    let elements = member::elements(chains);
+    let below = inspect_each(alloc, elements)?;
+    let last = inspect_default(alloc, member::inner(default))?;
+    let own = BrokenRules {
+        v6: chains.is_wrong() | default.is_wrong(),
+        v16: (elements.len() == 0) & !default.is_given(),
+        v26: has_collision(below.value.as_slice()),
+        ..BrokenRules::none()
+    };
+    Ok(ChainsFound {
+        chains: below.value,
+        default: last.value,
+        broken: below.broken.or(last.broken.or(own)),
+    })
+}
+
+/// Whether an API listener is given, in any form.
+pub fn has_api(alloc: Global, listener: &Value) -> Result<bool, AllocError>
+    ensures { IfOk result (λ has. has ≡ has_api (view listener.now)) }
+{
+    let api = member::field(alloc, Some(listener), "api_listener")?;
+    Ok(!api.is_absent())
+}
+
+// Inspects an API listener: its connection manager stands for the one filter of one chain without a match.
+fn inspect_api(alloc: Global, listener: &Value) -> Result<ChainsFound, AllocError>
+    ensures chains { IfOk result (λ found. found.chains.items ≡ record { criteria = no_criteria; serve = api_serve_of (view listener.now) } ∷ []) }
+    ensures default { IfOk result (λ found. found.default ≡ None) }
+    ensures broken { IfOk result (λ found. found.broken ≡ api_broken (view listener.now)) }
+{
+    let outer = member::object(alloc, Some(listener), "api_listener")?;
+    let inner = member::object(alloc, member::inner(outer), "api_listener")?;
+    let config = member::inner(inner);
+    let name = member::text(alloc, config, "@type")?;
+    let kind = choose_kind(name);
+    let below = inspect_config(alloc, Profile::Envoy, kind, config)?;
+    let own = BrokenRules {
+        v6: outer.is_wrong() | inner.is_wrong() | name.is_wrong(),
+        v17: !is_manager(kind),
+        ..BrokenRules::none()
+    };
+    let mut chains = Vec::new(alloc);
+    chains.push(FilterChain {
+        criteria: Shared::new(alloc, no_criteria(alloc))?,
+        serve: serve_or_other(below.value),
+    })?;
+    Ok(ChainsFound {
+        chains,
+        default: None,
+        broken: below.broken.or(own),
+    })
+}
+
+// Whether a filter of this kind is a connection manager.
+fn is_manager(kind: FilterKind) -> bool
+    ensures { result ≡ is_manager kind }
+{
+    matches!(kind, FilterKind::Manager)
+}
+
+/// A match that asks for nothing.
+pub fn no_criteria(alloc: Global) -> FilterChainMatch
+    ensures { result ≡ no_criteria }
+{
+    FilterChainMatch {
+        destination_port: None,
+        prefix_ranges: Seq::new(alloc),
+        server_names: Seq::new(alloc),
+        transport_protocol: None,
+        application_protocols: Seq::new(alloc),
+        asks_source: false,
+    }
+}
+
+// Inspects the chains that are given, in order.
+fn inspect_each(alloc: Global, chains: &[Value]) -> Result<Inspection<Vec<FilterChain>>, AllocError>
+    ensures value { IfOk result (λ found. found.value.items ≡ map envoy_chain_of (map view chains.now)) }
+    ensures broken { IfOk result (λ found. found.broken ≡ any_broken envoy_chain_broken (map view chains.now)) }
+{
+    let mut values = Vec::new(alloc);
+    let mut broken = BrokenRules::none();
+    for chain in chains {
+        let found = inspect_envoy_chain(alloc, chain)?;
+        broken = broken.or(found.broken);
+        values.push(found.value)?;
+    }
+    Ok(Inspection {
+        value: values,
+        broken,
+    })
+}
+
+// Inspects a chain with its match.
+fn inspect_envoy_chain(alloc: Global, chain: &Value) -> Result<Inspection<FilterChain>, AllocError>
+    ensures value { IfOk result (λ found. found.value ≡ envoy_chain_of (view chain.now)) }
+    ensures broken { IfOk result (λ found. found.broken ≡ envoy_chain_broken (view chain.now)) }
+{
+    let below = inspect_served(alloc, chain)?;
+    let matched = member::object(alloc, Some(chain), "filter_chain_match")?;
+    let criteria = inspect_filter_chain_match(alloc, member::inner(matched))?;
+    let own = BrokenRules {
+        v6: matched.is_wrong(),
+        ..BrokenRules::none()
+    };
+    Ok(Inspection {
+        broken: below.broken.or(criteria.broken.or(own)),
+        value: FilterChain {
+            criteria: Shared::new(alloc, criteria.value)?,
+            serve: below.value,
+        },
+    })
+}
+
+// Inspects what a chain serves, its match left aside.
+fn inspect_served(alloc: Global, chain: &Value) -> Result<Inspection<Serve>, AllocError>
+    ensures value { IfOk result (λ found. found.value ≡ served_by (view chain.now)) }
+    ensures broken { IfOk result (λ found. found.broken ≡ filters_broken (view chain.now)) }
+{
+    let filters = member::objects(alloc, Some(chain), "filters")?;
+    let below = inspect_filters(alloc, Profile::Envoy, member::elements(filters))?;
+    let own = BrokenRules {
+        v6: filters.is_wrong(),
+        v17: more_than_one(below.serving.as_slice()),
+        ..BrokenRules::none()
+    };
+    Ok(Inspection {
+        broken: below.broken.or(own),
+        value: serve_or_other(below.serve),
+    })
+}
+
+// Inspects the default chain, if there is one.
+fn inspect_default(
+    alloc: Global,
+    chain: Option<&Value>,
+) -> Result<Inspection<Option<Serve>>, AllocError>
+    ensures value { IfOk result (λ found. found.value ≡ option_map (λ c. served_by (view c.now)) chain.entry) }
+    ensures broken { IfOk result (λ found. found.broken ≡ default_broken (option_map (λ c. view c.now) chain.entry)) }
+{
+    match chain {
+        Some(chain) => {
+            let found = inspect_served(alloc, chain)?;
+            Ok(Inspection {
+                value: Some(found.value),
+                broken: found.broken,
+            })
+        }
+        None => Ok(Inspection {
+            value: None,
+            broken: BrokenRules::none(),
+        }),
+    }
+}
+
+// What is served, or something that isn't read.
+fn serve_or_other(serve: Option<Serve>) -> Serve
+    ensures { result ≡ serve_or_other serve }
+{
+    match serve {
+        Some(serve) => serve,
+        None => Serve::Other,
+    }
+}
