@@ -1,6 +1,6 @@
 -- The text of a journal: lines of compact JSON with sorted keys, each closed by a line feed. This project's own; a request's
 -- text is that of the crate that writes requests.
-use Rattle.std.specs.Prelude.{ℕ, List, [], ◌∷◌, ◌++◌, length, map, codes, decimal}
+use Rattle.std.specs.Prelude.{ℕ, List, [], ◌∷◌, ◌++◌, length, map, Option, None, Some, codes, decimal}
 use Rattle.std.specs.List.{flat_map}
 use Rattle.serde_json.specs.Data.{Data, number, unsigned, string, array, object, member, no_members}
 use Rattle.serde_json.specs.View.{items_of}
@@ -10,7 +10,7 @@ use Rattle.ev_types.specs.declared.events.Actor.TheVariants.{Stream, Health, Tim
 use Rattle.ev_types.specs.declared.events.Op.{Op}
 use Rattle.ev_types.specs.declared.events.Op.TheVariants.{Connect, Disconnect, Response, Health as health, FetchTimeout, DrainTimeout, TtlExpired, Publish, Reap, Accept, Close, Settle}
 use Rattle.ev_types.specs.declared.events.Answer.{Answer}
-use Rattle.ev_types.specs.declared.events.Answer.TheVariants.{Ignored, Done, Moved, Replied, Version, Unchanged, Reaped, InUse, NoListener, NoRoute, Redirect, NoCluster, NoEndpoint, Local, Served, NotOpen, Settled}
+use Rattle.ev_types.specs.declared.events.Answer.TheVariants.{Ignored, Done, Moved, Replied, Version, Unchanged, Reaped, InUse, NoListener, NoChain, Undecided, Elsewhere, NoRoute, Redirect, NoCluster, NoEndpoint, Local, Served, NotOpen, Settled}
 use Rattle.ev_types.specs.declared.hosts.Host.{Host}
 use Rattle.ev_types.specs.declared.events.Verdict.{Verdict}
 use Rattle.ev_types.specs.declared.events.Verdict.TheVariants.{New, Same, Kept, Unasked, Renewed, Refused}
@@ -69,7 +69,7 @@ requests_tree requests = array (items_of (map request_tree requests))
 abbrev pub numbers_tree : List ℕ → Data
 numbers_tree numbers = array (items_of (map number_tree numbers))
 
--- what becomes of a connection that a listener takes and no host serves
+-- what becomes of a connection that a listener takes and goes to no host that is known
 abbrev pub unserved_tree : List ℕ → ℕ → Data
 unserved_tree word listener = object (member (codes "listener") (number_tree listener) (member (codes "result") (string word) no_members))
 
@@ -89,6 +89,14 @@ served_tree listener cluster host = object
     (member (codes "port") (number_tree host.port)
     (member (codes "result") (string (codes "served")) no_members)))))
 
+-- a connection that goes where no script tells, by a cluster or by none
+abbrev pub elsewhere_tree : ℕ → Option ℕ → Data
+elsewhere_tree listener None = unserved_tree (codes "elsewhere") listener
+elsewhere_tree listener (Some cluster) = object
+    (member (codes "cluster") (number_tree cluster)
+    (member (codes "listener") (number_tree listener)
+    (member (codes "result") (string (codes "elsewhere")) no_members)))
+
 -- an answer
 abbrev pub answer_tree : Answer → Data
 answer_tree Ignored = string (codes "ignored")
@@ -102,6 +110,9 @@ answer_tree Unchanged = string (codes "unchanged")
 answer_tree (Reaped numbers) = object (member (codes "reaped") (numbers_tree numbers) no_members)
 answer_tree InUse = string (codes "inUse")
 answer_tree NoListener = string (codes "noListener")
+answer_tree NoChain = string (codes "noChain")
+answer_tree (Undecided listener) = unserved_tree (codes "undecided") listener
+answer_tree (Elsewhere listener cluster) = elsewhere_tree listener cluster
 answer_tree (NoRoute listener) = unserved_tree (codes "noRoute") listener
 answer_tree (Redirect listener) = unserved_tree (codes "redirect") listener
 answer_tree (NoCluster listener) = unserved_tree (codes "noCluster") listener

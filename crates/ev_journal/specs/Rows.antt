@@ -1,5 +1,5 @@
 -- The rows that texts are: a text is a row's where it is the text of that row. This project's own.
-use Rattle.std.specs.Prelude.{◌≡◌, ◌<◌, ◌≤◌, ◌^◌, ℕ, List, [], ◌∷◌, map, All, Bool, true, Option, Some, None, ⊤}
+use Rattle.std.specs.Prelude.{◌≡◌, ◌<◌, ◌≤◌, ◌^◌, ℕ, List, [], ◌∷◌, map, All, IfSome, Bool, true, Option, Some, None, ⊤}
 use Rattle.std.specs.List.{list_any}
 use Rattle.std.specs.Str.{IsUtf8}
 use Rattle.serde_json.specs.Data.{null, boolean, number, string, array, object, Members, member, no_members}
@@ -14,7 +14,7 @@ use Rattle.ev_types.specs.declared.events.Op.TheVariants.{Connect, Disconnect, R
 use Rattle.ev_types.specs.declared.events.Verdict.{Verdict}
 use Rattle.ev_types.specs.declared.events.Verdict.TheVariants.{New, Same, Kept, Unasked, Renewed, Refused}
 use Rattle.ev_types.specs.declared.events.Answer.{Answer}
-use Rattle.ev_types.specs.declared.events.Answer.TheVariants.{Ignored, Done, Moved, Replied, Version, Unchanged, Reaped, InUse, NoListener, NoRoute, Redirect, NoCluster, NoEndpoint, Local, Served, NotOpen, Settled}
+use Rattle.ev_types.specs.declared.events.Answer.TheVariants.{Ignored, Done, Moved, Replied, Version, Unchanged, Reaped, InUse, NoListener, NoChain, Undecided, Elsewhere, NoRoute, Redirect, NoCluster, NoEndpoint, Local, Served, NotOpen, Settled}
 use Rattle.ev_types.specs.declared.hosts.Host.{Host}
 use Rattle.ev_types.specs.declared.journals.Row.{Row}
 use Rattle.ev_wire.specs.Requests.{version_members}
@@ -32,6 +32,9 @@ operations_with Unchanged = Publish ∷ []
 operations_with (Reaped numbers) = Reap ∷ []
 operations_with InUse = Accept ∷ []
 operations_with NoListener = Accept ∷ []
+operations_with NoChain = Accept ∷ []
+operations_with (Undecided listener) = Accept ∷ []
+operations_with (Elsewhere listener cluster) = Accept ∷ []
 operations_with (NoRoute listener) = Accept ∷ []
 operations_with (Redirect listener) = Accept ∷ []
 operations_with (NoCluster listener) = Accept ∷ []
@@ -86,6 +89,9 @@ IsAnswer Unchanged = ⊤
 IsAnswer (Reaped numbers) = All IsGeneration numbers
 IsAnswer InUse = ⊤
 IsAnswer NoListener = ⊤
+IsAnswer NoChain = ⊤
+IsAnswer (Undecided listener) = IsGeneration listener
+IsAnswer (Elsewhere listener cluster) = IsGeneration listener × IfSome cluster IsGeneration
 IsAnswer (NoRoute listener) = IsGeneration listener
 IsAnswer (Redirect listener) = IsGeneration listener
 IsAnswer (NoCluster listener) = IsGeneration listener
@@ -166,6 +172,9 @@ chosen_answer Unchanged = Unchanged
 chosen_answer (Reaped numbers) = Reaped numbers
 chosen_answer InUse = InUse
 chosen_answer NoListener = NoListener
+chosen_answer NoChain = NoChain
+chosen_answer (Undecided listener) = Undecided listener
+chosen_answer (Elsewhere listener cluster) = Elsewhere listener cluster
 chosen_answer (NoRoute listener) = NoRoute listener
 chosen_answer (Redirect listener) = Redirect listener
 chosen_answer (NoCluster listener) = NoCluster listener

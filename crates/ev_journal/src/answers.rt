@@ -1,7 +1,7 @@
-ghost use Rattle.std.specs.Prelude.{◌≡◌, ◌<◌, ◌^◌, map, All, IfOk, OnOk};
+ghost use Rattle.std.specs.Prelude.{◌≡◌, ◌<◌, ◌^◌, map, All, Some, IfOk, IfSome, OnOk};
 ghost use Rattle.serde_json.specs.Data.{array};
 ghost use Rattle.serde_json.specs.View.{view, items_of};
-ghost use Rattle.ev_journal.specs.Rendering.{numbers_tree, requests_tree, unserved_tree, local_tree, served_tree, answer_tree, verdict_tree};
+ghost use Rattle.ev_journal.specs.Rendering.{numbers_tree, requests_tree, unserved_tree, elsewhere_tree, local_tree, served_tree, answer_tree, verdict_tree};
 ghost use Rattle.ev_types.specs.Texts.{IsName};
 ghost use Rattle.ev_journal.specs.Rows.{IsAnswer, IsGeneration, IsHost, IsRequest, IsVerdict, KeepsRule};
 
@@ -28,6 +28,9 @@ pub(crate) fn answer_value(alloc: Global, answer: &Answer) -> Result<Value, Allo
         Answer::Reaped(numbers) => reaped_value(alloc, numbers.as_slice()),
         Answer::InUse => json!(in alloc; "inUse"),
         Answer::NoListener => json!(in alloc; "noListener"),
+        Answer::NoChain => json!(in alloc; "noChain"),
+        Answer::Undecided { listener } => unserved_value(alloc, "undecided", *listener),
+        Answer::Elsewhere { listener, cluster } => elsewhere_value(alloc, *listener, *cluster),
         Answer::NoRoute { listener } => unserved_value(alloc, "noRoute", *listener),
         Answer::Redirect { listener } => unserved_value(alloc, "redirect", *listener),
         Answer::NoCluster { listener } => unserved_value(alloc, "noCluster", *listener),
@@ -79,12 +82,37 @@ fn reaped_value(alloc: Global, numbers: &[Gen]) -> Result<Value, AllocError>
     json!(in alloc; {"reaped": numbers})
 }
 
-// What becomes of a connection that a listener takes and no host serves.
+// What becomes of a connection that a listener takes and goes to no host that is known.
 fn unserved_value(alloc: Global, word: &str, listener: Gen) -> Result<Value, AllocError>
     ensures tree { IfOk result (λ v. view v ≡ unserved_tree word.now listener) }
     ensures bounded { OnOk result (IsGeneration listener) }
 {
     json!(in alloc; {"listener": listener.number(), "result": word})
+}
+
+// The tree of a connection that goes where no script tells.
+fn elsewhere_value(alloc: Global, listener: Gen, cluster: Option<Gen>) -> Result<Value, AllocError>
+    ensures tree { IfOk result (λ v. view v ≡ elsewhere_tree listener cluster) }
+    ensures bounded_listener { OnOk result (IsGeneration listener) }
+    ensures bounded_cluster { OnOk result (IfSome cluster IsGeneration) }
+{
+    match cluster {
+        Some(cluster) => going_value(alloc, listener, cluster),
+        None => unserved_value(alloc, "elsewhere", listener),
+    }
+}
+
+// The tree of a connection that goes by a cluster where no script tells.
+fn going_value(alloc: Global, listener: Gen, cluster: Gen) -> Result<Value, AllocError>
+    ensures tree { IfOk result (λ v. view v ≡ elsewhere_tree listener (Some cluster)) }
+    ensures bounded_listener { OnOk result (IsGeneration listener) }
+    ensures bounded_cluster { OnOk result (IsGeneration cluster) }
+{
+    json!(in alloc; {
+        "cluster": cluster.number(),
+        "listener": listener.number(),
+        "result": "elsewhere",
+    })
 }
 
 // The tree of a connection that is answered at once.

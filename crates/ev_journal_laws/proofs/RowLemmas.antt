@@ -20,7 +20,7 @@ use Rattle.ev_types.specs.declared.journals.Format.{Format}
 use Rattle.ev_types.specs.declared.rows.GenRow.{GenRow}
 use Rattle.ev_model.specs.declared.pictures.Picture.{Picture}
 use Rattle.ev_model.specs.declared.pictures.Choice.{Choice}
-use Rattle.ev_model.specs.declared.pictures.Choice.TheVariants.{NoListener, NoRoute, Local, Redirect, NoCluster, NoEndpoint, Served}
+use Rattle.ev_model.specs.declared.pictures.Choice.TheVariants.{NoListener, NoChain, Undecided, Elsewhere, NoRoute, Local, Redirect, NoCluster, NoEndpoint, Served}
 use Rattle.ev_model.specs.World.{World, OpenMember, last_version}
 use Rattle.ev_model.specs.Choice.{choice_of}
 use Rattle.ev_model.specs.Connections.{Worked, is_member, is_open, host_at, served_by, answer_of, opened_by, accepted}
@@ -72,6 +72,9 @@ to_service listener cluster (Some host) = refl
 
 to_choice : (picture : Picture) (choice : Choice) → MayHave to_accept (answer_of picture choice)
 to_choice picture NoListener = refl
+to_choice picture NoChain = refl
+to_choice picture (Undecided listener) = refl
+to_choice picture (Elsewhere listener cluster) = refl
 to_choice picture (NoRoute listener) = refl
 to_choice picture (Local listener status) = refl
 to_choice picture (Redirect listener) = refl

@@ -11,7 +11,7 @@ use Rattle.ev_types.specs.Events.{op_same}
 use Rattle.ev_types.specs.declared.contents.Request.{Request}
 use Rattle.ev_types.specs.declared.events.Op.{Op}
 use Rattle.ev_types.specs.declared.events.Answer.{Answer}
-use Rattle.ev_types.specs.declared.events.Answer.TheVariants.{Ignored, Done, Moved, Replied, Version, Unchanged, Reaped, InUse, NoListener, NoRoute, Redirect, NoCluster, NoEndpoint, Local, Served, NotOpen, Settled}
+use Rattle.ev_types.specs.declared.events.Answer.TheVariants.{Ignored, Done, Moved, Replied, Version, Unchanged, Reaped, InUse, NoListener, NoChain, Undecided, Elsewhere, NoRoute, Redirect, NoCluster, NoEndpoint, Local, Served, NotOpen, Settled}
 use Rattle.ev_types.specs.declared.journals.Row.{Row}
 use Rattle.ev_wire.specs.Requests.{request_tree, type_url, with_nonce, with_names, with_node, with_versions, with_error}
 use Rattle.ev_journal.specs.Rendering.{answer_tree, row_object, requests_tree, verdict_tree}
@@ -80,6 +80,9 @@ answer_same Unchanged h = refl
 answer_same (Reaped numbers) h = refl
 answer_same InUse h = refl
 answer_same NoListener h = refl
+answer_same NoChain h = refl
+answer_same (Undecided listener) h = refl
+answer_same (Elsewhere listener cluster) h = refl
 answer_same (NoRoute listener) h = refl
 answer_same (Redirect listener) h = refl
 answer_same (NoCluster listener) h = refl
@@ -99,6 +102,9 @@ answer_twice Unchanged h = refl
 answer_twice (Reaped numbers) h = refl
 answer_twice InUse h = refl
 answer_twice NoListener h = refl
+answer_twice NoChain h = refl
+answer_twice (Undecided listener) h = refl
+answer_twice (Elsewhere listener cluster) h = refl
 answer_twice (NoRoute listener) h = refl
 answer_twice (Redirect listener) h = refl
 answer_twice (NoCluster listener) h = refl
@@ -118,6 +124,9 @@ IsAnswer-chosen Unchanged h = h
 IsAnswer-chosen (Reaped numbers) h = h
 IsAnswer-chosen InUse h = h
 IsAnswer-chosen NoListener h = h
+IsAnswer-chosen NoChain h = h
+IsAnswer-chosen (Undecided listener) h = h
+IsAnswer-chosen (Elsewhere listener cluster) h = h
 IsAnswer-chosen (NoRoute listener) h = h
 IsAnswer-chosen (Redirect listener) h = h
 IsAnswer-chosen (NoCluster listener) h = h
@@ -137,6 +146,9 @@ operations_same Unchanged = refl
 operations_same (Reaped numbers) = refl
 operations_same InUse = refl
 operations_same NoListener = refl
+operations_same NoChain = refl
+operations_same (Undecided listener) = refl
+operations_same (Elsewhere listener cluster) = refl
 operations_same (NoRoute listener) = refl
 operations_same (Redirect listener) = refl
 operations_same (NoCluster listener) = refl

@@ -8,16 +8,16 @@ use Rattle.serde_json.specs.Find.{get, as_number, as_u64, as_str, as_object}
 use Rattle.ev_types.specs.Texts.{IsName}
 use Rattle.ev_types.specs.declared.limits.TheConstants.{MAX_NAME_LENGTH}
 use Rattle.ev_types.specs.declared.events.Actor.TheVariants as actor
-use Rattle.ev_types.specs.declared.events.Answer.TheVariants.{Ignored, Done, Unchanged, InUse, NoListener, NotOpen, Moved, Replied, Version, Reaped, NoRoute, Redirect, NoCluster, NoEndpoint, Local, Served, Settled}
+use Rattle.ev_types.specs.declared.events.Answer.TheVariants.{Ignored, Done, Unchanged, InUse, NoListener, NoChain, NotOpen, Moved, Replied, Version, Reaped, Undecided, Elsewhere, NoRoute, Redirect, NoCluster, NoEndpoint, Local, Served, Settled}
 use Rattle.ev_types.specs.declared.events.Verdict.TheVariants as verdict
 use Rattle.ev_types.specs.declared.journals.Row.{Row}
 use Rattle.ev_tree.specs.Scalars.{u32_text, list_in}
-use Rattle.ev_script.specs.Members.{whole_within, name_of, member_of, or_default}
+use Rattle.ev_script.specs.Members.{whole_within, name_of, member_of, member_or, or_default}
 use Rattle.ev_journal.specs.Rows.{IsGeneration, IsHost, IsActor, IsVerdict, IsRequest, IsAnswer}
 use Rattle.ev_journal_read.specs.declared.requests.RequestLists.{RequestLists}
 use Rattle.ev_journal_read.specs.declared.rows.RowHead.{RowHead}
 use Rattle.ev_journal_read.specs.Words.{number_behind, actor_named, rule_of, verdict_named, answer_named, unserved_named}
-use Rattle.ev_journal_read.specs.Trees.{number16, number32, number64, generation_of, all_read, list_of, pair_of, pairs_of, versions_of, versions_at, names_at, kind_of, texts_of, lists_with, lists_of, request_with, request_of, verdict_of, sent_answer, version_answer, local_answer, host_with, host_of, served_answer, taken_answer, result_answer, answer_with, answer_by, answer_of, actor_of, op_of, head_with, head_of, row_with, row_of}
+use Rattle.ev_journal_read.specs.Trees.{number16, number32, number64, generation_of, all_read, list_of, pair_of, pairs_of, versions_of, versions_at, names_at, kind_of, texts_of, lists_with, lists_of, request_with, request_of, verdict_of, sent_answer, version_answer, local_answer, given_generation, elsewhere_answer, host_with, host_of, served_answer, taken_answer, result_answer, answer_with, answer_by, answer_of, actor_of, op_of, head_with, head_of, row_with, row_of}
 use Rattle.ev_journal_read.proofs.EachLemmas.{All-none, All-more}
 use Rattle.ev_journal_read.proofs.VersionLemmas.{HasName, AreNamed}
 
@@ -145,12 +145,12 @@ verdict_kept word =
 answer_word_kept : (word : List ℕ) → Kept (answer_named word) IsAnswer
 answer_word_kept word =
     named IsAnswer _ Ignored _ tt (named IsAnswer _ Done _ tt (named IsAnswer _ Unchanged _ tt (named IsAnswer _ InUse _ tt (named IsAnswer _ NoListener _ tt
-    (named IsAnswer _ NotOpen _ tt (nothing IsAnswer))))))
+    (named IsAnswer _ NoChain _ tt (named IsAnswer _ NotOpen _ tt (nothing IsAnswer)))))))
 
 unserved_kept : (word : List ℕ) (listener : ℕ) → IsGeneration listener → Kept (unserved_named word listener) IsAnswer
 unserved_kept word listener h =
-    named IsAnswer _ (NoRoute listener) _ h (named IsAnswer _ (Redirect listener) _ h (named IsAnswer _ (NoCluster listener) _ h
-    (named IsAnswer _ (NoEndpoint listener) _ h (nothing IsAnswer))))
+    named IsAnswer _ (Undecided listener) _ h (named IsAnswer _ (NoRoute listener) _ h (named IsAnswer _ (Redirect listener) _ h
+    (named IsAnswer _ (NoCluster listener) _ h (named IsAnswer _ (NoEndpoint listener) _ h (nothing IsAnswer)))))
 
 -- ---- requests
 
@@ -234,9 +234,24 @@ served_kept listener h tree =
     (λ cluster k. kept_map IsHost IsAnswer (λ host. Served listener cluster host) (λ host l. (h, k, l)) (host_of tree) (host_kept tree))
     (member_of generation_of (codes "cluster") tree) (member_kept IsGeneration generation_of generation_kept (codes "cluster") tree)
 
+-- a cluster's number, where one is given
+IsGiven : Option ℕ → Type 0
+IsGiven cluster = IfSome cluster IsGeneration
+
+given_kept : (tree : Data) → Kept (given_generation tree) IsGiven
+unfolding IsGiven
+given_kept tree = kept_map IsGeneration IsGiven (λ (number : ℕ). Some number) (λ number h. h) (generation_of tree) (generation_kept tree)
+
+elsewhere_kept : (listener : ℕ) → IsGeneration listener → (tree : Data) → Kept (elsewhere_answer listener tree) IsAnswer
+unfolding IsGiven
+elsewhere_kept listener h tree =
+    kept_map IsGiven IsAnswer (λ (cluster : Option ℕ). Elsewhere listener cluster) (λ cluster k. (h, k)) (member_or None given_generation (codes "cluster") tree)
+    (default_kept IsGiven given_generation None tt given_kept (get (codes "cluster") tree))
+
 taken_kept : (word : List ℕ) (listener : ℕ) → IsGeneration listener → (tree : Data) → Kept (taken_answer word listener tree) IsAnswer
 taken_kept word listener h tree =
-    kept_if IsAnswer _ _ _ (served_kept listener h tree) (kept_if IsAnswer _ _ _ (local_kept listener h tree) (unserved_kept word listener h))
+    kept_if IsAnswer _ _ _ (served_kept listener h tree) (kept_if IsAnswer _ _ _ (local_kept listener h tree)
+    (kept_if IsAnswer _ _ _ (elsewhere_kept listener h tree) (unserved_kept word listener h)))
 
 result_kept : (tree : Data) → Kept (result_answer tree) IsAnswer
 result_kept tree =

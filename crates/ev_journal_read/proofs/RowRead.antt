@@ -1,5 +1,5 @@
 -- The tree of a row reads as the row that is meant by it.
-use Rattle.std.proofs.Common.{◌≡◌, ℕ, ◌^◌, ◌<◌, List, map, Option, Some, option_map, option_and_then, codes, refl, ap, ◌∙◌}
+use Rattle.std.proofs.Common.{◌≡◌, ℕ, ◌^◌, ◌<◌, List, map, Option, None, Some, option_map, option_and_then, codes, refl, ap, ◌∙◌}
 use Rattle.std.specs.Prelude.{All}
 use Rattle.serde_json.specs.Data.{array}
 use Rattle.serde_json.specs.View.{items_of}
@@ -7,7 +7,7 @@ use Rattle.ev_types.specs.declared.events.Actor.{Actor}
 use Rattle.ev_types.specs.declared.events.Op.{Op}
 use Rattle.ev_types.specs.declared.events.Verdict.{Verdict}
 use Rattle.ev_types.specs.declared.events.Answer.{Answer}
-use Rattle.ev_types.specs.declared.events.Answer.TheVariants.{Ignored, Done, Moved, Replied, Version, Unchanged, Reaped, InUse, NoListener, NoRoute, Redirect, NoCluster, NoEndpoint, Local, Served, NotOpen, Settled}
+use Rattle.ev_types.specs.declared.events.Answer.TheVariants.{Ignored, Done, Moved, Replied, Version, Unchanged, Reaped, InUse, NoListener, NoChain, Undecided, Elsewhere, NoRoute, Redirect, NoCluster, NoEndpoint, Local, Served, NotOpen, Settled}
 use Rattle.ev_types.specs.declared.contents.Request.{Request}
 use Rattle.ev_types.specs.declared.hosts.Host.{Host}
 use Rattle.ev_types.specs.declared.journals.Row.{Row}
@@ -56,6 +56,13 @@ answer_read Unchanged h = refl
 answer_read (Reaped numbers) h = ap (option_map Reaped) (generations_read numbers h)
 answer_read InUse h = refl
 answer_read NoListener h = refl
+answer_read NoChain h = refl
+answer_read (Undecided listener) h = of_listener (λ listener. taken_answer (codes "undecided") listener (answer_tree (Undecided listener))) listener h
+answer_read (Elsewhere listener None) h =
+    of_listener (λ taken. taken_answer (codes "elsewhere") taken (answer_tree (Elsewhere listener None))) listener h.0
+answer_read (Elsewhere listener (Some cluster)) h =
+    of_listener (λ taken. taken_answer (codes "elsewhere") taken (answer_tree (Elsewhere listener (Some cluster)))) listener h.0
+    ∙ ap (λ (found : Option ℕ). option_map (λ (given : Option ℕ). Elsewhere listener given) (option_map (λ (number : ℕ). Some number) found)) (generation_of-tree cluster h.1)
 answer_read (NoRoute listener) h = of_listener (λ listener. taken_answer (codes "noRoute") listener (answer_tree (NoRoute listener))) listener h
 answer_read (Redirect listener) h = of_listener (λ listener. taken_answer (codes "redirect") listener (answer_tree (Redirect listener))) listener h
 answer_read (NoCluster listener) h = of_listener (λ listener. taken_answer (codes "noCluster") listener (answer_tree (NoCluster listener))) listener h

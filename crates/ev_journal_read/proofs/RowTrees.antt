@@ -8,7 +8,7 @@ use Rattle.serde_json.specs.Read.{read, max_depth}
 use Rattle.ev_types.specs.declared.contents.Request.{Request}
 use Rattle.ev_types.specs.declared.events.Verdict.{Verdict}
 use Rattle.ev_types.specs.declared.events.Answer.{Answer}
-use Rattle.ev_types.specs.declared.events.Answer.TheVariants.{Ignored, Done, Moved, Replied, Version, Unchanged, Reaped, InUse, NoListener, NoRoute, Redirect, NoCluster, NoEndpoint, Local, Served, NotOpen, Settled}
+use Rattle.ev_types.specs.declared.events.Answer.TheVariants.{Ignored, Done, Moved, Replied, Version, Unchanged, Reaped, InUse, NoListener, NoChain, Undecided, Elsewhere, NoRoute, Redirect, NoCluster, NoEndpoint, Local, Served, NotOpen, Settled}
 use Rattle.ev_types.specs.declared.journals.Row.{Row}
 use Rattle.ev_wire.specs.Requests.{request_tree, type_url, with_nonce, with_names, with_node, version_members, with_versions, with_error}
 use Rattle.ev_journal.specs.Rendering.{number_tree, verdict_tree, answer_tree, row_tree}
@@ -94,6 +94,11 @@ IsCanonical-answer Unchanged h = tt
 IsCanonical-answer (Reaped numbers) h = ((tt, tt), (AreCanonical-map IsGeneration number_tree IsCanonical-generation numbers h, tt))
 IsCanonical-answer InUse h = tt
 IsCanonical-answer NoListener h = tt
+IsCanonical-answer NoChain h = tt
+IsCanonical-answer (Undecided listener) h = (((refl, tt), (tt, tt)), (IsCanonical-generation listener h, (tt, tt)))
+IsCanonical-answer (Elsewhere listener None) h = (((refl, tt), (tt, tt)), (IsCanonical-generation listener h.0, (tt, tt)))
+IsCanonical-answer (Elsewhere listener (Some cluster)) h =
+    (((refl, (refl, tt)), ((refl, tt), (tt, tt))), (IsCanonical-generation cluster h.1, (IsCanonical-generation listener h.0, (tt, tt))))
 IsCanonical-answer (NoRoute listener) h = (((refl, tt), (tt, tt)), (IsCanonical-generation listener h, (tt, tt)))
 IsCanonical-answer (Redirect listener) h = (((refl, tt), (tt, tt)), (IsCanonical-generation listener h, (tt, tt)))
 IsCanonical-answer (NoCluster listener) h = (((refl, tt), (tt, tt)), (IsCanonical-generation listener h, (tt, tt)))
@@ -187,6 +192,10 @@ depth-answer Unchanged = omega arith
 depth-answer (Reaped numbers) = omega (arith, items_depth-each number_tree 0 (λ _. omega arith) numbers)
 depth-answer InUse = omega arith
 depth-answer NoListener = omega arith
+depth-answer NoChain = omega arith
+depth-answer (Undecided listener) = omega arith
+depth-answer (Elsewhere listener None) = omega arith
+depth-answer (Elsewhere listener (Some cluster)) = omega arith
 depth-answer (NoRoute listener) = omega arith
 depth-answer (Redirect listener) = omega arith
 depth-answer (NoCluster listener) = omega arith

@@ -14,7 +14,7 @@ use Rattle.ev_types.specs.declared.events.Actor.{Actor}
 use Rattle.ev_types.specs.declared.events.Op.{Op}
 use Rattle.ev_types.specs.declared.events.Verdict.{Verdict}
 use Rattle.ev_types.specs.declared.events.Answer.{Answer}
-use Rattle.ev_types.specs.declared.events.Answer.TheVariants.{Moved, Replied, Version, Reaped, Local, Served, Settled}
+use Rattle.ev_types.specs.declared.events.Answer.TheVariants.{Moved, Replied, Version, Reaped, Elsewhere, Local, Served, Settled}
 use Rattle.ev_types.specs.declared.hosts.Host.{Host}
 use Rattle.ev_types.specs.declared.journals.Row.{Row}
 use Rattle.ev_tree.specs.Scalars.{list_in}
@@ -174,11 +174,20 @@ abbrev pub served_answer : ℕ → Data → Option Answer
 served_answer listener tree =
     option_and_then (λ cluster. option_map (λ host. Served listener cluster host) (host_of tree)) (member_of generation_of (codes "cluster") tree)
 
+-- a generation's number that is given
+abbrev pub given_generation : Data → Option (Option ℕ)
+given_generation tree = option_map (λ number. Some number) (generation_of tree)
+
+-- a connection that goes where no script tells, by a cluster where one is given
+abbrev pub elsewhere_answer : ℕ → Data → Option Answer
+elsewhere_answer listener tree = option_map (λ cluster. Elsewhere listener cluster) (member_or None given_generation (codes "cluster") tree)
+
 -- the same, by that word and the listener
 abbrev pub taken_answer : List ℕ → ℕ → Data → Option Answer
 taken_answer word listener tree =
     if bytes_eq word (codes "served") then served_answer listener tree
     else if bytes_eq word (codes "local") then local_answer listener tree
+    else if bytes_eq word (codes "elsewhere") then elsewhere_answer listener tree
     else unserved_named word listener
 
 -- what becomes of a connection that a listener takes, by the word for it

@@ -10,7 +10,7 @@ use Rattle.ev_types.specs.declared.events.Op.TheVariants.{Connect, Disconnect, R
 use Rattle.ev_types.specs.declared.events.Verdict.{Verdict}
 use Rattle.ev_types.specs.declared.events.Verdict.TheVariants.{New, Same, Kept, Unasked, Renewed, Refused}
 use Rattle.ev_types.specs.declared.events.Answer.{Answer}
-use Rattle.ev_types.specs.declared.events.Answer.TheVariants.{Ignored, Done, Unchanged, InUse, NoListener, NoRoute, Redirect, NoCluster, NoEndpoint, NotOpen}
+use Rattle.ev_types.specs.declared.events.Answer.TheVariants.{Ignored, Done, Unchanged, InUse, NoListener, NoChain, Undecided, NoRoute, Redirect, NoCluster, NoEndpoint, NotOpen}
 use Rattle.ev_tree.specs.Scalars.{u32_text}
 use Rattle.ev_wire.specs.Requests.{type_url}
 
@@ -67,13 +67,15 @@ answer_named word =
     else if bytes_eq word (codes "unchanged") then Some Unchanged
     else if bytes_eq word (codes "inUse") then Some InUse
     else if bytes_eq word (codes "noListener") then Some NoListener
+    else if bytes_eq word (codes "noChain") then Some NoChain
     else if bytes_eq word (codes "notOpen") then Some NotOpen
     else None
 
--- what becomes of a connection that no host serves, by its word
+-- what becomes of a connection that goes to no host that is known, by its word
 abbrev pub unserved_named : List ℕ → ℕ → Option Answer
 unserved_named word listener =
-    if bytes_eq word (codes "noRoute") then Some (NoRoute listener)
+    if bytes_eq word (codes "undecided") then Some (Undecided listener)
+    else if bytes_eq word (codes "noRoute") then Some (NoRoute listener)
     else if bytes_eq word (codes "redirect") then Some (Redirect listener)
     else if bytes_eq word (codes "noCluster") then Some (NoCluster listener)
     else if bytes_eq word (codes "noEndpoint") then Some (NoEndpoint listener)

@@ -1,7 +1,7 @@
-ghost use Rattle.std.specs.Prelude.{◌≡◌, [], option_map, IfOk};
+ghost use Rattle.std.specs.Prelude.{◌≡◌, [], None, codes, option_map, IfOk};
 ghost use Rattle.serde_json.specs.View.{view};
-ghost use Rattle.ev_script.specs.Members.{member_of};
-ghost use Rattle.ev_journal_read.specs.Trees.{generation_of, number64, list_of, tree_found, verdict_of, sent_answer, version_answer, local_answer, host_of, served_answer, taken_answer, result_answer, answer_found, answer_of};
+ghost use Rattle.ev_script.specs.Members.{member_of, member_or};
+ghost use Rattle.ev_journal_read.specs.Trees.{generation_of, number64, list_of, tree_found, verdict_of, sent_answer, version_answer, local_answer, given_generation, elsewhere_answer, host_of, served_answer, taken_answer, result_answer, answer_found, answer_of};
 ghost use Rattle.ev_journal.specs.Rows.{is_answered_with};
 ghost use Rattle.ev_types.specs.declared.events.Answer.TheVariants as Answer;
 
@@ -168,6 +168,7 @@ fn taken_answer(
     match word {
         "served" => served_answer(alloc, listener, tree),
         "local" => Ok(local_answer(listener, tree)),
+        "elsewhere" => Ok(elsewhere_answer(listener, tree)),
         _ => Ok(unserved_named(word, listener)),
     }
 }
@@ -178,6 +179,36 @@ fn local_answer(listener: Gen, tree: &Value) -> Option<Answer>
 {
     match number16_at(tree, "status") {
         Some(status) => Some(Answer::Local { listener, status }),
+        None => None,
+    }
+}
+
+// A connection that goes where no script tells.
+fn elsewhere_answer(listener: Gen, tree: &Value) -> Option<Answer>
+    ensures { result ≡ elsewhere_answer listener (view tree.now) }
+{
+    match cluster_of(tree) {
+        Some(cluster) => Some(Answer::Elsewhere { listener, cluster }),
+        None => None,
+    }
+}
+
+// The cluster by which it goes, where one is given.
+fn cluster_of(tree: &Value) -> Option<Option<Gen>>
+    ensures { result ≡ member_or None given_generation (codes "cluster") (view tree.now) }
+{
+    match tree.get("cluster") {
+        Some(cluster) => given_generation(cluster),
+        None => Some(None),
+    }
+}
+
+// A generation's number that is given.
+fn given_generation(tree: &Value) -> Option<Option<Gen>>
+    ensures { result ≡ given_generation (view tree.now) }
+{
+    match generation_of(tree) {
+        Some(number) => Some(Some(number)),
         None => None,
     }
 }

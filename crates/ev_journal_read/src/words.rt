@@ -110,16 +110,18 @@ pub(crate) fn answer_named(word: &str) -> Option<Answer>
         "unchanged" => Some(Answer::Unchanged),
         "inUse" => Some(Answer::InUse),
         "noListener" => Some(Answer::NoListener),
+        "noChain" => Some(Answer::NoChain),
         "notOpen" => Some(Answer::NotOpen),
         _ => None,
     }
 }
 
-// What becomes of a connection that no host serves, by its word.
+// What becomes of a connection that goes to no host that is known, by its word.
 pub(crate) fn unserved_named(word: &str, listener: Gen) -> Option<Answer>
     ensures { result ≡ unserved_named word.now listener }
 {
     match word {
+        "undecided" => Some(Answer::Undecided { listener }),
         "noRoute" => Some(Answer::NoRoute { listener }),
         "redirect" => Some(Answer::Redirect { listener }),
         "noCluster" => Some(Answer::NoCluster { listener }),

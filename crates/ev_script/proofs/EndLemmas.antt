@@ -9,6 +9,7 @@ use Rattle.ev_io.specs.LinesState.{LinesState}
 use Rattle.ev_io.specs.ReadLine.{ReadsLine, ReachesEnd, TellsFault, FailsToRead, IsUnfinished}
 use Rattle.ev_script.specs.declared.fault_kinds.FaultKind.{FaultKind}
 use Rattle.ev_script.specs.declared.fault_kinds.FaultKind.TheVariants.{TooLong, TooMany, TooLarge, NotJson, NotHeader, NotLine, NoSuchWorker, NoByte, NotJournal}
+use Rattle.ev_script.specs.declared.forms.Settings.{Settings}
 use Rattle.ev_script.specs.Faults.{LineForms, index_at, EndsLine, BeginsJournal, fault_order, fault_line, fault_number, Stands, IsFaultOf, HasNoFault}
 use Rattle.ev_script.specs.ReadLines.{AreRead}
 use Rattle.ev_script.specs.ReadInput.{input_of, script_fault, IsTold, IsWhole}
@@ -20,27 +21,27 @@ use Rattle.ev_script.proofs.StepLemmas.{are_read_same}
 
 -- ---- a fault of the limits, and a read that failed
 
-limit_told : (forms : LineForms) (audit : Bool) (workers : ℕ) (old new : LinesState) (all : List ℕ) (fault : LineFault) (kind : FaultKind) → TellsFault old new all fault → Tells fault kind → ((place : ℕ) → fault_line (input_of audit new all) place kind ≡ index_at (input_of audit new all) place + 1) → AreRead forms audit (lines_of all) workers old.given → IsFaultOf forms (input_of audit new all) (new.given + 1) (fault_number kind)
-limit_told forms audit workers old new all fault kind means tells line read =
+limit_told : (forms : LineForms) (audit : Bool) (settings : Settings) (old new : LinesState) (all : List ℕ) (fault : LineFault) (kind : FaultKind) → TellsFault old new all fault → Tells fault kind → ((place : ℕ) → fault_line (input_of audit new all) place kind ≡ index_at (input_of audit new all) place + 1) → AreRead forms audit (lines_of all) settings old.given → IsFaultOf forms (input_of audit new all) (new.given + 1) (fault_number kind)
+limit_told forms audit settings old new all fault kind means tells line read =
     let place : ℕ = means.first.0 in
     let index : index_at (input_of audit new all) place ≡ new.given = means.first.2 in
     let same : old.given ≡ index_at (input_of audit new all) place = sym means.number ∙ sym index in
-    let before : AreRead forms audit (lines_of all) workers (index_at (input_of audit new all) place) = subst (AreRead forms audit (lines_of all) workers) same read in
+    let before : AreRead forms audit (lines_of all) settings (index_at (input_of audit new all) place) = subst (AreRead forms audit (lines_of all) settings) same read in
     record {
       place = place;
       kind = kind;
-      first = limit_first forms (input_of audit new all) workers place fault kind means.first.1 tells before;
-      before = λ start h b. (sound_line forms (input_of audit new all) workers place start before means.first.1.within b.ends h).journal b;
+      first = limit_first forms (input_of audit new all) settings place fault kind means.first.1 tells before;
+      before = λ start h b. (sound_line forms (input_of audit new all) settings place start before means.first.1.within b.ends h).journal b;
       told = ap (λ (n : ℕ). n + 1) (sym index) ∙ sym (line place);
       numbered = refl;
     }
 
 -- bytes that were all read to the last line's end, and go on
-unfinished_told : (forms : LineForms) (audit : Bool) (workers : ℕ) (new : LinesState) (all : List ℕ) (given : ℕ) → IsUnfinished new.given new.ended all → new.given ≡ given → AreRead forms audit (lines_of all) workers given → HasNoFault forms (input_of audit new all) × (¬ (IsTrue new.ended)) × ((start : ℕ) → ¬ (BeginsJournal (input_of audit new all) start))
-unfinished_told forms audit workers new all given u number read = (
-  no_fault forms (input_of audit new all) workers given read (λ place ends. within place ends) (λ other h. u.sound other h) (λ ended e. u.goes_on ended) (λ asked ended. u.goes_on ended),
+unfinished_told : (forms : LineForms) (audit : Bool) (settings : Settings) (new : LinesState) (all : List ℕ) (given : ℕ) → IsUnfinished new.given new.ended all → new.given ≡ given → AreRead forms audit (lines_of all) settings given → HasNoFault forms (input_of audit new all) × (¬ (IsTrue new.ended)) × ((start : ℕ) → ¬ (BeginsJournal (input_of audit new all) start))
+unfinished_told forms audit settings new all given u number read = (
+  no_fault forms (input_of audit new all) settings given read (λ place ends. within place ends) (λ other h. u.sound other h) (λ ended e. u.goes_on ended) (λ asked ended. u.goes_on ended),
   u.goes_on,
-  λ start b. (sound_at forms (input_of audit new all) start given workers read (within start b.ends)).journal b,
+  λ start b. (sound_at forms (input_of audit new all) start given settings read (within start b.ends)).journal b,
 )
   where
     within : (place : ℕ) → EndsLine (input_of audit new all) place → index_at (input_of audit new all) place < given
@@ -51,17 +52,17 @@ unfinished_told forms audit workers new all given u number read = (
         omega arith
     within place (inr end) = absurd (u.goes_on end.0)
 
-pub fault_told : (forms : LineForms) (audit : Bool) (workers : ℕ) (old new : LinesState) (bytes more before after : List ℕ) (fault : LineFault) → ReadsLine old new bytes more before after (Err fault) → AreRead forms audit (lines_of bytes) workers old.given → IsTold forms (input_of audit new (bytes ++ more)) (script_fault new.given fault)
-fault_told forms audit workers old new bytes more before after limit.TooLong reads read =
-    limit_told forms audit workers old new (bytes ++ more) limit.TooLong TooLong reads.means.0 refl (λ place. refl) (are_read_same forms audit (lines_of bytes) (lines_of (bytes ++ more)) workers old.given reads.kept read)
-fault_told forms audit workers old new bytes more before after limit.TooMany reads read =
-    limit_told forms audit workers old new (bytes ++ more) limit.TooMany TooMany reads.means.0 refl (λ place. refl) (are_read_same forms audit (lines_of bytes) (lines_of (bytes ++ more)) workers old.given reads.kept read)
-fault_told forms audit workers old new bytes more before after limit.TooLarge reads read =
-    limit_told forms audit workers old new (bytes ++ more) limit.TooLarge TooLarge reads.means.0 refl (λ place. refl) (are_read_same forms audit (lines_of bytes) (lines_of (bytes ++ more)) workers old.given reads.kept read)
-fault_told forms audit workers old new bytes more before after limit.Failed reads read =
+pub fault_told : (forms : LineForms) (audit : Bool) (settings : Settings) (old new : LinesState) (bytes more before after : List ℕ) (fault : LineFault) → ReadsLine old new bytes more before after (Err fault) → AreRead forms audit (lines_of bytes) settings old.given → IsTold forms (input_of audit new (bytes ++ more)) (script_fault new.given fault)
+fault_told forms audit settings old new bytes more before after limit.TooLong reads read =
+    limit_told forms audit settings old new (bytes ++ more) limit.TooLong TooLong reads.means.0 refl (λ place. refl) (are_read_same forms audit (lines_of bytes) (lines_of (bytes ++ more)) settings old.given reads.kept read)
+fault_told forms audit settings old new bytes more before after limit.TooMany reads read =
+    limit_told forms audit settings old new (bytes ++ more) limit.TooMany TooMany reads.means.0 refl (λ place. refl) (are_read_same forms audit (lines_of bytes) (lines_of (bytes ++ more)) settings old.given reads.kept read)
+fault_told forms audit settings old new bytes more before after limit.TooLarge reads read =
+    limit_told forms audit settings old new (bytes ++ more) limit.TooLarge TooLarge reads.means.0 refl (λ place. refl) (are_read_same forms audit (lines_of bytes) (lines_of (bytes ++ more)) settings old.given reads.kept read)
+fault_told forms audit settings old new bytes more before after limit.Failed reads read =
     let failed : FailsToRead old new (bytes ++ more) = reads.means.0 in
-    unfinished_told forms audit workers new (bytes ++ more) old.given failed.unfinished failed.number (are_read_same forms audit (lines_of bytes) (lines_of (bytes ++ more)) workers old.given reads.kept read)
-fault_told forms audit workers old new bytes more before after limit.OutOfMemory reads read = tt
+    unfinished_told forms audit settings new (bytes ++ more) old.given failed.unfinished failed.number (are_read_same forms audit (lines_of bytes) (lines_of (bytes ++ more)) settings old.given reads.kept read)
+fault_told forms audit settings old new bytes more before after limit.OutOfMemory reads read = tt
 
 -- ---- the end of the input
 
@@ -127,15 +128,15 @@ some_byte bs given lines some e =
     omega (arith, lines)
 
 -- the end of an input that is no audit's
-pub whole_read : (forms : LineForms) (workers : ℕ) (old new : LinesState) (bytes more before after : List ℕ) → ReadsLine old new bytes more before after (Ok End) → AreRead forms false (lines_of bytes) workers old.given → 0 < old.given → IsWhole forms (input_of false new (bytes ++ more)) old.given
-whole_read forms workers old new bytes more before after reads read some =
+pub whole_read : (forms : LineForms) (settings : Settings) (old new : LinesState) (bytes more before after : List ℕ) → ReadsLine old new bytes more before after (Ok End) → AreRead forms false (lines_of bytes) settings old.given → 0 < old.given → IsWhole forms (input_of false new (bytes ++ more)) old.given
+whole_read forms settings old new bytes more before after reads read some =
     let end : ReachesEnd old new (bytes ++ more) = reads.means.0 in
     let lines : length (lines_of (bytes ++ more)) ≡ old.given = end.lines ∙ end.number in
     record {
       script = refl;
       ended = end.ended;
-      sound = no_fault forms (input_of false new (bytes ++ more)) workers old.given
-          (are_read_same forms false (lines_of bytes) (lines_of (bytes ++ more)) workers old.given reads.kept read)
+      sound = no_fault forms (input_of false new (bytes ++ more)) settings old.given
+          (are_read_same forms false (lines_of bytes) (lines_of (bytes ++ more)) settings old.given reads.kept read)
           (ends_read false new (bytes ++ more) old.given lines)
           (λ other h. end.sound other h)
           (λ ended e. some_byte (bytes ++ more) old.given lines some e)
@@ -144,8 +145,8 @@ whole_read forms workers old new bytes more before after reads read some =
     }
 
 -- the end of an audit's input, in which no journal began
-pub journal_missing : (forms : LineForms) (workers : ℕ) (old new : LinesState) (bytes more before after : List ℕ) → ReadsLine old new bytes more before after (Ok End) → AreRead forms true (lines_of bytes) workers old.given → 0 < old.given → IsFaultOf forms (input_of true new (bytes ++ more)) (new.given + 1) (fault_number NotJournal)
-journal_missing forms workers old new bytes more before after reads read some =
+pub journal_missing : (forms : LineForms) (settings : Settings) (old new : LinesState) (bytes more before after : List ℕ) → ReadsLine old new bytes more before after (Ok End) → AreRead forms true (lines_of bytes) settings old.given → 0 < old.given → IsFaultOf forms (input_of true new (bytes ++ more)) (new.given + 1) (fault_number NotJournal)
+journal_missing forms settings old new bytes more before after reads read some =
     let end : ReachesEnd old new (bytes ++ more) = reads.means.0 in
     let lines : length (lines_of (bytes ++ more)) ≡ old.given = end.lines ∙ end.number in
     record {
@@ -157,11 +158,11 @@ journal_missing forms workers old new bytes more before after reads read some =
       numbered = refl;
     }
   where
-    here : AreRead forms true (lines_of (bytes ++ more)) workers old.given
-    here = are_read_same forms true (lines_of bytes) (lines_of (bytes ++ more)) workers old.given reads.kept read
+    here : AreRead forms true (lines_of (bytes ++ more)) settings old.given
+    here = are_read_same forms true (lines_of bytes) (lines_of (bytes ++ more)) settings old.given reads.kept read
 
     sound_there : length (lines_of (bytes ++ more)) ≡ old.given → (place : ℕ) → EndsLine (input_of true new (bytes ++ more)) place → IsSoundAt forms (input_of true new (bytes ++ more)) place
-    sound_there lines place ends = sound_at forms (input_of true new (bytes ++ more)) place old.given workers here (ends_read true new (bytes ++ more) old.given lines place ends)
+    sound_there lines place ends = sound_at forms (input_of true new (bytes ++ more)) place old.given settings here (ends_read true new (bytes ++ more) old.given lines place ends)
 
     least : ReachesEnd old new (bytes ++ more) → length (lines_of (bytes ++ more)) ≡ old.given → (other : ℕ) (kind : FaultKind) → Stands forms (input_of true new (bytes ++ more)) other kind → (length (bytes ++ more) < other) ⊎ ((length (bytes ++ more) ≡ other) × (8 ≤ fault_order kind))
     least end lines other TooLong s = absurd ((end.sound other s.0).2 s.1)

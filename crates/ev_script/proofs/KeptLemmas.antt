@@ -12,6 +12,7 @@ use Rattle.ev_types.specs.declared.events.Actor.TheVariants.{Stream, Health as h
 use Rattle.ev_types.specs.declared.events.Event.{Event}
 use Rattle.ev_types.specs.declared.events.Event.TheVariants.{Connect, Disconnect, Response, Health, FetchTimeout, DrainTimeout, TtlExpired, Publish, Reap, Accept, Close, Settle}
 use Rattle.ev_types.specs.declared.events.Line.{Line}
+use Rattle.ev_types.specs.declared.events.Profile.{Profile}
 use Rattle.ev_wire.specs.Responses.{response_of}
 use Rattle.ev_script.specs.Faults.{worker_of}
 use Rattle.ev_script.specs.Content.{is_above}
@@ -21,7 +22,8 @@ use Rattle.ev_script.specs.StreamLines.{connect_line, disconnect_line, response_
 use Rattle.ev_script.specs.HealthLines.{health_line}
 use Rattle.ev_script.specs.TimerLines.{timeout_of, timeout_line, drain_line, expired_line}
 use Rattle.ev_script.specs.MainLines.{publish_line, reap_line}
-use Rattle.ev_script.specs.WorkerLines.{worker_in, conn_in, ask_in, worker_line, accept_line, close_line, settle_line}
+use Rattle.ev_script.specs.Asks.{conn_in, ask_in}
+use Rattle.ev_script.specs.WorkerLines.{worker_in, worker_line, accept_line, close_line, settle_line}
 use Rattle.ev_script.specs.Lines.{line_of, line_by, main_side_line}
 
 -- the actor may make the event, where the worker that it is is one of so many
@@ -59,8 +61,8 @@ connect_kept at tree = tested (IsLineAt at) (has_only (codes "op" ∷ []) tree) 
 disconnect_kept : (at : ℕ) (tree : Data) → IfSome (disconnect_line at tree) (IsLineAt at)
 disconnect_kept at tree = tested (IsLineAt at) (has_only (codes "op" ∷ []) tree) (line_at at Stream (Some Disconnect)) (kept_at at Stream (Some Disconnect) (λ workers h. tt))
 
-response_kept : (at : ℕ) (tree : Data) → IfSome (response_line at tree) (IsLineAt at)
-response_kept at tree = tested (IsLineAt at) _ _ (kept_at at Stream _ (mapped (MayMakeIn Stream) (λ response. Response response) (member_of response_of (codes "message") tree) (λ response workers h. tt)))
+response_kept : (profile : Profile) (at : ℕ) (tree : Data) → IfSome (response_line profile at tree) (IsLineAt at)
+response_kept profile at tree = tested (IsLineAt at) _ _ (kept_at at Stream _ (mapped (MayMakeIn Stream) (λ response. Response response) (member_of (response_of profile) (codes "message") tree) (λ response workers h. tt)))
 
 health_kept : (at : ℕ) (tree : Data) → IfSome (health_line at tree) (IsLineAt at)
 health_kept at tree =
@@ -95,8 +97,8 @@ reap_kept at tree = tested (IsLineAt at) (has_only (codes "op" ∷ []) tree) (li
 worker_kept : (at : ℕ) (event : Option Event) (tree : Data) → ((worker : ℕ) → IfSome event (MayMakeIn (Worker worker))) → IfSome (worker_line at event tree) (IsLineAt at)
 worker_kept at event tree allowed = chained (IsLineAt at) (λ worker. line_at at (Worker worker) event) (worker_in tree) (λ worker. kept_at at (Worker worker) event (allowed worker))
 
-accept_kept : (at : ℕ) (tree : Data) → IfSome (accept_line at tree) (IsLineAt at)
-accept_kept at tree = tested (IsLineAt at) _ _ (worker_kept at _ tree (λ worker. mapped (MayMakeIn (Worker worker)) (λ ask. Accept ask) (ask_in tree) (λ ask workers h. h worker refl)))
+accept_kept : (profile : Profile) (at : ℕ) (tree : Data) → IfSome (accept_line profile at tree) (IsLineAt at)
+accept_kept profile at tree = tested (IsLineAt at) _ _ (worker_kept at _ tree (λ worker. mapped (MayMakeIn (Worker worker)) (λ ask. Accept ask) (ask_in tree) (λ ask workers h. h worker refl)))
 
 close_kept : (at : ℕ) (tree : Data) → IfSome (close_line at tree) (IsLineAt at)
 close_kept at tree = tested (IsLineAt at) _ _ (worker_kept at _ tree (λ worker. mapped (MayMakeIn (Worker worker)) (λ conn. Close conn) (conn_in tree) (λ conn workers h. h worker refl)))
@@ -104,11 +106,11 @@ close_kept at tree = tested (IsLineAt at) _ _ (worker_kept at _ tree (λ worker.
 settle_kept : (at : ℕ) (tree : Data) → IfSome (settle_line at tree) (IsLineAt at)
 settle_kept at tree = tested (IsLineAt at) _ _ (worker_kept at (Some Settle) tree (λ worker workers h. h worker refl))
 
-main_side_kept : (op : List ℕ) (at : ℕ) (tree : Data) → IfSome (main_side_line op at tree) (IsLineAt at)
-main_side_kept op at tree =
+main_side_kept : (profile : Profile) (op : List ℕ) (at : ℕ) (tree : Data) → IfSome (main_side_line profile op at tree) (IsLineAt at)
+main_side_kept profile op at tree =
     either (IsLineAt at) (bytes_eq op (codes "connect")) _ _ (connect_kept at tree)
     (either (IsLineAt at) (bytes_eq op (codes "disconnect")) _ _ (disconnect_kept at tree)
-    (either (IsLineAt at) (bytes_eq op (codes "response")) _ _ (response_kept at tree)
+    (either (IsLineAt at) (bytes_eq op (codes "response")) _ _ (response_kept profile at tree)
     (either (IsLineAt at) (bytes_eq op (codes "health")) _ _ (health_kept at tree)
     (either (IsLineAt at) (bytes_eq op (codes "fetchTimeout")) _ _ (timeouts_kept at tree)
     (either (IsLineAt at) (bytes_eq op (codes "drainTimeout")) _ _ (drain_kept at tree)
@@ -116,15 +118,15 @@ main_side_kept op at tree =
     (either (IsLineAt at) (bytes_eq op (codes "publish")) _ _ (publish_kept at tree)
     (tested (IsLineAt at) (bytes_eq op (codes "reap")) _ (reap_kept at tree)))))))))
 
-by_kept : (op : List ℕ) (at : ℕ) (tree : Data) → IfSome (line_by op at tree) (IsLineAt at)
-by_kept op at tree =
-    either (IsLineAt at) (bytes_eq op (codes "accept")) _ _ (accept_kept at tree)
+by_kept : (profile : Profile) (op : List ℕ) (at : ℕ) (tree : Data) → IfSome (line_by profile op at tree) (IsLineAt at)
+by_kept profile op at tree =
+    either (IsLineAt at) (bytes_eq op (codes "accept")) _ _ (accept_kept profile at tree)
     (either (IsLineAt at) (bytes_eq op (codes "close")) _ _ (close_kept at tree)
     (either (IsLineAt at) (bytes_eq op (codes "settle")) _ _ (settle_kept at tree)
-    (main_side_kept op at tree)))
+    (main_side_kept profile op at tree)))
 
-pub line_kept : (at : ℕ) (tree : Data) → IfSome (line_of at tree) (IsLineAt at)
-line_kept at tree = chained (IsLineAt at) (λ op. line_by op at tree) (member_of as_str (codes "op") tree) (λ op. by_kept op at tree)
+pub line_kept : (profile : Profile) (at : ℕ) (tree : Data) → IfSome (line_of profile at tree) (IsLineAt at)
+line_kept profile at tree = chained (IsLineAt at) (λ op. line_by profile op at tree) (member_of as_str (codes "op") tree) (λ op. by_kept profile op at tree)
 
 below_count : (workers : ℕ) (named : Option ℕ) → is_above workers named ≡ false → (worker : ℕ) → named ≡ Some worker → worker < workers
 below_count workers None e worker f = cc
@@ -133,7 +135,7 @@ below_count workers (Some other) e worker f =
     subst (λ (w : ℕ). w < workers) same (grind (arith, nat_tests))
 
 -- what a line keeps whose worker, where it names one, is below the count
-pub kept_line : (workers at : ℕ) (tree : Data) (line : Line) → line_of at tree ≡ Some line → is_above workers (worker_of line.actor) ≡ false → (line.at ≡ at) × MayMake workers line.actor line.event
-kept_line workers at tree line e below =
-    let kept : IsLineAt at line = subst (λ o. IfSome o (IsLineAt at)) e (line_kept at tree) in
+pub kept_line : (workers : ℕ) (profile : Profile) (at : ℕ) (tree : Data) (line : Line) → line_of profile at tree ≡ Some line → is_above workers (worker_of line.actor) ≡ false → (line.at ≡ at) × MayMake workers line.actor line.event
+kept_line workers profile at tree line e below =
+    let kept : IsLineAt at line = subst (λ o. IfSome o (IsLineAt at)) e (line_kept profile at tree) in
     (kept.place, kept.allowed workers (below_count workers (worker_of line.actor) below))

@@ -11,6 +11,7 @@ use Rattle.ev_io.specs.LinesState.{LinesState, HasTaken}
 use Rattle.ev_io.proofs.LineLemmas.{feeds_in-closed}
 use Rattle.ev_script.specs.declared.fault_kinds.FaultKind.{FaultKind}
 use Rattle.ev_script.specs.declared.fault_kinds.FaultKind.TheVariants.{TooLong, TooMany, TooLarge, NotJson, NotHeader, NotLine, NoSuchWorker, NoByte, NotJournal}
+use Rattle.ev_script.specs.declared.forms.Settings.{Settings}
 use Rattle.ev_script.specs.Faults.{LineForms, Input, index_at, EndsLine, fault_order, Stands, IsFirstFault}
 use Rattle.ev_script.specs.ReadLines.{AreRead}
 use Rattle.ev_script.proofs.SoundLemmas.{IsSoundAt, sound_at}
@@ -25,20 +26,20 @@ Tells limit.Failed kind = ⊥
 Tells limit.OutOfMemory kind = ⊥
 
 -- the lines before the one that the place belongs to were read
-pub sound_line : (forms : LineForms) (input : Input) (workers : ℕ) (place other : ℕ) → AreRead forms input.audit (lines_of input.bytes) workers (index_at input place) → place < length input.bytes → EndsLine input other → other < place → IsSoundAt forms input other
-sound_line forms input workers place other read within ends h = sound_at forms input other (index_at input place) workers read (index_below input other place ends h (omega arith))
+pub sound_line : (forms : LineForms) (input : Input) (settings : Settings) (place other : ℕ) → AreRead forms input.audit (lines_of input.bytes) settings (index_at input place) → place < length input.bytes → EndsLine input other → other < place → IsSoundAt forms input other
+sound_line forms input settings place other read within ends h = sound_at forms input other (index_at input place) settings read (index_below input other place ends h (omega arith))
 
 -- no fault stands before the first of the limits
-pub nothing_before_limit : (forms : LineForms) (input : Input) (workers : ℕ) (place other : ℕ) (kind : FaultKind) → ((p : ℕ) → p < place → HasNoLineFault input.bytes p) → place < length input.bytes → AreRead forms input.audit (lines_of input.bytes) workers (index_at input place) → Stands forms input other kind → other < place → ⊥
-nothing_before_limit forms input workers place other TooLong sound within read s h = (sound other h).2 s.1
-nothing_before_limit forms input workers place other TooMany sound within read s h = (sound other h).1 s.1
-nothing_before_limit forms input workers place other TooLarge sound within read s h = (sound other h).0 s.1
-nothing_before_limit forms input workers place other NotJson sound within read s h = (sound_line forms input workers place other read within s.0.ends h).json s
-nothing_before_limit forms input workers place other NotHeader sound within read s h = (sound_line forms input workers place other read within s.0.ends h).header s
-nothing_before_limit forms input workers place other NotLine sound within read s h = (sound_line forms input workers place other read within s.0.ends h).line s
-nothing_before_limit forms input workers place other NoSuchWorker sound within read s h = (sound_line forms input workers place other read within s.0.ends h).worker s
-nothing_before_limit forms input workers place other NoByte sound within read s h = let none : length input.bytes ≡ 0 = ap length s.1 in omega arith
-nothing_before_limit forms input workers place other NotJournal sound within read s h = let here : other ≡ length input.bytes = s.2 in omega arith
+pub nothing_before_limit : (forms : LineForms) (input : Input) (settings : Settings) (place other : ℕ) (kind : FaultKind) → ((p : ℕ) → p < place → HasNoLineFault input.bytes p) → place < length input.bytes → AreRead forms input.audit (lines_of input.bytes) settings (index_at input place) → Stands forms input other kind → other < place → ⊥
+nothing_before_limit forms input settings place other TooLong sound within read s h = (sound other h).2 s.1
+nothing_before_limit forms input settings place other TooMany sound within read s h = (sound other h).1 s.1
+nothing_before_limit forms input settings place other TooLarge sound within read s h = (sound other h).0 s.1
+nothing_before_limit forms input settings place other NotJson sound within read s h = (sound_line forms input settings place other read within s.0.ends h).json s
+nothing_before_limit forms input settings place other NotHeader sound within read s h = (sound_line forms input settings place other read within s.0.ends h).header s
+nothing_before_limit forms input settings place other NotLine sound within read s h = (sound_line forms input settings place other read within s.0.ends h).line s
+nothing_before_limit forms input settings place other NoSuchWorker sound within read s h = (sound_line forms input settings place other read within s.0.ends h).worker s
+nothing_before_limit forms input settings place other NoByte sound within read s h = let none : length input.bytes ≡ 0 = ap length s.1 in omega arith
+nothing_before_limit forms input settings place other NotJournal sound within read s h = let here : other ≡ length input.bytes = s.2 in omega arith
 
 -- at its place the kinds that are looked at before don't stand
 least_limit : (forms : LineForms) (input : Input) (place : ℕ) (fault : LineFault) (kind k : FaultKind) → StandsAt input.bytes place fault → Tells fault kind → Stands forms input place k → fault_order kind ≤ fault_order k
@@ -73,11 +74,11 @@ limit_stands forms input place limit.Failed kind within stands tells = absurd te
 limit_stands forms input place limit.OutOfMemory kind within stands tells = absurd tells
 
 -- the first fault of the limits is the first of the input, where the lines before were read
-pub limit_first : (forms : LineForms) (input : Input) (workers : ℕ) (place : ℕ) (fault : LineFault) (kind : FaultKind) → IsFirstLimit input.bytes place fault → Tells fault kind → AreRead forms input.audit (lines_of input.bytes) workers (index_at input place) → IsFirstFault forms input place kind
-limit_first forms input workers place fault kind h tells read = record { stands = limit_stands forms input place fault kind h.within h.stands tells; first = λ other k s. by_place other k s (cases_lt other place) (cases_lt place other) }
+pub limit_first : (forms : LineForms) (input : Input) (settings : Settings) (place : ℕ) (fault : LineFault) (kind : FaultKind) → IsFirstLimit input.bytes place fault → Tells fault kind → AreRead forms input.audit (lines_of input.bytes) settings (index_at input place) → IsFirstFault forms input place kind
+limit_first forms input settings place fault kind h tells read = record { stands = limit_stands forms input place fault kind h.within h.stands tells; first = λ other k s. by_place other k s (cases_lt other place) (cases_lt place other) }
   where
     by_place : (other : ℕ) (k : FaultKind) → Stands forms input other k → (other < place) ⊎ (place ≤ other) → (place < other) ⊎ (other ≤ place) → (place < other) ⊎ ((place ≡ other) × (fault_order kind ≤ fault_order k))
-    by_place other k s (inl early) later = absurd (nothing_before_limit forms input workers place other k h.first h.within read s early)
+    by_place other k s (inl early) later = absurd (nothing_before_limit forms input settings place other k h.first h.within read s early)
     by_place other k s (inr late) (inl later) = inl later
     by_place other k s (inr late) (inr here) =
         let same : other ≡ place = omega arith in

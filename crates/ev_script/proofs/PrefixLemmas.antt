@@ -1,13 +1,14 @@
 -- A fault of the bytes taken is one of the whole input: more bytes don't take it away.
-use Rattle.std.proofs.Common.{◌≡◌, ℕ, suc, ◌+◌, ◌<◌, ◌≤◌, Bool, true, false, List, [], ◌++◌, length, take, drop, get_or, option_and_then, sym, ap, ◌∙◌, inl, inr, arith, append_assoc, length-append, add-one}
+use Rattle.std.proofs.Common.{◌≡◌, ℕ, suc, ◌+◌, ◌<◌, ◌≤◌, Bool, true, false, List, [], ◌++◌, length, take, drop, get_or, Option, option_and_then, sym, ap, ◌∙◌, inl, inr, arith, append_assoc, length-append, add-one}
 use Rattle.std.proofs.Math.ListN.{get_or-append}
 use Rattle.std.proofs.lemmas.List.{take-append-le, take-append-drop}
 use Rattle.ev_io.specs.Lines.{lines_of, feeds_in, IsClosed}
 use Rattle.ev_io.proofs.LineLemmas.{lines_of-append, feeds_in-closed, closed-append}
 use Rattle.ev_script.specs.declared.fault_kinds.FaultKind.{FaultKind}
 use Rattle.ev_script.specs.declared.fault_kinds.FaultKind.TheVariants.{TooLong, TooMany, TooLarge, NotJson, NotHeader, NotLine, NoSuchWorker, NoByte, NotJournal}
+use Rattle.ev_script.specs.declared.forms.Settings.{Settings}
 use Rattle.ev_script.specs.Members.{tree_of}
-use Rattle.ev_script.specs.Faults.{LineForms, Input, index_at, tree_at, EndsLine, BeginsJournal, EndsScriptLine, Stands}
+use Rattle.ev_script.specs.Faults.{LineForms, Input, index_at, tree_at, settings_in, profile_by, profile_in, named_at, EndsLine, BeginsJournal, EndsScriptLine, Stands}
 use Rattle.ev_script.proofs.LimitLemmas.{feeds_with}
 
 -- the bytes taken, the source not having given its end, and an input that begins with them
@@ -74,10 +75,15 @@ line_same xs ys ended audit place s =
       before = λ start h b. s.before start h (begins_before xs ys ended audit place start within h b);
     }
 
-named_same : (forms : LineForms) (xs ys : List ℕ) (ended audit : Bool) (place : ℕ) → place < length xs → get_or xs place 0 ≡ 10 → option_and_then (forms.lines (index_at (whole xs ys ended audit) place + 1)) (tree_at (whole xs ys ended audit) place) ≡ option_and_then (forms.lines (index_at (part xs audit) place + 1)) (tree_at (part xs audit) place)
+-- what the first line sets, and its profile
+settings_same : (forms : LineForms) (xs ys : List ℕ) (place : ℕ) → place < length xs → get_or xs place 0 ≡ 10 → settings_in forms (lines_of (xs ++ ys)) ≡ settings_in forms (lines_of xs)
+settings_same forms xs ys place h feed = ap (λ (text : List ℕ). option_and_then forms.heads (tree_of text)) (text_same xs ys place 0 h feed (omega arith))
+
+named_same : (forms : LineForms) (xs ys : List ℕ) (ended audit : Bool) (place : ℕ) → place < length xs → get_or xs place 0 ≡ 10 → named_at forms (whole xs ys ended audit) place ≡ named_at forms (part xs audit) place
 named_same forms xs ys ended audit place h feed =
-    ap (λ (i : ℕ). option_and_then (forms.lines (i + 1)) (tree_at (whole xs ys ended audit) place)) (index_same xs ys place (omega arith))
-    ∙ ap (option_and_then (forms.lines (feeds_in (take place xs) + 1))) (tree_same xs ys ended audit place h feed)
+    ap (λ (s : Option Settings). option_and_then (forms.lines (profile_by s) (index_at (whole xs ys ended audit) place + 1)) (tree_at (whole xs ys ended audit) place)) (settings_same forms xs ys place h feed)
+    ∙ ap (λ (i : ℕ). option_and_then (forms.lines (profile_in forms (lines_of xs)) (i + 1)) (tree_at (whole xs ys ended audit) place)) (index_same xs ys place (omega arith))
+    ∙ ap (option_and_then (forms.lines (profile_in forms (lines_of xs)) (feeds_in (take place xs) + 1))) (tree_same xs ys ended audit place h feed)
 
 later_same : (xs ys : List ℕ) (place : ℕ) → place ≤ length xs → 0 < feeds_in (take place xs) → 0 < feeds_in (take place (xs ++ ys))
 later_same xs ys place h later =
@@ -114,9 +120,9 @@ stands_more forms xs ys ended audit place NoSuchWorker s =
       later_same xs ys place (omega arith) s.1,
       record {
         worker = s.2.worker;
-        workers = s.2.workers;
+        settings = s.2.settings;
         names = named_same forms xs ys ended audit place feed.0 feed.1 ∙ s.2.names;
-        heads = ap (λ (text : List ℕ). option_and_then forms.heads (tree_of text)) (text_same xs ys place 0 feed.0 feed.1 (omega arith)) ∙ s.2.heads;
+        heads = settings_same forms xs ys place feed.0 feed.1 ∙ s.2.heads;
         above = s.2.above;
       },
     )

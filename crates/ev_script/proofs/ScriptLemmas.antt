@@ -8,20 +8,22 @@ use Rattle.ev_io.specs.Lines.{lines_of}
 use Rattle.ev_types.specs.Events.{MayMake}
 use Rattle.ev_types.specs.Scripts.{ScriptParts, IsScript, items_of}
 use Rattle.ev_types.specs.declared.events.Line.{Line}
+use Rattle.ev_types.specs.declared.events.Profile.{Profile}
 use Rattle.ev_types.specs.declared.events.Actor.TheVariants.{Stream}
 use Rattle.ev_types.specs.declared.events.Event.TheVariants.{Connect}
 use Rattle.ev_io.specs.declared.limits.TheConstants.{MAX_LINES}
+use Rattle.ev_script.specs.declared.forms.Settings.{Settings}
 use Rattle.ev_script.specs.declared.header.Header.{Header}
 use Rattle.ev_script.specs.declared.read_input.ReadLines.{ReadLines}
-use Rattle.ev_script.specs.Header.{header_of, IsHeader}
+use Rattle.ev_script.specs.Header.{header_of, settings_of, IsHeader}
 use Rattle.ev_script.specs.Members.{tree_of}
 use Rattle.ev_script.specs.Lines.{line_of}
 use Rattle.ev_script.specs.Faults.{LineForms, Input, index_at, has_format, worker_of, plain_lines}
-use Rattle.ev_script.specs.Script.{lines_from, script_with, script_from, begins_journal, before_journal, script_texts, script_of}
+use Rattle.ev_script.specs.Script.{lines_from, script_made, script_with, script_from, begins_journal, before_journal, script_texts, script_of}
 use Rattle.ev_script.specs.Content.{is_above, IsLineOf, IsKeptOf}
 use Rattle.ev_script.specs.ReadLines.{AreRead, AreKept}
 use Rattle.ev_script.specs.ReadInput.{IsWhole, IsUpToJournal, EndsBefore, IsReadOf}
-use Rattle.ev_script.specs.ReadScript.{HeadsScripts, KeepsLines, IsHeaderOf, IsScriptAnswer, AreNumbered, AreOfForms, script_made}
+use Rattle.ev_script.specs.ReadScript.{HeadsScripts, KeepsLines, IsHeaderOf, IsScriptAnswer, AreNumbered, AreOfForms}
 use Rattle.ev_script.proofs.PlaceLemmas.{ends_within}
 use Rattle.ev_script.proofs.ContentLemmas.{first_is}
 use Rattle.ev_script.proofs.SoundLemmas.{some_same}
@@ -30,31 +32,32 @@ use Rattle.ev_script.proofs.KeptLemmas.{kept_line}
 -- ---- what each line keeps
 
 -- the number of a line, and an actor that may make its event
-line_at : (forms : LineForms) (keeps : ℕ → Data → Line → Type 0) (audit : Bool) (texts : List (List ℕ)) (workers : ℕ) (kept : List Line)
-    → KeepsLines forms keeps → AreRead forms audit texts workers (length kept + 1) → AreKept keeps texts kept
-    → (i : ℕ) (other : Line) → i < length kept → ((get_or kept i other).at ≡ i + 2) × MayMake workers (get_or kept i other).actor (get_or kept i other).event
-line_at forms keeps audit texts workers kept plain read are i other h =
+line_at : (forms : LineForms) (keeps : Profile → ℕ → Data → Line → Type 0) (audit : Bool) (texts : List (List ℕ)) (settings : Settings) (kept : List Line)
+    → KeepsLines forms keeps → AreRead forms audit texts settings (length kept + 1) → AreKept (keeps settings.profile) texts kept
+    → (i : ℕ) (other : Line) → i < length kept → ((get_or kept i other).at ≡ i + 2) × MayMake settings.workers (get_or kept i other).actor (get_or kept i other).event
+line_at forms keeps audit texts settings kept plain read are i other h =
     let line : Line = get_or kept i other in
-    let k : IsKeptOf keeps (i + 2) (tree_of (get_or texts (i + 1) [])) line = are i other h in
-    let r : IsLineOf forms audit workers (i + 1 + 1) (tree_of (get_or texts (i + 1) [])) = read.others (i + 1) (omega arith) (omega arith) in
-    let both = plain (i + 2) k.tree line k.holds in
+    let k : IsKeptOf (keeps settings.profile) (i + 2) (tree_of (get_or texts (i + 1) [])) line = are i other h in
+    let r : IsLineOf forms audit settings (i + 1 + 1) (tree_of (get_or texts (i + 1) [])) = read.others (i + 1) (omega arith) (omega arith) in
+    let both = plain settings.profile (i + 2) k.tree line k.holds in
     let same : k.tree ≡ r.tree = some_same k.tree r.tree (tree_of (get_or texts (i + 1) [])) k.is r.is in
     let place : i + 1 + 1 ≡ i + 2 = omega arith in
-    let reads : forms.lines (i + 2) k.tree ≡ Some r.named = ap (forms.lines (i + 2)) same ∙ ap (λ (n : ℕ). forms.lines n r.tree) (sym place) ∙ r.reads in
-    let named : r.named ≡ worker_of line.actor = some_same r.named (worker_of line.actor) (forms.lines (i + 2) k.tree) reads both.1 in
-    kept_line workers (i + 2) k.tree line both.0 (ap (is_above workers) (sym named) ∙ r.below)
+    let reads : forms.lines settings.profile (i + 2) k.tree ≡ Some r.named =
+    ap (forms.lines settings.profile (i + 2)) same ∙ ap (λ (n : ℕ). forms.lines settings.profile n r.tree) (sym place) ∙ r.reads in
+    let named : r.named ≡ worker_of line.actor = some_same r.named (worker_of line.actor) (forms.lines settings.profile (i + 2) k.tree) reads both.1 in
+    kept_line settings.workers settings.profile (i + 2) k.tree line both.0 (ap (is_above settings.workers) (sym named) ∙ r.below)
 
-pub are_numbered : (forms : LineForms) (keeps : ℕ → Data → Line → Type 0) (audit : Bool) (texts : List (List ℕ)) (workers : ℕ) (kept : List Line) → KeepsLines forms keeps → AreRead forms audit texts workers (length kept + 1) → AreKept keeps texts kept → AreNumbered workers kept
-are_numbered forms keeps audit texts workers kept plain read are = record {
-  places = λ k other h. (line_at forms keeps audit texts workers kept plain read are k other h).0;
-  allowed = λ k other h. (line_at forms keeps audit texts workers kept plain read are k other h).1;
+pub are_numbered : (forms : LineForms) (keeps : Profile → ℕ → Data → Line → Type 0) (audit : Bool) (texts : List (List ℕ)) (settings : Settings) (kept : List Line) → KeepsLines forms keeps → AreRead forms audit texts settings (length kept + 1) → AreKept (keeps settings.profile) texts kept → AreNumbered settings.workers kept
+are_numbered forms keeps audit texts settings kept plain read are = record {
+  places = λ k other h. (line_at forms keeps audit texts settings kept plain read are k other h).0;
+  allowed = λ k other h. (line_at forms keeps audit texts settings kept plain read are k other h).1;
 }
 
 -- each line is of the forms, by its own number
-pub are_of_forms : (forms : LineForms) (keeps : ℕ → Data → Line → Type 0) (audit : Bool) (texts : List (List ℕ)) (workers : ℕ) (kept : List Line) → KeepsLines forms keeps → AreRead forms audit texts workers (length kept + 1) → AreKept keeps texts kept → AreOfForms keeps kept
-are_of_forms forms keeps audit texts workers kept plain read are = λ i other h.
-    let k : IsKeptOf keeps (i + 2) (tree_of (get_or texts (i + 1) [])) (get_or kept i other) = are i other h in
-    (k.tree, subst (λ (n : ℕ). keeps n k.tree (get_or kept i other)) (sym (line_at forms keeps audit texts workers kept plain read are i other h).0) k.holds)
+pub are_of_forms : (forms : LineForms) (keeps : Profile → ℕ → Data → Line → Type 0) (audit : Bool) (texts : List (List ℕ)) (settings : Settings) (kept : List Line) → KeepsLines forms keeps → AreRead forms audit texts settings (length kept + 1) → AreKept (keeps settings.profile) texts kept → AreOfForms (keeps settings.profile) kept
+are_of_forms forms keeps audit texts settings kept plain read are = λ i other h.
+    let k : IsKeptOf (keeps settings.profile) (i + 2) (tree_of (get_or texts (i + 1) [])) (get_or kept i other) = are i other h in
+    (k.tree, subst (λ (n : ℕ). keeps settings.profile n k.tree (get_or kept i other)) (sym (line_at forms keeps audit texts settings kept plain read are i other h).0) k.holds)
 
 -- ---- what a script keeps
 
@@ -67,7 +70,7 @@ rising workers lines numbered k h =
     let second : get_or (map (λ (line : Line). line.at) lines) (k + 1) 0 ≡ k + 1 + 2 = get_or-map (λ (line : Line). line.at) lines (k + 1) some 0 within ∙ numbered.places (k + 1) some within in
     omega arith
 
-pub script_kept : (header : Header) (lines : List Line) → IsHeader header → AreNumbered header.workers lines → length lines < MAX_LINES → items_of lines < 4294967295 → IsScript record { workers = header.workers; auto = header.auto; node = header.node; lines = lines; count = length lines + 1 }
+pub script_kept : (header : Header) (lines : List Line) → IsHeader header → AreNumbered header.workers lines → length lines < MAX_LINES → items_of lines < 4294967295 → IsScript (script_made header lines)
 script_kept header lines kept numbered few items = record {
   some_worker = kept.some_worker;
   few_workers = kept.few_workers;
@@ -83,20 +86,20 @@ script_kept header lines kept numbered few items = record {
 -- ---- the script of the texts
 
 -- a line of a script is kept
-abbrev pub IsLine : ℕ → Data → Line → Type 0
-IsLine at tree line = line_of at tree ≡ Some line
+abbrev pub IsLine : Profile → ℕ → Data → Line → Type 0
+IsLine profile at tree line = line_of profile at tree ≡ Some line
 
-lines_by : (at : ℕ) (texts : List (List ℕ)) (lines : List Line) → length texts ≡ length lines → ((i : ℕ) (other : Line) → i < length lines → IsKeptOf IsLine (at + i) (tree_of (get_or texts i [])) (get_or lines i other)) → lines_from at texts ≡ Some lines
-lines_by at [] [] e h = refl
-lines_by at [] (line ∷ lines) e h = absurd (omega (arith, e))
-lines_by at (text ∷ texts) [] e h = absurd (omega (arith, e))
-lines_by at (text ∷ texts) (line ∷ lines) e h =
-    let k : IsKeptOf IsLine (at + 0) (tree_of text) line = h 0 line (omega arith) in
-    let here : option_and_then (line_of at) (tree_of text) ≡ Some line = ap (option_and_then (line_of at)) k.is ∙ ap (λ (n : ℕ). line_of n k.tree) (sym (add-zero at)) ∙ k.holds in
-    let others : lines_from (at + 1) texts ≡ Some lines = lines_by (at + 1) texts lines (omega (arith, e)) (λ i other within.
+lines_by : (profile : Profile) (at : ℕ) (texts : List (List ℕ)) (lines : List Line) → length texts ≡ length lines → ((i : ℕ) (other : Line) → i < length lines → IsKeptOf (IsLine profile) (at + i) (tree_of (get_or texts i [])) (get_or lines i other)) → lines_from profile at texts ≡ Some lines
+lines_by profile at [] [] e h = refl
+lines_by profile at [] (line ∷ lines) e h = absurd (omega (arith, e))
+lines_by profile at (text ∷ texts) [] e h = absurd (omega (arith, e))
+lines_by profile at (text ∷ texts) (line ∷ lines) e h =
+    let k : IsKeptOf (IsLine profile) (at + 0) (tree_of text) line = h 0 line (omega arith) in
+    let here : option_and_then (line_of profile at) (tree_of text) ≡ Some line = ap (option_and_then (line_of profile at)) k.is ∙ ap (λ (n : ℕ). line_of profile n k.tree) (sym (add-zero at)) ∙ k.holds in
+    let others : lines_from profile (at + 1) texts ≡ Some lines = lines_by profile (at + 1) texts lines (omega (arith, e)) (λ i other within.
     let place : at + suc i ≡ at + 1 + i = omega arith in
-    subst (λ (n : ℕ). IsKeptOf IsLine n (tree_of (get_or texts i [])) (get_or lines i other)) place (h (suc i) other (omega arith))) in
-    ap (λ (found : Option Line). option_and_then (λ (l : Line). option_map (λ (ls : List Line). l ∷ ls) (lines_from (at + 1) texts)) found) here
+    subst (λ (n : ℕ). IsKeptOf (IsLine profile) n (tree_of (get_or texts i [])) (get_or lines i other)) place (h (suc i) other (omega arith))) in
+    ap (λ (found : Option Line). option_and_then (λ (l : Line). option_map (λ (ls : List Line). l ∷ ls) (lines_from profile (at + 1) texts)) found) here
     ∙ ap (option_map (λ (ls : List Line). line ∷ ls)) others
 
 -- the texts before the first that begins a journal
@@ -109,23 +112,23 @@ before_is (text ∷ texts) (suc n) within others here =
     ∙ ap (λ (ts : List (List ℕ)). text ∷ ts) (before_is texts n (omega arith) (λ i h. others (suc i) (omega arith)) here)
 
 -- the first text's header, and the lines of the others
-from_parts : (first : List ℕ) (others : List (List ℕ)) (header : Header) (lines : List Line) → option_and_then header_of (tree_of first) ≡ Some header → lines_from 2 others ≡ Some lines
-    → script_from (first ∷ others) ≡ Some record { workers = header.workers; auto = header.auto; node = header.node; lines = lines; count = length lines + 1 }
+from_parts : (first : List ℕ) (others : List (List ℕ)) (header : Header) (lines : List Line) → option_and_then header_of (tree_of first) ≡ Some header → lines_from header.profile 2 others ≡ Some lines
+    → script_from (first ∷ others) ≡ Some (script_made header lines)
 from_parts first others header lines e f =
     ap (option_and_then (script_with others)) e
-    ∙ ap (option_map (λ (lines : List Line). record { workers = header.workers; auto = header.auto; node = header.node; lines = lines; count = length lines + 1 })) f
+    ∙ ap (option_map (script_made header)) f
 
 -- the script of an input's lines, all of which were read
-pub whole_script : (forms : LineForms) (keeps : ℕ → Data → Line → Type 0) (audit : Bool) (texts : List (List ℕ)) (header : Header) (kept : List Line) → KeepsLines forms keeps → IsHeaderOf (get_or texts 0 []) header → AreRead forms audit texts header.workers (length kept + 1) → AreKept keeps texts kept → length texts ≡ length kept + 1
-    → script_from texts ≡ Some record { workers = header.workers; auto = header.auto; node = header.node; lines = kept; count = length kept + 1 }
+pub whole_script : (forms : LineForms) (keeps : Profile → ℕ → Data → Line → Type 0) (audit : Bool) (texts : List (List ℕ)) (header : Header) (kept : List Line) → KeepsLines forms keeps → IsHeaderOf (get_or texts 0 []) header → AreRead forms audit texts (settings_of header) (length kept + 1) → AreKept (keeps header.profile) texts kept → length texts ≡ length kept + 1
+    → script_from texts ≡ Some (script_made header kept)
 whole_script forms keeps audit [] header kept plain heads read are long = absurd (omega (arith, long))
 whole_script forms keeps audit (first ∷ others) header kept plain heads read are long =
     from_parts first others header kept heads
-    (lines_by 2 others kept (omega (arith, long)) (λ i other h.
-    let k : IsKeptOf keeps (i + 2) (tree_of (get_or (first ∷ others) (i + 1) [])) (get_or kept i other) = are i other h in
+    (lines_by header.profile 2 others kept (omega (arith, long)) (λ i other h.
+    let k : IsKeptOf (keeps header.profile) (i + 2) (tree_of (get_or (first ∷ others) (i + 1) [])) (get_or kept i other) = are i other h in
     let next : get_or (first ∷ others) (i + 1) [] ≡ get_or others i [] = ap (λ (n : ℕ). get_or (first ∷ others) n []) (next_is i) in
     let place : i + 2 ≡ 2 + i = omega arith in
-    record { tree = k.tree; is = ap tree_of (sym next) ∙ k.is; holds = subst (λ (n : ℕ). IsLine n k.tree (get_or kept i other)) place (plain (i + 2) k.tree (get_or kept i other) k.holds).0 }))
+    record { tree = k.tree; is = ap tree_of (sym next) ∙ k.is; holds = subst (λ (n : ℕ). IsLine header.profile n k.tree (get_or kept i other)) place (plain header.profile (i + 2) k.tree (get_or kept i other) k.holds).0 }))
   where
     next_is : (i : ℕ) → i + 1 ≡ suc i
     next_is i = omega arith
@@ -135,77 +138,85 @@ plain_tree tree e = e
 
 -- no line that was read begins a journal
 not_begun : (forms : LineForms) (texts : List (List ℕ)) (workers : ℕ) (n i : ℕ) → AreRead forms true texts workers n → 0 < i → i < n → begins_journal (tree_of (get_or texts i [])) ≡ false
-not_begun forms texts workers n i read some within =
-    let r : IsLineOf forms true workers (i + 1) (tree_of (get_or texts i [])) = read.others i some within in
+not_begun forms texts settings n i read some within =
+    let r : IsLineOf forms true settings (i + 1) (tree_of (get_or texts i [])) = read.others i some within in
     ap begins_journal r.is ∙ plain_tree r.tree r.plain
 
 -- the script of the lines before the journal
-pub script_before : (forms : LineForms) (keeps : ℕ → Data → Line → Type 0) (texts : List (List ℕ)) (header : Header) (kept : List Line) → KeepsLines forms keeps → IsHeaderOf (get_or texts 0 []) header → AreRead forms true texts header.workers (length kept + 1) → AreKept keeps texts kept → length kept + 1 < length texts → begins_journal (tree_of (get_or texts (length kept + 1) [])) ≡ true
-    → script_from (script_texts true texts) ≡ Some record { workers = header.workers; auto = header.auto; node = header.node; lines = kept; count = length kept + 1 }
+pub script_before : (forms : LineForms) (keeps : Profile → ℕ → Data → Line → Type 0) (texts : List (List ℕ)) (header : Header) (kept : List Line) → KeepsLines forms keeps → IsHeaderOf (get_or texts 0 []) header → AreRead forms true texts (settings_of header) (length kept + 1) → AreKept (keeps header.profile) texts kept → length kept + 1 < length texts → begins_journal (tree_of (get_or texts (length kept + 1) [])) ≡ true
+    → script_from (script_texts true texts) ≡ Some (script_made header kept)
 script_before forms keeps [] header kept plain heads read are long begins = absurd (omega arith)
 script_before forms keeps (first ∷ others) header kept plain heads read are long begins =
     ap (λ (ts : List (List ℕ)). script_from (first ∷ ts)) (before_is others (length kept) (omega arith) (λ i h.
-    ap (λ (n : ℕ). begins_journal (tree_of (get_or (first ∷ others) n []))) (sym (next_is i)) ∙ not_begun forms (first ∷ others) header.workers (length kept + 1) (i + 1) read (omega arith) (omega arith))
+    ap (λ (n : ℕ). begins_journal (tree_of (get_or (first ∷ others) n []))) (sym (next_is i)) ∙ not_begun forms (first ∷ others) (settings_of header) (length kept + 1) (i + 1) read (omega arith) (omega arith))
     (ap (λ (n : ℕ). begins_journal (tree_of (get_or (first ∷ others) n []))) (sym (next_is (length kept))) ∙ begins))
     ∙ from_parts first (take (length kept) others) header kept heads
-    (lines_by 2 (take (length kept) others) kept (length-take-le (length kept) others (omega arith)) (λ i other h.
-    let k : IsKeptOf keeps (i + 2) (tree_of (get_or (first ∷ others) (i + 1) [])) (get_or kept i other) = are i other h in
+    (lines_by header.profile 2 (take (length kept) others) kept (length-take-le (length kept) others (omega arith)) (λ i other h.
+    let k : IsKeptOf (keeps header.profile) (i + 2) (tree_of (get_or (first ∷ others) (i + 1) [])) (get_or kept i other) = are i other h in
     let next : get_or (first ∷ others) (i + 1) [] ≡ get_or (take (length kept) others) i [] = ap (λ (n : ℕ). get_or (first ∷ others) n []) (next_is i) ∙ sym (get_or-take (length kept) others i [] h) in
     let place : i + 2 ≡ 2 + i = omega arith in
-    record { tree = k.tree; is = ap tree_of (sym next) ∙ k.is; holds = subst (λ (n : ℕ). IsLine n k.tree (get_or kept i other)) place (plain (i + 2) k.tree (get_or kept i other) k.holds).0 }))
+    record { tree = k.tree; is = ap tree_of (sym next) ∙ k.is; holds = subst (λ (n : ℕ). IsLine header.profile n k.tree (get_or kept i other)) place (plain header.profile (i + 2) k.tree (get_or kept i other) k.holds).0 }))
   where
     next_is : (i : ℕ) → i + 1 ≡ suc i
     next_is i = omega arith
 
 -- ---- the header
 
--- the first line that was read is a header with these workers
-pub header_read : (forms : LineForms) (audit : Bool) (texts : List (List ℕ)) (workers n : ℕ) → HeadsScripts forms → AreRead forms audit texts workers n → 0 < n → (header : Header) × IsHeaderOf (get_or texts 0 []) header × (header.workers ≡ workers)
-header_read forms audit texts workers n plain read some = by_tree (tree_of (get_or texts 0 [])) (first_is forms (tree_of (get_or texts 0 [])) workers (read.head some))
+-- the first line that was read is a header that sets this
+pub header_read : (forms : LineForms) (audit : Bool) (texts : List (List ℕ)) (settings : Settings) (n : ℕ) → HeadsScripts forms → AreRead forms audit texts settings n → 0 < n → (header : Header) × IsHeaderOf (get_or texts 0 []) header × (settings_of header ≡ settings)
+header_read forms audit texts settings n plain read some = by_tree (tree_of (get_or texts 0 [])) (first_is forms (tree_of (get_or texts 0 [])) settings (read.head some))
   where
-    by_header : (found : Option Header) → option_map (λ (h : Header). h.workers) found ≡ Some workers → (header : Header) × (found ≡ Some header) × (header.workers ≡ workers)
+    by_header : (found : Option Header) → option_map settings_of found ≡ Some settings → (header : Header) × (found ≡ Some header) × (settings_of header ≡ settings)
     by_header None e = cc
-    by_header (Some header) e = let same : header.workers ≡ workers = cc in (header, refl, same)
+    by_header (Some header) e = let same : settings_of header ≡ settings = cc in (header, refl, same)
 
-    by_tree : (tree : Option Data) → option_and_then forms.heads tree ≡ Some workers → (header : Header) × (option_and_then header_of tree ≡ Some header) × (header.workers ≡ workers)
+    by_tree : (tree : Option Data) → option_and_then forms.heads tree ≡ Some settings → (header : Header) × (option_and_then header_of tree ≡ Some header) × (settings_of header ≡ settings)
     by_tree None e = cc
     by_tree (Some tree) e = by_header (header_of tree) (sym (plain tree) ∙ e)
 
--- so its workers are those that were counted
-pub same_workers : {A : Type 0} (forms : LineForms) (keeps : ℕ → Data → A → Type 0) (input : Input) (read : ReadLines A) (header : Header) → HeadsScripts forms → IsReadOf forms keeps input read → IsHeaderOf read.heading.items header → read.workers ≡ header.workers
-same_workers forms keeps input read header plain of heads =
-    let found = header_read forms input.audit (lines_of input.bytes) read.workers (length read.kept.items + 1) plain of.lines (omega arith) in
+-- so it sets what the header does
+pub same_settings : {A : Type 0} (forms : LineForms) (keeps : Profile → ℕ → Data → A → Type 0) (input : Input) (read : ReadLines A) (header : Header) → HeadsScripts forms → IsReadOf forms keeps input read → IsHeaderOf read.heading.items header → read.settings ≡ settings_of header
+same_settings forms keeps input read header plain of heads =
+    let found = header_read forms input.audit (lines_of input.bytes) read.settings (length read.kept.items + 1) plain of.lines (omega arith) in
     let same : found.0 ≡ header = some_same found.0 header (option_and_then header_of (tree_of read.heading.items)) (sym (ap (λ (text : List ℕ). option_and_then header_of (tree_of text)) of.heading) ∙ found.1) heads in
-    sym found.2 ∙ ap (λ (h : Header). h.workers) same
+    sym found.2 ∙ ap settings_of same
 
 -- the lines are those of a script with this header
-pub numbered_read : (forms : LineForms) (keeps : ℕ → Data → Line → Type 0) (input : Input) (read : ReadLines Line) (header : Header) → HeadsScripts forms → KeepsLines forms keeps → IsReadOf forms keeps input read → IsHeaderOf read.heading.items header → AreNumbered header.workers read.kept.items
+pub numbered_read : (forms : LineForms) (keeps : Profile → ℕ → Data → Line → Type 0) (input : Input) (read : ReadLines Line) (header : Header) → HeadsScripts forms → KeepsLines forms keeps → IsReadOf forms keeps input read → IsHeaderOf read.heading.items header → AreNumbered header.workers read.kept.items
 numbered_read forms keeps input read header heads plain of is =
-    subst (λ (workers : ℕ). AreNumbered workers read.kept.items) (same_workers forms keeps input read header heads of is)
-    (are_numbered forms keeps input.audit (lines_of input.bytes) read.workers read.kept.items plain of.lines of.kept)
+    subst (λ (settings : Settings). AreNumbered settings.workers read.kept.items) (same_settings forms keeps input read header heads of is)
+    (are_numbered forms keeps input.audit (lines_of input.bytes) read.settings read.kept.items plain of.lines of.kept)
 
 -- what a script keeps of a line is the line
 pub keeps_plain : KeepsLines plain_lines IsLine
-keeps_plain at tree line e = (e, ap (option_map (λ (l : Line). worker_of l.actor)) e)
+keeps_plain profile at tree line e = (e, ap (option_map (λ (l : Line). worker_of l.actor)) e)
 
 -- ---- the answers
 
+-- the lines that were read, by what the header sets
+lines_read : (forms : LineForms) (keeps : Profile → ℕ → Data → Line → Type 0) (input : Input) (read : ReadLines Line) (header : Header) → HeadsScripts forms → IsReadOf forms keeps input read → IsHeaderOf read.heading.items header → AreRead forms input.audit (lines_of input.bytes) (settings_of header) (length read.kept.items + 1)
+lines_read forms keeps input read header heads of is =
+    subst (λ (settings : Settings). AreRead forms input.audit (lines_of input.bytes) settings (length read.kept.items + 1)) (same_settings forms keeps input read header heads of is) of.lines
+
+-- what was kept of them
+lines_kept : (forms : LineForms) (keeps : Profile → ℕ → Data → Line → Type 0) (input : Input) (read : ReadLines Line) (header : Header) → HeadsScripts forms → IsReadOf forms keeps input read → IsHeaderOf read.heading.items header → AreKept (keeps header.profile) (lines_of input.bytes) read.kept.items
+lines_kept forms keeps input read header heads of is =
+    subst (λ (settings : Settings). AreKept (keeps settings.profile) (lines_of input.bytes) read.kept.items) (same_settings forms keeps input read header heads of is) of.kept
+
 -- the script of a whole input
-pub answer_whole : (forms : LineForms) (keeps : ℕ → Data → Line → Type 0) (input : Input) (read : ReadLines Line) (header : Header) (script : ScriptParts) → input.audit ≡ false → HeadsScripts forms → KeepsLines forms keeps → IsReadOf forms keeps input read → IsHeaderOf read.heading.items header → script ≡ script_made header read.kept.items → IsScriptAnswer forms input (Ok script)
+pub answer_whole : (forms : LineForms) (keeps : Profile → ℕ → Data → Line → Type 0) (input : Input) (read : ReadLines Line) (header : Header) (script : ScriptParts) → input.audit ≡ false → HeadsScripts forms → KeepsLines forms keeps → IsReadOf forms keeps input read → IsHeaderOf read.heading.items header → script ≡ script_made header read.kept.items → IsScriptAnswer forms input (Ok script)
 answer_whole forms keeps input read header script no_audit heads plain of is made =
     let ends : IsWhole forms input (length read.kept.items + 1) = by_end read.journal of.ends in
     let first : IsHeaderOf (get_or (lines_of input.bytes) 0 []) header = subst (λ (text : List ℕ). IsHeaderOf text header) (sym of.heading) is in
-    let lines : AreRead forms input.audit (lines_of input.bytes) header.workers (length read.kept.items + 1) =
-    subst (λ (workers : ℕ). AreRead forms input.audit (lines_of input.bytes) workers (length read.kept.items + 1)) (same_workers forms keeps input read header heads of is) of.lines in
     subst (λ (s : ScriptParts). IsScriptAnswer forms input (Ok s)) (sym made)
-    (ends, whole_script forms keeps input.audit (lines_of input.bytes) header read.kept.items plain first lines of.kept ends.lines)
+    (ends, whole_script forms keeps input.audit (lines_of input.bytes) header read.kept.items plain first (lines_read forms keeps input read header heads of is) (lines_kept forms keeps input read header heads of is) ends.lines)
   where
     by_end : (journal : Option (Vec ℕ Global)) → EndsBefore forms input (length read.kept.items + 1) journal → IsWhole forms input (length read.kept.items + 1)
     by_end None ends = ends
     by_end (Some text) ends = let no : false ≡ true = sym no_audit ∙ ends.begins.audit in cc
 
 -- the script before a journal
-pub answer_audited : (keeps : ℕ → Data → Line → Type 0) (input : Input) (read : ReadLines Line) (header : Header) (script : ScriptParts) (text : Vec ℕ Global) → KeepsLines plain_lines keeps → IsReadOf plain_lines keeps input read → IsHeaderOf read.heading.items header → read.journal ≡ Some text → script ≡ script_made header read.kept.items → IsUpToJournal plain_lines input script.count text.items × (script_of true input.bytes ≡ Some script)
+pub answer_audited : (keeps : Profile → ℕ → Data → Line → Type 0) (input : Input) (read : ReadLines Line) (header : Header) (script : ScriptParts) (text : Vec ℕ Global) → KeepsLines plain_lines keeps → IsReadOf plain_lines keeps input read → IsHeaderOf read.heading.items header → read.journal ≡ Some text → script ≡ script_made header read.kept.items → IsUpToJournal plain_lines input script.count text.items × (script_of true input.bytes ≡ Some script)
 answer_audited keeps input read header script text plain of is some made =
     let ends : IsUpToJournal plain_lines input (length read.kept.items + 1) text.items = subst (EndsBefore plain_lines input (length read.kept.items + 1)) some of.ends in
     let asked : input.audit ≡ true = ends.begins.audit in
@@ -213,15 +224,16 @@ answer_audited keeps input read header script text plain of is some made =
     let behind : index_at input ends.place ≡ length read.kept.items + 1 = ends.behind in
     let tree : tree_of (get_or (lines_of input.bytes) (length read.kept.items + 1) []) ≡ Some ends.begins.format.0 = ap (λ (i : ℕ). tree_of (get_or (lines_of input.bytes) i [])) (sym behind) ∙ ends.begins.format.1 in
     let first : IsHeaderOf (get_or (lines_of input.bytes) 0 []) header = subst (λ (line : List ℕ). IsHeaderOf line header) (sym of.heading) is in
-    let lines : AreRead plain_lines true (lines_of input.bytes) header.workers (length read.kept.items + 1) =
-    subst (λ (a : Bool). AreRead plain_lines a (lines_of input.bytes) header.workers (length read.kept.items + 1)) asked
-    (subst (λ (workers : ℕ). AreRead plain_lines input.audit (lines_of input.bytes) workers (length read.kept.items + 1)) (same_workers plain_lines keeps input read header (λ tree. refl) of is) of.lines) in
+    let lines : AreRead plain_lines true (lines_of input.bytes) (settings_of header) (length read.kept.items + 1) =
+    subst (λ (a : Bool). AreRead plain_lines a (lines_of input.bytes) (settings_of header) (length read.kept.items + 1)) asked
+    (lines_read plain_lines keeps input read header (λ tree. refl) of is) in
     subst (λ (s : ScriptParts). IsUpToJournal plain_lines input s.count text.items × (script_of true input.bytes ≡ Some s)) (sym made) (
       ends,
-      script_before plain_lines keeps (lines_of input.bytes) header read.kept.items plain first lines of.kept (omega arith) (ap begins_journal tree ∙ ends.begins.format.2),
+      script_before plain_lines keeps (lines_of input.bytes) header read.kept.items plain first lines (lines_kept plain_lines keeps input read header (λ tree. refl) of is) (omega arith) (ap begins_journal tree ∙ ends.begins.format.2),
     )
 
 -- its lines are of the forms
-pub answer_forms : (forms : LineForms) (keeps : ℕ → Data → Line → Type 0) (input : Input) (read : ReadLines Line) (header : Header) (script : ScriptParts) → KeepsLines forms keeps → IsReadOf forms keeps input read → script ≡ script_made header read.kept.items → AreOfForms keeps script.lines
-answer_forms forms keeps input read header script plain of is =
-    subst (λ (s : ScriptParts). AreOfForms keeps s.lines) (sym is) (are_of_forms forms keeps input.audit (lines_of input.bytes) read.workers read.kept.items plain of.lines of.kept)
+pub answer_forms : (forms : LineForms) (keeps : Profile → ℕ → Data → Line → Type 0) (input : Input) (read : ReadLines Line) (header : Header) (script : ScriptParts) → HeadsScripts forms → KeepsLines forms keeps → IsReadOf forms keeps input read → IsHeaderOf read.heading.items header → script ≡ script_made header read.kept.items → AreOfForms (keeps script.profile) script.lines
+answer_forms forms keeps input read header script heads plain of is made =
+    subst (λ (s : ScriptParts). AreOfForms (keeps s.profile) s.lines) (sym made)
+    (are_of_forms forms keeps input.audit (lines_of input.bytes) (settings_of header) read.kept.items plain (lines_read forms keeps input read header heads of is) (lines_kept forms keeps input read header heads of is))

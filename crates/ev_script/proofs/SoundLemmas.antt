@@ -2,10 +2,12 @@
 use Rattle.std.proofs.Common.{◌≡◌, ℕ, zero, suc, ◌+◌, ◌<◌, ◌≤◌, Bool, true, false, ◌&&◌, nat_le, IsTrue, List, [], get_or, Option, None, Some, option_and_then, refl, sym, ap, subst, ◌∙◌, arith}
 use Rattle.std.proofs.lemmas.Bool.Decides.{nat_tests}
 use Rattle.serde_json.specs.Data.{Data}
+use Rattle.ev_types.specs.declared.events.Profile.{Profile}
 use Rattle.ev_io.specs.Lines.{lines_of}
 use Rattle.ev_script.specs.declared.fault_kinds.FaultKind.TheVariants.{NotJson, NotHeader, NotLine, NoSuchWorker}
+use Rattle.ev_script.specs.declared.forms.Settings.{Settings}
 use Rattle.ev_script.specs.Members.{tree_of}
-use Rattle.ev_script.specs.Faults.{LineForms, Input, index_at, tree_at, workers_in, has_format, BeginsJournal, IsUnknownWorker, Stands}
+use Rattle.ev_script.specs.Faults.{LineForms, Input, index_at, tree_at, settings_in, profile_by, profile_in, named_at, has_format, BeginsJournal, IsUnknownWorker, Stands}
 use Rattle.ev_script.specs.Content.{is_above, IsLineOf}
 use Rattle.ev_script.specs.ReadLines.{AreRead}
 use Rattle.ev_script.proofs.ContentLemmas.{first_is}
@@ -40,47 +42,57 @@ no_journal input place tree e f = λ b.
     let same : b.format.0 ≡ tree = some_same b.format.0 tree (tree_at input place) b.format.1 e in
     both_true input.audit (has_format tree) b.audit (subst (λ (d : Data). IsTrue (has_format d)) same b.format.2) f
 
--- how many workers the first line names
-pub head_is : (forms : LineForms) (audit : Bool) (texts : List (List ℕ)) (workers : ℕ) (n : ℕ) → AreRead forms audit texts workers n → 0 < n → workers_in forms texts ≡ Some workers
-head_is forms audit texts workers n read h = first_is forms (tree_of (get_or texts 0 [])) workers (read.head h)
+-- what the first line sets
+pub head_is : (forms : LineForms) (audit : Bool) (texts : List (List ℕ)) (settings : Settings) (n : ℕ) → AreRead forms audit texts settings n → 0 < n → settings_in forms texts ≡ Some settings
+head_is forms audit texts settings n read h = first_is forms (tree_of (get_or texts 0 [])) settings (read.head h)
+
+-- its profile
+pub profile_is : (forms : LineForms) (audit : Bool) (texts : List (List ℕ)) (settings : Settings) (n : ℕ) → AreRead forms audit texts settings n → 0 < n → profile_in forms texts ≡ settings.profile
+profile_is forms audit texts settings n read h = ap profile_by (head_is forms audit texts settings n read h)
+
+-- what a line is by the forms, at a place of this profile and index
+pub named_is : (forms : LineForms) (input : Input) (place i : ℕ) (profile : Profile) → profile_in forms (lines_of input.bytes) ≡ profile → index_at input place ≡ i → named_at forms input place ≡ option_and_then (forms.lines profile (i + 1)) (tree_at input place)
+named_is forms input place i profile p e =
+    ap (λ (q : Profile). option_and_then (forms.lines q (index_at input place + 1)) (tree_at input place)) p
+    ∙ ap (λ (n : ℕ). option_and_then (forms.lines profile (n + 1)) (tree_at input place)) e
 
 -- the first line
-sound_first : (forms : LineForms) (input : Input) (place n : ℕ) (workers : ℕ) → AreRead forms input.audit (lines_of input.bytes) workers n → 0 < n → index_at input place ≡ 0 → IsSoundAt forms input place
-sound_first forms input place n workers read h e =
-    let same : option_and_then forms.heads (tree_at input place) ≡ Some workers = ap (λ (i : ℕ). option_and_then forms.heads (tree_of (get_or (lines_of input.bytes) i []))) e ∙ head_is forms input.audit (lines_of input.bytes) workers n read h in
+sound_first : (forms : LineForms) (input : Input) (place n : ℕ) (settings : Settings) → AreRead forms input.audit (lines_of input.bytes) settings n → 0 < n → index_at input place ≡ 0 → IsSoundAt forms input place
+sound_first forms input place n settings read h e =
+    let same : option_and_then forms.heads (tree_at input place) ≡ Some settings = ap (λ (i : ℕ). option_and_then forms.heads (tree_of (get_or (lines_of input.bytes) i []))) e ∙ head_is forms input.audit (lines_of input.bytes) settings n read h in
     record {
-      json = λ s. none_some workers (option_and_then forms.heads (tree_at input place)) (ap (option_and_then forms.heads) s.1) same;
-      header = λ s. none_some workers (option_and_then forms.heads (tree_at input place)) s.2 same;
+      json = λ s. none_some settings (option_and_then forms.heads (tree_at input place)) (ap (option_and_then forms.heads) s.1) same;
+      header = λ s. none_some settings (option_and_then forms.heads (tree_at input place)) s.2 same;
       line = λ s. let k : 0 < index_at input place = s.1 in omega arith;
       worker = λ s. let k : 0 < index_at input place = s.1 in omega arith;
       journal = λ b. let k : 0 < index_at input place = b.later in omega arith;
     }
 
 -- another line
-sound_other : (forms : LineForms) (input : Input) (place n i : ℕ) (workers : ℕ) → AreRead forms input.audit (lines_of input.bytes) workers n → 0 < i → i < n → index_at input place ≡ i → IsSoundAt forms input place
-sound_other forms input place n i workers read some within e =
-    let r : IsLineOf forms input.audit workers (i + 1) (tree_of (get_or (lines_of input.bytes) i [])) = read.others i some within in
+sound_other : (forms : LineForms) (input : Input) (place n i : ℕ) (settings : Settings) → AreRead forms input.audit (lines_of input.bytes) settings n → 0 < i → i < n → index_at input place ≡ i → IsSoundAt forms input place
+sound_other forms input place n i settings read some within e =
+    let r : IsLineOf forms input.audit settings (i + 1) (tree_of (get_or (lines_of input.bytes) i [])) = read.others i some within in
     let tree : tree_at input place ≡ Some r.tree = ap (λ (i : ℕ). tree_of (get_or (lines_of input.bytes) i [])) e ∙ r.is in
-    let named : option_and_then (forms.lines (index_at input place + 1)) (tree_at input place) ≡ Some r.named =
-    ap (λ (i : ℕ). option_and_then (forms.lines (i + 1)) (tree_at input place)) e
-    ∙ ap (option_and_then (forms.lines (i + 1))) tree
+    let named : named_at forms input place ≡ Some r.named =
+    named_is forms input place i settings.profile (profile_is forms input.audit (lines_of input.bytes) settings n read (omega arith)) e
+    ∙ ap (option_and_then (forms.lines settings.profile (i + 1))) tree
     ∙ r.reads in
-    let worker : IsUnknownWorker forms input (option_and_then (forms.lines (index_at input place + 1)) (tree_at input place)) → ⊥ = λ u.
-    let actor : r.named ≡ Some u.worker = some_same r.named (Some u.worker) (option_and_then (forms.lines (index_at input place + 1)) (tree_at input place)) named u.names in
-    let heads : u.workers ≡ workers = some_same u.workers workers (workers_in forms (lines_of input.bytes)) u.heads (head_is forms input.audit (lines_of input.bytes) workers n read (omega arith)) in
-    not_above workers u.worker r.named actor r.below (subst (λ (w : ℕ). w ≤ u.worker) heads u.above) in
+    let worker : IsUnknownWorker forms input (named_at forms input place) → ⊥ = λ u.
+    let actor : r.named ≡ Some u.worker = some_same r.named (Some u.worker) (named_at forms input place) named u.names in
+    let heads : u.settings ≡ settings = some_same u.settings settings (settings_in forms (lines_of input.bytes)) u.heads (head_is forms input.audit (lines_of input.bytes) settings n read (omega arith)) in
+    not_above settings.workers u.worker r.named actor r.below (subst (λ (s : Settings). s.workers ≤ u.worker) heads u.above) in
     record {
       json = λ s. none_some r.tree (tree_at input place) s.1 tree;
       header = λ s. let k : index_at input place ≡ 0 = s.1 in omega arith;
-      line = λ s. none_some r.named (option_and_then (forms.lines (index_at input place + 1)) (tree_at input place)) s.2 named;
+      line = λ s. none_some r.named (named_at forms input place) s.2 named;
       worker = λ s. worker s.2;
       journal = no_journal input place r.tree tree r.plain;
     }
 
 -- any line that was read
-pub sound_at : (forms : LineForms) (input : Input) (place n : ℕ) (workers : ℕ) → AreRead forms input.audit (lines_of input.bytes) workers n → index_at input place < n → IsSoundAt forms input place
-sound_at forms input place n workers read within = by_index (index_at input place) refl
+pub sound_at : (forms : LineForms) (input : Input) (place n : ℕ) (settings : Settings) → AreRead forms input.audit (lines_of input.bytes) settings n → index_at input place < n → IsSoundAt forms input place
+sound_at forms input place n settings read within = by_index (index_at input place) refl
   where
     by_index : (i : ℕ) → index_at input place ≡ i → IsSoundAt forms input place
-    by_index zero e = sound_first forms input place n workers read (omega arith) e
-    by_index (suc i) e = sound_other forms input place n (suc i) workers read (omega arith) (omega arith) e
+    by_index zero e = sound_first forms input place n settings read (omega arith) e
+    by_index (suc i) e = sound_other forms input place n (suc i) settings read (omega arith) (omega arith) e

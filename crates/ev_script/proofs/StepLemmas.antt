@@ -11,6 +11,7 @@ use Rattle.ev_io.specs.Lines.{lines_of, onto_first, feeds_in}
 use Rattle.ev_io.specs.LineFaults.{HasNoFault}
 use Rattle.ev_io.specs.LinesState.{LinesState, HasTaken}
 use Rattle.ev_io.specs.ReadLine.{GivesLine, ReadsLine}
+use Rattle.ev_script.specs.declared.forms.Settings.{Settings}
 use Rattle.ev_script.specs.Members.{tree_of}
 use Rattle.ev_script.specs.Faults.{LineForms, index_at}
 use Rattle.ev_script.specs.Content.{first_content, IsLineOf, IsKeptOf}
@@ -24,10 +25,10 @@ use Rattle.ev_script.proofs.ContentFaults.{IsGiven}
 pub same_at : (n : ℕ) (xs ys : List (List ℕ)) (i : ℕ) → take n ys ≡ take n xs → i < n → get_or ys i [] ≡ get_or xs i []
 same_at n xs ys i e h = sym (get_or-take n ys i [] h) ∙ ap (λ (zs : List (List ℕ)). get_or zs i []) e ∙ get_or-take n xs i [] h
 
-pub are_read_same : (forms : LineForms) (audit : Bool) (xs ys : List (List ℕ)) (workers : ℕ) (n : ℕ) → take n ys ≡ take n xs → AreRead forms audit xs workers n → AreRead forms audit ys workers n
-are_read_same forms audit xs ys workers n e read = record {
+pub are_read_same : (forms : LineForms) (audit : Bool) (xs ys : List (List ℕ)) (settings : Settings) (n : ℕ) → take n ys ≡ take n xs → AreRead forms audit xs settings n → AreRead forms audit ys settings n
+are_read_same forms audit xs ys settings n e read = record {
   head = λ h. ap (first_content forms) (same_at n xs ys 0 e h) ∙ read.head h;
-  others = λ i some within. subst (λ (t : List ℕ). IsLineOf forms audit workers (i + 1) (tree_of t)) (sym (same_at n xs ys i e within)) (read.others i some within);
+  others = λ i some within. subst (λ (t : List ℕ). IsLineOf forms audit settings (i + 1) (tree_of t)) (sym (same_at n xs ys i e within)) (read.others i some within);
 }
 
 pub are_kept_same : {A : Type 0} (keeps : ℕ → Data → A → Type 0) (xs ys : List (List ℕ)) (n : ℕ) (kept : List A) → take n ys ≡ take n xs → length kept + 1 ≤ n → AreKept keeps xs kept → AreKept keeps ys kept
@@ -36,14 +37,14 @@ are_kept_same keeps xs ys n kept e most k = λ i other h.
 
 -- ---- one line more
 
-pub are_read_more : (forms : LineForms) (audit : Bool) (xs : List (List ℕ)) (workers : ℕ) (n : ℕ) → AreRead forms audit xs workers n → 0 < n → IsLineOf forms audit workers (n + 1) (tree_of (get_or xs n [])) → AreRead forms audit xs workers (n + 1)
-are_read_more forms audit xs workers n read some here = record { head = λ h. read.head some; others = λ i above within. by_place i above within (cases_lt i n) }
+pub are_read_more : (forms : LineForms) (audit : Bool) (xs : List (List ℕ)) (settings : Settings) (n : ℕ) → AreRead forms audit xs settings n → 0 < n → IsLineOf forms audit settings (n + 1) (tree_of (get_or xs n [])) → AreRead forms audit xs settings (n + 1)
+are_read_more forms audit xs settings n read some here = record { head = λ h. read.head some; others = λ i above within. by_place i above within (cases_lt i n) }
   where
-    by_place : (i : ℕ) → 0 < i → i < n + 1 → (i < n) ⊎ (n ≤ i) → IsLineOf forms audit workers (i + 1) (tree_of (get_or xs i []))
+    by_place : (i : ℕ) → 0 < i → i < n + 1 → (i < n) ⊎ (n ≤ i) → IsLineOf forms audit settings (i + 1) (tree_of (get_or xs i []))
     by_place i above within (inl before) = read.others i above before
     by_place i above within (inr late) =
         let same : n ≡ i = omega arith in
-        subst (λ (j : ℕ). IsLineOf forms audit workers (j + 1) (tree_of (get_or xs j []))) same here
+        subst (λ (j : ℕ). IsLineOf forms audit settings (j + 1) (tree_of (get_or xs j []))) same here
 
 pub are_kept_more : {A : Type 0} (keeps : ℕ → Data → A → Type 0) (xs : List (List ℕ)) (kept : List A) (more : A) → AreKept keeps xs kept → IsKeptOf keeps (length kept + 2) (tree_of (get_or xs (length kept + 1) [])) more → AreKept keeps xs (kept ++ more ∷ [])
 are_kept_more keeps xs kept more k here = λ i other h. by_place i other h (cases_lt i (length kept))
@@ -60,8 +61,8 @@ text_at : (n : ℕ) (xs rest : List (List ℕ)) (text : List ℕ) → drop n xs 
 text_at n xs rest text e = ap (λ (i : ℕ). get_or xs i []) (sym (add-zero n)) ∙ sym (get_or-drop n xs 0 []) ∙ ap (λ (ys : List (List ℕ)). get_or ys 0 []) e
 
 -- the line that was given
-pub given_line : (forms : LineForms) (audit : Bool) (workers : ℕ) (old new : LinesState) (bytes more before after : List ℕ) → ReadsLine old new bytes more before after (Ok Line) → AreRead forms audit (lines_of bytes) workers old.given → IsGiven forms (input_of audit new (bytes ++ more)) workers old.given after
-given_line forms audit workers old new bytes more before after reads read =
+pub given_line : (forms : LineForms) (audit : Bool) (settings : Settings) (old new : LinesState) (bytes more before after : List ℕ) → ReadsLine old new bytes more before after (Ok Line) → AreRead forms audit (lines_of bytes) settings old.given → IsGiven forms (input_of audit new (bytes ++ more)) settings old.given after
+given_line forms audit settings old new bytes more before after reads read =
     let means : GivesLine old new (bytes ++ more) after = reads.means in
     let number : new.given ≡ old.given + 1 = means.number in
     let last = last_end audit new (bytes ++ more) reads.taken (omega arith) in
@@ -71,7 +72,7 @@ given_line forms audit workers old new bytes more before after reads read =
       place = last.0;
       before = record {
         ends = last.1.ends;
-        read = subst (AreRead forms audit (lines_of (bytes ++ more)) workers) (sym index) (are_read_same forms audit (lines_of bytes) (lines_of (bytes ++ more)) workers old.given reads.kept read);
+        read = subst (AreRead forms audit (lines_of (bytes ++ more)) settings) (sym index) (are_read_same forms audit (lines_of bytes) (lines_of (bytes ++ more)) settings old.given reads.kept read);
         sound = last.1.sound;
       };
       index = index;

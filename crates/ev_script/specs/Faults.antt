@@ -1,7 +1,7 @@
 -- Where an input stops being a script. This project's own. A place counts bytes from 0; the end of the
 -- input is the place after its last byte. Of all faults, each said by a fact of its own, the first
 -- counts: the one at the first place, and at one place the first in the order of kinds.
-use Rattle.std.specs.Prelude.{◌≡◌, ℕ, ◌+◌, ◌<◌, ◌≤◌, ◌⊎◌, Bool, IsTrue, List, [], length, take, slice_index, slice_index_or, is_some, codes, Option, None, Some, option_map, option_and_then}
+use Rattle.std.specs.Prelude.{◌≡◌, ℕ, ◌+◌, ◌<◌, ◌≤◌, ◌⊎◌, Bool, IsTrue, List, [], length, take, slice_index, slice_index_or, is_some, codes, Option, None, Some, option_map, option_and_then, unwrap_or}
 use Rattle.serde_json.specs.Data.{Data}
 use Rattle.serde_json.specs.Find.{get}
 use Rattle.ev_io.specs.Lines.{lines_of, feeds_in}
@@ -9,11 +9,13 @@ use Rattle.ev_io.specs.LineFaults.{IsTooLarge, IsTooMany, IsTooLong}
 use Rattle.ev_types.specs.declared.events.Actor.{Actor}
 use Rattle.ev_types.specs.declared.events.Actor.TheVariants.{Stream, Health, Timer, Main, Worker}
 use Rattle.ev_types.specs.declared.events.Line.{Line}
+use Rattle.ev_types.specs.declared.events.Profile.{Profile}
+use Rattle.ev_types.specs.declared.events.Profile.TheVariants.{Own}
 use Rattle.ev_script.specs.declared.fault_kinds.FaultKind.{FaultKind}
 use Rattle.ev_script.specs.declared.fault_kinds.FaultKind.TheVariants.{TooLong, TooMany, TooLarge, NotJson, NotHeader, NotLine, NoSuchWorker, NoByte, NotJournal}
-use Rattle.ev_script.specs.declared.header.Header.{Header}
+use Rattle.ev_script.specs.declared.forms.Settings.{Settings}
 use Rattle.ev_script.specs.Members.{tree_of}
-use Rattle.ev_script.specs.Header.{header_of}
+use Rattle.ev_script.specs.Header.{header_of, settings_of}
 use Rattle.ev_script.specs.Lines.{line_of}
 
 -- ---- kinds
@@ -44,12 +46,12 @@ fault_order NotJournal = 8
 
 -- ---- forms of lines
 
--- What a tree is as a line of an input. `heads`: as the first line, how many workers it names, or none where it is no
--- header. `lines`: as another one, by its line's number, the worker that it names, where it names one, or none where it is
--- no line.
+-- What a tree is as a line of an input. `heads`: as the first line, what it sets for the others, or none where it is no
+-- header. `lines`: as another one, by the profile that the first sets and its line's number, the worker that it names, where
+-- it names one, or none where it is no line.
 pub record LineForms : Type 0 where
-  pub heads : Data → Option ℕ
-  pub lines : ℕ → Data → Option (Option ℕ)
+  pub heads : Data → Option Settings
+  pub lines : Profile → ℕ → Data → Option (Option ℕ)
 
 -- ---- inputs
 
@@ -73,9 +75,21 @@ EndsLine input place =
 abbrev pub tree_at : Input → ℕ → Option Data
 tree_at input place = tree_of (slice_index_or (lines_of input.bytes) (index_at input place) [])
 
--- how many workers the first line names, where it is a header
-abbrev pub workers_in : LineForms → List (List ℕ) → Option ℕ
-workers_in forms texts = option_and_then forms.heads (tree_of (slice_index_or texts 0 []))
+-- what the first line sets, where it is a header
+abbrev pub settings_in : LineForms → List (List ℕ) → Option Settings
+settings_in forms texts = option_and_then forms.heads (tree_of (slice_index_or texts 0 []))
+
+-- the profile of what is set: the project's own where nothing is
+abbrev pub profile_by : Option Settings → Profile
+profile_by settings = unwrap_or (option_map (λ (s : Settings). s.profile) settings) Own
+
+-- the profile that the first line sets
+abbrev pub profile_in : LineForms → List (List ℕ) → Profile
+profile_in forms texts = profile_by (settings_in forms texts)
+
+-- what the line that ends there is by the forms: the worker that it names, where it names one, or none where it is no line
+abbrev pub named_at : LineForms → Input → ℕ → Option (Option ℕ)
+named_at forms input place = option_and_then (forms.lines (profile_in forms (lines_of input.bytes)) (index_at input place + 1)) (tree_at input place)
 
 -- ---- the journal after a script
 
@@ -108,17 +122,17 @@ worker_of (Worker worker) = Some worker
 -- the forms of a script's lines; a command whose input has other lines has other forms
 abbrev pub plain_lines : LineForms
 plain_lines = record {
-  heads = λ tree. option_map (λ (header : Header). header.workers) (header_of tree);
-  lines = λ at tree. option_map (λ (line : Line). worker_of line.actor) (line_of at tree);
+  heads = λ tree. option_map settings_of (header_of tree);
+  lines = λ profile at tree. option_map (λ (line : Line). worker_of line.actor) (line_of profile at tree);
 }
 
 -- the worker isn't below the header's count
 pub record IsUnknownWorker (forms : LineForms) (input : Input) (named : Option (Option ℕ)) : Type 0 where
   pub worker : ℕ
-  pub workers : ℕ
+  pub settings : Settings
   pub names : named ≡ Some (Some worker)
-  pub heads : workers_in forms (lines_of input.bytes) ≡ Some workers
-  pub above : workers ≤ worker
+  pub heads : settings_in forms (lines_of input.bytes) ≡ Some settings
+  pub above : settings.workers ≤ worker
 
 -- ---- faults
 
@@ -129,8 +143,8 @@ Stands forms input place TooMany = (place < length input.bytes) × IsTooMany inp
 Stands forms input place TooLarge = (place < length input.bytes) × IsTooLarge place
 Stands forms input place NotJson = EndsScriptLine input place × (tree_at input place ≡ None)
 Stands forms input place NotHeader = EndsScriptLine input place × (index_at input place ≡ 0) × (option_and_then forms.heads (tree_at input place) ≡ None)
-Stands forms input place NotLine = EndsScriptLine input place × (0 < index_at input place) × (option_and_then (forms.lines (index_at input place + 1)) (tree_at input place) ≡ None)
-Stands forms input place NoSuchWorker = EndsScriptLine input place × (0 < index_at input place) × IsUnknownWorker forms input (option_and_then (forms.lines (index_at input place + 1)) (tree_at input place))
+Stands forms input place NotLine = EndsScriptLine input place × (0 < index_at input place) × (named_at forms input place ≡ None)
+Stands forms input place NoSuchWorker = EndsScriptLine input place × (0 < index_at input place) × IsUnknownWorker forms input (named_at forms input place)
 Stands forms input place NoByte = IsTrue input.ended × (input.bytes ≡ []) × (place ≡ 0)
 Stands forms input place NotJournal =
     IsTrue input.audit × IsTrue input.ended × (place ≡ length input.bytes) × ((start : ℕ) → ¬ (BeginsJournal input start))

@@ -5,6 +5,8 @@ pub mod StreamLines
 pub mod HealthLines
 pub mod TimerLines
 pub mod MainLines
+pub mod Headers
+pub mod Asks
 pub mod WorkerLines
 pub mod Lines
 pub mod Faults

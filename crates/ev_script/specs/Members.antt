@@ -1,12 +1,12 @@
 -- JSON values and members of objects, as the lines of a script have them. Only the written name of a
 -- member counts, and a member `null` is a member.
-use Rattle.std.specs.Prelude.{ℕ, ◌&&◌, List, length, Bool, true, false, nat_le, if◌then◌else◌, codes, Option, None, Some, option_and_then}
+use Rattle.std.specs.Prelude.{ℕ, ◌&&◌, List, [], ◌∷◌, length, Bool, true, false, nat_le, if◌then◌else◌, codes, Option, None, Some, option_map, option_and_then}
 use Rattle.std.specs.List.{list_any}
 use Rattle.std.specs.Str.{bytes_eq, is_utf8}
 use denote.Ref.{Bor}
-use Rattle.serde_json.specs.Data.{Data, null, boolean, number, string, array, object, Members, no_members, member}
+use Rattle.serde_json.specs.Data.{Data, null, boolean, number, string, array, object, Items, no_items, item, Members, no_members, member}
 use Rattle.serde_json.specs.Read.{read}
-use Rattle.serde_json.specs.Find.{get, as_number, as_u64, as_str}
+use Rattle.serde_json.specs.Find.{get, as_number, as_u64, as_str, as_array}
 use Rattle.ev_types.specs.declared.limits.TheConstants.{MAX_NAME_LENGTH}
 
 -- the value that bytes are, where they are JSON in UTF-8
@@ -42,6 +42,15 @@ text_within low high tree = option_and_then (λ text. if nat_le low (length text
 -- a name: a text of 1 to 512 bytes
 abbrev pub name_of : Data → Option (List ℕ)
 name_of tree = text_within 1 MAX_NAME_LENGTH tree
+
+-- the texts that values are, or none where one of them is another value
+abbrev pub texts_of : Items → Option (List (List ℕ))
+texts_of no_items = Some []
+texts_of (item tree others) = option_and_then (λ text. option_map (λ texts. text ∷ texts) (texts_of others)) (as_str tree)
+
+-- a list of texts of any lengths
+abbrev pub texts_in : Data → Option (List (List ℕ))
+texts_in tree = option_and_then texts_of (as_array tree)
 
 -- what a form gives for a value that is there, or the default for one that isn't
 abbrev pub or_default : {A : Type 0} → (Data → Option A) → A → Option Data → Option A

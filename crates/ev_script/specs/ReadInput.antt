@@ -2,6 +2,7 @@
 use Rattle.std.specs.Prelude.{◌≡◌, ℕ, ◌+◌, ◌<◌, ◌≤◌, Bool, false, IsTrue, ⊤, List, [], length, slice_index_or, Option, None, Some, Vec, Result, Ok, Err}
 use Rattle.std.specs.declared.alloc.Global.{Global}
 use Rattle.serde_json.specs.Data.{Data}
+use Rattle.ev_types.specs.declared.events.Profile.{Profile}
 use Rattle.ev_io.specs.declared.faults.LineFault.{LineFault}
 use Rattle.ev_io.specs.declared.faults.LineFault.TheVariants as limit
 use Rattle.ev_io.specs.declared.faults.ScriptFault.{ScriptFault}
@@ -10,6 +11,7 @@ use Rattle.ev_io.specs.Lines.{lines_of}
 use Rattle.ev_io.specs.LinesState.{LinesState}
 use Rattle.ev_script.specs.declared.fault_kinds.FaultKind.{FaultKind}
 use Rattle.ev_script.specs.declared.content.First.TheVariants as first
+use Rattle.ev_script.specs.declared.forms.Settings.{Settings}
 use Rattle.ev_script.specs.declared.read_input.ReadLines.{ReadLines}
 use Rattle.ev_script.specs.Faults.{LineForms, Input, index_at, BeginsJournal, Stands, IsFaultOf, HasNoFault}
 use Rattle.ev_script.specs.Content.{first_content}
@@ -60,21 +62,21 @@ abbrev pub through_journal : Option (Vec ℕ Global) → ℕ
 through_journal None = 1
 through_journal (Some text) = 2
 
--- how many workers the header names, the text of its line, what is kept of the lines after it, and where they end
-pub record IsReadOf {A : Type 0} (forms : LineForms) (keeps : ℕ → Data → A → Type 0) (input : Input) (read : ReadLines A) : Type 0 where
+-- what the header sets, the text of its line, what is kept of the lines after it, and where they end
+pub record IsReadOf {A : Type 0} (forms : LineForms) (keeps : Profile → ℕ → Data → A → Type 0) (input : Input) (read : ReadLines A) : Type 0 where
   pub heading : slice_index_or (lines_of input.bytes) 0 [] ≡ read.heading.items
-  pub lines : AreRead forms input.audit (lines_of input.bytes) read.workers (length read.kept.items + 1)
-  pub kept : AreKept keeps (lines_of input.bytes) read.kept.items
+  pub lines : AreRead forms input.audit (lines_of input.bytes) read.settings (length read.kept.items + 1)
+  pub kept : AreKept (keeps read.settings.profile) (lines_of input.bytes) read.kept.items
   pub ends : EndsBefore forms input (length read.kept.items + 1) read.journal
 
 -- what an answer means
-abbrev pub IsAnswer : {A : Type 0} → LineForms → (ℕ → Data → A → Type 0) → Input → Result (ReadLines A) ScriptFault → Type 0
+abbrev pub IsAnswer : {A : Type 0} → LineForms → (Profile → ℕ → Data → A → Type 0) → Input → Result (ReadLines A) ScriptFault → Type 0
 IsAnswer forms keeps input (Ok read) = IsReadOf forms keeps input read
 IsAnswer forms keeps input (Err fault) = IsTold forms input fault
 
 -- what an answer about the first line means: a header was given, and the line is this text, or the first fault of the bytes
 -- taken stands in the first line, whether a journal has to follow or not
-abbrev pub IsHeadAnswer : LineForms → LinesState → List ℕ → List ℕ → Result ℕ ScriptFault → Type 0
-IsHeadAnswer forms state bytes text (Ok workers) =
-    (state.told ≡ None) × (state.given ≡ 1) × (first_content forms (slice_index_or (lines_of bytes) 0 []) ≡ first.Workers workers) × (slice_index_or (lines_of bytes) 0 [] ≡ text)
+abbrev pub IsHeadAnswer : LineForms → LinesState → List ℕ → List ℕ → Result Settings ScriptFault → Type 0
+IsHeadAnswer forms state bytes text (Ok settings) =
+    (state.told ≡ None) × (state.given ≡ 1) × (first_content forms (slice_index_or (lines_of bytes) 0 []) ≡ first.Header settings) × (slice_index_or (lines_of bytes) 0 [] ≡ text)
 IsHeadAnswer forms state bytes text (Err fault) = (audit : Bool) → IsTold forms (input_of audit state bytes) fault

@@ -5,6 +5,7 @@ use Rattle.ev_io.specs.declared.faults.ScriptFault.{ScriptFault}
 use Rattle.ev_types.specs.Events.{MayMake}
 use Rattle.ev_types.specs.Scripts.{ScriptParts}
 use Rattle.ev_types.specs.declared.events.Line.{Line}
+use Rattle.ev_types.specs.declared.events.Profile.{Profile}
 use Rattle.ev_script.specs.declared.header.Header.{Header}
 use Rattle.ev_script.specs.declared.script.AuditedScript.{AuditedScript}
 use Rattle.ev_script.specs.Members.{tree_of}
@@ -12,6 +13,7 @@ use Rattle.ev_script.specs.Header.{header_of}
 use Rattle.ev_script.specs.Lines.{line_of}
 use Rattle.ev_script.specs.Faults.{LineForms, Input, worker_of, plain_lines}
 use Rattle.ev_script.specs.Script.{script_of}
+pub use Rattle.ev_script.specs.Script.{script_made}
 use Rattle.ev_script.specs.ReadInput.{IsTold, IsWhole, IsUpToJournal}
 
 -- a first line by these forms is the header of a script
@@ -19,16 +21,14 @@ abbrev pub HeadsScripts : LineForms → Type 0
 HeadsScripts forms = (tree : Data) → forms.heads tree ≡ plain_lines.heads tree
 
 -- what is kept of a line by these forms is the line of a script
-abbrev pub KeepsLines : LineForms → (ℕ → Data → Line → Type 0) → Type 0
-KeepsLines forms keeps = (at : ℕ) (tree : Data) (line : Line) → keeps at tree line → (line_of at tree ≡ Some line) × (forms.lines at tree ≡ Some (worker_of line.actor))
+abbrev pub KeepsLines : LineForms → (Profile → ℕ → Data → Line → Type 0) → Type 0
+KeepsLines forms keeps = (profile : Profile) (at : ℕ) (tree : Data) (line : Line)
+    → keeps profile at tree line
+    → (line_of profile at tree ≡ Some line) × (forms.lines profile at tree ≡ Some (worker_of line.actor))
 
 -- the text is that of this header
 abbrev pub IsHeaderOf : List ℕ → Header → Type 0
 IsHeaderOf text header = option_and_then header_of (tree_of text) ≡ Some header
-
--- the script of a header and the lines after it
-abbrev pub script_made : Header → List Line → ScriptParts
-script_made header lines = record { workers = header.workers; auto = header.auto; node = header.node; lines = lines; count = length lines + 1 }
 
 -- what an answer means: the script of an input without fault, or the first fault of the bytes taken
 abbrev pub IsScriptAnswer : LineForms → Input → Result ScriptParts ScriptFault → Type 0

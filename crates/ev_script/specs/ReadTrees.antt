@@ -3,6 +3,7 @@ use Rattle.std.specs.Prelude.{◌≡◌, ℕ, ◌+◌, ◌<◌, List, [], length
 use Rattle.serde_json.specs.Data.{Data}
 use Rattle.serde_json.specs.View.{view}
 use Rattle.serde_json.specs.declared.value.Value.{Value}
+use Rattle.ev_types.specs.declared.events.Profile.{Profile}
 use Rattle.ev_io.specs.Lines.{lines_of}
 use Rattle.ev_io.specs.declared.faults.ScriptFault.{ScriptFault}
 use Rattle.ev_script.specs.declared.trees.ScriptTrees.{ScriptTrees}
@@ -12,8 +13,8 @@ use Rattle.ev_script.specs.Faults.{LineForms, Input}
 use Rattle.ev_script.specs.ReadInput.{IsTold, IsWhole}
 
 -- what is kept of a line is its tree
-abbrev pub KeepsTrees : (ℕ → Data → Value → Type 0) → Type 0
-KeepsTrees keeps = (at : ℕ) (tree : Data) (kept : Value) → keeps at tree kept → view kept ≡ tree
+abbrev pub KeepsTrees : (Profile → ℕ → Data → Value → Type 0) → Type 0
+KeepsTrees keeps = (profile : Profile) (at : ℕ) (tree : Data) (kept : Value) → keeps profile at tree kept → view kept ≡ tree
 
 -- the text is that of this tree
 abbrev pub IsTreeOf : List ℕ → Value → Type 0

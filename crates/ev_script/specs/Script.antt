@@ -4,6 +4,7 @@ use Rattle.serde_json.specs.Data.{Data}
 use Rattle.ev_io.specs.Lines.{lines_of}
 use Rattle.ev_types.specs.Scripts.{ScriptParts}
 use Rattle.ev_types.specs.declared.events.Line.{Line}
+use Rattle.ev_types.specs.declared.events.Profile.{Profile}
 use Rattle.ev_script.specs.declared.header.Header.{Header}
 use Rattle.ev_script.specs.Members.{tree_of}
 use Rattle.ev_script.specs.Header.{header_of}
@@ -11,16 +12,26 @@ use Rattle.ev_script.specs.Lines.{line_of}
 use Rattle.ev_script.specs.Faults.{has_format}
 
 -- the lines from this place on, where each is one
-abbrev pub lines_from : ℕ → List (List ℕ) → Option (List Line)
-lines_from at [] = Some []
-lines_from at (text ∷ texts) = option_and_then (λ line. option_map (λ lines. line ∷ lines) (lines_from (at + 1) texts)) (option_and_then (line_of at) (tree_of text))
+abbrev pub lines_from : Profile → ℕ → List (List ℕ) → Option (List Line)
+lines_from profile at [] = Some []
+lines_from profile at (text ∷ texts) = option_and_then
+    (λ line. option_map (λ lines. line ∷ lines) (lines_from profile (at + 1) texts))
+    (option_and_then (line_of profile at) (tree_of text))
+
+-- the script of a header and the lines after it
+abbrev pub script_made : Header → List Line → ScriptParts
+script_made header lines = record {
+  workers = header.workers;
+  auto = header.auto;
+  profile = header.profile;
+  node = header.node;
+  lines = lines;
+  count = length lines + 1;
+}
 
 -- the script of a header and the texts of the other lines
 abbrev pub script_with : List (List ℕ) → Header → Option ScriptParts
-script_with texts header =
-    option_map
-    (λ lines. record { workers = header.workers; auto = header.auto; node = header.node; lines = lines; count = length lines + 1 })
-    (lines_from 2 texts)
+script_with texts header = option_map (script_made header) (lines_from header.profile 2 texts)
 
 -- the script of the texts of all lines
 abbrev pub script_from : List (List ℕ) → Option ScriptParts

@@ -5,7 +5,7 @@ ghost use Rattle.ev_script.specs.Faults.{has_format};
 ghost use Rattle.ev_script.specs.Content.{first_of, first_content, is_above, IsContent};
 
 use crate::fault_kinds::FaultKind;
-use crate::forms::Forms;
+use crate::forms::{Forms, Settings};
 use crate::members::read_tree;
 use serde_json::Value;
 use std::alloc::{AllocError, Global};
@@ -13,8 +13,8 @@ use std::alloc::{AllocError, Global};
 // What the first line of an input is.
 #[derive(Drop)]
 pub(crate) enum First {
-    /// A header, which names so many workers.
-    Workers(u32),
+    /// A header, which sets this.
+    Header(Settings),
     /// No header, with this fault.
     Fault(FaultKind),
 }
@@ -44,28 +44,28 @@ pub(crate) fn read_first<F: Forms>(
     }
 }
 
-// What a first line is, by how many workers it names as a header.
-fn first_of(workers: Option<u32>) -> First
-    ensures { result ≡ first_of workers }
+// What a first line is, by what it sets as a header.
+fn first_of(settings: Option<Settings>) -> First
+    ensures { result ≡ first_of settings }
 {
-    match workers {
-        Some(workers) => First::Workers(workers),
+    match settings {
+        Some(settings) => First::Header(settings),
         None => First::Fault(FaultKind::NotHeader),
     }
 }
 
-// What line `at` is, by its text without its line feed, in a script of so many workers: a line, or a
+// What line `at` is, by its text without its line feed, in a script with these settings: a line, or a
 // fault of kind 4, 6 or 7. In an audit's input an object with a member `format` begins the journal,
 // whatever else it has. The line's tree is gone before the answer, where it isn't what is kept.
 pub(crate) fn read_content<F: Forms>(
     alloc: Global,
     forms: &F,
     audit: bool,
-    workers: u32,
+    settings: Settings,
     at: u32,
     text: &[u8],
 ) -> Result<Content<F::Kept>, AllocError>
-    ensures { IfOk result (IsContent F.forms F.keeps audit workers at (tree_of text.now)) }
+    ensures { IfOk result (IsContent F.forms F.keeps audit settings at (tree_of text.now)) }
 {
     let Some(tree) = read_tree(alloc, text)? else {
         return Ok(Content::Fault(FaultKind::NotJson));
@@ -73,10 +73,10 @@ pub(crate) fn read_content<F: Forms>(
     if begins_journal(audit, &tree) {
         return Ok(Content::Journal);
     }
-    let Some(formed) = forms.read(alloc, at, tree)? else {
+    let Some(formed) = forms.read(alloc, settings.profile, at, tree)? else {
         return Ok(Content::Fault(FaultKind::NotLine));
     };
-    if is_above(workers, formed.worker) {
+    if is_above(settings.workers, formed.worker) {
         return Ok(Content::Fault(FaultKind::NoSuchWorker));
     }
     Ok(Content::Line(formed.kept))

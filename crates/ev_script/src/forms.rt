@@ -1,13 +1,23 @@
 ghost use Rattle.std.specs.Prelude.{◌≡◌, ℕ, Option, option_map, IfOk, IfSome};
 ghost use Rattle.serde_json.specs.Data.{Data};
 ghost use Rattle.serde_json.specs.View.{view};
+ghost use Rattle.ev_types.specs.declared.events.Profile.{Profile};
 ghost use Rattle.ev_script.specs.Faults.{LineForms, worker_of};
 
-use crate::header::read_workers;
+use crate::header::read_settings;
 use crate::lines::read_line;
-use ev_types::{Actor, Line};
+use ev_types::{Actor, Line, Profile};
 use serde_json::Value;
 use std::alloc::{AllocError, Global};
+
+/// What the first line of an input sets for the lines after it.
+#[derive(Clone, Copy, Debug)]
+pub struct Settings {
+    /// How many workers there are.
+    pub workers: u32,
+    /// How resources are read.
+    pub profile: Profile,
+}
 
 /// A line after the first: what is kept of it, and the worker that it names, where it names one.
 #[derive(Drop)]
@@ -24,29 +34,30 @@ pub trait Forms {
     // What a tree is as the first line, and as another one.
     ghost forms: { LineForms };
 
-    // This may be kept of the line, by its number and its tree.
-    ghost keeps: { ℕ → Data → Self.Kept → Type 0 };
+    // This may be kept of the line, by the profile, the line's number and its tree.
+    ghost keeps: { Profile → ℕ → Data → Self.Kept → Type 0 };
 
-    /// How many workers a tree names as the first line, or none where it is no header.
+    /// What a tree sets as the first line, or none where it is no header.
     ///
     /// # Errors
     /// `AllocError` where there is no memory for it.
-    fn read_head(&self, alloc: Global, tree: &Value) -> Result<Option<u32>, AllocError>
-        ensures workers { IfOk result (λ workers. workers ≡ forms.heads (view tree.now)) };
+    fn read_head(&self, alloc: Global, tree: &Value) -> Result<Option<Settings>, AllocError>
+        ensures settings { IfOk result (λ settings. settings ≡ forms.heads (view tree.now)) };
 
-    /// The line that a tree is, by its number, or none where it isn't one. Whether its worker is one
-    /// of the script's is not looked at.
+    /// The line that a tree is, by the profile that the first line sets and its own number, or none
+    /// where it isn't one. Whether its worker is one of the script's is not looked at.
     ///
     /// # Errors
     /// `AllocError` where there is no memory for it.
     fn read(
         &self,
         alloc: Global,
+        profile: Profile,
         at: u32,
         tree: Value,
     ) -> Result<Option<FormedLine<Self::Kept>>, AllocError>
-        ensures line { IfOk result (λ line. option_map (λ line. line.worker) line ≡ forms.lines at (view tree)) }
-        ensures kept { IfOk result (λ line. IfSome line (λ line. keeps at (view tree) line.kept)) };
+        ensures line { IfOk result (λ line. option_map (λ line. line.worker) line ≡ forms.lines profile at (view tree)) }
+        ensures kept { IfOk result (λ line. IfSome line (λ line. keeps profile at (view tree) line.kept)) };
 }
 
 /// The lines of a script, each kept as what it says.
@@ -62,19 +73,20 @@ impl Forms for ScriptLines {
 
     ghost forms = { plain_lines };
 
-    ghost keeps = { λ at tree line. line_of at tree ≡ Some line };
+    ghost keeps = { λ profile at tree line. line_of profile at tree ≡ Some line };
 
-    fn read_head(&self, alloc: Global, tree: &Value) -> Result<Option<u32>, AllocError> {
-        read_workers(alloc, tree)
+    fn read_head(&self, alloc: Global, tree: &Value) -> Result<Option<Settings>, AllocError> {
+        read_settings(alloc, tree)
     }
 
     fn read(
         &self,
         alloc: Global,
+        profile: Profile,
         at: u32,
         tree: Value,
     ) -> Result<Option<FormedLine<Line>>, AllocError> {
-        match read_line(alloc, at, &tree)? {
+        match read_line(alloc, profile, at, &tree)? {
             Some(line) => Ok(Some(FormedLine {
                 worker: worker_of(line.actor),
                 kept: line,

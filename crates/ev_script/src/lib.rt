@@ -19,9 +19,16 @@
 //!   `fault_order`.
 //! - A place is a byte, or the end of the input after the last byte. Kinds 1, 2 and 3 stand at the byte that goes
 //!   above the limit, by ev_io's own facts; kinds 4 to 7 at the byte that ends their line.
-//! - Which lines there are is an argument of the definition of a fault (`LineForms`): how many workers a tree names
-//!   as the first line, and which worker it names as another one, or that it is none. A command whose input has other
-//!   lines gives other forms.
+//! - Which lines there are is an argument of the definition of a fault (`LineForms`): what a tree sets as the first
+//!   line (`Settings`: how many workers there are, and the profile), and which worker it names as another one, or that
+//!   it is none. A command whose input has other lines gives other forms.
+//! - Another line is read by the profile that the first sets. Where the first is no header the profile is the
+//!   project's own; no fault depends on it then, since that of the first line comes before.
+//! - Of an accept the profile decides which members there may be, and nothing else: where `serverName` and those
+//!   beside it are no members, they are as where they are absent.
+//! - Headers are taken in the order of their written names, so of `X-A` and `x-a` the second counts. `:authority` and
+//!   `:path` are left out of them, since the ask's host and path stand for these.
+//! - The ask has the IP address that its address writes, so that a choice parses nothing.
 //! - The reader of a whole input is one loop, `read_lines_with`, over a type that says which lines there are and what
 //!   is kept of each (`Forms`): a script keeps a line as what it says. A command that reads other lines gives such a
 //!   type; the lines of a script are `ScriptLines`.
@@ -45,10 +52,12 @@
 //!   and even with `{"format":null}`; a first line with it is a header with a member too many.
 #![tactic(auto)]
 
+mod asks;
 mod content;
 mod fault_kinds;
 mod forms;
 mod header;
+mod headers;
 mod health_lines;
 mod limits;
 mod line_forms;
@@ -63,7 +72,7 @@ mod trees;
 mod worker_lines;
 
 pub use fault_kinds::FaultKind;
-pub use forms::{FormedLine, Forms, ScriptLines};
+pub use forms::{FormedLine, Forms, ScriptLines, Settings};
 pub use header::{Header, read_header};
 pub use limits::{MAX_NUMBER, MAX_PATH_LENGTH, MAX_WORKER};
 pub use lines::read_line;

@@ -2,11 +2,11 @@ ghost use Rattle.std.specs.Prelude.{◌≡◌, ◌≤◌, length, map, option_ma
 ghost use Rattle.std.specs.BTreeMap.{keys};
 ghost use Rattle.std.specs.List.{list_all};
 ghost use Rattle.serde_json.specs.Find.{as_str, as_bool};
-ghost use Rattle.serde_json.specs.View.{view};
+ghost use Rattle.serde_json.specs.View.{view, items_view};
 ghost use Rattle.ev_types.specs.declared.limits.TheConstants.{MAX_NAME_LENGTH};
-ghost use Rattle.ev_script.specs.Members.{tree_of, is_among, has_only, whole_within, text_within, name_of, member_of, member_or, is_op};
+ghost use Rattle.ev_script.specs.Members.{tree_of, is_among, has_only, whole_within, text_within, name_of, texts_of, texts_in, member_of, member_or, is_op};
 
-use ev_types::{MAX_NAME_LENGTH, Name, NameError};
+use ev_types::{MAX_NAME_LENGTH, Name, NameError, Seq, Text};
 use serde_json::{Map, Value};
 use std::alloc::{AllocError, Global};
 
@@ -150,6 +150,30 @@ pub(crate) fn flag_or(tree: &Value, name: &str, default: bool) -> Option<bool>
         Some(value) => value.as_bool(),
         None => Some(default),
     }
+}
+
+// The texts of any lengths that a list is, or none: `tree` is another value, or an element is.
+pub(crate) fn texts_in(alloc: Global, tree: &Value) -> Result<Option<Seq<Text>>, AllocError>
+    ensures { IfOk result (λ texts. texts ≡ texts_in (view tree.now)) }
+{
+    match tree.as_array() {
+        Some(values) => texts_of(alloc, values.as_slice()),
+        None => Ok(None),
+    }
+}
+
+// The texts that values are, or none where one of them is another value.
+fn texts_of(alloc: Global, values: &[Value]) -> Result<Option<Seq<Text>>, AllocError>
+    ensures { IfOk result (λ texts. texts ≡ texts_of (items_view values.now)) }
+{
+    let mut texts = Vec::with_capacity(alloc, values.len())?;
+    for value in values {
+        match value.as_str() {
+            Some(text) => texts.push(Text::new(alloc, text)?)?,
+            None => return Ok(None),
+        }
+    }
+    Ok(Some(Seq::from_vec(texts)))
 }
 
 /// The name that a member of `tree` is, a text of 1 to 512 bytes once JSON's escapes are read, or none: there is no

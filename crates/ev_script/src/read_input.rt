@@ -8,15 +8,15 @@ ghost use Rattle.ev_script.specs.ReadInput.{input_of, script_fault, through_jour
 
 use crate::content::{Content, First, read_content, read_first};
 use crate::fault_kinds::FaultKind;
-use crate::forms::Forms;
+use crate::forms::{Forms, Settings};
 use ev_io::{LineEnd, LineFault, Lines, MAX_LINES, ScriptFault, Source};
 use std::alloc::Global;
 
 /// The lines that were read of an input.
 #[derive(Drop)]
 pub struct ReadLines<T> {
-    /// How many workers the first line names.
-    pub workers: u32,
+    /// What the first line sets for the others.
+    pub settings: Settings,
     /// The text of the first line, without its line feed.
     pub heading: Vec<u8>,
     /// What is kept of each line after it.
@@ -55,14 +55,14 @@ pub fn read_lines_with<S: Source, F: Forms>(
     ensures count { S.faults source.old ≤ S.faults source.new }
 {
     let mut heading = Vec::new(alloc);
-    let workers = read_head(alloc, forms, lines, source, &mut heading)?;
+    let settings = read_head(alloc, forms, lines, source, &mut heading)?;
     let mut text = Vec::new(alloc);
     let mut kept = Vec::new(alloc);
     'lines: loop {
         match lines.read_line(source, &mut text) {
             Ok(LineEnd::Line) => {
                 let at = lines.number();
-                match read_content(alloc, forms, audit, workers, at, text.as_slice()) {
+                match read_content(alloc, forms, audit, settings, at, text.as_slice()) {
                     Ok(Content::Line(line)) => match kept.push(line) {
                         Ok(()) => {}
                         Err(_) => return Err(ScriptFault::OutOfMemory),
@@ -70,7 +70,7 @@ pub fn read_lines_with<S: Source, F: Forms>(
                     Ok(Content::Fault(kind)) => return Err(fault_at(at, kind)),
                     Ok(Content::Journal) => {
                         return Ok(ReadLines {
-                            workers,
+                            settings,
                             heading,
                             kept,
                             journal: Some(text),
@@ -85,7 +85,7 @@ pub fn read_lines_with<S: Source, F: Forms>(
             )),
             Ok(LineEnd::End) => {
                 return Ok(ReadLines {
-                    workers,
+                    settings,
                     heading,
                     kept,
                     journal: None,
@@ -96,14 +96,14 @@ pub fn read_lines_with<S: Source, F: Forms>(
     }
 }
 
-// Reads the first line of an input, which is its header, and says how many workers it names.
+// Reads the first line of an input, which is its header, and says what it sets.
 fn read_head<S: Source, F: Forms>(
     alloc: Global,
     forms: &F,
     lines: &mut Lines,
     source: &mut S,
     text: &mut Vec<u8>,
-) -> Result<u32, ScriptFault>
+) -> Result<Settings, ScriptFault>
     requires fresh { IsFresh lines.old }
     ensures reads { (bytes : List ℕ) × Takes (S.left source.old) (S.left source.new) bytes × HasTaken lines.new bytes
         × IsHeadAnswer F.forms lines.new bytes text.new.items result }
@@ -117,7 +117,7 @@ fn read_head<S: Source, F: Forms>(
 {
     match lines.read_line(source, text) {
         Ok(LineEnd::Line) => match read_first(alloc, forms, text.as_slice()) {
-            Ok(First::Workers(workers)) => Ok(workers),
+            Ok(First::Header(settings)) => Ok(settings),
             Ok(First::Fault(kind)) => Err(fault_at(1, kind)),
             Err(_) => Err(ScriptFault::OutOfMemory),
         },

@@ -61,7 +61,7 @@ pub fn read_script_with<S: Source, F: Forms<Kept = Line>>(
     requires plain { KeepsLines F.forms F.keeps }
     ensures reads { (bytes : List ℕ) × Takes (S.left source.old) (S.left source.new) bytes × HasTaken lines.new bytes
         × IsScriptAnswer F.forms (input_of false lines.new bytes) result }
-    ensures forms { IfOk result (λ script. AreOfForms F.keeps script.lines) }
+    ensures forms { IfOk result (λ script. AreOfForms (F.keeps script.profile) script.lines) }
     ensures untold { OnOk result (lines.new.told ≡ None) }
     ensures number { IfOk result (λ script. lines.new.given ≡ script.count) }
     ensures at_end { IsTrue lines.new.ended → IsAtEnd (S.left source.new) }
@@ -158,6 +158,7 @@ fn made_script(header: Header, lines: Vec<Line>) -> Result<Script, AllocError>
     Ok(Script {
         workers: header.workers,
         auto: header.auto,
+        profile: header.profile,
         node: header.node,
         count: lines.len() as u32 + 1,
         lines: Seq::from_vec(lines),

@@ -7,7 +7,7 @@ ghost use Rattle.ev_types.specs.declared.events.Event.TheVariants.{Response as r
 
 use crate::line_forms::line_at;
 use crate::members::has_only;
-use ev_types::{Actor, Event, Line, Response};
+use ev_types::{Actor, Event, Line, Profile, Response};
 use ev_wire::{WireError, read_response};
 use serde_json::Value;
 use std::alloc::{AllocError, Global};
@@ -35,15 +35,16 @@ pub(crate) fn disconnect_line(at: u32, tree: &Value) -> Option<Line>
 // A `response`: a message comes on the stream.
 pub(crate) fn response_line(
     alloc: Global,
+    profile: Profile,
     at: u32,
     tree: &Value,
 ) -> Result<Option<Line>, AllocError>
-    ensures { IfOk result (λ line. line ≡ response_line at (view tree.now)) }
+    ensures { IfOk result (λ line. line ≡ response_line profile at (view tree.now)) }
 {
     if !has_only(tree, &["op", "message"]) {
         return Ok(None);
     }
-    let event = response_event(read_message(alloc, tree.get("message"))?);
+    let event = response_event(read_message(alloc, profile, tree.get("message"))?);
     Ok(line_at(at, Actor::Stream, event))
 }
 
@@ -57,15 +58,19 @@ fn response_event(response: Option<Response>) -> Option<Event>
     }
 }
 
-// The response that a message is.
-fn read_message(alloc: Global, message: Option<&Value>) -> Result<Option<Response>, AllocError>
+// The response that a message is, whose resources are read by the profile.
+fn read_message(
+    alloc: Global,
+    profile: Profile,
+    message: Option<&Value>,
+) -> Result<Option<Response>, AllocError>
     ensures { IfOk result (λ response. response
-        ≡ option_and_then response_of (option_map (λ message. view message.now) message.entry)) }
+        ≡ option_and_then (response_of profile) (option_map (λ message. view message.now) message.entry)) }
 {
     let Some(message) = message else {
         return Ok(None);
     };
-    match read_response(alloc, message) {
+    match read_response(alloc, profile, message) {
         Ok(response) => Ok(Some(response)),
         Err(WireError::NotResponse) => Ok(None),
         Err(WireError::OutOfMemory) => Err(AllocError),

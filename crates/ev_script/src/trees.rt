@@ -11,12 +11,13 @@ ghost use Rattle.ev_script.specs.Header.{header_of};
 ghost use Rattle.ev_script.specs.ReadScript.{HeadsScripts};
 ghost use Rattle.ev_script.specs.ReadTrees.{KeepsTrees, IsTreeOf, IsTreesAnswer};
 
-use crate::forms::{FormedLine, Forms, worker_of};
-use crate::header::{Header, read_header, read_workers};
+use crate::forms::{FormedLine, Forms, Settings, worker_of};
+use crate::header::{Header, read_header, read_settings};
 use crate::lines::read_line;
 use crate::members::read_tree;
 use crate::read_input::{ReadLines, read_lines_with};
 use ev_io::{Lines, ScriptFault, Source};
+use ev_types::Profile;
 use serde_json::Value;
 use std::alloc::{AllocError, Global};
 
@@ -31,19 +32,20 @@ impl Forms for LineTrees {
 
     ghost forms = { plain_lines };
 
-    ghost keeps = { λ at tree kept. view kept ≡ tree };
+    ghost keeps = { λ profile at tree kept. view kept ≡ tree };
 
-    fn read_head(&self, alloc: Global, tree: &Value) -> Result<Option<u32>, AllocError> {
-        read_workers(alloc, tree)
+    fn read_head(&self, alloc: Global, tree: &Value) -> Result<Option<Settings>, AllocError> {
+        read_settings(alloc, tree)
     }
 
     fn read(
         &self,
         alloc: Global,
+        profile: Profile,
         at: u32,
         tree: Value,
     ) -> Result<Option<FormedLine<Value>>, AllocError> {
-        match read_line(alloc, at, &tree)? {
+        match read_line(alloc, profile, at, &tree)? {
             Some(line) => Ok(Some(FormedLine {
                 kept: tree,
                 worker: worker_of(line.actor),

@@ -1,38 +1,71 @@
-ghost use Rattle.std.specs.Prelude.{◌≡◌, ◌≤◌, option_map, IfOk, IfSome};
+ghost use Rattle.std.specs.Prelude.{◌≡◌, ◌∷◌, codes, option_map, IfOk};
 ghost use Rattle.serde_json.specs.View.{view};
-ghost use Rattle.ev_types.specs.declared.events.Event.TheVariants.{Accept, Close};
-ghost use Rattle.ev_script.specs.WorkerLines.{worker_in, conn_in, named_host_in, path_in, pick_in, ask_in, worker_line, accept_line, close_line, settle_line};
+ghost use Rattle.ev_types.specs.declared.events.Event.TheVariants.{Close};
+ghost use Rattle.ev_script.specs.Members.{has_only};
+ghost use Rattle.ev_script.specs.WorkerLines.{worker_in, worker_line, accept_members, accept_in, accept_line, close_line, settle_line};
 
-use crate::limits::{MAX_NUMBER, MAX_PATH_LENGTH, MAX_WORKER};
-use crate::line_forms::{host_in, line_at};
-use crate::members::{has_only, number_at, number_or, text_or};
-use ev_types::{Actor, Ask, Event, Line, MAX_NAME_LENGTH, Text};
+use crate::asks::{ask_in, conn_in};
+use crate::limits::MAX_WORKER;
+use crate::line_forms::line_at;
+use crate::members::{has_only, number_at};
+use ev_types::{Actor, Event, Line, Profile};
 use serde_json::Value;
 use std::alloc::{AllocError, Global};
 
 // An `accept`: a worker accepts a connection.
-pub(crate) fn accept_line(alloc: Global, at: u32, tree: &Value) -> Result<Option<Line>, AllocError>
-    ensures { IfOk result (λ line. line ≡ accept_line at (view tree.now)) }
+pub(crate) fn accept_line(
+    alloc: Global,
+    profile: Profile,
+    at: u32,
+    tree: &Value,
+) -> Result<Option<Line>, AllocError>
+    ensures { IfOk result (λ line. line ≡ accept_line profile at (view tree.now)) }
 {
-    if !has_only(
-        tree,
-        &[
-            "op", "worker", "conn", "address", "port", "host", "path", "pick",
-        ],
-    ) {
+    if !has_accept_members(profile, tree) {
         return Ok(None);
     }
-    let event = accept_event(ask_in(alloc, tree)?);
+    let event = accept_in(alloc, tree)?;
     Ok(worker_line(at, event, tree))
 }
 
-// The event of what a connection asks for, where there is one.
-fn accept_event(ask: Option<Ask>) -> Option<Event>
-    ensures { result ≡ option_map (λ ask. Accept ask) ask }
+// Whether a line has only the members of an accept.
+fn has_accept_members(profile: Profile, tree: &Value) -> bool
+    ensures { result ≡ has_only (codes "op" ∷ accept_members profile) (view tree.now) }
 {
-    match ask {
-        Some(ask) => Some(Event::Accept(ask)),
-        None => None,
+    match profile {
+        Profile::Own => has_only(
+            tree,
+            &[
+                "op", "worker", "conn", "address", "port", "host", "path", "pick",
+            ],
+        ),
+        Profile::Envoy => has_only(
+            tree,
+            &[
+                "op",
+                "worker",
+                "conn",
+                "address",
+                "port",
+                "host",
+                "path",
+                "pick",
+                "serverName",
+                "tls",
+                "alpn",
+                "headers",
+            ],
+        ),
+    }
+}
+
+// The event of what a connection asks for, where there is one.
+fn accept_in(alloc: Global, tree: &Value) -> Result<Option<Event>, AllocError>
+    ensures { IfOk result (λ event. event ≡ accept_in (view tree.now)) }
+{
+    match ask_in(alloc, tree)? {
+        Some(ask) => Ok(Some(Event::Accept(ask))),
+        None => Ok(None),
     }
 }
 
@@ -84,39 +117,4 @@ fn worker_in(tree: &Value) -> Option<u32>
         Some(worker) => Some(worker as u32),
         None => None,
     }
-}
-
-// A connection's number.
-fn conn_in(tree: &Value) -> Option<u64>
-    ensures { result ≡ conn_in (view tree.now) }
-{
-    number_at(tree, "conn", 0, MAX_NUMBER)
-}
-
-// What a connection asks for.
-fn ask_in(alloc: Global, tree: &Value) -> Result<Option<Ask>, AllocError>
-    ensures { IfOk result (λ ask. ask ≡ ask_in (view tree.now)) }
-{
-    let Some(conn) = conn_in(tree) else {
-        return Ok(None);
-    };
-    let Some(address) = host_in(alloc, tree)? else {
-        return Ok(None);
-    };
-    let Some(host) = text_or(tree, "host", 0, MAX_NAME_LENGTH, "") else {
-        return Ok(None);
-    };
-    let Some(path) = text_or(tree, "path", 0, MAX_PATH_LENGTH, "/") else {
-        return Ok(None);
-    };
-    let Some(pick) = number_or(tree, "pick", 0, MAX_NUMBER, 0) else {
-        return Ok(None);
-    };
-    Ok(Some(Ask {
-        conn,
-        address,
-        host: Text::new(alloc, host)?,
-        path: Text::new(alloc, path)?,
-        pick,
-    }))
 }

@@ -8,13 +8,14 @@ use Rattle.ev_types.specs.declared.events.Actor.TheVariants.{Stream, Main}
 use Rattle.ev_types.specs.declared.events.Event.{Event}
 use Rattle.ev_types.specs.declared.events.Event.TheVariants.{Connect, Disconnect, Publish, Reap, Settle}
 use Rattle.ev_types.specs.declared.events.Line.{Line}
+use Rattle.ev_types.specs.declared.events.Profile.{Profile}
 use Rattle.ev_script.specs.Members.{has_only, member_of}
 use Rattle.ev_script.specs.LineForms.{line_at}
 use Rattle.ev_script.specs.StreamLines.{connect_line, disconnect_line, response_line}
 use Rattle.ev_script.specs.HealthLines.{health_line}
 use Rattle.ev_script.specs.TimerLines.{timeout_line, drain_line, expired_line}
 use Rattle.ev_script.specs.MainLines.{publish_line, reap_line}
-use Rattle.ev_script.specs.WorkerLines.{worker_in, worker_line, accept_line, close_line, settle_line}
+use Rattle.ev_script.specs.WorkerLines.{worker_in, worker_line, accept_members, accept_in, accept_line, close_line, settle_line}
 use Rattle.ev_script.specs.Lines.{main_side_line, line_by}
 use Rattle.ev_trees.specs.Scripts.{moved, LinesMove}
 
@@ -44,8 +45,8 @@ connect_line-moves at other tree = moves_cond other (has_only (codes "op" ∷ []
 disconnect_line-moves : (at other : ℕ) (tree : Data) → Moves other (disconnect_line other tree) (disconnect_line at tree)
 disconnect_line-moves at other tree = moves_cond other (has_only (codes "op" ∷ []) tree) _ _ None None (at_moves at other Stream (Some Disconnect)) refl
 
-response_line-moves : (at other : ℕ) (tree : Data) → Moves other (response_line other tree) (response_line at tree)
-response_line-moves at other tree = moves_cond other (has_only (codes "op" ∷ codes "message" ∷ []) tree) _ _ None None (at_moves at other _ _) refl
+response_line-moves : (profile : Profile) (at other : ℕ) (tree : Data) → Moves other (response_line profile other tree) (response_line profile at tree)
+response_line-moves profile at other tree = moves_cond other (has_only (codes "op" ∷ codes "message" ∷ []) tree) _ _ None None (at_moves at other _ _) refl
 
 health_line-moves : (at other : ℕ) (tree : Data) → Moves other (health_line other tree) (health_line at tree)
 health_line-moves at other tree = moves_cond other (has_only (codes "op" ∷ codes "cluster" ∷ codes "address" ∷ codes "port" ∷ codes "healthy" ∷ []) tree) _ _ None None (at_moves at other _ _) refl
@@ -65,8 +66,9 @@ reap_line-moves at other tree = moves_cond other (has_only (codes "op" ∷ []) t
 timeout_line-moves : (at other : ℕ) (tree : Data) → Moves other (timeout_line other tree) (timeout_line at tree)
 timeout_line-moves at other tree = at_moves at other _ _
 
-accept_line-moves : (at other : ℕ) (tree : Data) → Moves other (accept_line other tree) (accept_line at tree)
-accept_line-moves at other tree = moves_cond other (has_only (codes "op" ∷ codes "worker" ∷ codes "conn" ∷ codes "address" ∷ codes "port" ∷ codes "host" ∷ codes "path" ∷ codes "pick" ∷ []) tree) _ _ None None (worker_moves at other _ tree) refl
+accept_line-moves : (profile : Profile) (at other : ℕ) (tree : Data) → Moves other (accept_line profile other tree) (accept_line profile at tree)
+accept_line-moves profile at other tree =
+    moves_cond other (has_only (codes "op" ∷ accept_members profile) tree) _ _ None None (worker_moves at other (accept_in tree) tree) refl
 
 close_line-moves : (at other : ℕ) (tree : Data) → Moves other (close_line other tree) (close_line at tree)
 close_line-moves at other tree = moves_cond other (has_only (codes "op" ∷ codes "worker" ∷ codes "conn" ∷ []) tree) _ _ None None (worker_moves at other _ tree) refl
@@ -74,11 +76,11 @@ close_line-moves at other tree = moves_cond other (has_only (codes "op" ∷ code
 settle_line-moves : (at other : ℕ) (tree : Data) → Moves other (settle_line other tree) (settle_line at tree)
 settle_line-moves at other tree = moves_cond other (has_only (codes "op" ∷ codes "worker" ∷ []) tree) _ _ None None (worker_moves at other (Some Settle) tree) refl
 
-main_side-moves : (op : List ℕ) (at other : ℕ) (tree : Data) → Moves other (main_side_line op other tree) (main_side_line op at tree)
-main_side-moves op at other tree =
+main_side-moves : (profile : Profile) (op : List ℕ) (at other : ℕ) (tree : Data) → Moves other (main_side_line profile op other tree) (main_side_line profile op at tree)
+main_side-moves profile op at other tree =
     moves_cond other (bytes_eq op (codes "connect")) _ _ _ _ (connect_line-moves at other tree)
     (moves_cond other (bytes_eq op (codes "disconnect")) _ _ _ _ (disconnect_line-moves at other tree)
-    (moves_cond other (bytes_eq op (codes "response")) _ _ _ _ (response_line-moves at other tree)
+    (moves_cond other (bytes_eq op (codes "response")) _ _ _ _ (response_line-moves profile at other tree)
     (moves_cond other (bytes_eq op (codes "health")) _ _ _ _ (health_line-moves at other tree)
     (moves_cond other (bytes_eq op (codes "fetchTimeout")) _ _ _ _ (timeout_line-moves at other tree)
     (moves_cond other (bytes_eq op (codes "drainTimeout")) _ _ _ _ (drain_line-moves at other tree)
@@ -86,11 +88,13 @@ main_side-moves op at other tree =
     (moves_cond other (bytes_eq op (codes "publish")) _ _ _ _ (publish_line-moves at other tree)
     (moves_cond other (bytes_eq op (codes "reap")) _ _ _ _ (reap_line-moves at other tree) refl))))))))
 
-by-moves : (op : List ℕ) (at other : ℕ) (tree : Data) → Moves other (line_by op other tree) (line_by op at tree)
-by-moves op at other tree =
-    moves_cond other (bytes_eq op (codes "accept")) _ _ _ _ (accept_line-moves at other tree)
+by-moves : (profile : Profile) (op : List ℕ) (at other : ℕ) (tree : Data) → Moves other (line_by profile op other tree) (line_by profile op at tree)
+by-moves profile op at other tree =
+    moves_cond other (bytes_eq op (codes "accept")) _ _ _ _ (accept_line-moves profile at other tree)
     (moves_cond other (bytes_eq op (codes "close")) _ _ _ _ (close_line-moves at other tree)
-    (moves_cond other (bytes_eq op (codes "settle")) _ _ _ _ (settle_line-moves at other tree) (main_side-moves op at other tree)))
+    (moves_cond other (bytes_eq op (codes "settle")) _ _ _ _ (settle_line-moves at other tree) (main_side-moves profile op at other tree)))
 
 pub line-moves : LinesMove
-line-moves at other tree = moves_chain other (λ (op : List ℕ). line_by op other tree) (λ (op : List ℕ). line_by op at tree) (member_of as_str (codes "op") tree) (λ op. by-moves op at other tree)
+line-moves profile at other tree =
+    moves_chain other (λ (op : List ℕ). line_by profile op other tree) (λ (op : List ℕ). line_by profile op at tree) (member_of as_str (codes "op") tree)
+    (λ op. by-moves profile op at other tree)

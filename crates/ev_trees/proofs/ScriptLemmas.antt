@@ -8,7 +8,7 @@ use Rattle.ev_types.specs.declared.events.Actor.TheVariants.{Stream}
 use Rattle.ev_types.specs.declared.events.Event.TheVariants.{Connect}
 use Rattle.ev_types.specs.declared.events.Line.{Line}
 use Rattle.ev_script.specs.declared.header.Header.{Header}
-use Rattle.ev_script.specs.Header.{header_of}
+use Rattle.ev_script.specs.Header.{header_of, settings_of}
 use Rattle.ev_script.specs.Members.{tree_of}
 use Rattle.ev_script.specs.Lines.{line_of}
 use Rattle.ev_script.specs.Content.{first_of, first_tree, IsLineOf}
@@ -43,17 +43,17 @@ tree_behind header lines head trees are i h =
 
 -- the line that it is
 line_behind : (header : Header) (lines : List Line) (head : Data) (trees : List Data) → AreScript header lines head trees
-    → (i : ℕ) → i < length lines → IsLineOf plain_lines false header.workers (suc i + 1) (tree_of (get_or (texts_of head trees) (suc i) []))
+    → (i : ℕ) → i < length lines → IsLineOf plain_lines false (settings_of header) (suc i + 1) (tree_of (get_or (texts_of head trees) (suc i) []))
 line_behind header lines head trees are i h =
     let place : i + 2 ≡ suc i + 1 = omega arith in
     let line : Line = get_or lines i some_line in
-    let says : line_of (i + 2) (get_or trees i null) ≡ Some line = are.says i null some_line h in
+    let says : line_of header.profile (i + 2) (get_or trees i null) ≡ Some line = are.says i null some_line h in
     record {
       tree = get_or trees i null;
       is = tree_behind header lines head trees are i h;
       plain = refl;
       named = worker_of line.actor;
-      reads = ap (λ (at : ℕ). option_map (λ (l : Line). worker_of l.actor) (line_of at (get_or trees i null))) (sym place) ∙ ap (option_map (λ (l : Line). worker_of l.actor)) says;
+      reads = ap (λ (at : ℕ). option_map (λ (l : Line). worker_of l.actor) (line_of header.profile at (get_or trees i null))) (sym place) ∙ ap (option_map (λ (l : Line). worker_of l.actor)) says;
       below = are.below i some_line h;
     }
 
@@ -62,19 +62,19 @@ head_read : (header : Header) (lines : List Line) (head : Data) (trees : List Da
 head_read header lines head trees are = are.read_back 0 head (omega arith)
 
 are_read : (header : Header) (lines : List Line) (head : Data) (trees : List Data) → AreScript header lines head trees
-    → AreRead plain_lines false (texts_of head trees) header.workers (length lines + 1)
+    → AreRead plain_lines false (texts_of head trees) (settings_of header) (length lines + 1)
 are_read header lines head trees are = record {
   head = λ some. ap (first_tree plain_lines) (head_read header lines head trees are)
-      ∙ ap (λ found. first_of (option_map (λ (h : Header). h.workers) found)) are.heads;
+      ∙ ap (λ found. first_of (option_map settings_of found)) are.heads;
   others = by_index;
 }
   where
-    by_index : (i : ℕ) → 0 < i → i < length lines + 1 → IsLineOf plain_lines false header.workers (i + 1) (tree_of (get_or (texts_of head trees) i []))
+    by_index : (i : ℕ) → 0 < i → i < length lines + 1 → IsLineOf plain_lines false (settings_of header) (i + 1) (tree_of (get_or (texts_of head trees) i []))
     by_index zero some h = absurd (omega arith)
     by_index (suc i) some h = line_behind header lines head trees are i (omega arith)
 
 are_kept : (header : Header) (lines : List Line) (head : Data) (trees : List Data) → AreScript header lines head trees
-    → AreKept IsLine (texts_of head trees) lines
+    → AreKept (IsLine header.profile) (texts_of head trees) lines
 are_kept header lines head trees are = λ i other h.
     record {
       tree = get_or trees i null;
@@ -91,15 +91,15 @@ script_is header lines head trees are =
     let text : List ℕ = text_of_trees (head ∷ trees) in
     let texts : lines_of text ≡ texts_of head trees = lines_are (head ∷ trees) in
     let count : length (texts_of head trees) ≡ length lines + 1 = omega (arith, length-map trees compact_text, are.count) in
-    let read : AreRead plain_lines false (lines_of text) header.workers (length lines + 1) =
-    subst (λ (ts : List (List ℕ)). AreRead plain_lines false ts header.workers (length lines + 1)) (sym texts) (are_read header lines head trees are) in
+    let read : AreRead plain_lines false (lines_of text) (settings_of header) (length lines + 1) =
+    subst (λ (ts : List (List ℕ)). AreRead plain_lines false ts (settings_of header) (length lines + 1)) (sym texts) (are_read header lines head trees are) in
     let long : length (lines_of text) ≡ length lines + 1 = ap length texts ∙ count in (
-      no_fault plain_lines (input_of_trees (head ∷ trees)) header.workers (length lines + 1) read
+      no_fault plain_lines (input_of_trees (head ∷ trees)) (settings_of header) (length lines + 1) read
           (λ place ends. let within : index_at (input_of_trees (head ∷ trees)) place < length (lines_of text) = ends_within (input_of_trees (head ∷ trees)) place ends in omega arith)
           (limits_stay (head ∷ trees) are.limits)
           (λ ended none. let empty : length (lines_of text) ≡ 0 = ap (λ (bs : List ℕ). length (lines_of bs)) none in omega arith)
           (λ asked ended. let no : false ≡ true = asked in cc),
       whole_script plain_lines IsLine false (lines_of text) header lines keeps_plain
           (subst (λ (ts : List (List ℕ)). IsHeaderOf (get_or ts 0 []) header) (sym texts) (heads_text header lines head trees are)) read
-          (subst (λ (ts : List (List ℕ)). AreKept IsLine ts lines) (sym texts) (are_kept header lines head trees are)) long,
+          (subst (λ (ts : List (List ℕ)). AreKept (IsLine header.profile) ts lines) (sym texts) (are_kept header lines head trees are)) long,
     )

@@ -25,7 +25,7 @@ pub fn trees_are_script()
     ensures { TreesAreScript }
 {}
 
-/// A law: a tree is the same line at any place, but for its number. It does nothing.
+/// A law: by each profile a tree is the same line at any place, but for its number. It does nothing.
 pub fn lines_move()
     ensures { LinesMove }
 {}

@@ -3,6 +3,7 @@ use Rattle.std.proofs.Common.{◌≡◌, ◌∙◌, ap}
 use Rattle.std.specs.Prelude.{ℕ, ◌&&◌, List, [], not, if◌then◌else◌, codes}
 use Rattle.std.specs.Str.{bytes_eq}
 use Rattle.serde_json.specs.Data.{Data}
+use Rattle.ev_types.specs.declared.events.Profile.{Profile}
 use Rattle.ev_types.specs.declared.contents.Kind.{Kind}
 use Rattle.ev_types.specs.declared.contents.Kind.TheVariants.{Cds, Eds, Lds, Rds}
 use Rattle.ev_types.specs.declared.contents.Content.TheVariants.{Cluster, Assignment, Listener, Routes}
@@ -45,19 +46,19 @@ own_broken-whole kind name ttl body = λ i. record none_broken {
   v25 = is_not_positive ttl;
 }
 
-pub content_of-whole : (kind : Kind) (body : Data) → content_of kind (whole body) ≡ content_of kind body
+pub content_of-whole : (profile : Profile) (kind : Kind) (body : Data) → content_of profile kind (whole body) ≡ content_of profile kind body
 unfolding content_of
-content_of-whole Cds body = λ i. content_with Cluster (cluster_reading-whole body i)
-content_of-whole Eds body = λ i. content_with Assignment (assignment_reading-whole body i)
-content_of-whole Lds body = λ i. content_with Listener (listener_reading-whole body i)
-content_of-whole Rds body = λ i. content_with Routes (table_reading-whole body i)
+content_of-whole profile Cds body = λ i. content_with Cluster (cluster_reading-whole profile body i)
+content_of-whole profile Eds body = λ i. content_with Assignment (assignment_reading-whole profile body i)
+content_of-whole profile Lds body = λ i. content_with Listener (listener_reading-whole profile body i)
+content_of-whole profile Rds body = λ i. content_with Routes (table_reading-whole profile body i)
 
-pub resource_of-whole : (kind : Kind) (name : List ℕ) (ttl : Found Span) (body : Data) → resource_of kind name ttl (whole body) ≡ resource_of kind name ttl body
+pub resource_of-whole : (profile : Profile) (kind : Kind) (name : List ℕ) (ttl : Found Span) (body : Data) → resource_of profile kind name ttl (whole body) ≡ resource_of profile kind name ttl body
 unfolding resource_of
-resource_of-whole kind name ttl body = λ i. if breaks_v1-whole kind body i then Bad 1 else body_with (least_of (own_broken-whole kind name ttl body i)) (content_of-whole kind body i)
+resource_of-whole profile kind name ttl body = λ i. if breaks_v1-whole kind body i then Bad 1 else body_with (least_of (own_broken-whole kind name ttl body i)) (content_of-whole profile kind body i)
 
-pub body_of-whole : (kind : Kind) (name : List ℕ) (ttl : Found Span) (resource : Found Data) → body_of kind name ttl (found_map whole resource) ≡ body_of kind name ttl resource
+pub body_of-whole : (profile : Profile) (kind : Kind) (name : List ℕ) (ttl : Found Span) (resource : Found Data) → body_of profile kind name ttl (found_map whole resource) ≡ body_of profile kind name ttl resource
 unfolding body_of
-body_of-whole kind name ttl resource =
-    (λ i. if is_absent-map whole resource i && is_positive ttl && is_name name then Beat else resource_of kind name ttl (inside-map resource i))
-    ∙ ap (λ (body : Body). if is_heartbeat name ttl resource then Beat else body) (resource_of-whole kind name ttl (inside resource))
+body_of-whole profile kind name ttl resource =
+    (λ i. if is_absent-map whole resource i && is_positive ttl && is_name name then Beat else resource_of profile kind name ttl (inside-map resource i))
+    ∙ ap (λ (body : Body). if is_heartbeat name ttl resource then Beat else body) (resource_of-whole profile kind name ttl (inside resource))

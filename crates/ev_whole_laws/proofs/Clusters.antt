@@ -2,22 +2,25 @@
 use Rattle.std.proofs.Common.{◌≡◌, ◌∙◌, ap}
 use Rattle.std.specs.Prelude.{◌||◌, ◌&&◌, ◌==◌, [], length, Bool, not, nat_lt, if◌then◌else◌, codes}
 use Rattle.serde_json.specs.Data.{Data}
-use Rattle.ev_types.specs.declared.clusters.Discovery.TheVariants.{Static, Eds}
+use Rattle.ev_types.specs.declared.clusters.Discovery.TheVariants.{Static, Eds, Elsewhere}
+use Rattle.ev_types.specs.declared.events.Profile.{Profile}
+use Rattle.ev_types.specs.Profiles.{is_envoy}
 use Rattle.ev_tree.specs.declared.limits.TheConstants.{MAX_NAME_BYTES}
 use Rattle.ev_tree.specs.declared.tables.EnumTable.TheVariants.{Discovery as DiscoveryTable}
 use Rattle.ev_tree.specs.Forms.{is_wrong, given_or, inside, listed, text_of, object_of, objects_of}
 use Rattle.ev_tree.specs.Rules.{judged, is_name}
 use Rattle.ev_tree.specs.Broken.{none_broken, either_broken, broken_where, least_of}
 use Rattle.ev_tree.specs.Spans.{is_not_positive}
-use Rattle.ev_tree.specs.Sources.{source_broken, source_is_limited}
+use Rattle.ev_tree.specs.Sources.{source_broken_in, source_is_limited}
 use Rattle.ev_cluster_json.specs.declared.parts.TheConstants.{STATIC, EDS}
 use Rattle.ev_cluster_json.specs.Assignments.{rows_of, assignment_broken}
-use Rattle.ev_cluster_json.specs.Clusters.{name_of, type_of, is_static, is_eds, eds_of, eds_source_of, service_name_of, load_assignment_of, service_with, service_of, is_checked, own_broken, eds_broken, load_assignment_broken, cluster_broken, discovery_of, cluster_of, cluster_reading}
-use Rattle.ev_tree.specs.Floats.{whole}
+use Rattle.ev_cluster_json.specs.Clusters.{name_of, type_of, is_static, is_eds, has_custom_type, is_in_cluster, is_by_eds, holds_hosts, asks_hosts, eds_of, eds_source_of, service_name_of, load_assignment_of, service_with, service_of, is_checked, own_broken, eds_broken, load_assignment_broken, cluster_broken, discovery_of, cluster_of, cluster_reading}
+use Rattle.ev_tree.specs.Floats.{whole, body_text_of}
+use Rattle.ev_whole_laws.proofs.Texts.{body_text_of-whole}
 use Rattle.ev_whole_laws.proofs.Assignments.{assignment_broken-whole, rows_of-whole}
 use Rattle.ev_whole_laws.proofs.Forms.{duration_of-whole, enumeration_of-whole, inside-object, listed-objects, object-is_absent, object-is_given, object-is_wrong, objects-is_wrong, text_of-whole}
 use Rattle.ev_whole_laws.proofs.Parts.{length-whole}
-use Rattle.ev_whole_laws.proofs.Sources.{source_broken-whole, source_is_limited-whole}
+use Rattle.ev_whole_laws.proofs.Sources.{source_broken_in-whole, source_is_limited-whole}
 
 pub name_of-whole : (tree : Data) → name_of (whole tree) ≡ name_of tree
 unfolding name_of
@@ -32,6 +35,15 @@ is_static-whole tree = λ i. type_of-whole tree i == STATIC
 
 pub is_eds-whole : (tree : Data) → is_eds (whole tree) ≡ is_eds tree
 is_eds-whole tree = λ i. type_of-whole tree i == EDS
+
+has_custom_type-whole : (tree : Data) → has_custom_type (whole tree) ≡ has_custom_type tree
+has_custom_type-whole tree = object-is_given (codes "cluster_type") tree
+
+holds_hosts-whole : (profile : Profile) (tree : Data) → holds_hosts profile (whole tree) ≡ holds_hosts profile tree
+holds_hosts-whole profile tree = λ i. is_in_cluster profile (has_custom_type-whole tree i) (type_of-whole tree i)
+
+asks_hosts-whole : (profile : Profile) (tree : Data) → asks_hosts profile (whole tree) ≡ asks_hosts profile tree
+asks_hosts-whole profile tree = λ i. is_by_eds profile (has_custom_type-whole tree i) (type_of-whole tree i)
 
 pub eds_of-whole : (tree : Data) → eds_of (whole tree) ≡ whole (eds_of tree)
 unfolding eds_of
@@ -56,9 +68,9 @@ pub is_checked-whole : (tree : Data) → is_checked (whole tree) ≡ is_checked 
 unfolding is_checked
 is_checked-whole tree = λ i. not ((ap length (listed-objects (codes "health_checks") tree) ∙ length-whole (listed (objects_of (codes "health_checks") tree))) i == 0)
 
-pub own_broken-whole : (tree : Data) → own_broken (whole tree) ≡ own_broken tree
+pub own_broken-whole : (profile : Profile) (tree : Data) → own_broken profile (whole tree) ≡ own_broken profile tree
 unfolding own_broken
-own_broken-whole tree = λ i. record none_broken {
+own_broken-whole profile tree = λ i. record none_broken {
   v3 = not (is_wrong (text_of-whole (codes "name") tree i)) && not (is_name (name_of-whole tree i));
   v6 =
       is_wrong (text_of-whole (codes "name") tree i)
@@ -66,13 +78,13 @@ own_broken-whole tree = λ i. record none_broken {
       || object-is_wrong (codes "cluster_type") tree i
       || is_wrong (duration_of-whole (codes "connect_timeout") tree i)
       || objects-is_wrong (codes "health_checks") tree i;
-  v7 = not (is_static-whole tree i || is_eds-whole tree i) || object-is_given (codes "cluster_type") tree i;
+  v7 = not (is_envoy profile) && (not (is_static-whole tree i || is_eds-whole tree i) || has_custom_type-whole tree i);
   v11 = is_not_positive (duration_of-whole (codes "connect_timeout") tree i);
 }
 
-pub eds_broken-whole : (by_eds : Bool) (tree : Data) → eds_broken by_eds (whole tree) ≡ eds_broken by_eds tree
+pub eds_broken-whole : (profile : Profile) (by_eds : Bool) (tree : Data) → eds_broken profile by_eds (whole tree) ≡ eds_broken profile by_eds tree
 unfolding eds_broken
-eds_broken-whole by_eds tree = λ i. either_broken (broken_where (object-is_given (codes "eds_cluster_config") tree i) ((ap source_broken (eds_source_of-whole tree) ∙ source_broken-whole (eds_source_of tree)) i)) (record none_broken {
+eds_broken-whole profile by_eds tree = λ i. either_broken (broken_where (object-is_given (codes "eds_cluster_config") tree i) ((ap (source_broken_in profile) (eds_source_of-whole tree) ∙ source_broken_in-whole profile (eds_source_of tree)) i)) (record none_broken {
   v2 = nat_lt MAX_NAME_BYTES (length (service_name_of-whole tree i));
   v6 =
       object-is_wrong (codes "eds_cluster_config") tree i
@@ -82,26 +94,35 @@ eds_broken-whole by_eds tree = λ i. either_broken (broken_where (object-is_give
   v9 = not by_eds && object-is_given (codes "eds_cluster_config") tree i;
 })
 
-pub load_assignment_broken-whole : (tree : Data) → load_assignment_broken (whole tree) ≡ load_assignment_broken tree
+pub load_assignment_broken-whole : (profile : Profile) (tree : Data) → load_assignment_broken profile (whole tree) ≡ load_assignment_broken profile tree
 unfolding load_assignment_broken
-load_assignment_broken-whole tree = λ i. either_broken ((ap assignment_broken (load_assignment_of-whole tree) ∙ assignment_broken-whole (load_assignment_of tree)) i) (record none_broken {
+load_assignment_broken-whole profile tree = λ i. either_broken ((ap (assignment_broken profile) (load_assignment_of-whole tree) ∙ assignment_broken-whole profile (load_assignment_of tree)) i) (record none_broken {
   v6 = object-is_wrong (codes "load_assignment") tree i;
 })
 
-pub cluster_broken-whole : (tree : Data) → cluster_broken (whole tree) ≡ cluster_broken tree
+pub cluster_broken-whole : (profile : Profile) (tree : Data) → cluster_broken profile (whole tree) ≡ cluster_broken profile tree
 unfolding cluster_broken
-cluster_broken-whole tree = λ i. either_broken (own_broken-whole tree i) (either_broken (((λ i. eds_broken (is_eds-whole tree i) (whole tree)) ∙ eds_broken-whole (is_eds tree) tree) i) (broken_where (is_static-whole tree i) (load_assignment_broken-whole tree i)))
+cluster_broken-whole profile tree = λ i.
+    either_broken (own_broken-whole profile tree i)
+    (either_broken (((λ j. eds_broken profile (asks_hosts-whole profile tree j) (whole tree)) ∙ eds_broken-whole profile (asks_hosts profile tree) tree) i)
+    (broken_where (holds_hosts-whole profile tree i) (load_assignment_broken-whole profile tree i)))
 
-pub discovery_of-whole : (tree : Data) → discovery_of (whole tree) ≡ discovery_of tree
+pub discovery_of-whole : (profile : Profile) (tree : Data) → discovery_of profile (whole tree) ≡ discovery_of profile tree
 unfolding discovery_of
-discovery_of-whole tree = λ i. if is_static-whole tree i then Static ((ap rows_of (load_assignment_of-whole tree) ∙ rows_of-whole (load_assignment_of tree)) i) else Eds (service_of-whole tree i) ((ap source_is_limited (eds_source_of-whole tree) ∙ source_is_limited-whole (eds_source_of tree)) i)
+discovery_of-whole profile tree = λ i.
+    if holds_hosts-whole profile tree i
+    then Static ((ap (rows_of profile) (load_assignment_of-whole tree) ∙ rows_of-whole profile (load_assignment_of tree)) i)
+    else if asks_hosts-whole profile tree i
+    then Eds (service_of-whole tree i) ((ap source_is_limited (eds_source_of-whole tree) ∙ source_is_limited-whole (eds_source_of tree)) i) (is_envoy profile)
+    else Elsewhere
 
-pub cluster_of-whole : (tree : Data) → cluster_of (whole tree) ≡ cluster_of tree
-cluster_of-whole tree = λ i. record {
+pub cluster_of-whole : (profile : Profile) (tree : Data) → cluster_of profile (whole tree) ≡ cluster_of profile tree
+cluster_of-whole profile tree = λ i. record {
   name = name_of-whole tree i;
-  discovery = discovery_of-whole tree i;
+  discovery = discovery_of-whole profile tree i;
   checked = is_checked-whole tree i;
+  body_text = body_text_of-whole profile tree i;
 }
 
-pub cluster_reading-whole : (tree : Data) → cluster_reading (whole tree) ≡ cluster_reading tree
-cluster_reading-whole tree = λ i. judged (least_of (cluster_broken-whole tree i)) (cluster_of-whole tree i)
+pub cluster_reading-whole : (profile : Profile) (tree : Data) → cluster_reading profile (whole tree) ≡ cluster_reading profile tree
+cluster_reading-whole profile tree = λ i. judged (least_of (cluster_broken-whole profile tree i)) (cluster_of-whole profile tree i)

@@ -1,5 +1,6 @@
 pub mod Parts
 pub mod Forms
+pub mod Texts
 pub mod Addresses
 pub mod Sources
 pub mod Assignments
@@ -7,11 +8,14 @@ pub mod Clusters
 pub mod Presence
 pub mod Targets
 pub mod Matches
+pub mod Conditions
 pub mod Routes
 pub mod Tables
 pub mod Members
 pub mod Managers
 pub mod Filters
+pub mod ChainMatches
+pub mod Chains
 pub mod Listeners
 pub mod Bodies
 pub mod Responses

@@ -3,6 +3,7 @@ use Rattle.std.proofs.Common.{◌≡◌, ℕ, List, [], ◌∷◌, Bool, false, 
 use Rattle.std.specs.Str.{bytes_eq}
 use Rattle.serde_json.specs.Data.{Data}
 use Rattle.serde_json.specs.Find.{as_str, as_bool}
+use Rattle.ev_types.specs.Ips.{ip_of}
 use Rattle.ev_types.specs.Items.{ResponseParts}
 use Rattle.ev_types.specs.declared.contents.Kind.{Kind}
 use Rattle.ev_types.specs.declared.contents.Kind.TheVariants.{Cds, Eds, Lds, Rds}
@@ -13,33 +14,45 @@ use Rattle.ev_types.specs.declared.events.Ask.{Ask}
 use Rattle.ev_types.specs.declared.events.Event.{Event}
 use Rattle.ev_types.specs.declared.events.Event.TheVariants.{Response, Health, FetchTimeout, DrainTimeout, TtlExpired, Accept, Close, Settle}
 use Rattle.ev_types.specs.declared.events.Line.{Line}
+use Rattle.ev_types.specs.declared.events.Profile.{Profile}
+use Rattle.ev_types.specs.declared.events.Profile.TheVariants.{Own}
 use Rattle.ev_wire.specs.Responses.{response_of}
-use Rattle.ev_script.specs.declared.header.Header.{Header}
 use Rattle.ev_script.specs.declared.limits.TheConstants.{MAX_WORKER, MAX_NUMBER, MAX_PATH_LENGTH}
 use Rattle.ev_script.specs.Faults.{worker_of}
-use Rattle.ev_script.specs.Header.{header_of}
-use Rattle.ev_script.specs.Members.{whole_within, text_within, name_of, member_of}
+use Rattle.ev_script.specs.Header.{profile_with, profile_of, header_of, settings_of}
+use Rattle.ev_script.specs.Members.{whole_within, text_within, name_of, texts_in, member_of}
 use Rattle.ev_script.specs.LineForms.{line_at, with_only, host_in, kind_with, kind_in}
 use Rattle.ev_script.specs.StreamLines.{connect_line, disconnect_line, response_line}
 use Rattle.ev_script.specs.HealthLines.{health_in, health_line}
 use Rattle.ev_script.specs.TimerLines.{timeout_of, timeout_line, drain_line, expired_in, expired_line}
 use Rattle.ev_script.specs.MainLines.{publish_line, reap_line}
-use Rattle.ev_script.specs.WorkerLines.{worker_in, conn_in, named_host_in, path_in, pick_in, ask_in, worker_line, accept_line, close_line, settle_line}
+use Rattle.ev_script.specs.declared.asks.Handshake.{Handshake}
+use Rattle.ev_script.specs.declared.asks.HttpRequest.{HttpRequest}
+use Rattle.ev_script.specs.Headers.{Headers, headers_of}
+use Rattle.ev_script.specs.Asks.{conn_in, pick_in, server_name_in, tls_in, alpn_in, handshake_in, named_host_in, path_in, headers_in, request_in, ask_in}
+use Rattle.ev_script.specs.WorkerLines.{worker_in, worker_line, accept_members, accept_in, accept_line, close_line, settle_line}
 use Rattle.ev_script.specs.Lines.{main_side_line, line_by, line_of}
 use Rattle.ev_tree.specs.Floats.{whole}
 use Rattle.ev_whole_laws.specs.OneForm.{NumbersHaveOneForm}
 use Rattle.ev_whole_laws.proofs.Parts.{as_str-whole, as_bool-whole, and_then-by}
 use Rattle.ev_whole_laws.proofs.Responses.{response_of-whole}
-use Rattle.ev_whole_laws.proofs.LineMembers.{has_only-whole, whole_within-whole, text_within-whole, name_of-whole, member_of-whole, member_or-whole, has_format-whole}
+use Rattle.ev_whole_laws.proofs.LineMembers.{has_only-whole, whole_within-whole, text_within-whole, name_of-whole, texts_in-whole, headers_of-whole, member_of-whole, member_or-whole, has_format-whole}
 
 -- ---- the header
 
+profile_of-whole : (tree : Data) → profile_of (whole tree) ≡ profile_of tree
+profile_of-whole tree = λ i. option_and_then profile_with (as_str-whole tree i)
+
 header_of-whole : (tree : Data) → header_of (whole tree) ≡ header_of tree
 header_of-whole tree = λ i.
-    cond (has_only-whole (codes "workers" ∷ codes "auto" ∷ codes "node" ∷ []) tree i)
+    cond (has_only-whole (codes "workers" ∷ codes "auto" ∷ codes "node" ∷ codes "profile" ∷ []) tree i)
     (option_and_then
     (λ (workers : ℕ). option_and_then
-    (λ (auto : Bool). option_map (λ (node : List ℕ). record { workers = workers; auto = auto; node = node }) (member_or-whole (codes "warmgate") name_of name_of-whole (codes "node") tree i))
+    (λ (auto : Bool). option_and_then
+    (λ (profile : Profile). option_map
+    (λ (node : List ℕ). record { workers = workers; auto = auto; profile = profile; node = node })
+    (member_or-whole (codes "warmgate") name_of name_of-whole (codes "node") tree i))
+    (member_or-whole Own profile_of profile_of-whole (codes "profile") tree i))
     (member_or-whole false as_bool as_bool-whole (codes "auto") tree i))
     (member_of-whole (whole_within 1 MAX_WORKERS) (whole_within-whole 1 MAX_WORKERS) (codes "workers") tree i))
     None
@@ -72,10 +85,11 @@ publish_line-whole at tree = with_only-whole [] tree _ _ refl
 reap_line-whole : (at : ℕ) (tree : Data) → reap_line at (whole tree) ≡ reap_line at tree
 reap_line-whole at tree = with_only-whole [] tree _ _ refl
 
-response_line-whole : (at : ℕ) (tree : Data) → response_line at (whole tree) ≡ response_line at tree
-response_line-whole at tree =
+response_line-whole : (profile : Profile) (at : ℕ) (tree : Data) → response_line profile at (whole tree) ≡ response_line profile at tree
+response_line-whole profile at tree =
     with_only-whole (codes "message" ∷ []) tree _ _
-    (λ i. line_at at Stream (option_map (λ (response : ResponseParts). Response response) (member_of-whole response_of response_of-whole (codes "message") tree i)))
+    (λ i. line_at at Stream
+    (option_map (λ (response : ResponseParts). Response response) (member_of-whole (response_of profile) (response_of-whole profile) (codes "message") tree i)))
 
 health_in-whole : (tree : Data) → health_in (whole tree) ≡ health_in tree
 health_in-whole tree = λ i. option_and_then
@@ -133,24 +147,65 @@ path_in-whole tree = member_or-whole (codes "/") (text_within 0 MAX_PATH_LENGTH)
 pick_in-whole : (tree : Data) → pick_in (whole tree) ≡ pick_in tree
 pick_in-whole tree = member_or-whole 0 (whole_within 0 MAX_NUMBER) (whole_within-whole 0 MAX_NUMBER) (codes "pick") tree
 
+server_name_in-whole : (tree : Data) → server_name_in (whole tree) ≡ server_name_in tree
+server_name_in-whole tree = member_or-whole [] (text_within 0 MAX_NAME_LENGTH) (text_within-whole 0 MAX_NAME_LENGTH) (codes "serverName") tree
+
+tls_in-whole : (tree : Data) → tls_in (whole tree) ≡ tls_in tree
+tls_in-whole tree = member_or-whole false as_bool as_bool-whole (codes "tls") tree
+
+alpn_in-whole : (tree : Data) → alpn_in (whole tree) ≡ alpn_in tree
+alpn_in-whole tree = member_or-whole [] texts_in texts_in-whole (codes "alpn") tree
+
+handshake_in-whole : (tree : Data) → handshake_in (whole tree) ≡ handshake_in tree
+handshake_in-whole tree = λ i. option_and_then
+    (λ (server_name : List ℕ). option_and_then
+    (λ (tls : Bool). option_map (λ (alpn : List (List ℕ)). record { server_name = server_name; tls = tls; alpn = alpn }) (alpn_in-whole tree i))
+    (tls_in-whole tree i))
+    (server_name_in-whole tree i)
+
+headers_in-whole : (tree : Data) → headers_in (whole tree) ≡ headers_in tree
+headers_in-whole tree = member_or-whole [] headers_of headers_of-whole (codes "headers") tree
+
+request_in-whole : (tree : Data) → request_in (whole tree) ≡ request_in tree
+request_in-whole tree = λ i. option_and_then
+    (λ (host : List ℕ). option_and_then
+    (λ (path : List ℕ). option_map (λ (headers : Headers). record { host = host; path = path; headers = headers }) (headers_in-whole tree i))
+    (path_in-whole tree i))
+    (named_host_in-whole tree i)
+
 ask_in-whole : (tree : Data) → ask_in (whole tree) ≡ ask_in tree
 ask_in-whole tree = λ i. option_and_then
     (λ (conn : ℕ). option_and_then
     (λ (address : Host). option_and_then
-    (λ (host : List ℕ). option_and_then
-    (λ (path : List ℕ). option_map (λ (pick : ℕ). record { conn = conn; address = address; host = host; path = path; pick = pick }) (pick_in-whole tree i))
-    (path_in-whole tree i))
-    (named_host_in-whole tree i))
+    (λ (handshake : Handshake). option_and_then
+    (λ (request : HttpRequest). option_map
+    (λ (pick : ℕ). record {
+      conn = conn;
+      address = address;
+      ip = ip_of address.address;
+      server_name = handshake.server_name;
+      tls = handshake.tls;
+      alpn = handshake.alpn;
+      host = request.host;
+      path = request.path;
+      headers = request.headers;
+      pick = pick;
+    })
+    (pick_in-whole tree i))
+    (request_in-whole tree i))
+    (handshake_in-whole tree i))
     (host_in-whole tree i))
     (conn_in-whole tree i)
 
 pub worker_line-whole : (at : ℕ) (there here : Option Event) (tree : Data) → there ≡ here → worker_line at there (whole tree) ≡ worker_line at here tree
 worker_line-whole at there here tree same = λ i. option_and_then (λ (worker : ℕ). line_at at (Worker worker) (same i)) (worker_in-whole tree i)
 
-accept_line-whole : (at : ℕ) (tree : Data) → accept_line at (whole tree) ≡ accept_line at tree
-accept_line-whole at tree =
-    with_only-whole (codes "worker" ∷ codes "conn" ∷ codes "address" ∷ codes "port" ∷ codes "host" ∷ codes "path" ∷ codes "pick" ∷ []) tree _ _
-    (worker_line-whole at _ _ tree (λ i. option_map (λ (ask : Ask). Accept ask) (ask_in-whole tree i)))
+accept_in-whole : (tree : Data) → accept_in (whole tree) ≡ accept_in tree
+accept_in-whole tree = λ i. option_map (λ (ask : Ask). Accept ask) (ask_in-whole tree i)
+
+accept_line-whole : (profile : Profile) (at : ℕ) (tree : Data) → accept_line profile at (whole tree) ≡ accept_line profile at tree
+accept_line-whole profile at tree =
+    with_only-whole (accept_members profile) tree _ _ (worker_line-whole at (accept_in (whole tree)) (accept_in tree) tree (accept_in-whole tree))
 
 close_line-whole : (at : ℕ) (tree : Data) → close_line at (whole tree) ≡ close_line at tree
 close_line-whole at tree =
@@ -163,11 +218,11 @@ settle_line-whole at tree =
 
 -- ---- any line
 
-main_side_line-whole : (op : List ℕ) (at : ℕ) (tree : Data) → main_side_line op at (whole tree) ≡ main_side_line op at tree
-main_side_line-whole op at tree = λ i.
+main_side_line-whole : (profile : Profile) (op : List ℕ) (at : ℕ) (tree : Data) → main_side_line profile op at (whole tree) ≡ main_side_line profile op at tree
+main_side_line-whole profile op at tree = λ i.
     cond (bytes_eq op (codes "connect")) (connect_line-whole at tree i)
     (cond (bytes_eq op (codes "disconnect")) (disconnect_line-whole at tree i)
-    (cond (bytes_eq op (codes "response")) (response_line-whole at tree i)
+    (cond (bytes_eq op (codes "response")) (response_line-whole profile at tree i)
     (cond (bytes_eq op (codes "health")) (health_line-whole at tree i)
     (cond (bytes_eq op (codes "fetchTimeout")) (timeout_line-whole at tree i)
     (cond (bytes_eq op (codes "drainTimeout")) (drain_line-whole at tree i)
@@ -175,23 +230,24 @@ main_side_line-whole op at tree = λ i.
     (cond (bytes_eq op (codes "publish")) (publish_line-whole at tree i)
     (cond (bytes_eq op (codes "reap")) (reap_line-whole at tree i) None))))))))
 
-line_by-whole : (op : List ℕ) (at : ℕ) (tree : Data) → line_by op at (whole tree) ≡ line_by op at tree
-line_by-whole op at tree = λ i.
-    cond (bytes_eq op (codes "accept")) (accept_line-whole at tree i)
+line_by-whole : (profile : Profile) (op : List ℕ) (at : ℕ) (tree : Data) → line_by profile op at (whole tree) ≡ line_by profile op at tree
+line_by-whole profile op at tree = λ i.
+    cond (bytes_eq op (codes "accept")) (accept_line-whole profile at tree i)
     (cond (bytes_eq op (codes "close")) (close_line-whole at tree i)
-    (cond (bytes_eq op (codes "settle")) (settle_line-whole at tree i) (main_side_line-whole op at tree i)))
+    (cond (bytes_eq op (codes "settle")) (settle_line-whole at tree i) (main_side_line-whole profile op at tree i)))
 
-line_of-whole : (at : ℕ) (tree : Data) → line_of at (whole tree) ≡ line_of at tree
-line_of-whole at tree =
-    (λ i. option_and_then (λ (op : List ℕ). line_by op at (whole tree)) (member_of-whole as_str as_str-whole (codes "op") tree i))
-    ∙ and_then-by (λ (op : List ℕ). line_by op at (whole tree)) (λ (op : List ℕ). line_by op at tree) (λ op. line_by-whole op at tree) (member_of as_str (codes "op") tree)
+line_of-whole : (profile : Profile) (at : ℕ) (tree : Data) → line_of profile at (whole tree) ≡ line_of profile at tree
+line_of-whole profile at tree =
+    (λ i. option_and_then (λ (op : List ℕ). line_by profile op at (whole tree)) (member_of-whole as_str as_str-whole (codes "op") tree i))
+    ∙ and_then-by (λ (op : List ℕ). line_by profile op at (whole tree)) (λ (op : List ℕ). line_by profile op at tree)
+    (λ op. line_by-whole profile op at tree) (member_of as_str (codes "op") tree)
 
 pub one_form : NumbersHaveOneForm
 one_form tree = record {
   header = header_of-whole tree;
-  line = λ at. line_of-whole at tree;
-  response = response_of-whole tree;
+  line = λ profile at. line_of-whole profile at tree;
+  response = λ profile. response_of-whole profile tree;
   journal = has_format-whole tree;
-  heads = ap (option_map (λ (header : Header). header.workers)) (header_of-whole tree);
-  lines = λ at. ap (option_map (λ (line : Line). worker_of line.actor)) (line_of-whole at tree);
+  heads = ap (option_map settings_of) (header_of-whole tree);
+  lines = λ profile at. ap (option_map (λ (line : Line). worker_of line.actor)) (line_of-whole profile at tree);
 }

@@ -1,14 +1,15 @@
 -- Members of the objects that lines are.
-use Rattle.std.proofs.Common.{◌≡◌, ℕ, ◌&&◌, List, Bool, cond, length, nat_le, Option, None, Some, is_some, option_map, option_and_then, codes, refl, ap, ◌∙◌}
+use Rattle.std.proofs.Common.{◌≡◌, ℕ, ◌&&◌, List, [], ◌∷◌, Bool, cond, length, nat_le, Option, None, Some, is_some, option_map, option_and_then, codes, refl, ap, ◌∙◌}
 use Rattle.std.specs.List.{list_any}
-use Rattle.std.specs.Str.{bytes_eq}
-use Rattle.serde_json.specs.Data.{Data, null, boolean, number, string, array, object, Members, no_members, member}
-use Rattle.serde_json.specs.Find.{get}
+use Rattle.std.specs.Str.{bytes_eq, str_to_ascii_lowercase}
+use Rattle.serde_json.specs.Data.{Data, null, boolean, number, string, array, object, Items, no_items, item, Members, no_members, member}
+use Rattle.serde_json.specs.Find.{get, as_str, as_array, as_object}
 use Rattle.ev_types.specs.declared.limits.TheConstants.{MAX_NAME_LENGTH}
-use Rattle.ev_script.specs.Members.{names_only, has_only, whole_within, text_within, name_of, or_default, member_of, member_or}
+use Rattle.ev_script.specs.Members.{names_only, has_only, whole_within, text_within, name_of, texts_of, texts_in, or_default, member_of, member_or}
+use Rattle.ev_script.specs.Headers.{Headers, with_header, headers_with, headers_of}
 use Rattle.ev_script.specs.Faults.{has_format}
-use Rattle.ev_tree.specs.Floats.{whole, whole_members}
-use Rattle.ev_whole_laws.proofs.Parts.{get-whole, as_str-whole, as_u64-whole, is_some-map, and_then-same}
+use Rattle.ev_tree.specs.Floats.{whole, whole_items, whole_members}
+use Rattle.ev_whole_laws.proofs.Parts.{get-whole, as_str-whole, as_u64-whole, as_array-whole, as_object-whole, is_some-map, and_then-same, and_then-by}
 
 names_only-whole : (names : List (List ℕ)) (members : Members) → names_only names (whole_members members) ≡ names_only names members
 names_only-whole names no_members = refl
@@ -31,6 +32,30 @@ text_within-whole low high tree =
 
 pub name_of-whole : (tree : Data) → name_of (whole tree) ≡ name_of tree
 name_of-whole tree = text_within-whole 1 MAX_NAME_LENGTH tree
+
+texts_of-whole : (values : Items) → texts_of (whole_items values) ≡ texts_of values
+texts_of-whole no_items = refl
+texts_of-whole (item tree others) = λ i.
+    option_and_then (λ (text : List ℕ). option_map (λ (texts : List (List ℕ)). text ∷ texts) (texts_of-whole others i)) (as_str-whole tree i)
+
+-- what is made of parts that say the same
+parts_same : {A B : Type 0} (f : A → A) (form : A → Option B) → ((a : A) → form (f a) ≡ form a) → (o : Option A) → option_and_then form (option_map f o) ≡ option_and_then form o
+parts_same f form same None = refl
+parts_same f form same (Some a) = same a
+
+pub texts_in-whole : (tree : Data) → texts_in (whole tree) ≡ texts_in tree
+texts_in-whole tree = ap (option_and_then texts_of) (as_array-whole tree) ∙ parts_same whole_items texts_of texts_of-whole (as_array tree)
+
+headers_with-whole : (headers : Headers) (members : Members) → headers_with headers (whole_members members) ≡ headers_with headers members
+headers_with-whole headers no_members = refl
+headers_with-whole headers (member name value others) =
+    ap (option_and_then (λ (text : List ℕ). headers_with (with_header (str_to_ascii_lowercase name) text headers) (whole_members others))) (as_str-whole value)
+    ∙ and_then-by (λ (text : List ℕ). headers_with (with_header (str_to_ascii_lowercase name) text headers) (whole_members others))
+    (λ (text : List ℕ). headers_with (with_header (str_to_ascii_lowercase name) text headers) others)
+    (λ text. headers_with-whole (with_header (str_to_ascii_lowercase name) text headers) others) (as_str value)
+
+pub headers_of-whole : (tree : Data) → headers_of (whole tree) ≡ headers_of tree
+headers_of-whole tree = ap (option_and_then (headers_with [])) (as_object-whole tree) ∙ parts_same whole_members (headers_with []) (headers_with-whole []) (as_object tree)
 
 pub member_of-whole : {A : Type 0} (form : Data → Option A) → ((tree : Data) → form (whole tree) ≡ form tree)
     → (name : List ℕ) (tree : Data) → member_of form name (whole tree) ≡ member_of form name tree

@@ -3,6 +3,7 @@ use Rattle.std.proofs.Common.{◌∙◌, ap, refl}
 use Rattle.std.specs.Prelude.{◌≡◌, ℕ, ◌&&◌, ◌==◌, List, [], map, length, not, Option, Some, None, codes}
 use Rattle.std.specs.List.{list_all}
 use Rattle.serde_json.specs.Data.{Data}
+use Rattle.ev_types.specs.declared.events.Profile.{Profile}
 use Rattle.ev_types.specs.declared.contents.Kind.{Kind}
 use Rattle.ev_tree.specs.Forms.{is_wrong, given_or, listed, text_in, field_of, texts_of}
 use Rattle.ev_wire.specs.Requests.{type_url}
@@ -24,20 +25,20 @@ pub is_entry-whole : (entry : Data) → is_entry (whole entry) ≡ is_entry entr
 unfolding is_entry
 is_entry-whole entry = λ i. not (is_wrong (text_of-whole (codes "name") entry i)) && not (is_wrong (text_of-whole (codes "version") entry i))
 
-pub item_of-whole : (kind : Kind) (entry : Data) → item_of kind (whole entry) ≡ item_of kind entry
+pub item_of-whole : (profile : Profile) (kind : Kind) (entry : Data) → item_of profile kind (whole entry) ≡ item_of profile kind entry
 unfolding item_of
-item_of-whole kind entry = λ i. record {
+item_of-whole profile kind entry = λ i. record {
   name = entry_name-whole entry i;
   version = given_or [] (text_of-whole (codes "version") entry i);
   ttl = is_positive (ttl_of-whole entry i);
   body = body_by i;
 }
   where
-    body_by : body_of kind (entry_name (whole entry)) (ttl_of (whole entry)) (field_of (codes "resource") (whole entry))
-        ≡ body_of kind (entry_name entry) (ttl_of entry) (field_of (codes "resource") entry)
+    body_by : body_of profile kind (entry_name (whole entry)) (ttl_of (whole entry)) (field_of (codes "resource") (whole entry))
+        ≡ body_of profile kind (entry_name entry) (ttl_of entry) (field_of (codes "resource") entry)
     body_by =
-        (λ i. body_of kind (entry_name-whole entry i) (ttl_of-whole entry i) (field_of-whole (codes "resource") entry i))
-        ∙ body_of-whole kind (entry_name entry) (ttl_of entry) (field_of (codes "resource") entry)
+        (λ i. body_of profile kind (entry_name-whole entry i) (ttl_of-whole entry i) (field_of-whole (codes "resource") entry i))
+        ∙ body_of-whole profile kind (entry_name entry) (ttl_of entry) (field_of (codes "resource") entry)
 
 pub response_kind-whole : (tree : Data) → response_kind (whole tree) ≡ response_kind tree
 unfolding response_kind
@@ -73,19 +74,19 @@ is_response-whole tree = λ i. has_head-whole tree i && lists_by i
     lists_by : has_lists_of (response_kind (whole tree)) (whole tree) ≡ has_lists_of (response_kind tree) tree
     lists_by = (λ i. has_lists_of (response_kind-whole tree i) (whole tree)) ∙ has_lists_of-whole (response_kind tree) tree
 
-pub parts_of-whole : (kind : Option Kind) (nonce : List ℕ) (tree : Data) → parts_of kind nonce (whole tree) ≡ parts_of kind nonce tree
-parts_of-whole None nonce tree = refl
-parts_of-whole (Some kind) nonce tree = λ i. record {
+pub parts_of-whole : (profile : Profile) (kind : Option Kind) (nonce : List ℕ) (tree : Data) → parts_of profile kind nonce (whole tree) ≡ parts_of profile kind nonce tree
+parts_of-whole profile None nonce tree = refl
+parts_of-whole profile (Some kind) nonce tree = λ i. record {
   kind = Some kind;
   nonce = nonce;
-  items = (ap (map (item_of kind)) (entries_of-whole tree) ∙ map-whole (item_of kind) (item_of-whole kind) (entries_of tree)) i;
+  items = (ap (map (item_of profile kind)) (entries_of-whole tree) ∙ map-whole (item_of profile kind) (item_of-whole profile kind) (entries_of tree)) i;
   removed = removed_of-whole tree i;
 }
 
-pub response_of-whole : (tree : Data) → response_of (whole tree) ≡ response_of tree
+pub response_of-whole : (profile : Profile) (tree : Data) → response_of profile (whole tree) ≡ response_of profile tree
 unfolding response_of
-response_of-whole tree = λ i. given_if (is_response-whole tree i) (parts_by i)
+response_of-whole profile tree = λ i. given_if (is_response-whole tree i) (parts_by i)
   where
-    parts_by : parts_of (response_kind (whole tree)) (nonce_of (whole tree)) (whole tree) ≡ parts_of (response_kind tree) (nonce_of tree) tree
+    parts_by : parts_of profile (response_kind (whole tree)) (nonce_of (whole tree)) (whole tree) ≡ parts_of profile (response_kind tree) (nonce_of tree) tree
     parts_by =
-        (λ i. parts_of (response_kind-whole tree i) (nonce_of-whole tree i) (whole tree)) ∙ parts_of-whole (response_kind tree) (nonce_of tree) tree
+        (λ i. parts_of profile (response_kind-whole tree i) (nonce_of-whole tree i) (whole tree)) ∙ parts_of-whole profile (response_kind tree) (nonce_of tree) tree

@@ -14,11 +14,11 @@ script_fault-requires g c =
     (fresh_taken c.args.lines.now c.requires.fresh) (c.read_line.ensures.reads (fresh_untold c.args.lines.now c.requires.fresh)) in
     omega (arith, c.number.ensures)
 
-pub returns-in-Ok-Workers-clause-reads : goal.returns-in-Ok-Workers-clause-reads
-returns-in-Ok-Workers-clause-reads g c =
-    head_read g.F.Forms.forms (g.S.Source.left c.args.source.now) (g.S.Source.left c.read_line.new.source) c.args.lines.now c.read_line.new.self c.in-Ok-Workers.workers c.args.text.now.items c.read_line.new.out.items c.requires.fresh
+pub returns-in-Ok-Header-clause-reads : goal.returns-in-Ok-Header-clause-reads
+returns-in-Ok-Header-clause-reads g c =
+    head_read g.F.Forms.forms (g.S.Source.left c.args.source.now) (g.S.Source.left c.read_line.new.source) c.args.lines.now c.read_line.new.self c.in-Ok-Header.settings c.args.text.now.items c.read_line.new.out.items c.requires.fresh
     (subst (λ (end : LineEnd). Reads (g.S.Source.left c.args.source.now) (g.S.Source.left c.read_line.new.source) c.args.lines.now c.read_line.new.self c.args.text.now.items c.read_line.new.out.items (Ok end)) c.in-Ok-Line.field-0-is (c.in-Ok-Line.ensures.reads (fresh_untold c.args.lines.now c.requires.fresh)))
-    (sym c.in-Ok-Workers.field-0-is ∙ c.in-Ok-Workers.ensures ∙ ap (first_content g.F.Forms.forms) c.as_slice.ensures.value)
+    (sym c.in-Ok-Header.field-0-is ∙ c.in-Ok-Header.ensures ∙ ap (first_content g.F.Forms.forms) c.as_slice.ensures.value)
 
 pub returns-in-Ok-Fault-clause-reads : goal.returns-in-Ok-Fault-clause-reads
 returns-in-Ok-Fault-clause-reads g c =

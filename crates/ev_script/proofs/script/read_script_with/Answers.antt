@@ -24,4 +24,5 @@ returns-in-Ok-made_script-clause-reads g c =
 pub returns-in-Ok-made_script-clause-forms : goal.returns-in-Ok-made_script-clause-forms
 returns-in-Ok-made_script-clause-forms g c =
     let r = c.in_ok-heading.ensures.reads in
-    answer_forms g.F.Forms.forms g.F.Forms.keeps (input_of false c.read_lines_with.new.lines r.0) c.in_ok-heading.field-0 c.in-Ok.header c.in-Ok-made_script.script c.requires.plain r.3 c.in-Ok-made_script.ensures
+    answer_forms g.F.Forms.forms g.F.Forms.keeps (input_of false c.read_lines_with.new.lines r.0) c.in_ok-heading.field-0 c.in-Ok.header c.in-Ok-made_script.script c.requires.heads c.requires.plain r.3
+    (subst (λ (text : List ℕ). IsHeaderOf text c.in-Ok.header) c.as_slice.ensures.value c.in-Ok.ensures.header) c.in-Ok-made_script.ensures

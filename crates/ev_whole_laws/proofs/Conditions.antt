@@ -1,0 +1,201 @@
+-- What a route's match asks of a request, as Envoy reads it.
+use Rattle.std.proofs.Common.{◌≡◌, ◌∙◌, ap, refl}
+use Rattle.std.specs.Prelude.{ℕ, ◌||◌, ◌==◌, List, [], ◌∷◌, length, map, Bool, false, not, codes}
+use Rattle.std.specs.Str.{str_to_ascii_lowercase}
+use Rattle.serde_json.specs.Data.{Data}
+use Rattle.ev_types.specs.declared.events.Profile.{Profile}
+use Rattle.ev_types.specs.declared.events.Profile.TheVariants.{Own, Envoy}
+use Rattle.ev_types.specs.declared.matchers.RouteCondition.TheVariants.{Header}
+use Rattle.ev_types.specs.declared.matchers.PathSpecifier.TheVariants.{Cased}
+use Rattle.ev_tree.specs.Forms.{is_wrong, is_given, given_or, inside, listed, text_of, boolean_of, object_of, objects_of}
+use Rattle.ev_tree.specs.Broken.{none_broken, either_broken, any_broken, broken_where}
+use Rattle.ev_tree.specs.Counts.{exactly_one, more_than_one}
+use Rattle.ev_tree.specs.Floats.{whole}
+use Rattle.ev_route_json.specs.Targets.{is_empty_text}
+use Rattle.ev_route_json.specs.Matches.{path_of, match_broken, is_false, separated_is_bad}
+use Rattle.ev_route_json.specs.Conditions.{pattern_with, string_test, string_matcher_of, string_matcher_broken, string_match_of, header_test_with, header_test_of, header_test_broken, header_name_of, turned_over, header_matcher_of, header_matcher_broken, header_condition_of, headers_of, has_elements, is_open, open_wrong, conditions_with, conditions_of, conditions_broken, specifier_with, path_specifier_of, path_specifier_broken, route_match_of, route_match_broken, own_match_of, match_in, match_broken_in}
+use Rattle.ev_whole_laws.proofs.Forms.{boolean_of-whole, inside-object, listed-objects, object-is_given, object-is_wrong, objects-is_wrong, text_of-whole}
+use Rattle.ev_whole_laws.proofs.Matches.{match_broken-whole, path_of-whole}
+use Rattle.ev_whole_laws.proofs.Parts.{any_broken-whole, length-whole, map-whole}
+
+-- ---- a string matcher
+
+string_matcher_of-whole : (tree : Data) → string_matcher_of (whole tree) ≡ string_matcher_of tree
+unfolding string_matcher_of
+string_matcher_of-whole tree = λ i.
+    string_test
+    (pattern_with (text_of-whole (codes "exact") tree i) (text_of-whole (codes "prefix") tree i) (text_of-whole (codes "suffix") tree i) (text_of-whole (codes "contains") tree i))
+    (given_or false (boolean_of-whole (codes "ignore_case") tree i))
+
+string_matcher_broken-whole : (tree : Data) → string_matcher_broken (whole tree) ≡ string_matcher_broken tree
+unfolding string_matcher_broken
+string_matcher_broken-whole tree = λ i. record none_broken {
+  v6 =
+      is_wrong (text_of-whole (codes "exact") tree i)
+      || is_wrong (text_of-whole (codes "prefix") tree i)
+      || is_wrong (text_of-whole (codes "suffix") tree i)
+      || is_wrong (text_of-whole (codes "contains") tree i)
+      || object-is_wrong (codes "safe_regex") tree i
+      || object-is_wrong (codes "custom") tree i
+      || is_wrong (boolean_of-whole (codes "ignore_case") tree i);
+  v21 =
+      not (exactly_one (
+      is_given (text_of-whole (codes "exact") tree i) ∷ is_given (text_of-whole (codes "prefix") tree i) ∷ is_given (text_of-whole (codes "suffix") tree i)
+      ∷ is_given (text_of-whole (codes "contains") tree i) ∷ object-is_given (codes "safe_regex") tree i ∷ object-is_given (codes "custom") tree i ∷ []))
+      || is_empty_text (text_of-whole (codes "prefix") tree i)
+      || is_empty_text (text_of-whole (codes "suffix") tree i)
+      || is_empty_text (text_of-whole (codes "contains") tree i);
+}
+
+-- ---- the test of a header
+
+string_match_of-whole : (header : Data) → string_match_of (whole header) ≡ whole (string_match_of header)
+unfolding string_match_of
+string_match_of-whole header = inside-object (codes "string_match") header
+
+header_test_of-whole : (header : Data) → header_test_of (whole header) ≡ header_test_of header
+unfolding header_test_of
+header_test_of-whole header = λ i.
+    header_test_with
+    (pattern_with (text_of-whole (codes "exact_match") header i) (text_of-whole (codes "prefix_match") header i) (text_of-whole (codes "suffix_match") header i) (text_of-whole (codes "contains_match") header i))
+    (object-is_given (codes "string_match") header i)
+    ((ap string_matcher_of (string_match_of-whole header) ∙ string_matcher_of-whole (string_match_of header)) i)
+    (object-is_given (codes "safe_regex_match") header i || object-is_given (codes "range_match") header i)
+
+header_test_broken-whole : (header : Data) → header_test_broken (whole header) ≡ header_test_broken header
+unfolding header_test_broken
+header_test_broken-whole header = λ i. either_broken (broken_where (object-is_given (codes "string_match") header i) ((ap string_matcher_broken (string_match_of-whole header) ∙ string_matcher_broken-whole (string_match_of header)) i)) (record none_broken {
+  v6 =
+      is_wrong (text_of-whole (codes "exact_match") header i)
+      || is_wrong (text_of-whole (codes "prefix_match") header i)
+      || is_wrong (text_of-whole (codes "suffix_match") header i)
+      || is_wrong (text_of-whole (codes "contains_match") header i)
+      || is_wrong (boolean_of-whole (codes "present_match") header i)
+      || object-is_wrong (codes "string_match") header i
+      || object-is_wrong (codes "safe_regex_match") header i
+      || object-is_wrong (codes "range_match") header i;
+  v21 =
+      more_than_one (
+      is_given (text_of-whole (codes "exact_match") header i) ∷ is_given (text_of-whole (codes "prefix_match") header i) ∷ is_given (text_of-whole (codes "suffix_match") header i)
+      ∷ is_given (text_of-whole (codes "contains_match") header i) ∷ is_given (boolean_of-whole (codes "present_match") header i) ∷ object-is_given (codes "string_match") header i
+      ∷ object-is_given (codes "safe_regex_match") header i ∷ object-is_given (codes "range_match") header i ∷ [])
+      || is_empty_text (text_of-whole (codes "prefix_match") header i)
+      || is_empty_text (text_of-whole (codes "suffix_match") header i)
+      || is_empty_text (text_of-whole (codes "contains_match") header i);
+})
+
+-- ---- a header matcher
+
+header_name_of-whole : (header : Data) → header_name_of (whole header) ≡ header_name_of header
+unfolding header_name_of
+header_name_of-whole header = λ i. given_or [] (text_of-whole (codes "name") header i)
+
+header_matcher_of-whole : (header : Data) → header_matcher_of (whole header) ≡ header_matcher_of header
+unfolding header_matcher_of
+header_matcher_of-whole header = λ i. record {
+  name = str_to_ascii_lowercase (header_name_of-whole header i);
+  test = header_test_of-whole header i;
+  invert_match = turned_over (is_false (boolean_of-whole (codes "present_match") header i)) (given_or false (boolean_of-whole (codes "invert_match") header i));
+  treat_missing_header_as_empty = given_or false (boolean_of-whole (codes "treat_missing_header_as_empty") header i);
+}
+
+header_matcher_broken-whole : (header : Data) → header_matcher_broken (whole header) ≡ header_matcher_broken header
+unfolding header_matcher_broken
+header_matcher_broken-whole header = λ i. either_broken (header_test_broken-whole header i) (record none_broken {
+  v6 =
+      is_wrong (text_of-whole (codes "name") header i)
+      || is_wrong (boolean_of-whole (codes "invert_match") header i)
+      || is_wrong (boolean_of-whole (codes "treat_missing_header_as_empty") header i);
+  v21 = length (header_name_of-whole header i) == 0;
+})
+
+-- ---- the conditions
+
+header_condition_of-whole : (header : Data) → header_condition_of (whole header) ≡ header_condition_of header
+header_condition_of-whole header = λ i. Header (header_matcher_of-whole header i)
+
+headers_of-whole : (tree : Data) → headers_of (whole tree) ≡ map whole (headers_of tree)
+unfolding headers_of
+headers_of-whole tree = listed-objects (codes "headers") tree
+
+-- a list of objects is given that has elements
+elements-whole : (name : List ℕ) (tree : Data) → has_elements (objects_of name (whole tree)) ≡ has_elements (objects_of name tree)
+elements-whole name tree = λ i. not ((ap length (listed-objects name tree) ∙ length-whole (listed (objects_of name tree))) i == 0)
+
+is_open-whole : (tree : Data) → is_open (whole tree) ≡ is_open tree
+unfolding is_open
+is_open-whole tree = λ i.
+    object-is_given (codes "runtime_fraction") tree i
+    || object-is_given (codes "tls_context") tree i
+    || elements-whole (codes "query_parameters") tree i
+    || elements-whole (codes "dynamic_metadata") tree i
+    || elements-whole (codes "filter_state") tree i
+
+open_wrong-whole : (tree : Data) → open_wrong (whole tree) ≡ open_wrong tree
+unfolding open_wrong
+open_wrong-whole tree = λ i.
+    object-is_wrong (codes "runtime_fraction") tree i
+    || object-is_wrong (codes "tls_context") tree i
+    || objects-is_wrong (codes "query_parameters") tree i
+    || objects-is_wrong (codes "dynamic_metadata") tree i
+    || objects-is_wrong (codes "filter_state") tree i
+
+conditions_of-whole : (tree : Data) → conditions_of (whole tree) ≡ conditions_of tree
+unfolding conditions_of
+conditions_of-whole tree = λ i.
+    conditions_with ((ap (map header_condition_of) (headers_of-whole tree) ∙ map-whole header_condition_of header_condition_of-whole (headers_of tree)) i)
+    (object-is_given (codes "grpc") tree i) (is_open-whole tree i)
+
+conditions_broken-whole : (tree : Data) → conditions_broken (whole tree) ≡ conditions_broken tree
+unfolding conditions_broken
+conditions_broken-whole tree = λ i. either_broken ((ap (any_broken header_matcher_broken) (headers_of-whole tree) ∙ any_broken-whole header_matcher_broken header_matcher_broken-whole (headers_of tree)) i) (record none_broken {
+  v6 = objects-is_wrong (codes "headers") tree i || object-is_wrong (codes "grpc") tree i || open_wrong-whole tree i;
+})
+
+-- ---- the path
+
+path_specifier_of-whole : (tree : Data) → path_specifier_of (whole tree) ≡ path_specifier_of tree
+unfolding path_specifier_of
+path_specifier_of-whole tree = λ i.
+    specifier_with (object-is_given (codes "connect_matcher") tree i)
+    (object-is_given (codes "safe_regex") tree i || object-is_given (codes "path_match_policy") tree i)
+    (is_false (boolean_of-whole (codes "case_sensitive") tree i)) (path_of-whole tree i)
+
+path_specifier_broken-whole : (tree : Data) → path_specifier_broken (whole tree) ≡ path_specifier_broken tree
+unfolding path_specifier_broken
+path_specifier_broken-whole tree = λ i. record none_broken {
+  v6 =
+      is_wrong (text_of-whole (codes "prefix") tree i)
+      || is_wrong (text_of-whole (codes "path") tree i)
+      || is_wrong (text_of-whole (codes "path_separated_prefix") tree i)
+      || object-is_wrong (codes "safe_regex") tree i
+      || object-is_wrong (codes "connect_matcher") tree i
+      || object-is_wrong (codes "path_match_policy") tree i
+      || is_wrong (boolean_of-whole (codes "case_sensitive") tree i);
+  v21 =
+      not (exactly_one (
+      is_given (text_of-whole (codes "prefix") tree i) ∷ is_given (text_of-whole (codes "path") tree i) ∷ is_given (text_of-whole (codes "path_separated_prefix") tree i)
+      ∷ object-is_given (codes "safe_regex") tree i ∷ object-is_given (codes "connect_matcher") tree i ∷ object-is_given (codes "path_match_policy") tree i ∷ []))
+      || separated_is_bad (text_of-whole (codes "path_separated_prefix") tree i);
+}
+
+-- ---- the match
+
+route_match_of-whole : (tree : Data) → route_match_of (whole tree) ≡ route_match_of tree
+unfolding route_match_of
+route_match_of-whole tree = λ i. record { path = path_specifier_of-whole tree i; conditions = conditions_of-whole tree i }
+
+route_match_broken-whole : (tree : Data) → route_match_broken (whole tree) ≡ route_match_broken tree
+unfolding route_match_broken
+route_match_broken-whole tree = λ i. either_broken (path_specifier_broken-whole tree i) (conditions_broken-whole tree i)
+
+own_match_of-whole : (tree : Data) → own_match_of (whole tree) ≡ own_match_of tree
+own_match_of-whole tree = λ i. record { path = Cased (path_of-whole tree i); conditions = [] }
+
+pub match_in-whole : (profile : Profile) (tree : Data) → match_in profile (whole tree) ≡ match_in profile tree
+match_in-whole Own tree = own_match_of-whole tree
+match_in-whole Envoy tree = route_match_of-whole tree
+
+pub match_broken_in-whole : (profile : Profile) (tree : Data) → match_broken_in profile (whole tree) ≡ match_broken_in profile tree
+match_broken_in-whole Own tree = match_broken-whole tree
+match_broken_in-whole Envoy tree = route_match_broken-whole tree
