@@ -27,7 +27,7 @@ pub(crate) fn leave_group(
 {
     let group = group_without(
         alloc,
-        groups.get(&listener.get().served().address),
+        groups.get(listener.get().address()),
         listener.get().number(),
     )?;
     set_group(alloc, groups, listener, group)?;
@@ -44,7 +44,7 @@ pub(crate) fn enter_group(
 {
     let group = group_with(
         alloc,
-        groups.get(&listener.get().served().address),
+        groups.get(listener.get().address()),
         listener,
     )?;
     set_group(alloc, groups, listener, group)?;

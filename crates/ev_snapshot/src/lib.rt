@@ -56,10 +56,16 @@
 //!   goes over its hosts once, up to the one that is picked.
 #![tactic(auto)]
 
+mod address_texts;
 mod addresses;
 mod changes;
+mod conditions;
+mod criteria;
+mod criterion;
+mod domain_lists;
 mod domain_table;
 mod domains;
+mod folded_paths;
 mod groups;
 mod host_texts;
 mod hosts;
@@ -70,6 +76,7 @@ mod parts;
 mod path_index;
 mod paths;
 mod routed;
+mod routed_chain;
 mod routed_host;
 mod routes;
 mod rows;
@@ -78,6 +85,7 @@ mod star_texts;
 mod table;
 mod targets;
 mod texts;
+mod texts_in_case;
 mod weighed;
 
 pub use changes::{Changes, ClusterChange, ListenerChange};
