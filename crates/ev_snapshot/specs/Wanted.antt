@@ -4,6 +4,7 @@ use Rattle.std.specs.Str.{bytes_eq}
 use Rattle.ev_types.specs.FilterChains.{nat_same, has_value, ports, prefix_ranges, server_names, transports, application_protocols}
 use Rattle.ev_types.specs.Ips.{cidr_range_same}
 use Rattle.ev_types.specs.declared.filter_chains.FilterChainMatch.{FilterChainMatch}
+use Rattle.ev_types.specs.declared.ips.CidrRange.{CidrRange}
 use Rattle.ev_model.specs.Narrowing.{is_asked}
 use Rattle.ev_model.specs.declared.pictures.ServedChain.{ServedChain}
 use Rattle.ev_snapshot.specs.declared.criteria.Criteria.{Criteria}
@@ -34,9 +35,21 @@ abbrev pub wanted_of : {A : Type 0} → Option A → Wanted A
 wanted_of None = Nothing
 wanted_of (Some value) = Value value
 
--- the first of these values that a chain asks for is wanted
-abbrev pub first_asked : {A : Type 0} → (A → A → Bool) → (FilterChainMatch → List A) → List A → List ServedChain → Wanted A
-first_asked same values brought chains = wanted_of (find (is_asked same values chains) brought)
+-- the first of these values that one of the chains asks for
+abbrev pub first_asked : {A : Type 0} → (A → A → Bool) → (FilterChainMatch → List A) → List ServedChain → List A → Option A
+first_asked same values chains brought = find (is_asked same values chains) brought
+
+-- the first of these ranges that one of the chains that are left asks for
+abbrev pub first_range : Criteria → List ServedChain → List CidrRange → Option CidrRange
+first_range criteria chains ranges = first_asked cidr_range_same prefix_ranges (left_by criteria chains) ranges
+
+-- the first of these server names that one of them asks for
+abbrev pub first_name : Criteria → List ServedChain → List (List ℕ) → Option (List ℕ)
+first_name criteria chains names = first_asked bytes_eq server_names (left_by criteria chains) names
+
+-- the first of these application protocols that one of them asks for
+abbrev pub first_protocol : Criteria → List ServedChain → List (List ℕ) → Option (List ℕ)
+first_protocol criteria chains protocols = first_asked bytes_eq application_protocols (left_by criteria chains) protocols
 
 -- a text that begins with a dot, after a star
 abbrev pub wildcard_of : List ℕ → List (List ℕ)

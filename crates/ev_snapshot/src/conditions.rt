@@ -1,9 +1,10 @@
-ghost use Rattle.std.specs.Prelude.{◌≡◌, List, ℕ, find, map, option_map, unwrap_or, false, codes};
+ghost use Rattle.std.specs.Prelude.{◌≡◌, map};
 ghost use Rattle.std.specs.List.{list_any};
 ghost use Rattle.std.specs.Option.{option_copied};
 ghost use Rattle.std.specs.Str.{bytes_eq};
 ghost use Rattle.ev_model.specs.Choice.{requested_of};
 ghost use Rattle.ev_model.specs.Conditions.{condition_says, found_says, header_value, inverted, is_grpc, is_no, is_pattern_met, is_undecided, match_says, missing_says, path_says, value_says, yes_if};
+ghost use Rattle.ev_snapshot.specs.Requests.{has_grpc_type, is_connect, value_in};
 
 use crate::folded_paths::is_folded_path_taken;
 use crate::routes::is_path_taken;
@@ -91,7 +92,7 @@ fn path_says(ask: &Ask, path: &PathSpecifier) -> Taken
 
 // Whether the method is CONNECT.
 fn is_connect(ask: &Ask) -> bool
-    ensures { result ≡ unwrap_or (option_map (bytes_eq (codes "CONNECT")) (header_value (requested_of ask.now) (codes ":method"))) false }
+    ensures { result ≡ is_connect (requested_of ask.now) }
 {
     let connect: &[u8] = b"CONNECT";
     match header_value(ask, b":method") {
@@ -109,14 +110,14 @@ fn condition_says(ask: &Ask, condition: &RouteCondition) -> Taken
             matcher,
             header_value(ask, matcher.name.as_str().as_bytes()),
         ),
-        RouteCondition::Grpc => yes_if(asks_by_grpc(ask)),
+        RouteCondition::Grpc => yes_if(has_grpc_type(ask)),
         RouteCondition::Open => Taken::Undecided,
     }
 }
 
 // Whether the request has the content type of gRPC.
-fn asks_by_grpc(ask: &Ask) -> bool
-    ensures { result ≡ unwrap_or (option_map is_grpc (header_value (requested_of ask.now) (codes "content-type"))) false }
+fn has_grpc_type(ask: &Ask) -> bool
+    ensures { result ≡ has_grpc_type (requested_of ask.now) }
 {
     match header_value(ask, b"content-type") {
         Some(value) => is_grpc(value),
@@ -205,7 +206,7 @@ fn header_value<'a>(ask: &'a Ask, name: &[u8]) -> Option<&'a [u8]>
 
 // The value of the header of this name.
 fn header_in<'a>(headers: &'a [(Text, Text)], name: &[u8]) -> Option<&'a [u8]>
-    ensures { option_copied result ≡ option_map (λ (header : List ℕ × List ℕ). header.1) (find (λ (header : List ℕ × List ℕ). bytes_eq header.0 name.now) headers.now) }
+    ensures { option_copied result ≡ value_in headers.now name.now }
 {
     match headers.iter().find(|header| is_named(header, name)) {
         Some(header) => Some(header.1.as_str().as_bytes()),

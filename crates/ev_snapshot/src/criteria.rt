@@ -1,13 +1,13 @@
-ghost use Rattle.std.specs.Prelude.{◌≡◌, ◌+◌, ◌≤◌, ◌∷◌, ◌&&◌, [], Some, drop, find, slice_get};
+ghost use Rattle.std.specs.Prelude.{◌≡◌, ◌+◌, ◌≤◌, ◌∷◌, ◌&&◌, [], drop, slice_get};
 ghost use Rattle.std.specs.List.{list_any};
 ghost use Rattle.std.specs.Option.{option_copied};
-ghost use Rattle.std.specs.Str.{bytes_eq, str_to_ascii_lowercase};
-ghost use Rattle.ev_types.specs.FilterChains.{application_protocols, has_value, prefix_ranges, server_names};
-ghost use Rattle.ev_types.specs.Ips.{cidr_range_same, range_about, ranges_about, width};
+ghost use Rattle.std.specs.Str.{str_to_ascii_lowercase};
+ghost use Rattle.ev_types.specs.FilterChains.{has_value};
+ghost use Rattle.ev_types.specs.Ips.{range_about, ranges_about, width};
 ghost use Rattle.ev_model.specs.Choice.{incoming_of};
 ghost use Rattle.ev_model.specs.Narrowing.{chains_left, is_asked, names_brought, wildcards};
 ghost use Rattle.ev_model.specs.declared.pictures.ServedChain.{ServedChain};
-ghost use Rattle.ev_snapshot.specs.Wanted.{first_asked, is_left, is_met, left_by, wildcard_of};
+ghost use Rattle.ev_snapshot.specs.Wanted.{first_asked, first_name, first_protocol, first_range, is_left, is_met, left_by, wanted_of, wildcard_of};
 
 use crate::criterion::{Criterion, Protocol, ServerName, Transport};
 use crate::routed_chain::RoutedChain;
@@ -94,14 +94,15 @@ impl<'a> Criteria<'a> {
 
     // Whether a chain is left and asks for a value.
     fn asks<V: Criterion>(&self, chain: &RoutedChain, value: &V) -> bool
-        ensures { result ≡ (is_left self.now chain.now.criteria && has_value V.same (V.values chain.now.criteria) value.now) }
+        ensures { result ≡ (is_left self.now chain.now.criteria
+            && has_value V.same (V.values chain.now.criteria) value.now) }
     {
         self.leaves(chain) && value.is_asked_by(chain.criteria())
     }
 
     // The value, where a chain asks for it.
     fn wanted<V: Criterion>(&self, chains: &[RoutedChain], value: V) -> Wanted<V>
-        ensures { result ≡ first_asked V.same V.values (value ∷ []) (left_by self.now chains.now) }
+        ensures { result ≡ wanted_of (first_asked V.same V.values (left_by self.now chains.now) (value ∷ [])) }
     {
         if self.is_asked(chains, &value) {
             Wanted::Value(value)
@@ -112,7 +113,7 @@ impl<'a> Criteria<'a> {
 
     // The longest range with the address that a chain asks for.
     fn range_wanted(&self, chains: &[RoutedChain], ip: Option<Ip>) -> Wanted<CidrRange>
-        ensures { result ≡ first_asked cidr_range_same prefix_ranges (ranges_about ip) (left_by self.now chains.now) }
+        ensures { result ≡ wanted_of (first_range self.now chains.now (ranges_about ip)) }
     {
         match ip {
             Some(Ip::V4(bits)) => self.range_about(chains, Ip::V4(bits), 33),
@@ -124,7 +125,7 @@ impl<'a> Criteria<'a> {
     // The longest range with the address that a chain asks for; of those, there is one of each length below the count.
     fn range_about(&self, chains: &[RoutedChain], ip: Ip, count: u32) -> Wanted<CidrRange>
         requires { count ≡ width ip + 1 }
-        ensures { result ≡ first_asked cidr_range_same prefix_ranges (ranges_about (Some ip)) (left_by self.now chains.now) }
+        ensures { result ≡ wanted_of (first_range self.now chains.now (ranges_about (Some ip))) }
     {
         for length in (0..count).rev() {
             if let Some(range) = self.range_of(chains, ip, length) {
@@ -137,7 +138,7 @@ impl<'a> Criteria<'a> {
     // The range of this length with the address, where a chain asks for it.
     fn range_of(&self, chains: &[RoutedChain], ip: Ip, length: u32) -> Option<CidrRange>
         requires { length ≤ width ip }
-        ensures { result ≡ find (is_asked cidr_range_same prefix_ranges (left_by self.now chains.now)) (range_about ip length ∷ []) }
+        ensures { result ≡ first_range self.now chains.now (range_about ip length ∷ []) }
     {
         let Some(range) = CidrRange::about(ip, length) else {
             return None;
@@ -151,7 +152,7 @@ impl<'a> Criteria<'a> {
 
     // The name, or else a star and the longest of its endings from a dot on, that a chain asks for.
     fn name_wanted(&self, chains: &[RoutedChain], name: &'a [u8]) -> Wanted<ServerName<'a>>
-        ensures { result ≡ first_asked bytes_eq server_names (names_brought (str_to_ascii_lowercase name.now)) (left_by self.now chains.now) }
+        ensures { result ≡ wanted_of (first_name self.now chains.now (names_brought (str_to_ascii_lowercase name.now))) }
     {
         if name.is_empty() {
             return Wanted::Nothing;
@@ -165,7 +166,7 @@ impl<'a> Criteria<'a> {
 
     // A star and the longest of a name's endings from a later dot on that a chain asks for.
     fn ending_wanted(&self, chains: &[RoutedChain], name: &'a [u8]) -> Wanted<ServerName<'a>>
-        ensures { result ≡ first_asked bytes_eq server_names (wildcards (drop 1 (str_to_ascii_lowercase name.now))) (left_by self.now chains.now) }
+        ensures { result ≡ wanted_of (first_name self.now chains.now (wildcards (drop 1 (str_to_ascii_lowercase name.now)))) }
     {
         for place in 1..name.len() {
             let (_, rest) = name.split_at(place);
@@ -178,7 +179,7 @@ impl<'a> Criteria<'a> {
 
     // A star and what is left of a name, where it begins with a dot and a chain asks for it.
     fn ending_of(&self, chains: &[RoutedChain], rest: &'a [u8]) -> Option<ServerName<'a>>
-        ensures { result ≡ find (is_asked bytes_eq server_names (left_by self.now chains.now)) (wildcard_of (str_to_ascii_lowercase rest.now)) }
+        ensures { result ≡ first_name self.now chains.now (wildcard_of (str_to_ascii_lowercase rest.now)) }
     {
         if rest.is_empty() || rest[0] != b'.' {
             return None;
@@ -193,7 +194,7 @@ impl<'a> Criteria<'a> {
 
     // The first of the protocols that a chain asks for.
     fn protocol_wanted(&self, chains: &[RoutedChain], alpn: &'a [Text]) -> Wanted<Protocol<'a>>
-        ensures { result ≡ first_asked bytes_eq application_protocols alpn.now (left_by self.now chains.now) }
+        ensures { result ≡ wanted_of (first_protocol self.now chains.now alpn.now) }
     {
         for name in alpn {
             let protocol = Protocol::new(name);

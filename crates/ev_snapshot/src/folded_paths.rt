@@ -1,5 +1,5 @@
-ghost use Rattle.std.specs.Prelude.{◌≡◌, ◌++◌, ◌||◌, codes};
-ghost use Rattle.std.specs.Str.{bytes_eq, str_to_ascii_lowercase};
+ghost use Rattle.std.specs.Prelude.{◌≡◌, ◌++◌, codes};
+ghost use Rattle.std.specs.Str.{str_to_ascii_lowercase};
 ghost use Rattle.ev_model.specs.Conditions.{lower_match};
 ghost use Rattle.ev_model.specs.Paths.{begins_with, is_path_taken};
 
@@ -15,16 +15,11 @@ pub(crate) fn is_folded_path_taken(path: &[u8], path_match: &PathMatch) -> bool
         PathMatch::Prefix(front) => begins_in_case(true, path, front.as_str().as_bytes()),
         PathMatch::Path(whole) => same_lower(without_query(path), whole.as_str().as_bytes()),
         PathMatch::Separated(front) => {
-            is_separated_lower(without_query(path), front.as_str().as_bytes())
+            let front = front.as_str().as_bytes();
+            let bare = without_query(path);
+            same_lower(bare, front) || goes_on_lower(bare, front)
         }
     }
-}
-
-// Whether the path is the front, or goes on with a `/` after it, both as lower case.
-fn is_separated_lower(path: &[u8], front: &[u8]) -> bool
-    ensures { result ≡ (bytes_eq (str_to_ascii_lowercase path.now) (str_to_ascii_lowercase front.now) || begins_with (str_to_ascii_lowercase path.now) (str_to_ascii_lowercase front.now ++ codes "/")) }
-{
-    same_lower(path, front) || goes_on_lower(path, front)
 }
 
 // Whether the path goes on with a `/` after the front, both as lower case.

@@ -74,7 +74,8 @@ impl PathIndex {
     fn first_whole(&self, routes: &[Route], path: &[u8], bare: &[u8]) -> usize
         requires index { IsIndexed routes.now self.now }
         requires bare { bare.now ≡ without_query path.now }
-        ensures { result ≡ position_or_len (λ (r : Route). is_covered [] (path_of r) && is_path_taken path.now (path_of r)) routes.now }
+        ensures { result
+            ≡ position_or_len (λ (r : Route). is_covered [] (path_of r) && is_path_taken path.now (path_of r)) routes.now }
     {
         self.first_with(routes, &PathText::new(WHOLE, bare))
     }

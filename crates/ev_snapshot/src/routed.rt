@@ -86,7 +86,8 @@ impl RoutedListener {
 
     /// Where the connections of the first chain that is left go, or else those of the default chain.
     pub(crate) fn routing_left(&self, criteria: &Criteria<'_>) -> Option<&IndexedRouting>
-        ensures { option_copied result ≡ routing_left (left_by criteria.now self.now.filter_chains) self.now.default_filter_chain }
+        ensures { option_copied result
+            ≡ routing_left (left_by criteria.now self.now.filter_chains) self.now.default_filter_chain }
     {
         if let Some(chain) = criteria.first_left(self.filter_chains.as_slice()) {
             return Some(chain.routing().get());

@@ -1,8 +1,7 @@
-ghost use Rattle.std.specs.Prelude.{◌≡◌, ◌+◌, true, IfOk};
+ghost use Rattle.std.specs.Prelude.{◌≡◌, ◌+◌, true, Some, IfOk};
 ghost use Rattle.std.specs.Arc.{arc_value};
 ghost use Rattle.std.specs.Option.{option_copied};
-ghost use Rattle.ev_model.specs.Choice.{acted, by_chain, by_chains, by_host, by_route, by_routing, choice_in, choice_of, cluster_named, forwarded, in_cluster, incoming_of};
-ghost use Rattle.ev_model.specs.Narrowing.{chains_left};
+ghost use Rattle.ev_model.specs.Choice.{acted, by_chain, by_host, by_listener, by_route, by_routing, choice_in, choice_of, cluster_named, forwarded, in_cluster};
 ghost use Rattle.ev_model.specs.declared.pictures.ServedCluster.{ServedCluster};
 ghost use Rattle.ev_model.specs.declared.pictures.ServedListener.{ServedListener};
 ghost use Rattle.ev_model.specs.Picture.{is_shown, shown_of};
@@ -142,7 +141,7 @@ impl Snapshot {
 
     // The choice by the chains of a listener that are left.
     fn choose_by_chains(&self, listener: &RoutedListener, ask: &Ask) -> Choice
-        ensures { result ≡ by_chains self.now ask.now listener.now (chains_left (incoming_of ask.now) listener.now.filter_chains) }
+        ensures { result ≡ by_listener self.now ask.now (Some listener.now) }
     {
         let criteria = Criteria::of(listener.filter_chains(), ask);
         if criteria.leave_source(listener.filter_chains()) {
