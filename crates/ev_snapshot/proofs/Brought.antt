@@ -1,15 +1,18 @@
 -- What a connection brings, one value after the other: ranges with its address, the longest first, and the endings of its server
 -- name after a star.
-use Rattle.std.proofs.Common.{◌≡◌, ℕ, ◌+◌, ◌<◌, ◌≤◌, ◌==◌, ◌++◌, Bool, true, false, cond, List, [], ◌∷◌, length, map, drop, reverse, find, codes, Option, Some, None, zero, suc, refl, sym, ap, ◌∙◌, arith, add-one}
-use Rattle.std.specs.List.{range_with_len}
+use Rattle.std.proofs.Common.{◌≡◌, ℕ, ◌+◌, ◌<◌, ◌≤◌, ◌==◌, ◌++◌, ◌||◌, nat_lt, Bool, true, false, cond, List, [], ◌∷◌, length, map, drop, reverse, find, codes, Option, Some, None, zero, suc, refl, sym, ap, ◌∙◌, arith, add-one}
+use Rattle.std.specs.List.{list_any, range_with_len}
 use Rattle.std.specs.Option.{option_or}
 use Rattle.std.proofs.lemmas.Grind.{common_steps}
 use Rattle.std.proofs.lemmas.List.{reverse-append}
-use Rattle.ev_types.specs.Ips.{range_about}
+use Rattle.ev_types.specs.FilterChains.{has_value, prefix_ranges}
+use Rattle.ev_types.specs.Ips.{cidr_range_same, range_about}
+use Rattle.ev_types.specs.declared.filter_chains.FilterChainMatch.{FilterChainMatch}
 use Rattle.ev_types.specs.declared.ips.CidrRange.{CidrRange}
 use Rattle.ev_types.specs.declared.ips.Ip.{Ip}
-use Rattle.ev_model.specs.Narrowing.{wildcards}
-use Rattle.ev_snapshot.specs.Wanted.{wildcard_of}
+use Rattle.ev_model.specs.Narrowing.{is_asked, wildcards}
+use Rattle.ev_model.specs.declared.pictures.ServedChain.{ServedChain}
+use Rattle.ev_snapshot.specs.Wanted.{asks_range, wildcard_of}
 
 -- one number more, at the end
 numbers_more : (a n : ℕ) → range_with_len a (suc n) ≡ range_with_len a n ++ (a + n) ∷ []
@@ -55,3 +58,30 @@ pub ending_first : (p : List ℕ → Bool) (n : ℕ) (name : List ℕ) → n < l
 ending_first p n [] less = absurd (omega arith)
 ending_first p zero (byte ∷ rest) less = wildcard_first p byte rest
 ending_first p (suc n) (byte ∷ rest) less = ending_first p n rest (omega arith) ∙ ap (λ k. option_or (find p (wildcard_of (drop n rest))) (find p (wildcards (drop k (byte ∷ rest))))) (omega arith)
+
+-- where no chain asks for a range, none is found
+neither : (a b : Bool) → a || b ≡ false → (a ≡ false) × (b ≡ false)
+neither true b h = absurd (cc)
+neither false b h = (refl, h)
+
+range_unasked : (m : FilterChainMatch) (range : CidrRange) → asks_range m ≡ false → has_value cidr_range_same m.prefix_ranges range ≡ false
+range_unasked m range none = by m.prefix_ranges none
+  where
+    by : (ranges : List CidrRange) → nat_lt 0 (length ranges) ≡ false → has_value cidr_range_same ranges range ≡ false
+    by [] is = refl
+    by (r ∷ rs) is = absurd (cc)
+
+no_range : (chains : List ServedChain) (range : CidrRange) → list_any (λ (c : ServedChain). asks_range c.criteria) chains ≡ false
+    → is_asked cidr_range_same prefix_ranges chains range ≡ false
+no_range [] range none = refl
+no_range (c ∷ chains) range none =
+    let parts = neither (asks_range c.criteria) (list_any (λ (c : ServedChain). asks_range c.criteria) chains) none in
+    λ i. range_unasked c.criteria range parts.0 i || no_range chains range parts.1 i
+
+pub never_found : {X : Type 0} (p : X → Bool) (xs : List X) → ((x : X) → p x ≡ false) → find p xs ≡ None
+never_found p [] never = refl
+never_found p (x ∷ xs) never = λ i. cond (never x i) (Some x) (never_found p xs never i)
+
+pub no_range_found : (chains : List ServedChain) (ranges : List CidrRange) → list_any (λ (c : ServedChain). asks_range c.criteria) chains ≡ false
+    → find (is_asked cidr_range_same prefix_ranges chains) ranges ≡ None
+no_range_found chains ranges none = never_found (is_asked cidr_range_same prefix_ranges chains) ranges (λ range. no_range chains range none)

@@ -1,5 +1,5 @@
 -- What the filter chains that are left have to ask for, as they are narrowed by one criterion after the other.
-use Rattle.std.specs.Prelude.{ℕ, ◌==◌, ◌&&◌, Bool, true, if◌then◌else◌, List, [], ◌∷◌, ◌++◌, filter, find, length, codes, Option, Some, None}
+use Rattle.std.specs.Prelude.{ℕ, ◌==◌, ◌&&◌, Bool, true, nat_lt, if◌then◌else◌, List, [], ◌∷◌, ◌++◌, filter, find, length, codes, Option, Some, None}
 use Rattle.std.specs.Str.{bytes_eq}
 use Rattle.ev_types.specs.FilterChains.{nat_same, has_value, ports, prefix_ranges, server_names, transports, application_protocols}
 use Rattle.ev_types.specs.Ips.{cidr_range_same}
@@ -50,6 +50,10 @@ first_name criteria chains names = first_asked bytes_eq server_names (left_by cr
 -- the first of these application protocols that one of them asks for
 abbrev pub first_protocol : Criteria → List ServedChain → List (List ℕ) → Option (List ℕ)
 first_protocol criteria chains protocols = first_asked bytes_eq application_protocols (left_by criteria chains) protocols
+
+-- the chain asks for a range
+abbrev pub asks_range : FilterChainMatch → Bool
+asks_range m = nat_lt 0 (length m.prefix_ranges)
 
 -- a text that begins with a dot, after a star
 abbrev pub wildcard_of : List ℕ → List (List ℕ)

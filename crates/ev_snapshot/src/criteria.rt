@@ -7,7 +7,7 @@ ghost use Rattle.ev_types.specs.Ips.{range_about, ranges_about, width};
 ghost use Rattle.ev_model.specs.Choice.{incoming_of};
 ghost use Rattle.ev_model.specs.Narrowing.{chains_left, is_asked, names_brought, wildcards};
 ghost use Rattle.ev_model.specs.declared.pictures.ServedChain.{ServedChain};
-ghost use Rattle.ev_snapshot.specs.Wanted.{first_asked, first_name, first_protocol, first_range, is_left, is_met, left_by, wanted_of, wildcard_of};
+ghost use Rattle.ev_snapshot.specs.Wanted.{asks_range, first_asked, first_name, first_protocol, first_range, is_left, is_met, left_by, wanted_of, wildcard_of};
 
 use crate::criterion::{Criterion, Protocol, ServerName, Transport};
 use crate::routed_chain::RoutedChain;
@@ -116,10 +116,23 @@ impl<'a> Criteria<'a> {
         ensures { result ≡ wanted_of (first_range self.now chains.now (ranges_about ip)) }
     {
         match ip {
-            Some(Ip::V4(bits)) => self.range_about(chains, Ip::V4(bits), 33),
-            Some(Ip::V6(bits)) => self.range_about(chains, Ip::V6(bits), 129),
-            None => Wanted::Nothing,
+            Some(ip) if self.ask_range(chains) => self.range_about(chains, ip, count_about(ip)),
+            _ => Wanted::Nothing,
         }
+    }
+
+    // Whether one of the chains that are left asks for a range.
+    fn ask_range(&self, chains: &[RoutedChain]) -> bool
+        ensures { result ≡ list_any (λ (c : ServedChain). asks_range c.criteria) (left_by self.now chains.now) }
+    {
+        chains.iter().any(|chain| self.asks_range(chain))
+    }
+
+    // Whether a chain is left and asks for a range.
+    fn asks_range(&self, chain: &RoutedChain) -> bool
+        ensures { result ≡ (is_left self.now chain.now.criteria && asks_range chain.now.criteria) }
+    {
+        self.leaves(chain) && chain.criteria().prefix_ranges.len() > 0
     }
 
     // The longest range with the address that a chain asks for; of those, there is one of each length below the count.
@@ -203,6 +216,16 @@ impl<'a> Criteria<'a> {
             }
         }
         Wanted::Nothing
+    }
+}
+
+// How many ranges hold an address.
+fn count_about(ip: Ip) -> u32
+    ensures { result ≡ width ip + 1 }
+{
+    match ip {
+        Ip::V4(_) => 33,
+        Ip::V6(_) => 129,
     }
 }
 

@@ -215,10 +215,7 @@ fn first_of(group: &[Shared<RoutedListener>]) -> Option<&RoutedListener>
 fn first_for_every(group: &[Shared<RoutedListener>]) -> Option<&RoutedListener>
     ensures { option_copied result ≡ find (λ (l : ServedListener). l.takes_every_address) group.now }
 {
-    match group
-        .iter()
-        .find(|listener| takes_every_address(listener))
-    {
+    match group.iter().find(|listener| takes_every_address(listener)) {
         Some(listener) => Some(listener.get()),
         None => None,
     }

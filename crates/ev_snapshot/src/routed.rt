@@ -122,7 +122,10 @@ fn chains_of(
 }
 
 // The routing of the chain at this place of a listener.
-fn routing_before(before: Option<&RoutedListener>, place: usize) -> Option<&Shared<IndexedRouting>> {
+fn routing_before(
+    before: Option<&RoutedListener>,
+    place: usize,
+) -> Option<&Shared<IndexedRouting>> {
     let Some(before) = before else {
         return None;
     };

@@ -2,8 +2,8 @@ ghost use Rattle.std.specs.Prelude.{◌≡◌, IfOk, IfSome};
 ghost use Rattle.std.specs.Option.{option_copied};
 ghost use Rattle.ev_snapshot.specs.Domains.{host_for};
 
-use crate::domain_table::Domains;
 use crate::domain_lists::domains_in;
+use crate::domain_table::Domains;
 use crate::routed_host::RoutedHost;
 use ev_model::Routing;
 use ev_types::{FilterChainMatch, Shared, TryCopy};
