@@ -3,6 +3,7 @@
 use Rattle.std.proofs.Common.{◌≡◌, ℕ, ◌+◌, ◌<◌, ◌≤◌, ◌==◌, ◌++◌, ◌||◌, nat_lt, Bool, true, false, cond, List, [], ◌∷◌, length, map, drop, reverse, find, codes, Option, Some, None, zero, suc, refl, sym, ap, ◌∙◌, arith, add-one}
 use Rattle.std.specs.List.{list_any, range_with_len}
 use Rattle.std.specs.Option.{option_or}
+use Rattle.std.proofs.lemmas.Bool.Decides.{nat_tests}
 use Rattle.std.proofs.lemmas.Grind.{common_steps}
 use Rattle.std.proofs.lemmas.List.{reverse-append}
 use Rattle.ev_types.specs.FilterChains.{has_value, prefix_ranges}
@@ -41,7 +42,7 @@ first_then p x xs = by (p x)
 pub range_first : (p : CidrRange → Bool) (ip : Ip) (n : ℕ)
     → find p (ranges_below ip (n + 1)) ≡ option_or (find p (range_about ip n ∷ [])) (find p (ranges_below ip n))
 range_first p ip n =
-    ap (λ k. find p (ranges_below ip k)) add-one ∙ ap (find p) (ranges_more ip n) ∙ first_then p (range_about ip n) (ranges_below ip n)
+    ap (λ k. find p (ranges_below ip k)) (add-one n) ∙ ap (find p) (ranges_more ip n) ∙ first_then p (range_about ip n) (ranges_below ip n)
 
 -- the endings of a name: all of it after a star, where it begins with a dot, or else a shorter one
 wildcard_first : (p : List ℕ → Bool) (byte : ℕ) (rest : List ℕ)
@@ -57,7 +58,10 @@ pub ending_first : (p : List ℕ → Bool) (n : ℕ) (name : List ℕ) → n < l
     → find p (wildcards (drop n name)) ≡ option_or (find p (wildcard_of (drop n name))) (find p (wildcards (drop (n + 1) name)))
 ending_first p n [] less = absurd (omega arith)
 ending_first p zero (byte ∷ rest) less = wildcard_first p byte rest
-ending_first p (suc n) (byte ∷ rest) less = ending_first p n rest (omega arith) ∙ ap (λ k. option_or (find p (wildcard_of (drop n rest))) (find p (wildcards (drop k (byte ∷ rest))))) (omega arith)
+ending_first p (suc n) (byte ∷ rest) less =
+    let more : suc (n + 1) ≡ suc n + 1 = omega arith in
+    ending_first p n rest (omega arith)
+    ∙ ap (λ k. option_or (find p (wildcard_of (drop n rest))) (find p (wildcards (drop k (byte ∷ rest))))) more
 
 -- where no chain asks for a range, none is found
 neither : (a b : Bool) → a || b ≡ false → (a ≡ false) × (b ≡ false)
@@ -69,7 +73,7 @@ range_unasked m range none = by m.prefix_ranges none
   where
     by : (ranges : List CidrRange) → nat_lt 0 (length ranges) ≡ false → has_value cidr_range_same ranges range ≡ false
     by [] is = refl
-    by (r ∷ rs) is = absurd (cc)
+    by (r ∷ rs) is = grind (arith, common_steps, nat_tests)
 
 no_range : (chains : List ServedChain) (range : CidrRange) → list_any (λ (c : ServedChain). asks_range c.criteria) chains ≡ false
     → is_asked cidr_range_same prefix_ranges chains range ≡ false

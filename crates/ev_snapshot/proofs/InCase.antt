@@ -52,7 +52,8 @@ pub part_first : (n : ℕ) (text part : List ℕ) → n < length text → has_pa
 part_first n [] part less = absurd (omega arith)
 part_first zero (byte ∷ rest) part less = refl
 part_first (suc n) (byte ∷ rest) part less =
-    part_first n rest part (omega arith) ∙ ap (λ k. begins_with (drop n rest) part || has_part (drop k (byte ∷ rest)) part) (omega arith)
+    let more : suc (n + 1) ≡ suc n + 1 = omega arith in
+    part_first n rest part (omega arith) ∙ ap (λ k. begins_with (drop n rest) part || has_part (drop k (byte ∷ rest)) part) more
 
 -- `?` and `/` have no other case
 lower_query : (byte : ℕ) → (to_ascii_lowercase byte == 63) ≡ (byte == 63)
