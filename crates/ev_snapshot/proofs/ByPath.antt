@@ -1,6 +1,8 @@
 -- Where routes ask for paths alone, the first that takes a path is the first that doesn't say no.
-use Rattle.std.proofs.Common.{◌≡◌, ℕ, ◌&&◌, ◌==◌, not, Bool, true, false, cond, List, [], ◌∷◌, length, find, Some, refl, sym, ap, ◌∙◌, true≢false}
+use Rattle.std.proofs.Common.{◌≡◌, ℕ, ◌&&◌, ◌==◌, not, Bool, true, false, cond, List, [], ◌∷◌, length, find, Some, refl, arith}
 use Rattle.std.specs.Cmp.{first_so, second_so}
+use Rattle.std.proofs.lemmas.Bool.Decides.{nat_tests}
+use Rattle.std.proofs.lemmas.Grind.{common_steps}
 use Rattle.ev_types.specs.declared.matchers.PathSpecifier.{PathSpecifier}
 use Rattle.ev_types.specs.declared.matchers.PathSpecifier.TheVariants.{Cased, Folded, Connect, Open as open_path}
 use Rattle.ev_types.specs.declared.matchers.RouteCondition.{RouteCondition}
@@ -18,7 +20,7 @@ one_says false = refl
 says_by_path : (request : Requested) (path : PathSpecifier) (conditions : List RouteCondition) → is_cased path ≡ true → (length conditions == 0) ≡ true
     → is_path_taken request.path (cased_match path) ≡ not (is_no (match_says request (record { path = path; conditions = conditions })))
 says_by_path request (Cased path) [] cased none = one_says (is_path_taken request.path path)
-says_by_path request (Cased path) (c ∷ cs) cased none = absurd (cc)
+says_by_path request (Cased path) (c ∷ cs) cased none = grind (arith, common_steps, nat_tests)
 says_by_path request (Folded path) conditions cased none = absurd (cc)
 says_by_path request Connect conditions cased none = absurd (cc)
 says_by_path request open_path conditions cased none = absurd (cc)

@@ -21,3 +21,4 @@ pub mod Left
 pub mod Brought
 pub mod InCase
 pub mod ByPath
+pub mod Decided

@@ -96,7 +96,7 @@ either_shown picture None other first second = second
 either_shown picture (Some l) other first second = first
 
 any_shown : (picture : Picture) (port : ℕ) (ip : Option Ip) → IsAmong picture (listener_of_any picture.shown.listeners port ip)
-any_shown picture port None l found = absurd (cc)
+any_shown picture port None = λ l found. absurd (cc)
 any_shown picture port (Some (V4 bits)) =
     either_shown picture (listener_for_every picture.shown.listeners port (codes "0.0.0.0")) (listener_for_every picture.shown.listeners port (codes "::"))
     (every_shown picture port (codes "0.0.0.0")) (every_shown picture port (codes "::"))

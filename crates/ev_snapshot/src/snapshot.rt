@@ -143,8 +143,9 @@ impl Snapshot {
     fn choose_by_chains(&self, listener: &RoutedListener, ask: &Ask) -> Choice
         ensures { result ≡ by_listener self.now ask.now (Some listener.now) }
     {
-        let criteria = Criteria::of(listener.filter_chains(), ask);
-        if criteria.leave_source(listener.filter_chains()) {
+        let chains = listener.filter_chains();
+        let criteria = Criteria::of(chains, ask);
+        if criteria.leave_source(chains) {
             return Choice::Undecided {
                 listener: listener.number(),
             };
