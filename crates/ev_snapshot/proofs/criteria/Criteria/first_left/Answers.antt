@@ -7,5 +7,5 @@ use Rattle.ev_snapshot.proofs.criteria.Criteria.first_left.Goals as goal
 
 pub returns : goal.returns
 returns c =
-    let each : option_copied c.find.result ≡ find (λ (x : ServedChain). is_left c.args.self.now x.criteria) c.args.chains.now = search rules in
+    let each : option_copied c.find.result ≡ find (λ (x : ServedChain). is_left c.args.self.now x.criteria) c.args.chains.now = search (rules, c.iter.ensures.runs, c.find.ensures.runs) in
     each ∙ sym (first_found (λ (x : ServedChain). is_left c.args.self.now x.criteria) c.args.chains.now)

@@ -8,7 +8,7 @@ use Rattle.ev_snapshot.proofs.criteria.Criteria.is_asked.Goals as goal
 
 pub returns : goal.returns
 returns g c =
-    let each : c.any.result ≡ list_any (λ (x : ServedChain). is_left c.args.self.now x.criteria && has_value g.V.Criterion.same (g.V.Criterion.values x.criteria) c.args.value.now) c.args.chains.now = search rules in
+    let each : c.any.result ≡ list_any (λ (x : ServedChain). is_left c.args.self.now x.criteria && has_value g.V.Criterion.same (g.V.Criterion.values x.criteria) c.args.value.now) c.args.chains.now = search (rules, c.iter.ensures.runs, c.any.ensures.runs) in
     each
     ∙ sym (any_left (λ (x : ServedChain). is_left c.args.self.now x.criteria)
     (λ (x : ServedChain). has_value g.V.Criterion.same (g.V.Criterion.values x.criteria) c.args.value.now) c.args.chains.now)
