@@ -18,7 +18,7 @@ use Rattle.ev_model.specs.Connections.{accept, accepted, close, closed, cluster_
 use Rattle.ev_model.specs.declared.pictures.Picture.{Picture}
 use Rattle.ev_model.specs.declared.pictures.ServedCluster.{ServedCluster}
 use Rattle.ev_model.specs.declared.pictures.Choice.{Choice}
-use Rattle.ev_model.specs.declared.pictures.Choice.TheVariants.{NoListener, NoRoute, Local, Redirect, NoCluster, NoEndpoint, Served}
+use Rattle.ev_model.specs.declared.pictures.Choice.TheVariants.{NoListener, NoChain, Undecided, Elsewhere, NoRoute, Local, Redirect, NoCluster, NoEndpoint, Served}
 use Rattle.ev_snapshot.specs.Chosen.{host_of, host_in as place_in}
 use Rattle.ev_ledger.specs.Members.{comes_before, in_order, StandsFor as HasOpened}
 use Rattle.ev_ledger.proofs.OrderLemmas.{any_put}
@@ -44,6 +44,9 @@ same_host picture number place = by (cluster_numbered picture.shown number)
 chosen_opens : (worker connection : ℕ) (choice : Choice) (opened : List OpenMember) → is_open opened worker connection ≡ false
     → opened ++ members_of worker connection choice ≡ opened_on worker connection (chosen_on choice) opened
 chosen_opens worker connection NoListener opened none = append-nil opened
+chosen_opens worker connection NoChain opened none = append-nil opened
+chosen_opens worker connection (Undecided listener) opened none = simp none refl
+chosen_opens worker connection (Elsewhere listener cluster) opened none = simp none refl
 chosen_opens worker connection (NoRoute listener) opened none = simp none refl
 chosen_opens worker connection (Local listener status) opened none = simp none refl
 chosen_opens worker connection (Redirect listener) opened none = simp none refl

@@ -192,6 +192,14 @@ fn choice_answer(alloc: Global, snapshot: &Snapshot, choice: &Choice) -> Result<
 {
     match choice {
         Choice::NoListener => Ok(Answer::NoListener),
+        Choice::NoChain => Ok(Answer::NoChain),
+        Choice::Undecided { listener } => Ok(Answer::Undecided {
+            listener: *listener,
+        }),
+        Choice::Elsewhere { listener, cluster } => Ok(Answer::Elsewhere {
+            listener: *listener,
+            cluster: *cluster,
+        }),
         Choice::NoRoute { listener } => Ok(Answer::NoRoute {
             listener: *listener,
         }),

@@ -16,7 +16,7 @@ use Rattle.ev_model.specs.Warming.{assignment_of, is_eligible}
 use Rattle.ev_model.specs.declared.pictures.Shown.{Shown}
 use Rattle.ev_model.specs.declared.pictures.ServedCluster.{ServedCluster}
 use Rattle.ev_model.specs.declared.pictures.Choice.{Choice}
-use Rattle.ev_model.specs.declared.pictures.Choice.TheVariants.{NoListener, NoRoute, Local, Redirect, NoCluster, NoEndpoint, Served}
+use Rattle.ev_model.specs.declared.pictures.Choice.TheVariants.{NoListener, NoChain, Undecided, Elsewhere, NoRoute, Local, Redirect, NoCluster, NoEndpoint, Served}
 use Rattle.ev_snapshot.specs.Chosen.{IsLowestAt, TakesEligible, TakesLowest}
 
 -- what holds of an element and of a list holds of the list with the element in its place
@@ -91,6 +91,9 @@ shown_is_eligible world listener number place cluster host row here same numbere
 
 pub takes_eligible : (world : World) (shown : Shown) (choice : Choice) → shown ≡ shown_of world → TakesLowest shown choice → TakesEligible world choice
 takes_eligible world shown NoListener is lowest = tt
+takes_eligible world shown NoChain is lowest = tt
+takes_eligible world shown (Undecided listener) is lowest = tt
+takes_eligible world shown (Elsewhere listener cluster) is lowest = tt
 takes_eligible world shown (NoRoute listener) is lowest = tt
 takes_eligible world shown (Local listener status) is lowest = tt
 takes_eligible world shown (Redirect listener) is lowest = tt

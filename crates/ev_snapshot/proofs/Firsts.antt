@@ -11,7 +11,7 @@ use Rattle.ev_types.specs.declared.routes.PathMatch.{PathMatch}
 use Rattle.ev_types.specs.declared.routes.PathMatch.TheVariants.{Prefix, Path, Separated}
 use Rattle.ev_types.specs.declared.routes.Route.{Route}
 use Rattle.ev_model.specs.Paths.{begins_with, is_path_taken, without_query}
-use Rattle.ev_snapshot.specs.Paths.{AreCovered, KeepsLengths, first_taken, is_covered, is_part, is_prefix_taken, is_separated_taken, match_key}
+use Rattle.ev_snapshot.specs.Paths.{AreCovered, KeepsLengths, first_taken, is_covered, is_part, is_prefix_taken, is_separated_taken, match_key, path_of}
 
 -- tests that agree on each element have one first place
 pub first_same : {X : Type 0} (p q : X → Bool) → ((x : X) → p x ≡ q x) → (xs : List X) → position_or_len p xs ≡ position_or_len q xs
@@ -130,32 +130,32 @@ covered_last ns n path (Separated front) =
 
 -- where each match is covered, nothing is left out
 pub first_covered : (lengths path : List ℕ) (routes : List Route) → AreCovered lengths routes
-    → position_or_len (λ (r : Route). is_covered lengths r.path && is_path_taken path r.path) routes ≡ first_taken path routes
+    → position_or_len (λ (r : Route). is_covered lengths (path_of r) && is_path_taken path (path_of r)) routes ≡ first_taken path routes
 first_covered lengths path [] all = refl
 first_covered lengths path (r ∷ routes) all =
-    let P : Route → Type 0 = λ (x : Route). is_covered lengths x.path ≡ true in
-    let here : is_covered lengths r.path ≡ true = All-head P r routes all in
+    let P : Route → Type 0 = λ (x : Route). is_covered lengths (path_of x) ≡ true in
+    let here : is_covered lengths (path_of r) ≡ true = All-head P r routes all in
     let rest = first_covered lengths path routes (All-tail P r routes all) in
-    λ i. cond (not (here i && is_path_taken path r.path)) (1 + rest i) 0
+    λ i. cond (not (here i && is_path_taken path (path_of r))) (1 + rest i) 0
 
 take_more : (ns : List ℕ) (i d : ℕ) → i < length ns → take (i + 1) ns ≡ take i ns ++ get_or ns i d ∷ []
 take_more ns i d less = (take_at_read ns i d less).1
 
 -- one more length, as at a step over them
 pub first_step : (lengths path : List ℕ) (routes : List Route) (i n : ℕ) → i < length lengths → n ≡ get_or lengths i 0
-    → min (min (position_or_len (λ (r : Route). is_covered (take i lengths) r.path && is_path_taken path r.path) routes)
-    (position_or_len (λ (r : Route). is_prefix_taken n path r.path) routes))
-    (position_or_len (λ (r : Route). is_separated_taken n path r.path) routes)
-    ≡ position_or_len (λ (r : Route). is_covered (take (i + 1) lengths) r.path && is_path_taken path r.path) routes
+    → min (min (position_or_len (λ (r : Route). is_covered (take i lengths) (path_of r) && is_path_taken path (path_of r)) routes)
+    (position_or_len (λ (r : Route). is_prefix_taken n path (path_of r)) routes))
+    (position_or_len (λ (r : Route). is_separated_taken n path (path_of r)) routes)
+    ≡ position_or_len (λ (r : Route). is_covered (take (i + 1) lengths) (path_of r) && is_path_taken path (path_of r)) routes
 first_step lengths path routes i n less at =
-    let A : Route → Bool = λ r. is_covered (take i lengths) r.path && is_path_taken path r.path in
-    let B : Route → Bool = λ r. is_prefix_taken n path r.path in
-    let C : Route → Bool = λ r. is_separated_taken n path r.path in
+    let A : Route → Bool = λ r. is_covered (take i lengths) (path_of r) && is_path_taken path (path_of r) in
+    let B : Route → Bool = λ r. is_prefix_taken n path (path_of r) in
+    let C : Route → Bool = λ r. is_separated_taken n path (path_of r) in
     let more : take i lengths ++ n ∷ [] ≡ take (i + 1) lengths = ap (λ k. take i lengths ++ k ∷ []) at ∙ sym (take_more lengths i 0 less) in
     ap (λ k. min k (position_or_len C routes)) (first_either A B routes)
     ∙ first_either (λ r. A r || B r) C routes
-    ∙ first_same (λ r. (A r || B r) || C r) (λ r. is_covered (take i lengths ++ n ∷ []) r.path && is_path_taken path r.path) (λ r. covered_last (take i lengths) n path r.path) routes
-    ∙ ap (λ ns. position_or_len (λ (r : Route). is_covered ns r.path && is_path_taken path r.path) routes) more
+    ∙ first_same (λ r. (A r || B r) || C r) (λ r. is_covered (take i lengths ++ n ∷ []) (path_of r) && is_path_taken path (path_of r)) (λ r. covered_last (take i lengths) n path (path_of r)) routes
+    ∙ ap (λ ns. position_or_len (λ (r : Route). is_covered ns (path_of r) && is_path_taken path (path_of r)) routes) more
 
 -- more lengths cover what fewer do
 pub covered_kept : (before after : List ℕ) → KeepsLengths before after → (m : PathMatch) → is_covered before m ≡ true → is_covered after m ≡ true
@@ -165,11 +165,11 @@ covered_kept before after keeps (Separated front) was = keeps (length front) was
 
 -- one more route whose match is covered
 pub covered_more : (before after : List ℕ) (routes : List Route) (i : ℕ) (r : Route) → i < length routes → r ≡ get_or routes i r
-    → KeepsLengths before after → is_covered after r.path ≡ true → AreCovered before (take i routes) → AreCovered after (take (i + 1) routes)
+    → KeepsLengths before after → is_covered after (path_of r) ≡ true → AreCovered before (take i routes) → AreCovered after (take (i + 1) routes)
 covered_more before after routes i r less at keeps here all =
-    let P : Route → Type 0 = λ (x : Route). is_covered before x.path ≡ true in
-    let Q : Route → Type 0 = λ (x : Route). is_covered after x.path ≡ true in
-    All-more Q routes i r less (All-weaker P Q (λ x was. covered_kept before after keeps x.path was) (take i routes) all) (subst Q at here)
+    let P : Route → Type 0 = λ (x : Route). is_covered before (path_of x) ≡ true in
+    let Q : Route → Type 0 = λ (x : Route). is_covered after (path_of x) ≡ true in
+    All-more Q routes i r less (All-weaker P Q (λ x was. covered_kept before after keeps (path_of x) was) (take i routes) all) (subst Q at here)
 
 -- all of them
 pub covered_all : (lengths : List ℕ) (routes : List Route) (i : ℕ) → length routes ≤ i → AreCovered lengths (take i routes) → AreCovered lengths routes

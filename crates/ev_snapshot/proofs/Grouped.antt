@@ -4,6 +4,7 @@ use Rattle.std.specs.List.{AllByRecursion, position_or_len}
 use Rattle.ev_types.specs.Same.{numbers_decide}
 use Rattle.ev_types.specs.SameHosts.{host_decides, host_same}
 use Rattle.ev_types.specs.declared.hosts.Host.{Host}
+use Rattle.ev_model.specs.Choice.{listener_at}
 use Rattle.ev_model.specs.Sorted.{put_by}
 use Rattle.ev_model.specs.Versions.{is_before}
 use Rattle.ev_model.specs.declared.pictures.ServedListener.{ServedListener}
@@ -32,6 +33,17 @@ filters_turn p q (x ∷ xs) = by (p x) (q x) refl refl (filters_turn p q xs)
     by true false e f rest = rest ∙ (λ i. cond (sym f i) (x ∷ filter q (filter p xs)) (filter q (filter p xs)))
     by false true e f rest = (λ i. cond (e i) (x ∷ filter p (filter q xs)) (filter p (filter q xs))) ∙ rest
     by false false e f rest = rest
+
+-- the first of a group that takes every address is the first at the group's address of those that do
+pub every_found : (address : Host) (listeners : List ServedListener)
+    → find (λ (l : ServedListener). l.takes_every_address) (those_at address listeners)
+    ≡ listener_at (filter (λ (l : ServedListener). l.takes_every_address) listeners) address
+every_found address listeners =
+    let every : ServedListener → Bool = λ l. l.takes_every_address in
+    let here : ServedListener → Bool = λ l. host_same l.address address in
+    sym (first_found every (filter here listeners))
+    ∙ ap (λ ls. slice_get ls 0) (filters_turn every here listeners)
+    ∙ first_found here (filter every listeners)
 
 -- a filter doesn't see that what fails it goes
 pub filter_blind : {X : Type 0} (p q : X → Bool) (xs : List X) → AllByRecursion (λ x. q x ≡ false → p x ≡ false) xs → filter p (filter q xs) ≡ filter p xs

@@ -17,3 +17,8 @@ pub mod Touched
 pub mod Grouped
 pub mod Shown
 pub mod LengthLemmas
+pub mod Left
+pub mod Brought
+pub mod InCase
+pub mod ByPath
+pub mod Decided

@@ -1,22 +1,31 @@
 -- A choice goes to a host that its cluster shows, of the lowest priority there.
 use Rattle.std.proofs.Common.{◌≡◌, ℕ, ◌+◌, ◌/◌, ◌%◌, ◌<◌, ◌≤◌, ◌==◌, min, Bool, true, false, cond, List, [], ◌∷◌, length, map, take, sum, find, Option, Some, None, All, Contains, zero, suc, refl, sym, ◌∙◌, subst, inl, inr, arith, get_or}
+use Rattle.std.specs.List.{list_any}
 use Rattle.std.proofs.lemmas.Bool.{cases_lt}
 use Rattle.std.proofs.lemmas.Bool.Decides.{nat_tests}
 use Rattle.std.proofs.lemmas.List.Elements.{All-cons, All-nil, All-weaker}
 use Rattle.std.proofs.lemmas.Option.{slice_get-get_or}
 use Rattle.ev_types.specs.Hosts.{HostRowParts}
+use Rattle.ev_types.specs.Weights.{weight_sum}
 use Rattle.ev_types.specs.declared.events.Ask.{Ask}
 use Rattle.ev_types.specs.declared.routes.Action.{Action}
-use Rattle.ev_types.specs.declared.routes.Action.TheVariants.{Forward, Redirect as redirect, Local as local}
+use Rattle.ev_types.specs.declared.routes.Action.TheVariants.{Forward, Redirect as redirect, Local as local, Elsewhere as by_filter}
 use Rattle.ev_types.specs.declared.routes.Route.{Route}
 use Rattle.ev_types.specs.declared.routes.Target.{Target}
+use Rattle.ev_types.specs.declared.routes.Target.TheVariants.{One, Weighted, Elsewhere as elsewhere}
 use Rattle.ev_types.specs.declared.routes.VirtualHost.{VirtualHost}
 use Rattle.std.specs.Str.{bytes_eq}
-use Rattle.ev_model.specs.Choice.{acted, by_host, by_listener, by_route, by_routing, choice_in, choice_of, cluster_named, counted_weights, forwarded, host_place, listener_at, lowest_priority, route_for, served_at, target_name, target_weight, virtual_host_for, weight_at}
+use Rattle.ev_model.specs.Choice.{acted, by_chain, by_chains, by_host, by_listener, by_route, by_routing, by_word, choice_in, choice_of, cluster_named, counted_weights, forwarded, host_place, in_cluster, incoming_of, listener_for, lowest_priority, name_picked, requested_of, route_for, routing_left, served_at, virtual_host_for, weight_at}
+use Rattle.ev_model.specs.Conditions.{match_says}
+use Rattle.ev_model.specs.Narrowing.{chains_left}
+use Rattle.ev_model.specs.declared.pictures.Choice.TheVariants.{Elsewhere, Undecided}
 use Rattle.ev_model.specs.declared.pictures.Picture.{Picture}
 use Rattle.ev_model.specs.declared.pictures.Shown.{Shown}
 use Rattle.ev_model.specs.declared.pictures.Routing.{Routing}
-use Rattle.ev_model.specs.declared.pictures.Routing.TheVariants.{Table, Tcp}
+use Rattle.ev_model.specs.declared.pictures.Routing.TheVariants.{Table, Tcp, Other}
+use Rattle.ev_model.specs.declared.pictures.ServedChain.{ServedChain}
+use Rattle.ev_model.specs.declared.pictures.Taken.{Taken}
+use Rattle.ev_model.specs.declared.pictures.Taken.TheVariants.{No, Yes, Undecided as undecided}
 use Rattle.ev_model.specs.declared.pictures.ServedCluster.{ServedCluster}
 use Rattle.ev_model.specs.declared.pictures.ServedListener.{ServedListener}
 use Rattle.ev_snapshot.specs.Chosen.{IsLowestAt, TakesLowest}
@@ -94,37 +103,71 @@ served_takes shown listener cluster pick (Some place) among is =
     let chosen : (host : HostRowParts) × IsLowestAt cluster.hosts place host = chosen_lowest cluster.hosts pick place is in
     (cluster, chosen.0, among, refl, chosen.1)
 
+in_cluster_takes : (shown : Shown) (listener : ℕ) (cluster : ServedCluster) (pick : ℕ) → Contains shown.clusters cluster
+    → TakesLowest shown (in_cluster listener cluster pick)
+in_cluster_takes shown listener cluster pick among = by cluster.elsewhere
+  where
+    by : (b : Bool) → TakesLowest shown (cond b (Elsewhere listener (Some cluster.number)) (served_at listener cluster.number (host_place cluster.hosts pick)))
+    by true = tt
+    by false = served_takes shown listener cluster pick (host_place cluster.hosts pick) among refl
+
 choice_in_takes : (shown : Shown) (listener : ℕ) (found : Option ServedCluster) (pick : ℕ)
     → ((c : ServedCluster) → found ≡ Some c → Contains shown.clusters c) → TakesLowest shown (choice_in listener found pick)
 choice_in_takes shown listener None pick among = tt
-choice_in_takes shown listener (Some cluster) pick among =
-    served_takes shown listener cluster pick (host_place cluster.hosts pick) (among cluster refl) refl
+choice_in_takes shown listener (Some cluster) pick among = in_cluster_takes shown listener cluster pick (among cluster refl)
+
+named_takes : (picture : Picture) (pick listener : ℕ) (name : List ℕ) → TakesLowest picture.shown (choice_in listener (cluster_named picture.shown.clusters name) pick)
+named_takes picture pick listener name =
+    choice_in_takes picture.shown listener (cluster_named picture.shown.clusters name) pick
+    (found_contained (λ (c : ServedCluster). bytes_eq c.name name) picture.shown.clusters)
 
 forwarded_takes : (picture : Picture) (pick listener : ℕ) (target : Target) → TakesLowest picture.shown (forwarded picture pick listener target)
-forwarded_takes picture pick listener target =
-    choice_in_takes picture.shown listener (cluster_named picture.shown.clusters (target_name target pick)) (pick / target_weight target)
-    (found_contained (λ (c : ServedCluster). bytes_eq c.name (target_name target pick)) picture.shown.clusters)
+forwarded_takes picture pick listener (One name) = named_takes picture pick listener name
+forwarded_takes picture pick listener (Weighted clusters) = named_takes picture (pick / weight_sum clusters) listener (name_picked clusters pick)
+forwarded_takes picture pick listener elsewhere = tt
 
 acted_takes : (picture : Picture) (pick listener : ℕ) (action : Action) → TakesLowest picture.shown (acted picture pick listener action)
 acted_takes picture pick listener (Forward target) = forwarded_takes picture pick listener target
 acted_takes picture pick listener redirect = tt
 acted_takes picture pick listener (local status) = tt
+acted_takes picture pick listener by_filter = tt
 
-by_route_takes : (picture : Picture) (pick listener : ℕ) (route : Option Route) → TakesLowest picture.shown (by_route picture pick listener route)
-by_route_takes picture pick listener None = tt
-by_route_takes picture pick listener (Some route) = acted_takes picture pick listener route.action
+by_word_takes : (picture : Picture) (pick listener : ℕ) (action : Action) (said : Taken) → TakesLowest picture.shown (by_word picture pick listener action said)
+by_word_takes picture pick listener action No = tt
+by_word_takes picture pick listener action Yes = acted_takes picture pick listener action
+by_word_takes picture pick listener action undecided = tt
+
+by_route_takes : (picture : Picture) (ask : Ask) (listener : ℕ) (route : Option Route) → TakesLowest picture.shown (by_route picture ask listener route)
+by_route_takes picture ask listener None = tt
+by_route_takes picture ask listener (Some route) = by_word_takes picture ask.pick listener route.action (match_says (requested_of ask) route.route_match)
 
 by_host_takes : (picture : Picture) (ask : Ask) (listener : ℕ) (host : Option VirtualHost) → TakesLowest picture.shown (by_host picture ask listener host)
 by_host_takes picture ask listener None = tt
-by_host_takes picture ask listener (Some host) = by_route_takes picture ask.pick listener (route_for host ask.path)
+by_host_takes picture ask listener (Some host) = by_route_takes picture ask listener (route_for host (requested_of ask))
 
 by_routing_takes : (picture : Picture) (ask : Ask) (listener : ℕ) (routing : Routing) → TakesLowest picture.shown (by_routing picture ask listener routing)
 by_routing_takes picture ask listener (Table table) = by_host_takes picture ask listener (virtual_host_for table ask.host)
 by_routing_takes picture ask listener (Tcp target) = forwarded_takes picture ask.pick listener target
+by_routing_takes picture ask listener Other = tt
+
+by_chain_takes : (picture : Picture) (ask : Ask) (listener : ℕ) (routing : Option Routing) → TakesLowest picture.shown (by_chain picture ask listener routing)
+by_chain_takes picture ask listener None = tt
+by_chain_takes picture ask listener (Some routing) = by_routing_takes picture ask listener routing
+
+by_chains_takes : (picture : Picture) (ask : Ask) (listener : ServedListener) (chains : List ServedChain)
+    → TakesLowest picture.shown (by_chains picture ask listener chains)
+by_chains_takes picture ask listener chains = by (list_any (λ (c : ServedChain). c.criteria.asks_source) chains)
+  where
+    routing : Option Routing
+    routing = routing_left chains listener.default_filter_chain
+
+    by : (b : Bool) → TakesLowest picture.shown (cond b (Undecided listener.number) (by_chain picture ask listener.number routing))
+    by true = tt
+    by false = by_chain_takes picture ask listener.number routing
 
 by_listener_takes : (picture : Picture) (ask : Ask) (found : Option ServedListener) → TakesLowest picture.shown (by_listener picture ask found)
 by_listener_takes picture ask None = tt
-by_listener_takes picture ask (Some listener) = by_routing_takes picture ask listener.number listener.routing
+by_listener_takes picture ask (Some listener) = by_chains_takes picture ask listener (chains_left (incoming_of ask) listener.filter_chains)
 
 pub choice_takes_lowest : (picture : Picture) (ask : Ask) → TakesLowest picture.shown (choice_of picture ask)
-choice_takes_lowest picture ask = by_listener_takes picture ask (listener_at picture.shown.listeners ask.address)
+choice_takes_lowest picture ask = by_listener_takes picture ask (listener_for picture.shown.listeners ask)

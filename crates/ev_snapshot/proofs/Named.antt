@@ -1,24 +1,35 @@
 -- A choice names only generations that the picture shows.
-use Rattle.std.proofs.Common.{◌≡◌, ℕ, ◌&&◌, ◌||◌, ◌==◌, ◌/◌, Bool, true, false, cond, List, [], ◌∷◌, Option, Some, None, find, map, refl, ◌∙◌, arith}
+use Rattle.std.proofs.Common.{◌≡◌, ℕ, ◌&&◌, ◌||◌, ◌==◌, ◌/◌, Bool, true, false, cond, List, [], ◌∷◌, codes, Option, Some, None, filter, find, map, refl, sym, ap, ◌∙◌, arith}
 use Rattle.std.specs.List.{list_any}
+use Rattle.std.specs.Option.{option_or}
 use Rattle.std.proofs.lemmas.Grind.{common_steps}
 use Rattle.std.proofs.lemmas.List.Folds.{list_any-append}
 use Rattle.ev_types.specs.SameHosts.{host_same}
+use Rattle.ev_types.specs.Weights.{weight_sum}
 use Rattle.ev_types.specs.declared.events.Ask.{Ask}
 use Rattle.ev_types.specs.declared.hosts.Host.{Host}
+use Rattle.ev_types.specs.declared.ips.Ip.{Ip}
+use Rattle.ev_types.specs.declared.ips.Ip.TheVariants.{V4, V6}
 use Rattle.ev_types.specs.declared.routes.Action.{Action}
-use Rattle.ev_types.specs.declared.routes.Action.TheVariants.{Forward, Redirect as redirect, Local as local}
+use Rattle.ev_types.specs.declared.routes.Action.TheVariants.{Forward, Redirect as redirect, Local as local, Elsewhere as by_filter}
 use Rattle.ev_types.specs.declared.routes.Route.{Route}
 use Rattle.ev_types.specs.declared.routes.Target.{Target}
+use Rattle.ev_types.specs.declared.routes.Target.TheVariants.{One, Weighted, Elsewhere as elsewhere}
 use Rattle.ev_types.specs.declared.routes.VirtualHost.{VirtualHost}
 use Rattle.std.specs.Str.{bytes_eq}
-use Rattle.ev_model.specs.Choice.{acted, by_host, by_listener, by_route, by_routing, choice_in, choice_of, cluster_named, forwarded, host_place, listener_at, route_for, served_at, target_name, target_weight, virtual_host_for}
+use Rattle.ev_model.specs.Choice.{acted, by_chain, by_chains, by_host, by_listener, by_route, by_routing, by_word, choice_in, choice_of, cluster_named, forwarded, host_place, in_cluster, incoming_of, listener_at, listener_for, listener_for_every, listener_of_any, name_picked, requested_of, route_for, routing_left, served_at, virtual_host_for}
+use Rattle.ev_model.specs.Conditions.{match_says}
+use Rattle.ev_model.specs.Narrowing.{chains_left}
 use Rattle.ev_model.specs.Picture.{is_shown}
+use Rattle.ev_model.specs.declared.pictures.Choice.TheVariants.{Elsewhere, Undecided}
 use Rattle.ev_model.specs.declared.pictures.Picture.{Picture}
 use Rattle.ev_model.specs.declared.pictures.Routing.{Routing}
-use Rattle.ev_model.specs.declared.pictures.Routing.TheVariants.{Table, Tcp}
+use Rattle.ev_model.specs.declared.pictures.Routing.TheVariants.{Table, Tcp, Other}
+use Rattle.ev_model.specs.declared.pictures.ServedChain.{ServedChain}
 use Rattle.ev_model.specs.declared.pictures.ServedCluster.{ServedCluster}
 use Rattle.ev_model.specs.declared.pictures.ServedListener.{ServedListener}
+use Rattle.ev_model.specs.declared.pictures.Taken.{Taken}
+use Rattle.ev_model.specs.declared.pictures.Taken.TheVariants.{No, Yes, Undecided as undecided}
 use Rattle.ev_snapshot.specs.Chosen.{names_shown}
 
 both : (a b : Bool) → a ≡ true → b ≡ true → a && b ≡ true
@@ -52,13 +63,49 @@ cluster_shown picture name c found =
     ∙ or_left (list_any (λ n. n == c.number) numbers) (list_any (λ n. n == c.number) others)
     (found_among (λ (x : ServedCluster). x.number) (λ (x : ServedCluster). bytes_eq x.name name) picture.shown.clusters c found)
 
-listener_shown : (picture : Picture) (address : Host) (l : ServedListener) → listener_at picture.shown.listeners address ≡ Some l → is_shown l.number picture.shown ≡ true
-listener_shown picture address l found =
+-- a listener of a picture is shown
+abbrev IsAmong : Picture → Option ServedListener → Type 0
+IsAmong picture found = (l : ServedListener) → found ≡ Some l → is_shown l.number picture.shown ≡ true
+
+at_shown : (picture : Picture) (p : ServedListener → Bool) → IsAmong picture (find p picture.shown.listeners)
+at_shown picture p l found =
     let others = map (λ (x : ServedCluster). x.number) picture.shown.clusters in
     let numbers = map (λ (x : ServedListener). x.number) picture.shown.listeners in
     list_any-append (λ n. n == l.number) others numbers
     ∙ or_right (list_any (λ n. n == l.number) others) (list_any (λ n. n == l.number) numbers)
-    (found_among (λ (x : ServedListener). x.number) (λ (x : ServedListener). host_same x.address address) picture.shown.listeners l found)
+    (found_among (λ (x : ServedListener). x.number) p picture.shown.listeners l found)
+
+-- a search of what a filter leaves is one search
+find_both : {X : Type 0} (p q : X → Bool) (xs : List X) → find p (filter q xs) ≡ find (λ x. q x && p x) xs
+find_both p q [] = refl
+find_both p q (x ∷ xs) = by (q x) (find_both p q xs)
+  where
+    by : (b : Bool) → find p (filter q xs) ≡ find (λ y. q y && p y) xs
+        → find p (cond b (x ∷ filter q xs) (filter q xs)) ≡ cond (b && p x) (Some x) (find (λ y. q y && p y) xs)
+    by true rest = ap (λ o. cond (p x) (Some x) o) rest
+    by false rest = rest
+
+every_shown : (picture : Picture) (port : ℕ) (address : List ℕ) → IsAmong picture (listener_for_every picture.shown.listeners port address)
+every_shown picture port address l found =
+    let at : ServedListener → Bool = λ x. host_same x.address (record { address = address; port = port }) in
+    at_shown picture (λ (x : ServedListener). x.takes_every_address && at x) l
+    (sym (find_both at (λ (x : ServedListener). x.takes_every_address) picture.shown.listeners) ∙ found)
+
+either_shown : (picture : Picture) (one other : Option ServedListener) → IsAmong picture one → IsAmong picture other → IsAmong picture (option_or one other)
+either_shown picture None other first second = second
+either_shown picture (Some l) other first second = first
+
+any_shown : (picture : Picture) (port : ℕ) (ip : Option Ip) → IsAmong picture (listener_of_any picture.shown.listeners port ip)
+any_shown picture port None = λ l found. absurd (cc)
+any_shown picture port (Some (V4 bits)) =
+    either_shown picture (listener_for_every picture.shown.listeners port (codes "0.0.0.0")) (listener_for_every picture.shown.listeners port (codes "::"))
+    (every_shown picture port (codes "0.0.0.0")) (every_shown picture port (codes "::"))
+any_shown picture port (Some (V6 bits)) = every_shown picture port (codes "::")
+
+listener_shown : (picture : Picture) (ask : Ask) → IsAmong picture (listener_for picture.shown.listeners ask)
+listener_shown picture ask =
+    either_shown picture (listener_at picture.shown.listeners ask.address) (listener_of_any picture.shown.listeners ask.address.port ask.ip)
+    (at_shown picture (λ (x : ServedListener). host_same x.address ask.address)) (any_shown picture ask.address.port ask.ip)
 
 one_shown : (a : Bool) → a ≡ true → a && true ≡ true
 one_shown a t = both a true t refl
@@ -69,43 +116,79 @@ served_shown picture listener cluster None l c = one_shown (is_shown listener pi
 served_shown picture listener cluster (Some place) l c =
     both (is_shown listener picture.shown) (is_shown cluster picture.shown && true) l (one_shown (is_shown cluster picture.shown) c)
 
+in_cluster_shown : (picture : Picture) (listener : ℕ) (cluster : ServedCluster) (pick : ℕ) → is_shown listener picture.shown ≡ true
+    → is_shown cluster.number picture.shown ≡ true → names_shown picture.shown (in_cluster listener cluster pick) ≡ true
+in_cluster_shown picture listener cluster pick l c = by cluster.elsewhere
+  where
+    by : (b : Bool) → names_shown picture.shown (cond b (Elsewhere listener (Some cluster.number)) (served_at listener cluster.number (host_place cluster.hosts pick))) ≡ true
+    by true = both (is_shown listener picture.shown) (is_shown cluster.number picture.shown && true) l (one_shown (is_shown cluster.number picture.shown) c)
+    by false = served_shown picture listener cluster.number (host_place cluster.hosts pick) l c
+
 choice_in_shown : (picture : Picture) (listener : ℕ) (found : Option ServedCluster) (pick : ℕ) → is_shown listener picture.shown ≡ true
     → ((c : ServedCluster) → found ≡ Some c → is_shown c.number picture.shown ≡ true) → names_shown picture.shown (choice_in listener found pick) ≡ true
 choice_in_shown picture listener None pick l c = one_shown (is_shown listener picture.shown) l
-choice_in_shown picture listener (Some cluster) pick l c =
-    served_shown picture listener cluster.number (host_place cluster.hosts pick) l (c cluster refl)
+choice_in_shown picture listener (Some cluster) pick l c = in_cluster_shown picture listener cluster pick l (c cluster refl)
 
 forwarded_shown : (picture : Picture) (pick listener : ℕ) (target : Target) → is_shown listener picture.shown ≡ true
     → names_shown picture.shown (forwarded picture pick listener target) ≡ true
-forwarded_shown picture pick listener target l =
-    choice_in_shown picture listener (cluster_named picture.shown.clusters (target_name target pick)) (pick / target_weight target) l
-    (cluster_shown picture (target_name target pick))
+forwarded_shown picture pick listener (One name) l =
+    choice_in_shown picture listener (cluster_named picture.shown.clusters name) pick l (cluster_shown picture name)
+forwarded_shown picture pick listener (Weighted clusters) l =
+    choice_in_shown picture listener (cluster_named picture.shown.clusters (name_picked clusters pick)) (pick / weight_sum clusters) l
+    (cluster_shown picture (name_picked clusters pick))
+forwarded_shown picture pick listener elsewhere l = one_shown (is_shown listener picture.shown) l
 
 acted_shown : (picture : Picture) (pick listener : ℕ) (action : Action) → is_shown listener picture.shown ≡ true
     → names_shown picture.shown (acted picture pick listener action) ≡ true
 acted_shown picture pick listener (Forward target) l = forwarded_shown picture pick listener target l
 acted_shown picture pick listener redirect l = one_shown (is_shown listener picture.shown) l
 acted_shown picture pick listener (local status) l = one_shown (is_shown listener picture.shown) l
+acted_shown picture pick listener by_filter l = one_shown (is_shown listener picture.shown) l
 
-by_route_shown : (picture : Picture) (pick listener : ℕ) (route : Option Route) → is_shown listener picture.shown ≡ true
-    → names_shown picture.shown (by_route picture pick listener route) ≡ true
-by_route_shown picture pick listener None l = one_shown (is_shown listener picture.shown) l
-by_route_shown picture pick listener (Some route) l = acted_shown picture pick listener route.action l
+by_word_shown : (picture : Picture) (pick listener : ℕ) (action : Action) (said : Taken) → is_shown listener picture.shown ≡ true
+    → names_shown picture.shown (by_word picture pick listener action said) ≡ true
+by_word_shown picture pick listener action No l = one_shown (is_shown listener picture.shown) l
+by_word_shown picture pick listener action Yes l = acted_shown picture pick listener action l
+by_word_shown picture pick listener action undecided l = one_shown (is_shown listener picture.shown) l
+
+by_route_shown : (picture : Picture) (ask : Ask) (listener : ℕ) (route : Option Route) → is_shown listener picture.shown ≡ true
+    → names_shown picture.shown (by_route picture ask listener route) ≡ true
+by_route_shown picture ask listener None l = one_shown (is_shown listener picture.shown) l
+by_route_shown picture ask listener (Some route) l =
+    by_word_shown picture ask.pick listener route.action (match_says (requested_of ask) route.route_match) l
 
 by_host_shown : (picture : Picture) (ask : Ask) (listener : ℕ) (host : Option VirtualHost) → is_shown listener picture.shown ≡ true
     → names_shown picture.shown (by_host picture ask listener host) ≡ true
 by_host_shown picture ask listener None l = one_shown (is_shown listener picture.shown) l
-by_host_shown picture ask listener (Some host) l = by_route_shown picture ask.pick listener (route_for host ask.path) l
+by_host_shown picture ask listener (Some host) l = by_route_shown picture ask listener (route_for host (requested_of ask)) l
 
 by_routing_shown : (picture : Picture) (ask : Ask) (listener : ℕ) (routing : Routing) → is_shown listener picture.shown ≡ true
     → names_shown picture.shown (by_routing picture ask listener routing) ≡ true
 by_routing_shown picture ask listener (Table table) l = by_host_shown picture ask listener (virtual_host_for table ask.host) l
 by_routing_shown picture ask listener (Tcp target) l = forwarded_shown picture ask.pick listener target l
+by_routing_shown picture ask listener Other l = one_shown (is_shown listener picture.shown) l
+
+by_chain_shown : (picture : Picture) (ask : Ask) (listener : ℕ) (routing : Option Routing) → is_shown listener picture.shown ≡ true
+    → names_shown picture.shown (by_chain picture ask listener routing) ≡ true
+by_chain_shown picture ask listener None l = refl
+by_chain_shown picture ask listener (Some routing) l = by_routing_shown picture ask listener routing l
+
+by_chains_shown : (picture : Picture) (ask : Ask) (listener : ServedListener) (chains : List ServedChain) → is_shown listener.number picture.shown ≡ true
+    → names_shown picture.shown (by_chains picture ask listener chains) ≡ true
+by_chains_shown picture ask listener chains l = by (list_any (λ (c : ServedChain). c.criteria.asks_source) chains)
+  where
+    routing : Option Routing
+    routing = routing_left chains listener.default_filter_chain
+
+    by : (b : Bool) → names_shown picture.shown (cond b (Undecided listener.number) (by_chain picture ask listener.number routing)) ≡ true
+    by true = one_shown (is_shown listener.number picture.shown) l
+    by false = by_chain_shown picture ask listener.number routing l
 
 by_listener_shown : (picture : Picture) (ask : Ask) (found : Option ServedListener)
     → ((l : ServedListener) → found ≡ Some l → is_shown l.number picture.shown ≡ true) → names_shown picture.shown (by_listener picture ask found) ≡ true
 by_listener_shown picture ask None l = refl
-by_listener_shown picture ask (Some listener) l = by_routing_shown picture ask listener.number listener.routing (l listener refl)
+by_listener_shown picture ask (Some listener) l =
+    by_chains_shown picture ask listener (chains_left (incoming_of ask) listener.filter_chains) (l listener refl)
 
 pub choice_shown : (picture : Picture) (ask : Ask) → names_shown picture.shown (choice_of picture ask) ≡ true
-choice_shown picture ask = by_listener_shown picture ask (listener_at picture.shown.listeners ask.address) (listener_shown picture ask.address)
+choice_shown picture ask = by_listener_shown picture ask (listener_for picture.shown.listeners ask) (listener_shown picture ask)

@@ -1,5 +1,5 @@
 -- What an answer of `choose` names, and which host it goes to.
-use Rattle.std.specs.Prelude.{◌≡◌, ◌≤◌, ℕ, Bool, true, ⊤, All, Contains, List, [], ◌∷◌, filter, Option, Some, None, option_map, slice_get}
+use Rattle.std.specs.Prelude.{◌≡◌, ◌≤◌, ℕ, Bool, true, ⊤, All, Contains, List, [], ◌∷◌, filter, Option, Some, None, option_map, option_to_list, slice_get}
 use Rattle.std.specs.List.{list_all}
 use Rattle.ev_types.specs.Statuses.{is_active}
 use Rattle.ev_types.specs.declared.rows.GenRow.{GenRow}
@@ -9,7 +9,7 @@ use Rattle.ev_types.specs.Hosts.{HostRowParts}
 use Rattle.ev_types.specs.declared.hosts.Host.{Host}
 use Rattle.ev_model.specs.Picture.{is_shown}
 use Rattle.ev_model.specs.declared.pictures.Choice.{Choice}
-use Rattle.ev_model.specs.declared.pictures.Choice.TheVariants.{NoListener, NoRoute, Local, Redirect, NoCluster, NoEndpoint, Served}
+use Rattle.ev_model.specs.declared.pictures.Choice.TheVariants.{NoListener, NoChain, Undecided, Elsewhere, NoRoute, Local, Redirect, NoCluster, NoEndpoint, Served}
 use Rattle.ev_model.specs.declared.pictures.Picture.{Picture}
 use Rattle.ev_model.specs.declared.pictures.Shown.{Shown}
 use Rattle.ev_model.specs.declared.pictures.ServedCluster.{ServedCluster}
@@ -27,6 +27,9 @@ host_of picture number place = host_in (cluster_numbered picture.shown.clusters 
 -- the numbers of the generations that a choice names
 abbrev pub numbers_named : Choice → List ℕ
 numbers_named NoListener = []
+numbers_named NoChain = []
+numbers_named (Undecided listener) = listener ∷ []
+numbers_named (Elsewhere listener cluster) = listener ∷ option_to_list cluster
 numbers_named (NoRoute listener) = listener ∷ []
 numbers_named (Local listener status) = listener ∷ []
 numbers_named (Redirect listener) = listener ∷ []
@@ -46,6 +49,9 @@ pub record IsLowestAt (hosts : List HostRowParts) (place : ℕ) (host : HostRowP
 -- where a choice goes to a host, a cluster of its number is shown with the host at its place, and with none of a lower priority
 abbrev pub TakesLowest : Shown → Choice → Type 0
 TakesLowest shown NoListener = ⊤
+TakesLowest shown NoChain = ⊤
+TakesLowest shown (Undecided listener) = ⊤
+TakesLowest shown (Elsewhere listener cluster) = ⊤
 TakesLowest shown (NoRoute listener) = ⊤
 TakesLowest shown (Local listener status) = ⊤
 TakesLowest shown (Redirect listener) = ⊤
@@ -65,6 +71,9 @@ pub record IsBestHost (world : World) (row : GenRow) (place : ℕ) (host : HostR
 -- where a choice goes to a host, it is an eligible one of its generation in the world, of the lowest priority that has one
 abbrev pub TakesEligible : World → Choice → Type 0
 TakesEligible world NoListener = ⊤
+TakesEligible world NoChain = ⊤
+TakesEligible world (Undecided listener) = ⊤
+TakesEligible world (Elsewhere listener cluster) = ⊤
 TakesEligible world (NoRoute listener) = ⊤
 TakesEligible world (Local listener status) = ⊤
 TakesEligible world (Redirect listener) = ⊤

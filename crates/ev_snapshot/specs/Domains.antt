@@ -1,11 +1,11 @@
--- The domains of a listener, each with the virtual host that it stands in.
+-- The domains of a routing, each with the virtual host that it stands in.
 use Rattle.std.specs.Prelude.{◌≡◌, ℕ, ◌+◌, ◌-◌, ◌==◌, Bool, true, false, ◌&&◌, All, List, [], ◌∷◌, length, slice_index_or, Option, option_map, find}
 use Rattle.std.specs.Option.{option_or}
 use Rattle.std.specs.Str.{str_to_ascii_lowercase}
 use Rattle.ev_types.specs.declared.routes.VirtualHost.{VirtualHost}
 use Rattle.ev_model.specs.Choice.{HostDomain, by_prefix, by_suffix, domain_for, domains_of, is_any, is_domain, is_prefix_form, is_suffix_form}
 use Rattle.ev_model.specs.declared.pictures.Routing.{Routing}
-use Rattle.ev_model.specs.declared.pictures.Routing.TheVariants.{Table, Tcp}
+use Rattle.ev_model.specs.declared.pictures.Routing.TheVariants.{Table, Tcp, Other}
 
 -- a virtual host with nothing, for places beyond a list
 abbrev pub no_host : VirtualHost
@@ -15,10 +15,11 @@ no_host = record { name = []; domains = []; routes = [] }
 abbrev pub host_at : List VirtualHost → ℕ → VirtualHost
 host_at hosts place = slice_index_or hosts place no_host
 
--- the domains by which a listener's connections go
+-- the domains by which connections go
 abbrev pub domains_in : Routing → List HostDomain
 domains_in (Table table) = domains_of table
 domains_in (Tcp target) = []
+domains_in Other = []
 
 -- the virtual host that a host text goes to
 abbrev pub host_for : Routing → List ℕ → Option VirtualHost

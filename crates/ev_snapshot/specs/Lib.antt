@@ -1,6 +1,8 @@
 pub mod Domains
 pub mod Paths
 pub mod Indexed
+pub mod Wanted
+pub mod Requests
 pub mod Tables
 pub mod Chosen
 pub mod Weighed

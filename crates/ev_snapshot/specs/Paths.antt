@@ -1,21 +1,49 @@
 -- The routes of a virtual host by what they match, so that few are tried.
 use Rattle.std.specs.Prelude.{◌≡◌, ℕ, ◌==◌, Bool, true, false, All, ◌&&◌, ◌||◌, nat_eq, List, [], ◌∷◌, length, slice_index_or, Option, Some, None}
-use Rattle.std.specs.List.{list_any, position_or_len}
+use Rattle.std.specs.List.{list_all, list_any, position_or_len}
 use Rattle.std.specs.Str.{bytes_eq}
 use Rattle.ev_types.specs.declared.routes.Action.TheVariants.{Redirect as redirect}
 use Rattle.ev_types.specs.declared.routes.PathMatch.{PathMatch}
 use Rattle.ev_types.specs.declared.routes.PathMatch.TheVariants.{Prefix, Path, Separated}
+use Rattle.ev_types.specs.declared.matchers.PathSpecifier.{PathSpecifier}
+use Rattle.ev_types.specs.declared.matchers.PathSpecifier.TheVariants.{Cased, Folded, Connect, Open as open_path}
 use Rattle.ev_types.specs.declared.routes.Route.{Route}
 use Rattle.ev_types.specs.declared.routes.VirtualHost.{VirtualHost}
 use Rattle.ev_model.specs.Paths.{is_path_taken}
 
 -- a route for places beyond a list
 abbrev pub no_route : Route
-no_route = record { path = Prefix []; action = redirect }
+no_route = record { route_match = record { path = Cased (Prefix []); conditions = [] }; action = redirect }
+
+-- what is asked of the path byte by byte; where it is asked otherwise, the empty path
+abbrev pub cased_match : PathSpecifier → PathMatch
+cased_match (Cased path) = path
+cased_match (Folded path) = Path []
+cased_match Connect = Path []
+cased_match open_path = Path []
+
+-- the path match of a route
+abbrev pub path_of : Route → PathMatch
+path_of r = cased_match r.route_match.path
+
+-- the path is asked for byte by byte
+abbrev pub is_cased : PathSpecifier → Bool
+is_cased (Cased path) = true
+is_cased (Folded path) = false
+is_cased Connect = false
+is_cased open_path = false
+
+-- a route asks for its path alone, byte by byte
+abbrev pub is_by_path : Route → Bool
+is_by_path r = is_cased r.route_match.path && (length r.route_match.conditions == 0)
+
+-- so does each of these
+abbrev pub are_by_path : List Route → Bool
+are_by_path routes = list_all is_by_path routes
 
 -- the path match of the route at a place of a virtual host
 abbrev pub match_at : VirtualHost → ℕ → PathMatch
-match_at host place = (slice_index_or host.routes place no_route).path
+match_at host place = path_of (slice_index_or host.routes place no_route)
 
 -- the kind of a path match
 abbrev pub match_kind : PathMatch → ℕ
@@ -35,11 +63,11 @@ match_key path = match_kind path ∷ match_text path
 
 -- the first place of a route with this key, or the count of the routes
 abbrev pub first_with : List ℕ → List Route → ℕ
-first_with key routes = position_or_len (λ (r : Route). bytes_eq (match_key r.path) key) routes
+first_with key routes = position_or_len (λ (r : Route). bytes_eq (match_key (path_of r)) key) routes
 
 -- the first place of a route that takes the path, or the count of the routes
 abbrev pub first_taken : List ℕ → List Route → ℕ
-first_taken path routes = position_or_len (λ (r : Route). is_path_taken path r.path) routes
+first_taken path routes = position_or_len (λ (r : Route). is_path_taken path (path_of r)) routes
 
 -- the match is of the whole path
 abbrev pub is_whole : PathMatch → Bool
@@ -84,7 +112,7 @@ FindsFirst routes places = (key : List ℕ) → place_or (length routes) (places
 
 -- each match is covered by these lengths
 abbrev pub AreCovered : List ℕ → List Route → Type 0
-AreCovered lengths routes = All (λ (r : Route). is_covered lengths r.path ≡ true) routes
+AreCovered lengths routes = All (λ (r : Route). is_covered lengths (path_of r) ≡ true) routes
 
 -- each length of the first list is in the second
 abbrev pub KeepsLengths : List ℕ → List ℕ → Type 0

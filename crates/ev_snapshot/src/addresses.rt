@@ -33,7 +33,7 @@ impl ListenerAddress {
     pub(crate) fn host(&self) -> &Host
         ensures { result.now ≡ self.now }
     {
-        &self.listener.get().served().address
+        self.listener.get().address()
     }
 }
 

@@ -27,7 +27,7 @@ pub(crate) fn leave_group(
 {
     let group = group_without(
         alloc,
-        groups.get(&listener.get().served().address),
+        groups.get(listener.get().address()),
         listener.get().number(),
     )?;
     set_group(alloc, groups, listener, group)?;
@@ -42,11 +42,7 @@ pub(crate) fn enter_group(
 ) -> Result<(), AllocError>
     ensures { OnOk result (ChangesGroup listener.now (with_listener listener.now) groups.old groups.new) }
 {
-    let group = group_with(
-        alloc,
-        groups.get(&listener.get().served().address),
-        listener,
-    )?;
+    let group = group_with(alloc, groups.get(listener.get().address()), listener)?;
     set_group(alloc, groups, listener, group)?;
     Ok(())
 }

@@ -1,18 +1,19 @@
-ghost use Rattle.std.specs.Prelude.{◌≡◌, [], None, Some, IfOk, map, slice_get};
+ghost use Rattle.std.specs.Prelude.{◌≡◌, [], None, Some, IfOk, find, map, slice_get};
 ghost use Rattle.std.specs.Option.{option_copied};
-ghost use Rattle.ev_model.specs.Choice.{listener_at};
+ghost use Rattle.ev_model.specs.Choice.{listener_at, listener_for, listener_for_every, listener_of_any};
 ghost use Rattle.ev_model.specs.Picture.{has_number};
 ghost use Rattle.ev_model.specs.declared.pictures.ServedListener.{ServedListener};
 ghost use Rattle.ev_snapshot.specs.Changes.{IsInOrder, put_listener};
 ghost use Rattle.ev_snapshot.specs.Kept.{listener_name_keeps, listener_number_keeps};
 ghost use Rattle.ev_snapshot.specs.Rows.{named, numbered, put_before, without_name, without_number};
 
+use crate::address_texts::AddressText;
 use crate::groups::{Groups, enter_group, leave_group};
 use crate::names::Row;
 use crate::routed::RoutedListener;
 use crate::rows::Rows;
 use crate::table::Table;
-use ev_types::{Gen, Host, Shared};
+use ev_types::{Ask, Gen, Host, Ip, Shared};
 use std::alloc::{AllocError, Global};
 use std::marker::Model;
 
@@ -48,8 +49,43 @@ impl Listeners {
         })
     }
 
-    /// The first listener at this address and port.
-    pub(crate) fn at(&self, address: &Host) -> Option<&RoutedListener>
+    /// The listener that a connection comes to: at its address and port, else one that takes every address.
+    pub(crate) fn for_ask(&self, ask: &Ask) -> Option<&RoutedListener>
+        ensures { option_copied result ≡ listener_for self.now ask.now }
+    {
+        match self.at(&ask.address) {
+            Some(listener) => Some(listener),
+            None => self.of_any(ask.address.port, ask.ip),
+        }
+    }
+
+    // A listener that takes every address, for an IP address: at `0.0.0.0`, for IPv4 alone, else at `::`.
+    fn of_any(&self, port: u16, ip: Option<Ip>) -> Option<&RoutedListener>
+        ensures { option_copied result ≡ listener_of_any self.now port ip }
+    {
+        match ip {
+            Some(Ip::V4(_)) => match self.for_every(port, "0.0.0.0") {
+                Some(listener) => Some(listener),
+                None => self.for_every(port, "::"),
+            },
+            Some(Ip::V6(_)) => self.for_every(port, "::"),
+            None => None,
+        }
+    }
+
+    // The first listener at this address and port that takes every address.
+    fn for_every(&self, port: u16, address: &str) -> Option<&RoutedListener>
+        ensures { option_copied result ≡ listener_for_every self.now port address.now }
+    {
+        let _ = &self.rows;
+        let Some(group) = self.groups.get(&AddressText::new(address, port)) else {
+            return None;
+        };
+        first_for_every(group.get().as_slice())
+    }
+
+    // The first listener at this address and port.
+    fn at(&self, address: &Host) -> Option<&RoutedListener>
         ensures { option_copied result ≡ listener_at self.now address.now }
     {
         let _ = &self.rows;
@@ -173,4 +209,21 @@ fn first_of(group: &[Shared<RoutedListener>]) -> Option<&RoutedListener>
         Some(listener) => Some(listener.get()),
         None => None,
     }
+}
+
+// The first listener of a group that takes every address.
+fn first_for_every(group: &[Shared<RoutedListener>]) -> Option<&RoutedListener>
+    ensures { option_copied result ≡ find (λ (l : ServedListener). l.takes_every_address) group.now }
+{
+    match group.iter().find(|listener| takes_every_address(listener)) {
+        Some(listener) => Some(listener.get()),
+        None => None,
+    }
+}
+
+// Whether a listener takes every address.
+fn takes_every_address(listener: &Shared<RoutedListener>) -> bool
+    ensures { result ≡ listener.now.takes_every_address }
+{
+    listener.get().takes_every_address()
 }

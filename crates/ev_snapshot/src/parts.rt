@@ -231,7 +231,7 @@ fn put_listener(
     }
 }
 
-// The listener, shared with those before where that of its number is the same.
+// The listener, which shares the tables of its chains with that of its name before.
 fn shared_listener(
     alloc: Global,
     listener: &ServedListener,
@@ -239,12 +239,8 @@ fn shared_listener(
 ) -> Result<Shared<RoutedListener>, AllocError>
     ensures { IfOk result (λ shared. shared ≡ listener.now) }
 {
-    if let Some(held) = before.numbered(listener.number) {
-        if *held.get().served() == *listener {
-            return held.share();
-        }
-    }
-    Shared::new(alloc, RoutedListener::new(alloc, listener)?)
+    let before = before.named(listener.name.as_str());
+    Shared::new(alloc, RoutedListener::new(alloc, listener, before)?)
 }
 
 // Whether these changes leave the listeners under each name that they touch.

@@ -7,12 +7,12 @@ ghost use Rattle.ev_types.specs.declared.routes.Route.{Route};
 ghost use Rattle.ev_model.specs.Paths.{is_path_taken, without_query};
 ghost use Rattle.ev_snapshot.specs.Domains.{host_at};
 ghost use Rattle.ev_snapshot.specs.Indexed.{IsIndexed};
-ghost use Rattle.ev_snapshot.specs.Paths.{AreCovered, FindsFirst, KeepsLengths, first_taken, first_with, is_covered, is_part, is_prefix_taken, is_separated_taken};
+ghost use Rattle.ev_snapshot.specs.Paths.{AreCovered, FindsFirst, KeepsLengths, first_taken, first_with, is_covered, is_part, is_prefix_taken, is_separated_taken, path_of};
 
 use crate::paths::{PREFIX, PathKey, PathText, SEPARATED, WHOLE};
 use crate::table::put;
 use crate::texts::without_query;
-use ev_types::{PathMatch, Route, RouteTable, Seq, Shared};
+use ev_types::{PathMatch, PathSpecifier, Route, RouteTable, Seq, Shared};
 use indexmap::IndexMap;
 use std::alloc::{AllocError, Global};
 
@@ -50,7 +50,7 @@ impl PathIndex {
     /// The first of the routes that takes the path.
     pub(crate) fn route_for<'a>(&self, routes: &'a [Route], path: &[u8]) -> Option<&'a Route>
         requires { IsIndexed routes.now self.now }
-        ensures { option_copied result ≡ find (λ (r : Route). is_path_taken path.now r.path) routes.now }
+        ensures { option_copied result ≡ find (λ (r : Route). is_path_taken path.now (path_of r)) routes.now }
     {
         route_at(routes, self.first_taken(routes, path))
     }
@@ -74,7 +74,8 @@ impl PathIndex {
     fn first_whole(&self, routes: &[Route], path: &[u8], bare: &[u8]) -> usize
         requires index { IsIndexed routes.now self.now }
         requires bare { bare.now ≡ without_query path.now }
-        ensures { result ≡ position_or_len (λ (r : Route). is_covered [] r.path && is_path_taken path.now r.path) routes.now }
+        ensures { result
+            ≡ position_or_len (λ (r : Route). is_covered [] (path_of r) && is_path_taken path.now (path_of r)) routes.now }
     {
         self.first_with(routes, &PathText::new(WHOLE, bare))
     }
@@ -82,7 +83,7 @@ impl PathIndex {
     // The first place of a route that takes the path by a front of this length before anything.
     fn first_prefix(&self, routes: &[Route], path: &[u8], length: usize) -> usize
         requires { IsIndexed routes.now self.now }
-        ensures { result ≡ position_or_len (λ (r : Route). is_prefix_taken length path.now r.path) routes.now }
+        ensures { result ≡ position_or_len (λ (r : Route). is_prefix_taken length path.now (path_of r)) routes.now }
     {
         if path.len() < length {
             return routes.len();
@@ -95,7 +96,7 @@ impl PathIndex {
     fn first_separated(&self, routes: &[Route], path: &[u8], bare: &[u8], length: usize) -> usize
         requires index { IsIndexed routes.now self.now }
         requires bare { bare.now ≡ without_query path.now }
-        ensures { result ≡ position_or_len (λ (r : Route). is_separated_taken length path.now r.path) routes.now }
+        ensures { result ≡ position_or_len (λ (r : Route). is_separated_taken length path.now (path_of r)) routes.now }
     {
         if !is_part(bare, length) {
             return routes.len();
@@ -161,9 +162,20 @@ fn lengths_of(alloc: Global, routes: &[Route]) -> Result<Seq<usize>, AllocError>
 {
     let mut lengths = Seq::new(alloc);
     for route in routes {
-        enter_match(&mut lengths, &route.path)?;
+        enter_route(&mut lengths, route)?;
     }
     Ok(lengths)
+}
+
+// Enters the length of a route's match by a front.
+fn enter_route(lengths: &mut Seq<usize>, route: &Route) -> Result<(), AllocError>
+    ensures covers { OnOk result (is_covered lengths.new (path_of route.now) ≡ true) }
+    ensures keeps { OnOk result (KeepsLengths lengths.old lengths.new) }
+{
+    match &route.route_match.path {
+        PathSpecifier::Cased(path) => enter_match(lengths, path),
+        _ => Ok(()),
+    }
 }
 
 // Enters the length of a match by a front.

@@ -1,8 +1,8 @@
 ghost use Rattle.std.specs.Prelude.{◌≡◌, ◌<◌, ◌∷◌, length};
 ghost use Rattle.ev_snapshot.specs.Domains.{host_at};
-ghost use Rattle.ev_snapshot.specs.Paths.{match_at, match_key, match_kind, match_text};
+ghost use Rattle.ev_snapshot.specs.Paths.{match_at, match_key, match_kind, match_text, path_of};
 
-use ev_types::{PathMatch, RouteTable, Shared};
+use ev_types::{PathMatch, PathSpecifier, Route, RouteTable, Shared};
 use indexmap::Equivalent;
 use std::hash::{Hash, Hasher};
 use std::marker::Model;
@@ -40,11 +40,21 @@ impl<'a> PathText<'a> {
         PathText { kind, text }
     }
 
-    /// The key of a path match.
-    pub(crate) fn of(path: &'a PathMatch) -> PathText<'a>
+    // The key of a path match.
+    fn of(path: &'a PathMatch) -> PathText<'a>
         ensures { result ≡ match_key path.now }
     {
         PathText::new(match_kind(path), match_text(path))
+    }
+
+    /// The key of a route's path match.
+    pub(crate) fn of_route(route: &'a Route) -> PathText<'a>
+        ensures { result ≡ match_key (path_of route.now) }
+    {
+        match &route.route_match.path {
+            PathSpecifier::Cased(path) => PathText::of(path),
+            _ => PathText::new(WHOLE, b""),
+        }
     }
 }
 
@@ -141,11 +151,10 @@ impl PathKey {
     fn text(&self) -> PathText<'_>
         ensures { result ≡ self.now }
     {
-        PathText::of(
+        PathText::of_route(
             &self.table.get().hosts.as_slice()[self.host]
                 .routes
-                .as_slice()[self.route]
-                .path,
+                .as_slice()[self.route],
         )
     }
 }

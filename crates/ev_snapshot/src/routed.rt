@@ -1,126 +1,168 @@
-ghost use Rattle.std.specs.Prelude.{◌≡◌, ◌<◌, [], ◌∷◌, ◌++◌, IfOk, length};
+ghost use Rattle.std.specs.Prelude.{◌≡◌, ◌<◌, IfOk, length, slice_get};
 ghost use Rattle.std.specs.Option.{option_copied};
-ghost use Rattle.std.specs.Str.{str_to_ascii_lowercase};
-ghost use Rattle.ev_model.specs.Choice.{domains_of};
-ghost use Rattle.ev_snapshot.specs.Domains.{domains_in, host_at, host_for, lower_domain};
+ghost use Rattle.ev_model.specs.Choice.{routing_left};
+ghost use Rattle.ev_snapshot.specs.Wanted.{left_by};
 
-use crate::domain_table::Domains;
-use crate::domains::Domain;
+use crate::criteria::Criteria;
 use crate::names::Row;
-use crate::routed_host::RoutedHost;
-use ev_model::{Routing, ServedListener};
-use ev_types::{Gen, RouteTable, Shared, Text, TryCopy};
+use crate::routed_chain::{IndexedRouting, RoutedChain, indexed};
+use ev_model::{Routing, ServedChain, ServedListener};
+use ev_types::{Gen, Host, Name, Seq, Shared, TryCopy};
 use std::alloc::{AllocError, Global};
 use std::marker::Model;
 
-/// A listener of a picture, with the domains of its routes as lower case. Contracts see the listener.
+/// A listener of a picture, with the tables of its chains. Contracts see the listener.
 #[derive(Drop)]
 pub(crate) struct RoutedListener {
-    served: ServedListener,
-    domains: Domains,
+    number: Gen,
+    name: Name,
+    address: Host,
+    takes_every_address: bool,
+    filter_chains: Seq<RoutedChain>,
+    default_filter_chain: Option<Shared<IndexedRouting>>,
 }
 
 impl Model for RoutedListener {
-    ghost use Rattle.std.specs.Prelude.{◌≡◌};
     ghost use Rattle.ev_model.specs.declared.pictures.ServedListener.{ServedListener};
-    ghost use Rattle.ev_snapshot.specs.Domains.{domains_in};
 
     ghost Value = { ServedListener };
 
-    ghost view = { λ l. l.served };
-
-    ghost invariant = { λ l. l.domains ≡ domains_in l.served.routing };
+    ghost view = { λ l. record {
+      number = l.number;
+      name = l.name;
+      address = l.address;
+      takes_every_address = l.takes_every_address;
+      filter_chains = l.filter_chains;
+      default_filter_chain = l.default_filter_chain;
+    } };
 }
 
 impl RoutedListener {
-    /// A copy of this listener; its routes are shared.
+    /// A copy of this listener. Its routes and what its chains ask for are shared; so are the tables of each chain that the
+    /// listener before has in the same place.
     pub(crate) fn new(
         alloc: Global,
         listener: &ServedListener,
+        before: Option<&RoutedListener>,
     ) -> Result<RoutedListener, AllocError>
         ensures { IfOk result (λ routed. routed ≡ listener.now) }
     {
-        let domains = domains_in(alloc, &listener.routing)?;
-        let served = listener.copy(alloc)?;
-        Ok(RoutedListener { served, domains })
+        let filter_chains = chains_of(alloc, listener.filter_chains.as_slice(), before)?;
+        let default_filter_chain = default_of(
+            alloc,
+            &listener.default_filter_chain,
+            default_before(before),
+        )?;
+        Ok(RoutedListener {
+            number: listener.number,
+            name: listener.name.copy(alloc)?,
+            address: listener.address.copy(alloc)?,
+            takes_every_address: listener.takes_every_address,
+            filter_chains,
+            default_filter_chain,
+        })
     }
 
-    /// The listener.
-    pub(crate) fn served(&self) -> &ServedListener
-        ensures { result.now ≡ self.now }
+    /// Its address and port.
+    pub(crate) fn address(&self) -> &Host
+        ensures { result.now ≡ self.now.address }
     {
-        &self.served
+        &self.address
     }
 
-    /// The virtual host that a host text goes to.
-    pub(crate) fn virtual_host(&self, host: &str) -> Option<&RoutedHost>
-        ensures { option_copied result ≡ host_for self.now.routing host.now }
+    /// Whether its address stands for every address of its port.
+    pub(crate) fn takes_every_address(&self) -> bool
+        ensures { result ≡ self.now.takes_every_address }
     {
-        match self.domains.find(host.as_bytes()) {
-            Some(domain) => Some(domain.host()),
+        self.takes_every_address
+    }
+
+    /// Its filter chains.
+    pub(crate) fn filter_chains(&self) -> &[RoutedChain]
+        ensures { result.now ≡ self.now.filter_chains }
+    {
+        self.filter_chains.as_slice()
+    }
+
+    /// Where the connections of the first chain that is left go, or else those of the default chain.
+    pub(crate) fn routing_left(&self, criteria: &Criteria<'_>) -> Option<&IndexedRouting>
+        ensures { option_copied result
+            ≡ routing_left (left_by criteria.now self.now.filter_chains) self.now.default_filter_chain }
+    {
+        if let Some(chain) = criteria.first_left(self.filter_chains.as_slice()) {
+            return Some(chain.routing().get());
+        }
+        match &self.default_filter_chain {
+            Some(routing) => Some(routing.get()),
             None => None,
         }
     }
 }
 
-// The domains by which connections go.
-fn domains_in(alloc: Global, routing: &Routing) -> Result<Domains, AllocError>
-    ensures { IfOk result (λ domains. domains ≡ domains_in routing.now) }
+// The chains with their tables.
+fn chains_of(
+    alloc: Global,
+    chains: &[ServedChain],
+    before: Option<&RoutedListener>,
+) -> Result<Seq<RoutedChain>, AllocError>
+    ensures { IfOk result (λ routed. routed ≡ chains.now) }
+{
+    let mut routed = Seq::new(alloc);
+    for place in 0..chains.len() {
+        let chain = &chains[place];
+        let routing = indexed(
+            alloc,
+            &chain.routing,
+            routing_before(before, place),
+            last_routing(routed.as_slice()),
+        )?;
+        routed.push(RoutedChain::new(chain.criteria.share()?, routing))?;
+    }
+    Ok(routed)
+}
+
+// The routing of the chain at this place of a listener.
+fn routing_before(
+    before: Option<&RoutedListener>,
+    place: usize,
+) -> Option<&Shared<IndexedRouting>> {
+    let Some(before) = before else {
+        return None;
+    };
+    match before.filter_chains().get(place) {
+        Some(chain) => Some(chain.routing()),
+        None => None,
+    }
+}
+
+// The routing of the last of these chains.
+fn last_routing(chains: &[RoutedChain]) -> Option<&Shared<IndexedRouting>> {
+    match chains.last() {
+        Some(chain) => Some(chain.routing()),
+        None => None,
+    }
+}
+
+// The routing of the default chain of a listener.
+fn default_before(before: Option<&RoutedListener>) -> Option<&Shared<IndexedRouting>> {
+    match before {
+        Some(before) => before.default_filter_chain.as_ref(),
+        None => None,
+    }
+}
+
+// The routing of the default chain with its tables.
+fn default_of(
+    alloc: Global,
+    routing: &Option<Routing>,
+    before: Option<&Shared<IndexedRouting>>,
+) -> Result<Option<Shared<IndexedRouting>>, AllocError>
+    ensures { IfOk result (λ indexed. indexed ≡ routing.now) }
 {
     match routing {
-        Routing::Table(table) => domains_of(alloc, table),
-        Routing::Tcp(_) => Ok(Domains::new(alloc)),
+        Some(routing) => Ok(Some(indexed(alloc, routing, before, None)?)),
+        None => Ok(None),
     }
-}
-
-// The domains of each virtual host of a table, in order.
-fn domains_of(alloc: Global, table: &Shared<RouteTable>) -> Result<Domains, AllocError>
-    ensures { IfOk result (λ domains. domains ≡ domains_of table.now) }
-{
-    let mut domains = Domains::new(alloc);
-    for place in 0..table.get().hosts.len() {
-        domains = with_host(alloc, domains, table, place)?;
-    }
-    Ok(domains)
-}
-
-// The domains with those of the virtual host at this place.
-fn with_host(
-    alloc: Global,
-    domains: Domains,
-    table: &Shared<RouteTable>,
-    place: usize,
-) -> Result<Domains, AllocError>
-    requires { place < length table.now.hosts }
-    ensures { IfOk result (λ new. new ≡ domains ++ domains_of (record { hosts = host_at table.now.hosts place ∷ [] })) }
-{
-    let mut domains = domains;
-    let host = Shared::new(alloc, RoutedHost::new(alloc, table, place)?)?;
-    for domain in host.get().host().domains.as_slice() {
-        domains = domains.with(lower_domain(alloc, domain, &host)?)?;
-    }
-    Ok(domains)
-}
-
-// A domain of the virtual host, with its ASCII letters as lower case.
-fn lower_domain(
-    alloc: Global,
-    domain: &Text,
-    host: &Shared<RoutedHost>,
-) -> Result<Domain, AllocError>
-    ensures { IfOk result (λ made. made ≡ lower_domain domain.now host.now) }
-{
-    let text = Shared::new(alloc, lower_case(alloc, domain)?)?;
-    Ok(Domain::new(text, host.share()?))
-}
-
-// The text with its ASCII letters as lower case.
-fn lower_case(alloc: Global, text: &Text) -> Result<Text, AllocError>
-    ensures { IfOk result (λ lower. lower ≡ str_to_ascii_lowercase text.now) }
-{
-    let mut lower = String::from_str(alloc, text.as_str())?;
-    lower.make_ascii_lowercase();
-    Text::new(alloc, lower.as_str())
 }
 
 impl Row for RoutedListener {
@@ -134,14 +176,19 @@ impl Row for RoutedListener {
     ghost same = { served_listener_same };
 
     fn number(&self) -> Gen {
-        self.served.number
+        self.number
     }
 
     fn name(&self) -> &str {
-        self.served.name.as_str()
+        self.name.as_str()
     }
 
     fn is_same(&self, other: &RoutedListener) -> bool {
-        self.served == other.served
+        self.number == other.number
+            && self.name == other.name
+            && self.address == other.address
+            && self.takes_every_address == other.takes_every_address
+            && self.filter_chains == other.filter_chains
+            && self.default_filter_chain == other.default_filter_chain
     }
 }

@@ -1,12 +1,13 @@
 ghost use Rattle.std.specs.Prelude.{◌≡◌, ◌<◌, length, IfOk};
 ghost use Rattle.std.specs.Option.{option_copied};
-ghost use Rattle.ev_model.specs.Choice.{route_for};
+ghost use Rattle.ev_model.specs.Choice.{requested_of, route_for};
 ghost use Rattle.ev_snapshot.specs.Domains.{host_at};
 ghost use Rattle.ev_snapshot.specs.Indexed.{MayIndex};
+ghost use Rattle.ev_snapshot.specs.Paths.{are_by_path, is_by_path};
 
 use crate::path_index::PathIndex;
 use crate::routes::route_for;
-use ev_types::{Route, RouteTable, Shared, VirtualHost};
+use ev_types::{Ask, PathSpecifier, Route, RouteTable, Shared, VirtualHost};
 use std::alloc::{AllocError, Global};
 use std::marker::Model;
 
@@ -63,18 +64,21 @@ impl RoutedHost {
         &self.table.get().hosts.as_slice()[self.place]
     }
 
-    /// The first route that takes the path.
-    pub(crate) fn route_for(&self, path: &[u8]) -> Option<&Route>
-        ensures { option_copied result ≡ route_for self.now path.now }
+    /// The first route that doesn't say no.
+    #[tactic(auto, using(crate::proofs::ByPath::found_by_path))]
+    pub(crate) fn route_for(&self, ask: &Ask) -> Option<&Route>
+        ensures { option_copied result ≡ route_for self.now (requested_of ask.now) }
     {
+        let path = ask.path.as_str().as_bytes();
         match &self.index {
             Some(index) => index.route_for(self.host().routes.as_slice(), path),
-            None => route_for(self.host(), path),
+            None => route_for(self.host(), ask),
         }
     }
 }
 
-// The index of the virtual host at this place, where its look-ups take less time than trying its routes.
+// The index of the virtual host at this place, where its routes ask for paths alone, and its look-ups take less time than trying
+// them.
 fn index_for(
     alloc: Global,
     table: &Shared<RouteTable>,
@@ -83,8 +87,9 @@ fn index_for(
     requires { place < length table.now.hosts }
     ensures { IfOk result (MayIndex (host_at table.now.hosts place).routes) }
 {
-    let count = table.get().hosts.as_slice()[place].routes.len();
-    if count <= FEW_ROUTES {
+    let routes = table.get().hosts.as_slice()[place].routes.as_slice();
+    let count = routes.len();
+    if count <= FEW_ROUTES || !are_by_path(routes) {
         return Ok(None);
     }
     let index = PathIndex::new(alloc, table, place)?;
@@ -92,4 +97,21 @@ fn index_for(
         return Ok(None);
     }
     Ok(Some(index))
+}
+
+// Whether each route asks for its path alone, byte by byte.
+fn are_by_path(routes: &[Route]) -> bool
+    ensures { result ≡ are_by_path routes.now }
+{
+    routes.iter().all(|route| is_by_path(route))
+}
+
+// Whether a route asks for its path alone, byte by byte.
+fn is_by_path(route: &Route) -> bool
+    ensures { result ≡ is_by_path route.now }
+{
+    match &route.route_match.path {
+        PathSpecifier::Cased(_) => route.route_match.conditions.len() == 0,
+        _ => false,
+    }
 }

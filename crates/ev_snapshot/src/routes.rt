@@ -1,23 +1,30 @@
-ghost use Rattle.std.specs.Prelude.{◌≡◌, ◌++◌, ◌||◌, codes};
+ghost use Rattle.std.specs.Prelude.{◌≡◌, ◌++◌, ◌||◌, codes, not};
 ghost use Rattle.std.specs.Str.{bytes_eq};
 ghost use Rattle.std.specs.Option.{option_copied};
+ghost use Rattle.ev_model.specs.Choice.{requested_of, route_for};
+ghost use Rattle.ev_model.specs.Conditions.{is_no, match_says};
 ghost use Rattle.ev_model.specs.Paths.{begins_with, is_path_taken};
-ghost use Rattle.ev_model.specs.Choice.{route_for};
 
+use crate::conditions::{is_no, match_says};
 use crate::texts::{begins_with, without_query};
-use ev_types::{PathMatch, Route, VirtualHost};
+use ev_types::{Ask, PathMatch, Route, VirtualHost};
 
-/// The first route that takes the path.
-pub(crate) fn route_for<'a>(host: &'a VirtualHost, path: &[u8]) -> Option<&'a Route>
-    ensures { option_copied result ≡ route_for host.now path.now }
+/// The first route that doesn't say no.
+pub(crate) fn route_for<'a>(host: &'a VirtualHost, ask: &Ask) -> Option<&'a Route>
+    ensures { option_copied result ≡ route_for host.now (requested_of ask.now) }
 {
-    host.routes
-        .iter()
-        .find(|route| is_path_taken(path, &route.path))
+    host.routes.iter().find(|route| may_take(ask, route))
 }
 
-// Whether the match takes the path.
-fn is_path_taken(path: &[u8], path_match: &PathMatch) -> bool
+// Whether a route doesn't say no.
+fn may_take(ask: &Ask, route: &Route) -> bool
+    ensures { result ≡ not (is_no (match_says (requested_of ask.now) route.now.route_match)) }
+{
+    !is_no(match_says(ask, &route.route_match))
+}
+
+/// Whether the match takes the path.
+pub(crate) fn is_path_taken(path: &[u8], path_match: &PathMatch) -> bool
     ensures { result ≡ is_path_taken path.now path_match.now }
 {
     match path_match {

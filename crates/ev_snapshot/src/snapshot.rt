@@ -1,7 +1,7 @@
-ghost use Rattle.std.specs.Prelude.{◌≡◌, ◌+◌, true, IfOk};
+ghost use Rattle.std.specs.Prelude.{◌≡◌, ◌+◌, true, Some, IfOk};
 ghost use Rattle.std.specs.Arc.{arc_value};
 ghost use Rattle.std.specs.Option.{option_copied};
-ghost use Rattle.ev_model.specs.Choice.{by_host, by_route, by_routing, choice_in, choice_of, forwarded};
+ghost use Rattle.ev_model.specs.Choice.{acted, by_chain, by_host, by_listener, by_route, by_routing, choice_in, choice_of, cluster_named, forwarded, in_cluster};
 ghost use Rattle.ev_model.specs.declared.pictures.ServedCluster.{ServedCluster};
 ghost use Rattle.ev_model.specs.declared.pictures.ServedListener.{ServedListener};
 ghost use Rattle.ev_model.specs.Picture.{is_shown, shown_of};
@@ -10,12 +10,16 @@ ghost use Rattle.ev_snapshot.specs.Changes.{IsNext, IsOrdered, empty_picture, pi
 ghost use Rattle.ev_snapshot.specs.Chosen.{TakesEligible, TakesLowest, host_of, names_shown};
 
 use crate::changes::Changes;
+use crate::conditions::match_says;
+use crate::criteria::Criteria;
+use crate::names::Row;
 use crate::parts::{Parts, keep_all, parts_with};
 use crate::routed::RoutedListener;
+use crate::routed_chain::IndexedRouting;
 use crate::routed_host::RoutedHost;
-use crate::targets::{target_name, target_weight};
+use crate::targets::{name_picked, weight_sum};
 use crate::weighed::WeighedCluster;
-use ev_model::{Choice, Routing};
+use ev_model::{Choice, Routing, Taken};
 use ev_types::{Action, Ask, Gen, Host, Route, Target};
 use std::alloc::{AllocError, Global};
 use std::marker::Model;
@@ -112,8 +116,9 @@ impl Snapshot {
         }
     }
 
-    /// Where a connection goes: by its listener, the virtual host and the first route of its host text and path, the weights of
-    /// the route's clusters, and the lowest priority and the weights of the cluster's hosts. It takes no memory.
+    /// Where a connection goes: by its listener, the filter chain that is left for it, the virtual host and the first route that
+    /// doesn't say no to its host text, path and headers, the weights of the route's clusters, and the lowest priority and the
+    /// weights of the cluster's hosts. It takes no memory.
     #[tactic(auto, using(crate::proofs::Named::choice_shown, crate::proofs::Lowest::choice_takes_lowest, crate::proofs::Eligible::takes_eligible))]
     pub fn choose(&self, ask: &Ask) -> Choice
         ensures choice { result ≡ choice_of self.now ask.now }
@@ -121,29 +126,56 @@ impl Snapshot {
         ensures lowest { TakesLowest self.now.shown result }
         ensures eligible { (world : World) → self.now.shown ≡ shown_of world → TakesEligible world result }
     {
-        self.choose_by_address(ask)
+        self.choose_by_listener(ask)
     }
 
-    // The choice by the address.
-    fn choose_by_address(&self, ask: &Ask) -> Choice
+    // The choice by the listener.
+    fn choose_by_listener(&self, ask: &Ask) -> Choice
         ensures { result ≡ choice_of self.now ask.now }
     {
-        match self.parts.listeners.at(&ask.address) {
-            Some(listener) => self.choose_at(listener, ask),
+        match self.parts.listeners.for_ask(ask) {
+            Some(listener) => self.choose_by_chains(listener, ask),
             None => Choice::NoListener,
         }
     }
 
-    // The choice at a listener.
-    fn choose_at(&self, listener: &RoutedListener, ask: &Ask) -> Choice
-        ensures { result ≡ by_routing self.now ask.now listener.now.number listener.now.routing }
+    // The choice by the chains of a listener that are left.
+    fn choose_by_chains(&self, listener: &RoutedListener, ask: &Ask) -> Choice
+        ensures { result ≡ by_listener self.now ask.now (Some listener.now) }
     {
-        let served = listener.served();
-        match &served.routing {
+        let chains = listener.filter_chains();
+        let criteria = Criteria::of(chains, ask);
+        if criteria.leave_source(chains) {
+            return Choice::Undecided {
+                listener: listener.number(),
+            };
+        }
+        self.choose_by_chain(listener.number(), listener.routing_left(&criteria), ask)
+    }
+
+    // The choice with what the chain that is left serves.
+    fn choose_by_chain(&self, listener: Gen, routing: Option<&IndexedRouting>, ask: &Ask) -> Choice
+        ensures { result ≡ by_chain self.now ask.now listener (option_copied routing.entry) }
+    {
+        match routing {
+            Some(routing) => self.choose_by_routing(listener, routing, ask),
+            None => Choice::NoChain,
+        }
+    }
+
+    // The choice with a routing.
+    fn choose_by_routing(&self, listener: Gen, routing: &IndexedRouting, ask: &Ask) -> Choice
+        ensures { result ≡ by_routing self.now ask.now listener routing.now }
+    {
+        match routing.routing() {
             Routing::Table(_) => {
-                self.choose_by_host(served.number, listener.virtual_host(ask.host.as_str()), ask)
+                self.choose_by_host(listener, routing.virtual_host(ask.host.as_str()), ask)
             }
-            Routing::Tcp(target) => self.forward(served.number, target, ask.pick),
+            Routing::Tcp(target) => self.forward(listener, target, ask.pick),
+            Routing::Other => Choice::Elsewhere {
+                listener,
+                cluster: None,
+            },
         }
     }
 
@@ -152,28 +184,39 @@ impl Snapshot {
         ensures { result ≡ by_host self.now ask.now listener (option_copied host.entry) }
     {
         match host {
-            Some(host) => self.choose_by_route(
-                listener,
-                host.route_for(ask.path.as_str().as_bytes()),
-                ask.pick,
-            ),
+            Some(host) => self.choose_by_route(listener, host.route_for(ask), ask),
             None => Choice::NoRoute { listener },
         }
     }
 
     // The choice with the route.
-    fn choose_by_route(&self, listener: Gen, route: Option<&Route>, pick: u64) -> Choice
-        ensures { result ≡ by_route self.now pick listener (option_copied route.entry) }
+    fn choose_by_route(&self, listener: Gen, route: Option<&Route>, ask: &Ask) -> Choice
+        ensures { result ≡ by_route self.now ask.now listener (option_copied route.entry) }
     {
         let Some(route) = route else {
             return Choice::NoRoute { listener };
         };
-        match &route.action {
+        match match_says(ask, &route.route_match) {
+            Taken::No => Choice::NoRoute { listener },
+            Taken::Yes => self.act(listener, &route.action, ask.pick),
+            Taken::Undecided => Choice::Undecided { listener },
+        }
+    }
+
+    // The choice with the action.
+    fn act(&self, listener: Gen, action: &Action, pick: u64) -> Choice
+        ensures { result ≡ acted self.now pick listener action.now }
+    {
+        match action {
             Action::Forward(target) => self.forward(listener, target, pick),
             Action::Redirect => Choice::Redirect { listener },
             Action::Local(status) => Choice::Local {
                 listener,
                 status: *status,
+            },
+            Action::Elsewhere => Choice::Elsewhere {
+                listener,
+                cluster: None,
             },
         }
     }
@@ -182,8 +225,28 @@ impl Snapshot {
     fn forward(&self, listener: Gen, target: &Target, pick: u64) -> Choice
         ensures { result ≡ forwarded self.now pick listener target.now }
     {
-        let cluster = self.parts.clusters.named(target_name(target, pick));
-        choose_host(listener, cluster, pick / target_weight(target))
+        match target {
+            Target::One(name) => self.choose_cluster(listener, name.as_str(), pick),
+            Target::Weighted(weighted) => {
+                let clusters = weighted.clusters();
+                self.choose_cluster(
+                    listener,
+                    name_picked(clusters, pick),
+                    pick / weight_sum(clusters),
+                )
+            }
+            Target::Elsewhere => Choice::Elsewhere {
+                listener,
+                cluster: None,
+            },
+        }
+    }
+
+    // The choice with the cluster of this name.
+    fn choose_cluster(&self, listener: Gen, name: &str, pick: u64) -> Choice
+        ensures { result ≡ choice_in listener (cluster_named self.now.shown.clusters name.now) pick }
+    {
+        choose_host(listener, self.parts.clusters.named(name), pick)
     }
 }
 
@@ -201,13 +264,27 @@ fn version_after(version: u64) -> Result<u64, AllocError>
 fn choose_host(listener: Gen, cluster: Option<&WeighedCluster>, pick: u64) -> Choice
     ensures { result ≡ choice_in listener (option_copied cluster.entry) pick }
 {
-    let Some(cluster) = cluster else {
-        return Choice::NoCluster { listener };
-    };
+    match cluster {
+        Some(cluster) => choose_in(listener, cluster, pick),
+        None => Choice::NoCluster { listener },
+    }
+}
+
+// The choice in a cluster: one of its hosts, or where Envoy finds one by itself.
+fn choose_in(listener: Gen, cluster: &WeighedCluster, pick: u64) -> Choice
+    ensures { result ≡ in_cluster listener cluster.now pick }
+{
+    let number = cluster.served().number;
+    if cluster.served().elsewhere {
+        return Choice::Elsewhere {
+            listener,
+            cluster: Some(number),
+        };
+    }
     match cluster.host_place(pick) {
         Some(host) => Choice::Served {
             listener,
-            cluster: cluster.served().number,
+            cluster: number,
             host,
         },
         None => Choice::NoEndpoint { listener },

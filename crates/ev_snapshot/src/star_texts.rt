@@ -31,12 +31,11 @@ impl<'a> SuffixText<'a> {
         SuffixText { tail }
     }
 
-    // Whether the form is this domain.
-    fn is(&self, domain: &DomainText) -> bool
-        ensures { result ≡ bytes_eq self.now domain.now }
+    /// Whether the form is this text.
+    pub(crate) fn is(&self, text: &[u8]) -> bool
+        ensures { result ≡ bytes_eq self.now text.now }
     {
         let tail = self.tail;
-        let text = domain.as_bytes();
         if text.is_empty() {
             return false;
         }
@@ -96,7 +95,7 @@ impl<'a> Equivalent<DomainText> for &SuffixText<'a> {
     ghost respects_eq = { λ q x y. nat_list_eq_equiv.congr q.now x y };
 
     fn equivalent(&self, key: &DomainText) -> bool {
-        self.is(key)
+        self.is(key.as_bytes())
     }
 }
 

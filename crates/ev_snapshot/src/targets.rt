@@ -2,43 +2,21 @@ ghost use Rattle.std.specs.Prelude.{◌≡◌, ◌≤◌, ◌<◌, map};
 ghost use Rattle.ev_types.specs.Weights.{HasWeight, weight_sum};
 ghost use Rattle.ev_types.specs.declared.limits.TheConstants.{MAX_WEIGHT_SUM};
 ghost use Rattle.ev_types.specs.declared.routes.WeightedCluster.{WeightedCluster};
-ghost use Rattle.ev_types.specs.declared.routes.Target.TheVariants.{Weighted};
-ghost use Rattle.ev_model.specs.Choice.{name_at, place_above, target_name, target_weight};
+ghost use Rattle.ev_model.specs.Choice.{name_at, name_picked, place_above};
 
-use ev_types::{Target, WeightedCluster};
+use ev_types::WeightedCluster;
 
-/// The name of the cluster that a pick takes.
-pub(crate) fn target_name(target: &Target, pick: u64) -> &str
-    ensures { result.now ≡ target_name target.now pick }
-{
-    match target {
-        Target::One(name) => name.as_str(),
-        Target::Weighted(weighted) => picked_name(weighted.clusters(), pick),
-    }
-}
-
-// The name of the weighted cluster that a pick takes.
-fn picked_name(clusters: &[WeightedCluster], pick: u64) -> &str
+/// The name of the weighted cluster that a pick takes.
+pub(crate) fn name_picked(clusters: &[WeightedCluster], pick: u64) -> &str
     requires { HasWeight clusters.now }
-    ensures { result.now ≡ target_name (Weighted clusters.now) pick }
+    ensures { result.now ≡ name_picked clusters.now pick }
 {
     let rest = pick % weight_sum(clusters);
     name_at(clusters, place_above(rest, clusters))
 }
 
-/// What the weights of a target sum to; that of a single cluster is 1.
-pub(crate) fn target_weight(target: &Target) -> u64
-    ensures sum { result ≡ target_weight target.now }
-    ensures some { 1 ≤ result }
-{
-    match target {
-        Target::One(_) => 1,
-        Target::Weighted(weighted) => weight_sum(weighted.clusters()),
-    }
-}
-
-// What the weights of the clusters add up to.
-fn weight_sum(clusters: &[WeightedCluster]) -> u64
+/// What the weights of the clusters add up to.
+pub(crate) fn weight_sum(clusters: &[WeightedCluster]) -> u64
     requires { weight_sum clusters.now ≤ MAX_WEIGHT_SUM }
     ensures { result ≡ weight_sum clusters.now }
 {

@@ -17,7 +17,7 @@ use Rattle.ev_model.specs.Picture.{has_number}
 use Rattle.ev_model.specs.Connections.{accepted, closed, is_member, is_open, member_on, members_of as opens}
 use Rattle.ev_model.specs.declared.pictures.Picture.{Picture}
 use Rattle.ev_model.specs.declared.pictures.Choice.{Choice}
-use Rattle.ev_model.specs.declared.pictures.Choice.TheVariants.{NoListener, NoRoute, Local, Redirect, NoCluster, NoEndpoint, Served}
+use Rattle.ev_model.specs.declared.pictures.Choice.TheVariants.{NoListener, NoChain, Undecided, Elsewhere, NoRoute, Local, Redirect, NoCluster, NoEndpoint, Served}
 use Rattle.ev_worker.specs.Batches.{accepted_as, accepted_answer, closed_as, closed_answer}
 use Rattle.ev_worker.specs.Members.{chosen_on, member_of, members_of, on_of}
 use Rattle.ev_worker.specs.Workers.{SameOpen, without_numbers}
@@ -213,6 +213,9 @@ numbers_leave worker numbers es left apart still lost =
 chosen_opens : (worker connection : ℕ) (choice : Choice)
     → members_of worker (map (λ (on : ℕ × Option ℕ). (connection, on)) (option_to_list (chosen_on choice))) ≡ opens worker connection choice
 chosen_opens worker connection NoListener = refl
+chosen_opens worker connection NoChain = refl
+chosen_opens worker connection (Undecided listener) = refl
+chosen_opens worker connection (Elsewhere listener cluster) = refl
 chosen_opens worker connection (NoRoute listener) = refl
 chosen_opens worker connection (Local listener status) = refl
 chosen_opens worker connection (Redirect listener) = refl

@@ -5,7 +5,7 @@ use Rattle.ev_model.specs.World.{OpenMember}
 use Rattle.ev_model.specs.Connections.{member_on}
 use Rattle.ev_model.specs.Operations.{batch_limit}
 use Rattle.ev_model.specs.declared.pictures.Choice.{Choice}
-use Rattle.ev_model.specs.declared.pictures.Choice.TheVariants.{NoListener, NoRoute, Local, Redirect, NoCluster, NoEndpoint, Served}
+use Rattle.ev_model.specs.declared.pictures.Choice.TheVariants.{NoListener, NoChain, Undecided, Elsewhere, NoRoute, Local, Redirect, NoCluster, NoEndpoint, Served}
 use Rattle.ev_worker.specs.declared.lines.Accepted.{Accepted}
 use Rattle.ev_worker.specs.declared.lines.Accepted.TheVariants.{InUse, Chosen}
 use Rattle.ev_worker.specs.declared.lines.BatchLine.{BatchLine}
@@ -18,9 +18,12 @@ member_of worker entry = member_on worker entry.0 entry.1.0 entry.1.1
 abbrev pub members_of : ℕ → List (ℕ × (ℕ × Option ℕ)) → List OpenMember
 members_of worker entries = map (member_of worker) entries
 
--- what a choice opens a connection on: nothing without a listener
+-- what a choice opens a connection on: nothing without a listener or a chain
 abbrev pub chosen_on : Choice → Option (ℕ × Option ℕ)
 chosen_on NoListener = None
+chosen_on NoChain = None
+chosen_on (Undecided listener) = Some (listener, None)
+chosen_on (Elsewhere listener cluster) = Some (listener, cluster)
 chosen_on (NoRoute listener) = Some (listener, None)
 chosen_on (Local listener status) = Some (listener, None)
 chosen_on (Redirect listener) = Some (listener, None)

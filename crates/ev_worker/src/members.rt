@@ -8,11 +8,12 @@ use ev_model::Choice;
 use ev_types::Gen;
 use indexmap::IndexMap;
 
-/// A worker's open connections: by number, the listener that each is on and, where it was forwarded, the cluster.
+/// A worker's open connections: by number, the listener that each is on and, where it was forwarded or a host is found elsewhere,
+/// the cluster.
 pub(crate) type Members = IndexMap<u64, (Gen, Option<Gen>)>;
 
 /// Opens a connection on a listener and, where it was forwarded, on a cluster, in room that is there; without a listener
-/// nothing is opened.
+/// or a filter chain nothing is opened.
 pub(crate) fn open_on(members: &mut Members, conn: u64, on: Option<(Gen, Option<Gen>)>)
     requires absent { IsSome on → get nat_eq members.old conn ≡ None }
     requires room { 0 < spare members.old }
@@ -45,7 +46,9 @@ fn chosen_on(choice: &Choice) -> Option<(Gen, Option<Gen>)>
     ensures { result ≡ chosen_on choice.now }
 {
     match choice {
-        Choice::NoListener => None,
+        Choice::NoListener | Choice::NoChain => None,
+        Choice::Undecided { listener } => Some((*listener, None)),
+        Choice::Elsewhere { listener, cluster } => Some((*listener, *cluster)),
         Choice::NoRoute { listener } => Some((*listener, None)),
         Choice::Local { listener, .. } => Some((*listener, None)),
         Choice::Redirect { listener } => Some((*listener, None)),

@@ -4,8 +4,8 @@ use Rattle.ev_snapshot.proofs.path_index.lengths_of.Goals as goal
 
 pub loop-route-preserved : goal.loop-route-preserved
 loop-route-preserved c =
-    covered_more c.loop-route.lengths c.enter_match.new.lengths c.args.routes.now c.loop-route.route-index c.route-item.result
-    (omega arith) c.route-item.is c.in_ok-enter_match.ensures.keeps c.in_ok-enter_match.ensures.covers c.loop-route.invariant
+    covered_more c.loop-route.lengths c.enter_route.new.lengths c.args.routes.now c.loop-route.route-index c.route-item.result
+    (omega arith) c.route-item.is c.in_ok-enter_route.ensures.keeps c.in_ok-enter_route.ensures.covers c.loop-route.invariant
 
 pub returns : goal.returns
 returns c = covered_all c.loop-route.lengths c.args.routes.now c.loop-route.route-index (omega arith) c.loop-route.invariant

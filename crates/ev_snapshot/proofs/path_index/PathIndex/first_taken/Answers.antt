@@ -3,7 +3,7 @@ use Rattle.std.proofs.lemmas.List.{take_all}
 use Rattle.std.specs.List.{position_or_len}
 use Rattle.ev_types.specs.declared.routes.Route.{Route}
 use Rattle.ev_model.specs.Paths.{is_path_taken}
-use Rattle.ev_snapshot.specs.Paths.{is_covered}
+use Rattle.ev_snapshot.specs.Paths.{is_covered, path_of}
 use Rattle.ev_snapshot.proofs.Firsts.{first_covered, first_step}
 use Rattle.ev_snapshot.proofs.path_index.PathIndex.first_taken.Goals as goal
 
@@ -26,5 +26,5 @@ returns c =
     let routes = c.args.routes.now in
     let past : length lengths ≤ index = omega (arith, ap length same) in
     c.loop-length.invariant
-    ∙ ap (λ (ns : List ℕ). position_or_len (λ (r : Route). is_covered ns r.path && is_path_taken path r.path) routes) (take_all index lengths past)
+    ∙ ap (λ (ns : List ℕ). position_or_len (λ (r : Route). is_covered ns (path_of r) && is_path_taken path (path_of r)) routes) (take_all index lengths past)
     ∙ first_covered lengths path routes c.requires.lengths

@@ -5,7 +5,7 @@ use Rattle.std.proofs.lemmas.List.{map_more}
 use Rattle.ev_types.specs.declared.routes.VirtualHost.{VirtualHost}
 use Rattle.ev_model.specs.Choice.{HostDomain}
 use Rattle.ev_snapshot.specs.Domains.{host_at, lower_domain}
-use Rattle.ev_snapshot.proofs.routed.with_host.Goals as goal
+use Rattle.ev_snapshot.proofs.domain_lists.with_host.Goals as goal
 
 -- the list made of one more element
 one_more : {X Y : Type 0} (f : X → Y) (front : List Y) (xs ys : List X) (i : ℕ) (x : X) (so next : List Y) (y : Y) → i < length ys → ys ≡ xs

@@ -1,0 +1,244 @@
+ghost use Rattle.std.specs.Prelude.{◌≡◌, ◌∷◌, ◌==◌, Bool, List, length};
+ghost use Rattle.std.specs.Str.{bytes_eq, str_to_ascii_lowercase};
+ghost use Rattle.ev_types.specs.FilterChains.{has_value};
+ghost use Rattle.ev_types.specs.declared.filter_chains.FilterChainMatch.{FilterChainMatch};
+ghost use Rattle.ev_model.specs.Narrowing.{transport_of};
+
+use crate::star_texts::SuffixText;
+use crate::texts::is_lower;
+use ev_types::{CidrRange, FilterChainMatch, Text};
+use std::marker::Model;
+
+/// A value that a connection brings by one of the criteria of filter chains.
+pub(crate) trait Criterion: Drop {
+    ghost same: { Self → Self → Bool };
+
+    ghost values: { FilterChainMatch → List Self };
+
+    /// Whether a chain asks for it.
+    fn is_asked_by(&self, criteria: &FilterChainMatch) -> bool
+        ensures { result ≡ has_value same (values criteria.now) self.now };
+
+    /// Whether a chain asks for nothing by the criterion.
+    fn is_unasked(criteria: &FilterChainMatch) -> bool
+        ensures { result ≡ (length (values criteria.now) == 0) };
+}
+
+/// The port that a connection goes to.
+impl Criterion for u16 {
+    ghost use Rattle.ev_types.specs.FilterChains.{nat_same, ports};
+
+    ghost same = { nat_same };
+
+    ghost values = { ports };
+
+    fn is_asked_by(&self, criteria: &FilterChainMatch) -> bool {
+        match criteria.destination_port {
+            Some(port) => *self == port,
+            None => false,
+        }
+    }
+
+    fn is_unasked(criteria: &FilterChainMatch) -> bool {
+        criteria.destination_port.is_none()
+    }
+}
+
+/// A range that holds the address that a connection goes to.
+impl Criterion for CidrRange {
+    ghost use Rattle.ev_types.specs.FilterChains.{prefix_ranges};
+    ghost use Rattle.ev_types.specs.Ips.{cidr_range_same};
+
+    ghost same = { cidr_range_same };
+
+    ghost values = { prefix_ranges };
+
+    fn is_asked_by(&self, criteria: &FilterChainMatch) -> bool {
+        criteria.prefix_ranges.iter().any(|range| *self == *range)
+    }
+
+    fn is_unasked(criteria: &FilterChainMatch) -> bool {
+        criteria.prefix_ranges.len() == 0
+    }
+}
+
+/// A name that the server of a connection goes by: its own, or a star and how its own ends. It is seen with its ASCII letters as
+/// lower case, and takes no memory.
+#[derive(Drop)]
+pub(crate) struct ServerName<'a> {
+    starred: bool,
+    text: &'a [u8],
+}
+
+impl<'a> Model for ServerName<'a> {
+    ghost use Rattle.std.specs.Prelude.{List, ℕ, ◌∷◌, cond};
+    ghost use Rattle.std.specs.Str.{str_to_ascii_lowercase};
+
+    ghost Value = { List ℕ };
+
+    ghost view = { λ n. cond n.starred (42 ∷ str_to_ascii_lowercase n.text.now) (str_to_ascii_lowercase n.text.now) };
+}
+
+impl<'a> ServerName<'a> {
+    /// The name itself.
+    pub(crate) fn whole(text: &'a [u8]) -> ServerName<'a>
+        ensures { result ≡ str_to_ascii_lowercase text.now }
+    {
+        ServerName {
+            starred: false,
+            text,
+        }
+    }
+
+    /// A star, and how the name ends.
+    pub(crate) fn ending(text: &'a [u8]) -> ServerName<'a>
+        ensures { result ≡ 42 ∷ str_to_ascii_lowercase text.now }
+    {
+        ServerName {
+            starred: true,
+            text,
+        }
+    }
+
+    // Whether it is this name.
+    fn is(&self, name: &[u8]) -> bool
+        ensures { result ≡ bytes_eq self.now name.now }
+    {
+        if self.starred {
+            SuffixText::new(self.text).is(name)
+        } else {
+            is_lower(self.text, name)
+        }
+    }
+}
+
+impl<'a> Criterion for ServerName<'a> {
+    ghost use Rattle.std.specs.Prelude.{◌≡◌, ◌==◌, length};
+    ghost use Rattle.std.specs.Str.{bytes_eq};
+    ghost use Rattle.ev_types.specs.FilterChains.{server_names};
+
+    ghost same = { bytes_eq };
+
+    ghost values = { server_names };
+
+    fn is_asked_by(&self, criteria: &FilterChainMatch) -> bool {
+        criteria
+            .server_names
+            .iter()
+            .any(|name| self.is(name.as_str().as_bytes()))
+    }
+
+    fn is_unasked(criteria: &FilterChainMatch) -> bool
+        ensures { result ≡ (length (server_names criteria.now) == 0) }
+    {
+        criteria.server_names.len() == 0
+    }
+}
+
+/// The transport protocol of a connection, seen by its name.
+#[derive(Drop)]
+pub(crate) struct Transport {
+    tls: bool,
+}
+
+impl Model for Transport {
+    ghost use Rattle.std.specs.Prelude.{List, ℕ};
+    ghost use Rattle.ev_model.specs.Narrowing.{transport_of};
+
+    ghost Value = { List ℕ };
+
+    ghost view = { λ t. transport_of t.tls };
+}
+
+impl Transport {
+    /// That of a connection over TLS, or of another.
+    pub(crate) fn of(tls: bool) -> Transport
+        ensures { result ≡ transport_of tls }
+    {
+        Transport { tls }
+    }
+
+    // Whether it has this name.
+    fn is(&self, name: &str) -> bool
+        ensures { result ≡ bytes_eq self.now name.now }
+    {
+        if self.tls {
+            "tls" == name
+        } else {
+            "raw_buffer" == name
+        }
+    }
+}
+
+impl Criterion for Transport {
+    ghost use Rattle.std.specs.Str.{bytes_eq};
+    ghost use Rattle.ev_types.specs.FilterChains.{transports};
+
+    ghost same = { bytes_eq };
+
+    ghost values = { transports };
+
+    fn is_asked_by(&self, criteria: &FilterChainMatch) -> bool {
+        match &criteria.transport_protocol {
+            Some(name) => self.is(name.as_str()),
+            None => false,
+        }
+    }
+
+    fn is_unasked(criteria: &FilterChainMatch) -> bool {
+        criteria.transport_protocol.is_none()
+    }
+}
+
+/// An application protocol that a connection offers.
+#[derive(Drop)]
+pub(crate) struct Protocol<'a> {
+    name: &'a Text,
+}
+
+impl<'a> Model for Protocol<'a> {
+    ghost use Rattle.std.specs.Prelude.{List, ℕ};
+
+    ghost Value = { List ℕ };
+
+    ghost view = { λ p. p.name.now };
+}
+
+impl<'a> Protocol<'a> {
+    /// The protocol of this name.
+    pub(crate) fn new(name: &'a Text) -> Protocol<'a>
+        ensures { result ≡ name.now }
+    {
+        Protocol { name }
+    }
+
+    // Whether it has this name.
+    fn is(&self, name: &Text) -> bool
+        ensures { result ≡ bytes_eq self.now name.now }
+    {
+        *self.name == *name
+    }
+}
+
+impl<'a> Criterion for Protocol<'a> {
+    ghost use Rattle.std.specs.Prelude.{◌≡◌, ◌==◌, length};
+    ghost use Rattle.std.specs.Str.{bytes_eq};
+    ghost use Rattle.ev_types.specs.FilterChains.{application_protocols};
+
+    ghost same = { bytes_eq };
+
+    ghost values = { application_protocols };
+
+    fn is_asked_by(&self, criteria: &FilterChainMatch) -> bool {
+        criteria
+            .application_protocols
+            .iter()
+            .any(|name| self.is(name))
+    }
+
+    fn is_unasked(criteria: &FilterChainMatch) -> bool
+        ensures { result ≡ (length (application_protocols criteria.now) == 0) }
+    {
+        criteria.application_protocols.len() == 0
+    }
+}
