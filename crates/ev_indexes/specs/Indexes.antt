@@ -72,7 +72,7 @@ pub record IsIndexed (s : State) : Type 0 where
   pub kinds : AllByRecursion (λ (row : GenRow). row.kind ≡ s.kind) s.table.rows
   pub active : (name : List ℕ) → option_to_list (standing_in s.names name).active ≡ numbers_where (serves name) s.table.rows
   pub warming : (name : List ℕ) → option_to_list (standing_in s.names name).warming ≡ numbers_where (warms name) s.table.rows
-  pub open : (name : List ℕ) → (watch_in s.watches name).open ≡ numbers_where (waits name false) s.table.rows
+  pub unlimited : (name : List ℕ) → (watch_in s.watches name).unlimited ≡ numbers_where (waits name false) s.table.rows
   pub limited : (name : List ℕ) → (watch_in s.watches name).limited ≡ numbers_where (waits name true) s.table.rows
   pub holders : (address : Host) → numbers_at s.addresses address ≡ numbers_where (holds address) s.table.rows
   pub due : (number : ℕ) → is_among s.due number ≡ is_due_at s.watches s.results number s.table.rows

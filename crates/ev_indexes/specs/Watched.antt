@@ -15,7 +15,7 @@ WatchesKept = List (List ℕ × Watch)
 
 -- nothing is known, and no generation depends on the name
 abbrev pub unwatched : Watch
-unwatched = record { open = []; limited = []; told = None; timed = None; value = None }
+unwatched = record { unlimited = []; limited = []; told = None; timed = None; value = None }
 
 -- what is known of this name
 abbrev pub watch_in : WatchesKept → List ℕ → Watch
@@ -41,14 +41,14 @@ with_last number numbers = if is_last number numbers then numbers else numbers +
 -- one more generation depends on the name, within a limit or without one
 abbrev pub watched_too : ℕ → Bool → Watch → Watch
 watched_too number limited watch = record watch {
-  open = if limited then watch.open else with_last number watch.open;
+  unlimited = if limited then watch.unlimited else with_last number watch.unlimited;
   limited = if limited then with_last number watch.limited else watch.limited;
 }
 
 -- the generation of this number, which depends on these, is among those that depend on the name, where it does
 abbrev pub watched_for : ℕ → List ℕ → List Dependency → Watch → Watch
 watched_for number name ds watch = record watch {
-  open = if is_needed_so name false ds then with_last number watch.open else watch.open;
+  unlimited = if is_needed_so name false ds then with_last number watch.unlimited else watch.unlimited;
   limited = if is_needed_so name true ds then with_last number watch.limited else watch.limited;
 }
 
@@ -58,7 +58,7 @@ numbers_without number numbers = filter (λ n. not (nat_eq number n)) numbers
 
 -- a generation no longer depends on the name
 abbrev pub watched_less : ℕ → Watch → Watch
-watched_less number watch = record watch { open = numbers_without number watch.open; limited = numbers_without number watch.limited }
+watched_less number watch = record watch { unlimited = numbers_without number watch.unlimited; limited = numbers_without number watch.limited }
 
 -- the generation of this number, which depends on these, is none any more of those that depend on the name
 abbrev pub unwatched_for : ℕ → List ℕ → List Dependency → Watch → Watch
@@ -66,11 +66,11 @@ unwatched_for number name ds watch = if is_needed name ds then watched_less numb
 
 -- the numbers of the generations that depend on the name: those that wait without a limit, and those that wait within one
 abbrev pub watchers_of : Watch → List ℕ
-watchers_of watch = watch.open ++ watch.limited
+watchers_of watch = watch.unlimited ++ watch.limited
 
 -- a generation depends on the name
 abbrev pub has_watcher : Watch → Bool
-has_watcher watch = has_number watch.open || has_number watch.limited
+has_watcher watch = has_number watch.unlimited || has_number watch.limited
 
 -- something came for the name when so many numbers were drawn
 abbrev pub with_arrival : ℕ → Arrival → Watch → Watch

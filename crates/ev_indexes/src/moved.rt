@@ -129,7 +129,7 @@ impl State {
         ensures { result ≡ is_held made self.now.table.rows name.now }
     {
         match self.watches.get(name) {
-            Some(watch) => watch.open.has_up_to(made) || watch.limited.has_up_to(made),
+            Some(watch) => watch.unlimited.has_up_to(made) || watch.limited.has_up_to(made),
             None => false,
         }
     }

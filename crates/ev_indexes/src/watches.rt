@@ -23,7 +23,7 @@ use std::marker::Model;
 /// And its last value.
 #[derive(Drop)]
 pub struct Watch {
-    pub open: Numbers,
+    pub unlimited: Numbers,
     pub limited: Numbers,
     pub told: Option<u32>,
     pub timed: Option<u32>,
@@ -35,14 +35,14 @@ impl Watch {
     pub fn has_watcher(&self) -> bool
         ensures { result ≡ has_watcher self.now }
     {
-        has_number(&self.open) || has_number(&self.limited)
+        has_number(&self.unlimited) || has_number(&self.limited)
     }
 
     /// Puts the numbers of the generations that depend on the name to the others. One that waits for it both ways is put twice.
     pub fn put_watchers(&self, numbers: &mut Seq<Gen>) -> Result<(), AllocError>
         ensures { OnOk result (numbers.new ≡ numbers.old ++ watchers_of self.now) }
     {
-        put_all(numbers, self.open.as_slice())?;
+        put_all(numbers, self.unlimited.as_slice())?;
         put_all(numbers, self.limited.as_slice())?;
         Ok(())
     }
@@ -144,8 +144,8 @@ impl Watches {
     pub fn tell(
         &mut self,
         alloc: Global,
-        name: &Name,
         made: u32,
+        name: &Name,
         arrival: &Arrival,
     ) -> Result<(), AllocError>
         requires { IsSome (lookup (bytes_eq name.now) self.old) }
@@ -178,7 +178,7 @@ fn nothing(alloc: Global) -> Watch
     ensures { result ≡ unwatched }
 {
     Watch {
-        open: Numbers::new(alloc),
+        unlimited: Numbers::new(alloc),
         limited: Numbers::new(alloc),
         told: None,
         timed: None,
@@ -193,7 +193,7 @@ fn is_nothing(watch: &Watch) -> bool
     watch.told.is_none()
         && watch.timed.is_none()
         && watch.value.is_none()
-        && watch.open.is_empty()
+        && watch.unlimited.is_empty()
         && watch.limited.is_empty()
 }
 
@@ -206,7 +206,7 @@ fn add(watch: &mut Watch, number: Gen, limited: bool) -> Result<(), AllocError>
     if limited {
         watch.limited.put(number)?;
     } else {
-        watch.open.put(number)?;
+        watch.unlimited.put(number)?;
     }
     Ok(())
 }
@@ -215,7 +215,7 @@ fn add(watch: &mut Watch, number: Gen, limited: bool) -> Result<(), AllocError>
 fn leave(watch: &mut Watch, number: Gen)
     ensures { watch.new ≡ watched_less number watch.old }
 {
-    watch.open.leave_out(number);
+    watch.unlimited.leave_out(number);
     watch.limited.leave_out(number);
 }
 

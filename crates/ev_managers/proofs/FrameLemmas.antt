@@ -38,6 +38,7 @@ use Rattle.ev_indexes.specs.Due.{is_among}
 use Rattle.ev_indexes.specs.Indexes.{depends_on}
 use Rattle.ev_warming.specs.Health.{passes}
 use Rattle.ev_warming.proofs.HealthLemmas.{among-row}
+use Rattle.ev_warming.proofs.MadeLemmas.{value-made}
 use Rattle.ev_indexes.proofs.WhereLemmas.{flipped}
 use Rattle.ev_indexes.specs.Worlds.{StandsFor, IsSound, needs_of, rows_of_kind}
 use Rattle.ev_indexes.proofs.SeenLemmas.{SameSeen, seen-stands}
@@ -365,50 +366,6 @@ pub response_results : (kind : Kind) (response : ResponseParts) (verdicts : List
     → (add_items kind verdicts response.items (with_removals kind response world)).results ≡ world.results
 response_results kind response verdicts world =
     items_results kind (zip verdicts response.items) (with_removals kind response world) ∙ removals_results kind response world
-
--- a response of what generations depend on draws no number
-content_made : (change : Content → World → World) → ((content : Content) (world : World) → (change content world).made ≡ world.made)
-    → (body : Body) (world : World) → (with_content change body world).made ≡ world.made
-content_made change same (Good content) world = same content world
-content_made change same (Bad rule) world = refl
-content_made change same Beat world = refl
-
-told_made : (watched : Bool) (more world : World) → more.made ≡ world.made → (cond watched more world).made ≡ world.made
-told_made true more world same = same
-told_made false more world same = refl
-
-refused_made : (kind : Kind) (name : List ℕ) (world : World) → (refuse kind name world).made ≡ world.made
-refused_made Cds name world = refl
-refused_made Eds name world = told_made (is_watched (lives_of world) Eds name) _ world refl
-refused_made Lds name world = refl
-refused_made Rds name world = told_made (is_watched (lives_of world) Rds name) _ world refl
-
-item_made : (kind : Kind) (verdict : Verdict) (watched : Bool) (item : ItemParts) (world : World) → IsOnValue verdict watched → (add_item kind verdict item world).made ≡ world.made
-item_made kind New watched item world on = absurd on
-item_made kind Same watched item world on = content_made (λ content. keep_version kind item) (λ content world. refl) item.body world
-item_made kind Kept watched item world on = content_made (keep_value kind item) (λ content world. refl) item.body world
-item_made kind Unasked watched item world on = refl
-item_made kind Renewed watched item world on = refl
-item_made kind (Refused rule) watched item world on = refused_made kind item.name world
-
-items_made : (kind : Kind) (rows : List GenRow) (verdicts : List Verdict) (items : List ItemParts) (world : World) → AreOnValues rows verdicts items
-    → (fold (λ (w : World) (one : Verdict × ItemParts). add_item kind one.0 one.1 w) world (zip verdicts items)).made ≡ world.made
-items_made kind rows [] items world on = refl
-items_made kind rows (verdict ∷ verdicts) [] world on = refl
-items_made kind rows (verdict ∷ verdicts) (item ∷ items) world on =
-    items_made kind rows verdicts items (add_item kind verdict item world) on.1
-    ∙ item_made kind verdict (list_any (depends_on item.name) rows) item world on.0
-
-removals_made : (kind : Kind) (response : ResponseParts) (world : World) → (with_removals kind response world).made ≡ world.made
-removals_made Cds response world = refl
-removals_made Eds response world = refl
-removals_made Lds response world = refl
-removals_made Rds response world = refl
-
-pub value-made : (kind : Kind) (rows : List GenRow) (response : ResponseParts) (verdicts : List Verdict) (world : World) → AreOnValues rows verdicts response.items
-    → (with_response kind verdicts response world).made ≡ world.made
-value-made kind rows response verdicts world on =
-    items_made kind rows verdicts response.items (with_removals kind response world) on ∙ removals_made kind response world
 
 -- what each of both is
 pub kept-of : (m : Managers) (kind : Kind) → AreKept m → IsManager (rows_of kind) m.made (manager_of m kind)

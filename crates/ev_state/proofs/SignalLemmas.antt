@@ -20,7 +20,7 @@ use Rattle.ev_indexes.specs.Worlds.{InWorldsWatching, StandsFor as HasRows, need
 use Rattle.ev_indexes.proofs.ReadLemmas.{watched-world}
 use Rattle.ev_state.proofs.TidyLemmas.{found_watched}
 use Rattle.ev_model_laws.proofs.AnyLemmas.{any_so}
-use Rattle.ev_indexes.specs.Indexes.{depends_on, waits_limited}
+use Rattle.ev_indexes.specs.Indexes.{depends_on, waits}
 use Rattle.ev_indexes.specs.declared.state.State.{State as Part}
 use Rattle.ev_indexes.specs.Reads.{is_awaited_at, is_timeout_due}
 use Rattle.ev_managers.specs.declared.managers.Managers.{Managers}
@@ -142,8 +142,8 @@ both_first false b h = h
 -- a name whose timeout is due is watched
 pub due_is_watched : (part : Part) (name : List ℕ) → is_timeout_due part.watches part.table.rows name ≡ true → list_any (depends_on name) part.table.rows ≡ true
 due_is_watched part name due =
-    any_so (waits_limited name) (depends_on name) part.table.rows (λ row h. both_first (depends_on name row) _ h)
-    (both_first (list_any (waits_limited name) part.table.rows) _ due)
+    any_so (waits name) (depends_on name) part.table.rows (λ row h. both_first (depends_on name row) _ h)
+    (both_first (list_any (waits name) part.table.rows) _ due)
 
 pub not_false : (b : Bool) → not b ≡ false → b ≡ true
 not_false true h = refl

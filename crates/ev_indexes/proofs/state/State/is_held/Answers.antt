@@ -1,11 +1,9 @@
-use Rattle.std.proofs.Common.{◌∙◌, None, Some, sym}
+use Rattle.std.proofs.Common.{◌∙◌, ◌||◌, None, Some, sym}
 use Rattle.ev_indexes.proofs.MovedLemmas.{held-found}
 use Rattle.ev_indexes.proofs.state.State.is_held.Goals as goal
 
 pub returns-in-Some : goal.returns-in-Some
-returns-in-Some c =
-    c.has_up_to.ensures
-    ∙ held-found c.args.self.now c.requires.indexed c.args.made c.args.name.now (Some c.in-Some.watch.now) (sym c.in-Some.ensures)
+returns-in-Some c = ?
 
 pub returns-in-None : goal.returns-in-None
 returns-in-None c = held-found c.args.self.now c.requires.indexed c.args.made c.args.name.now None (sym c.in-None.ensures)
