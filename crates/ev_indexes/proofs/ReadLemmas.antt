@@ -115,6 +115,18 @@ names-world s world stands rowed =
     same-names (names_watched s.table.rows) (watched_of world (needs_of s.kind)) (sorted-in_order (names_needed s.table.rows)) (sorted-in_order _)
     (λ name. among-watched s.table.rows name ∙ watched-world s world stands rowed name ∙ sym (among_watched (lives_of world) (needs_of s.kind) name))
 
+-- who still waits is one of those that wait within a limit
+pub still-waits : (name : List ℕ) (watch : Watch) (r : GenRow) → is_waiting_in name watch r ≡ true → waits name true r ≡ true
+still-waits name watch r h =
+    let p = and_parts (is_live r.status) (list_any (awaits_in name watch r.number) (dependencies_of r.content)) h in
+    λ i. p.0 i && any-wider (awaits_in name watch r.number) (is_need name true) (λ d w. one d w) (dependencies_of r.content) p.1 i
+  where
+    one : (d : Dependency) → awaits_in name watch r.number d ≡ true → is_need name true d ≡ true
+    one d w =
+        let q = and_parts (bytes_eq d.name name && d.limited) (not (counts_for r.number d watch.told || counts_for r.number d watch.timed)) w in
+        let n = and_parts (bytes_eq d.name name) d.limited q.0 in
+        λ i. bool_same (n.1 i) true && n.0 i
+
 -- a look-up of a name finds who depends on it
 module _ (s : State) (x : IsIndexed s) (name : List ℕ) (o : Option Watch) (found : lookup (bytes_eq name) s.watches ≡ o) where
   pub watcher-found : has_watcher (unwrap_or o unwatched) ≡ list_any (depends_on name) s.table.rows
@@ -126,20 +138,8 @@ module _ (s : State) (x : IsIndexed s) (name : List ℕ) (o : Option Watch) (fou
   pub limited-found : (unwrap_or o unwatched).limited ≡ numbers_where (waits name true) s.table.rows
   limited-found = (λ i. (sym (kept_at-found unwatched s.watches name o found) i).limited) ∙ x.limited name
 
-  -- who still waits is one of those that wait within a limit
-  narrower : (watch : Watch) (r : GenRow) → is_waiting_in name watch r ≡ true → waits name true r ≡ true
-  narrower watch r h =
-      let p = and_parts (is_live r.status) (list_any (awaits_in name watch r.number) (dependencies_of r.content)) h in
-      λ i. p.0 i && any-wider (awaits_in name watch r.number) (is_need name true) (λ d w. one d w) (dependencies_of r.content) p.1 i
-    where
-      one : (d : Dependency) → awaits_in name watch r.number d ≡ true → is_need name true d ≡ true
-      one d w =
-          let q = and_parts (bytes_eq d.name name && d.limited) (not (counts_for r.number d watch.told || counts_for r.number d watch.timed)) w in
-          let n = and_parts (bytes_eq d.name name) d.limited q.0 in
-          λ i. bool_same (n.1 i) true && n.0 i
-
   pub timeout-found : is_one_waiting name (unwrap_or o unwatched) s.table.rows (unwrap_or o unwatched).limited ≡ is_timeout_due s.watches s.table.rows name
   timeout-found =
       ap (is_one_waiting name (unwrap_or o unwatched) s.table.rows) limited-found
-      ∙ any-where (waits name true) (is_waiting_in name (unwrap_or o unwatched)) (narrower (unwrap_or o unwatched)) s.table.rows x.table.apart
+      ∙ any-where (waits name true) (is_waiting_in name (unwrap_or o unwatched)) (still-waits name (unwrap_or o unwatched)) s.table.rows x.table.apart
       ∙ (λ i. list_any (is_waiting_in name (sym (kept_at-found unwatched s.watches name o found) i)) s.table.rows)

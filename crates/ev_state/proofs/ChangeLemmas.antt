@@ -21,8 +21,8 @@ use Rattle.ev_indexes.specs.Needs.{is_needed}
 use Rattle.ev_indexes.proofs.WhereLemmas.{own-rows}
 use Rattle.ev_state.specs.Ages.{IsLater, AreLater}
 use Rattle.ev_state.proofs.AgeLemmas.{found-later, found-earlier}
-use Rattle.ev_state.proofs.NameLists.{needs_it, is_watcher, sorted-in_order, other-in_order, same-names, among-watched, among-lost, among-gained}
-use Rattle.ev_state.proofs.WatchedNames.{among_other}
+use Rattle.ev_state.proofs.NameLists.{needs_it, is_watcher, among-lost, among-gained}
+use Rattle.ev_indexes.proofs.NameLemmas.{among_other, sorted-in_order, other-in_order, same-names, among-watched}
 
 -- an element that passes is there
 record Passing {X : Type 0} (Q : X → Type 0) (p : X → Bool) : Type 0 where

@@ -1,31 +1,17 @@
--- Sorted lists of names, each once: two with the same names are one, and what stands in those that generations left and brought.
+-- What stands in the sorted lists of names that generations left and brought.
 use Rattle.std.proofs.Common.{◌≡◌, ◌∙◌, ℕ, ◌-◌, Bool, true, false, cond, not, ◌&&◌, ◌||◌, List, [], ◌∷◌, Option, None, Some, option_to_list, refl, sym, ap, subst}
-use Rattle.std.proofs.Math.Bool.{or-false}
 use Rattle.std.specs.Prelude.{nat_le}
-use Rattle.std.specs.Cmp.Lexicographic.{slice_cmp}
-use Rattle.std.specs.List.{AllByRecursion, list_any, flat_map}
-use Rattle.std.specs.List.Sorted.{IsStrictlySortedBy}
-use Rattle.std.specs.Ordering.{nat_cmp}
-use Rattle.std.specs.Str.{bytes_eq}
-use Rattle.std.proofs.lemmas.Bool.{false≢true}
-use Rattle.std.proofs.lemmas.Cmp.{nat_list_cmp_total}
-use Rattle.std.proofs.lemmas.List.Folds.{list_any-append}
-use Rattle.std.proofs.lemmas.List.Kept.{IsStrictlySortedBy-filter}
-use Rattle.std.proofs.lemmas.Map.Text.{is_eq-slice_cmp}
-use Rattle.ev_types.specs.Same.{bytes_decide}
+use Rattle.std.specs.List.{list_any, flat_map}
 use Rattle.ev_types.specs.Statuses.{is_live}
 use Rattle.ev_types.specs.declared.contents.Content.{Content}
 use Rattle.ev_types.specs.declared.rows.GenRow.{GenRow}
-use Rattle.ev_model.specs.Requests.{other_than}
 use Rattle.ev_model.specs.Verdicts.{is_among}
-use Rattle.ev_model.specs.Watching.{sorted_names, dependencies_of}
+use Rattle.ev_model.specs.Watching.{dependencies_of}
 use Rattle.ev_generations.specs.Tables.{row_in}
 use Rattle.ev_indexes.specs.Indexes.{depends_on}
-use Rattle.ev_indexes.specs.Reads.{live_rows, names_needed, names_watched}
 use Rattle.ev_indexes.specs.Moved.{is_held, free_needs, needs_found, live_needs_found, needs_lost, needs_gained, numbers_after, names_lost, names_gained}
-use Rattle.ev_indexes.specs.Needs.{is_needed}
-use Rattle.ev_indexes.proofs.SortLemmas.{sorted-unique, sorted_by-dedup}
-use Rattle.ev_state.proofs.WatchedNames.{among_sorted, among_failing}
+use Rattle.ev_indexes.specs.Needs.{is_needed, names_of, needs_at, places_of}
+use Rattle.ev_indexes.proofs.NameLemmas.{among_sorted, among_failing, among_flat, among_places}
 
 any_both : {X : Type 0} (p q : X → Bool) (b : Bool) → ((x : X) → q x ≡ (p x && b)) → (xs : List X) → list_any q xs ≡ (list_any p xs && b)
 any_both p q b same [] = refl
@@ -51,8 +37,8 @@ is_watcher name (Some row) = depends_on name row
 module _ (made : ℕ) (rows : List GenRow) (name : List ℕ) where
   among_free : (content : Content) → is_among name (free_needs made rows content) ≡ (is_needed name (dependencies_of content) && not (is_held made rows name))
   among_free content =
-      among_failing (is_held made rows) (option_to_list (dependencies_of content)) name
-      ∙ ap (λ b. b && not (is_held made rows name)) (among_need name (dependencies_of content))
+      among_failing (is_held made rows) (names_of (needs_at (places_of content))) name
+      ∙ ap (λ b. b && not (is_held made rows name)) (among_places name content)
 
   among_lost : (number : ℕ) → is_among name (needs_lost made rows number) ≡ ((nat_le number made && needs_it name (row_in number rows)) && not (is_held made rows name))
   among_lost number = by (nat_le number made) (row_in number rows)

@@ -16,7 +16,7 @@ use Rattle.ev_types.specs.declared.rows.GenRow.{GenRow}
 use Rattle.ev_model.specs.World.{World, Arrived, HealthResult}
 use Rattle.ev_model.specs.Live.{live_of, lives_of}
 use Rattle.ev_model.specs.Watching.{has_dependency, is_watched, is_by_name, dependencies_of}
-use Rattle.ev_model.specs.Warming.{content_in, is_word, is_timeout, last_told, last_timed, value_by, has_result, is_healthy, is_result_of, assignment_by, is_for, last_made}
+use Rattle.ev_model.specs.Warming.{content_in, is_word, is_timeout, last_told, last_timed, value_by, has_result, is_healthy, is_result_of, assignment_by, is_for}
 use Rattle.ev_model.specs.Tidy.{arrivals_watched, without_unwatched, is_result_due, without_old_results}
 use Rattle.ev_endpoints.specs.Results.{ResultsKept, result_in}
 use Rattle.ev_generations.specs.Tables.{row_in, numbers_of}
@@ -34,7 +34,7 @@ use Rattle.ev_indexes.proofs.SoundLemmas.{contents-of}
 use Rattle.ev_indexes.proofs.DependencyLemmas.{has_dependency-of}
 use Rattle.ev_indexes.proofs.WorldLemmas.{hosts-by}
 use Rattle.ev_warming.proofs.ForgettingLemmas.{busy-same, loses-same, tidy-forgot}
-use Rattle.ev_warming.proofs.SortedLemmas.{sort-for}
+use Rattle.ev_warming.proofs.SortedLemmas.{last_made-same, value_by-same}
 
 -- who is watched in the world
 
@@ -196,21 +196,6 @@ module _ (s : State) (stale : List ℕ) (tidy : IsTidyBut s stale) (watches : Wa
       left-for (lives_of world) world.arrivals (needs_of s.kind) q
       ∙ (λ i. cond ((watched-same s world stands rows q ∙ e) i) (filter (is_for (needs_of s.kind) q) world.arrivals) [])
 
-  -- the last of a sort, of what came for a name
-  abbrev last_in : (Arrival → Bool) → List Arrived → Option ℕ
-  last_in is came = last_or None (map (λ (a : Arrived). a.made) (filter (λ (a : Arrived). is a.arrival) came))
-
-  last-busy : (is : Arrival → Bool) (q : List ℕ) → list_any (depends_on q) s.table.rows ≡ true → last_made is world.arrivals (needs_of s.kind) q ≡ last_made is arrivals (needs_of s.kind) q
-  last-busy is q e =
-      (λ i. last_or None (map (λ (a : Arrived). a.made) (sort-for is world.arrivals (needs_of s.kind) q i)))
-      ∙ ap (last_in is) (sym (came-busy q e))
-      ∙ (λ i. last_or None (map (λ (a : Arrived). a.made) (sym (sort-for is arrivals (needs_of s.kind) q) i)))
-
-  last-idle : (is : Arrival → Bool) (q : List ℕ) → list_any (depends_on q) s.table.rows ≡ false → None ≡ last_made is arrivals (needs_of s.kind) q
-  last-idle is q e =
-      ap (last_in is) (sym (came-idle q e))
-      ∙ (λ i. last_or None (map (λ (a : Arrived). a.made) (sym (sort-for is arrivals (needs_of s.kind) q) i)))
-
   busy : (q : List ℕ) → list_any (depends_on q) s.table.rows ≡ true → watch_in watches q ≡ watch_in s.watches q
   busy q e = busy-same s.table.rows s.watches watches (is_need_of s.table.rows stale) forgot q e
 
@@ -221,22 +206,22 @@ module _ (s : State) (stale : List ℕ) (tidy : IsTidyBut s stale) (watches : Wa
   told q = by (list_any (depends_on q) s.table.rows) refl
     where
       by : (b : Bool) → list_any (depends_on q) s.table.rows ≡ b → (watch_in watches q).told ≡ last_told arrivals (needs_of s.kind) q
-      by true e = (λ i. (busy q e i).told) ∙ stands.told q ∙ last-busy is_word q e
-      by false e = (idle q e).told ∙ last-idle is_word q e
+      by true e = (λ i. (busy q e i).told) ∙ stands.told q ∙ last_made-same is_word world.arrivals arrivals (needs_of s.kind) q (sym (came-busy q e))
+      by false e = (idle q e).told ∙ last_made-same is_word [] arrivals (needs_of s.kind) q (sym (came-idle q e))
 
   timed : (q : List ℕ) → (watch_in watches q).timed ≡ last_timed arrivals (needs_of s.kind) q
   timed q = by (list_any (depends_on q) s.table.rows) refl
     where
       by : (b : Bool) → list_any (depends_on q) s.table.rows ≡ b → (watch_in watches q).timed ≡ last_timed arrivals (needs_of s.kind) q
-      by true e = (λ i. (busy q e i).timed) ∙ stands.timed q ∙ last-busy is_timeout q e
-      by false e = (idle q e).timed ∙ last-idle is_timeout q e
+      by true e = (λ i. (busy q e i).timed) ∙ stands.timed q ∙ last_made-same is_timeout world.arrivals arrivals (needs_of s.kind) q (sym (came-busy q e))
+      by false e = (idle q e).timed ∙ last_made-same is_timeout [] arrivals (needs_of s.kind) q (sym (came-idle q e))
 
   value : (q : List ℕ) → (watch_in watches q).value ≡ value_by arrivals (needs_of s.kind) q
   value q = by (list_any (depends_on q) s.table.rows) refl
     where
       by : (b : Bool) → list_any (depends_on q) s.table.rows ≡ b → (watch_in watches q).value ≡ value_by arrivals (needs_of s.kind) q
-      by true e = (λ i. (busy q e i).value) ∙ stands.value q ∙ sym (ap (λ (xs : List Arrived). last_or None (filter_map content_in (map (λ (a : Arrived). a.arrival) xs))) (came-busy q e))
-      by false e = (idle q e).value ∙ sym (ap (λ (xs : List Arrived). last_or None (filter_map content_in (map (λ (a : Arrived). a.arrival) xs))) (came-idle q e))
+      by true e = (λ i. (busy q e i).value) ∙ stands.value q ∙ value_by-same world.arrivals arrivals (needs_of s.kind) q (sym (came-busy q e))
+      by false e = (idle q e).value ∙ value_by-same [] arrivals (needs_of s.kind) q (sym (came-idle q e))
 
   -- the machine keeps the results that the state keeps
   module _ (n : ℕ) (h : Host) (row : GenRow) (at : row_in n s.table.rows ≡ Some row) where
