@@ -1,12 +1,13 @@
 -- What a content depends on, place by place and each once: a test that one of them passes, or all of them, is the same of both.
-use Rattle.std.proofs.Common.{◌≡◌, ◌∙◌, ◌<◌, ◌+◌, ℕ, Bool, true, false, cond, not, ◌&&◌, ◌||◌, List, [], ◌∷◌, ◌++◌, Option, None, Some, option_to_list, option_and_then, unwrap_or, map, filter, length, take, get_or, refl, sym, ap, subst, true≢false, append-nil}
+use Rattle.std.proofs.Common.{◌≡◌, ◌∙◌, ◌<◌, ◌+◌, ℕ, Bool, true, false, cond, not, ◌&&◌, ◌||◌, List, [], ◌∷◌, ◌++◌, Option, None, Some, option_to_list, option_and_then, unwrap_or, map, filter, length, take, get_or, refl, sym, ap, subst, true≢false, append-nil, zero, suc, ◌≤◌}
 use Rattle.std.specs.List.{list_any, list_all, flat_map, AllByRecursion}
 use Rattle.std.specs.Str.{bytes_eq}
 use Rattle.std.proofs.Math.Bool.{and-false}
 use Rattle.std.proofs.lemmas.Bool.{and_parts}
 use Rattle.std.proofs.lemmas.Grind.{flat_map-append}
-use Rattle.std.proofs.lemmas.List.{take_more}
+use Rattle.std.proofs.lemmas.List.{take_more, take_all, map-append}
 use Rattle.std.proofs.lemmas.Option.{slice_get-get_or}
+use Rattle.std.proofs.lemmas.List.Folds.{list_any-append, list_all-append}
 use Rattle.ev_types.specs.Items.{content_kind}
 use Rattle.ev_types.specs.Kinds.{kind_same, kind_decides}
 use Rattle.ev_types.specs.Same.{bool_same, bool_decides, bytes_decide}
@@ -19,7 +20,7 @@ use Rattle.ev_types.specs.declared.listeners.FilterChain.{FilterChain}
 use Rattle.ev_types.specs.declared.listeners.Serve.{Serve}
 use Rattle.ev_types.specs.declared.listeners.Serve.TheVariants.{Rds as by_rds, Inline, Tcp, Other}
 use Rattle.ev_model.specs.Watching.{Dependency, dependency_same, each_once, dependencies_of, serve_dependencies, serves_of}
-use Rattle.ev_indexes.specs.Needs.{discovery_need, serve_need, listener_places, places_of, need_at, needs_at}
+use Rattle.ev_indexes.specs.Needs.{discovery_need, serve_need, listener_places, places_of, need_at, needs_at, names_of}
 use Rattle.ev_indexes.specs.Worlds.{needs_of}
 
 -- one place more
@@ -153,3 +154,57 @@ dependency-kinds (a_listener listener) = each-places (λ (d : Dependency). d.kin
     chains [] = one listener.default_filter_chain [] tt
     chains (c ∷ cs) = one (Some c.serve) _ (chains cs)
 dependency-kinds (routes table) = tt
+
+-- a walk from place to place: one that passes settles that one does
+any-place : (p : Dependency → Bool) (places : List (Option Dependency)) (i : ℕ) → list_any p (option_to_list (need_at places i)) ≡ true → list_any p (needs_at places) ≡ true
+any-place p [] i h = absurd (true≢false (sym h))
+any-place p (o ∷ places) zero h = list_any-append p (option_to_list o) (needs_at places) ∙ ap (λ b. b || list_any p (needs_at places)) h
+any-place p (o ∷ places) (suc i) h =
+    list_any-append p (option_to_list o) (needs_at places) ∙ (λ k. list_any p (option_to_list o) || any-place p places i h k) ∙ late (list_any p (option_to_list o))
+  where
+    late : (b : Bool) → (b || true) ≡ true
+    late true = refl
+    late false = refl
+
+pub any-early : (p : Dependency → Bool) (content : Content) (i : ℕ) → list_any p (option_to_list (need_at (places_of content) i)) ≡ true → list_any p (dependencies_of content) ≡ true
+any-early p content i h = sym (any-places p content) ∙ any-place p (places_of content) i h
+
+-- where none has passed so far, and none does here, none has passed
+pub any-more : (p : Dependency → Bool) (places : List (Option Dependency)) (i : ℕ) → i < length places
+    → list_any p (needs_at (take i places)) ≡ false → list_any p (option_to_list (need_at places i)) ≡ false → list_any p (needs_at (take (i + 1) places)) ≡ false
+any-more p places i within before here =
+    ap (list_any p) (needs_at-more places i within) ∙ list_any-append p (needs_at (take i places)) (option_to_list (need_at places i))
+    ∙ (λ k. before k || list_any p (option_to_list (need_at places i))) ∙ here
+
+-- and once all places were met, none does
+pub any-done : (p : Dependency → Bool) (content : Content) (i : ℕ) → length (places_of content) ≤ i → list_any p (needs_at (take i (places_of content))) ≡ false
+    → list_any p (dependencies_of content) ≡ false
+any-done p content i done before =
+    sym (any-places p content) ∙ (λ k. list_any p (needs_at (sym (take_all i (places_of content) done) k))) ∙ before
+
+-- one that fails settles that not all pass
+all-place : (p : Dependency → Bool) (places : List (Option Dependency)) (i : ℕ) → list_all p (option_to_list (need_at places i)) ≡ false → list_all p (needs_at places) ≡ false
+all-place p [] i h = absurd (true≢false h)
+all-place p (o ∷ places) zero h = list_all-append p (option_to_list o) (needs_at places) ∙ ap (λ b. b && list_all p (needs_at places)) h
+all-place p (o ∷ places) (suc i) h =
+    list_all-append p (option_to_list o) (needs_at places) ∙ (λ k. list_all p (option_to_list o) && all-place p places i h k) ∙ and-false (list_all p (option_to_list o))
+
+pub all-early : (p : Dependency → Bool) (content : Content) (i : ℕ) → list_all p (option_to_list (need_at (places_of content) i)) ≡ false → list_all p (dependencies_of content) ≡ false
+all-early p content i h = sym (all-places p content) ∙ all-place p (places_of content) i h
+
+pub all-more : (p : Dependency → Bool) (places : List (Option Dependency)) (i : ℕ) → i < length places
+    → list_all p (needs_at (take i places)) ≡ true → list_all p (option_to_list (need_at places i)) ≡ true → list_all p (needs_at (take (i + 1) places)) ≡ true
+all-more p places i within before here =
+    ap (list_all p) (needs_at-more places i within) ∙ list_all-append p (needs_at (take i places)) (option_to_list (need_at places i))
+    ∙ (λ k. before k && list_all p (option_to_list (need_at places i))) ∙ here
+
+pub all-done : (p : Dependency → Bool) (content : Content) (i : ℕ) → length (places_of content) ≤ i → list_all p (needs_at (take i (places_of content))) ≡ true
+    → list_all p (dependencies_of content) ≡ true
+all-done p content i done before =
+    sym (all-places p content) ∙ (λ k. list_all p (needs_at (sym (take_all i (places_of content) done) k))) ∙ before
+
+-- names that are gathered place by place
+pub names-more : (places : List (Option Dependency)) (i : ℕ) → i < length places
+    → names_of (needs_at (take (i + 1) places)) ≡ names_of (needs_at (take i places)) ++ names_of (option_to_list (need_at places i))
+names-more places i within =
+    ap names_of (needs_at-more places i within) ∙ map-append (λ (d : Dependency). d.name) (needs_at (take i places)) (option_to_list (need_at places i))

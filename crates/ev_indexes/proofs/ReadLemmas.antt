@@ -1,6 +1,6 @@
 -- What is read of a state that stands for a world is what the machine reads of the world.
 use Rattle.std.proofs.Common.{◌≡◌, ◌∙◌, ℕ, Bool, true, false, cond, not, ◌&&◌, ◌||◌, List, [], ◌∷◌, ◌++◌, Option, unwrap_or, map, filter, refl, sym, ap, true≢false}
-use Rattle.std.specs.List.{list_any, AllByRecursion}
+use Rattle.std.specs.List.{list_any, AllByRecursion, flat_map}
 use Rattle.std.specs.Map.{lookup}
 use Rattle.std.specs.Str.{bytes_eq}
 use Rattle.std.proofs.lemmas.Bool.{and_parts}
@@ -16,7 +16,7 @@ use Rattle.ev_model.specs.World.{World}
 use Rattle.ev_model.specs.Live.{live_of, lives_of}
 use Rattle.ev_model.specs.Signals.{awaits, is_waiting, is_awaited}
 use Rattle.ev_model.specs.Warming.{counts_for, has_word, has_timeout, last_told, last_timed}
-use Rattle.ev_model.specs.Watching.{Dependency, dependencies_of, is_by_name, is_dependency, has_dependency, is_watched, watched_of}
+use Rattle.ev_model.specs.Watching.{Dependency, dependencies_of, is_by_name, is_dependency, has_dependency, is_watched, watched_of, names_awaited}
 use Rattle.ev_indexes.specs.declared.state.State.{State}
 use Rattle.ev_indexes.specs.declared.watches.Watch.{Watch}
 use Rattle.ev_indexes.specs.Watched.{unwatched, watch_in, has_watcher, watchers_of}
@@ -112,7 +112,8 @@ lives-world kind (row ∷ rows) = by (kind_same row.kind kind) refl (is_live row
 
 pub names-world : (s : State) (world : World) → StandsFor s world → is_by_name s.kind ≡ false → names_watched s.table.rows ≡ watched_of world (needs_of s.kind)
 names-world s world stands rowed =
-    same-names (names_watched s.table.rows) (watched_of world (needs_of s.kind)) (sorted-in_order (names_needed s.table.rows)) (sorted-in_order _)
+    same-names (names_watched s.table.rows) (watched_of world (needs_of s.kind)) (sorted-in_order (names_needed s.table.rows))
+    (sorted-in_order (flat_map (λ (live : Live). names_awaited (needs_of s.kind) (dependencies_of live.content)) (lives_of world)))
     (λ name. among-watched s.table.rows name ∙ watched-world s world stands rowed name ∙ sym (among_watched (lives_of world) (needs_of s.kind) name))
 
 -- who still waits is one of those that wait within a limit

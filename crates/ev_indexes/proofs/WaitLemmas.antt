@@ -1,9 +1,11 @@
 -- Who depends on a name: those that wait for it without a limit, and those that wait within one.
-use Rattle.std.proofs.Common.{◌≡◌, ◌∙◌, ℕ, ◌++◌, Bool, true, false, cond, ◌&&◌, ◌||◌, nat_eq, List, [], ◌∷◌, Some, filter, refl, sym, ap, true≢false, not}
+use Rattle.std.proofs.Common.{◌≡◌, ◌∙◌, ℕ, ◌++◌, Bool, true, false, cond, ◌&&◌, ◌||◌, nat_eq, List, [], ◌∷◌, Some, filter, refl, sym, ap, true≢false, not, ◌-◌, ◌<◌, length, get_or, slice_get, arith, length-append}
 use Rattle.std.specs.List.{list_any, AllByRecursion, IsDistinct}
 use Rattle.std.specs.Str.{bytes_eq}
-use Rattle.std.proofs.lemmas.List.Folds.{list_any-append}
+use Rattle.std.proofs.lemmas.List.Folds.{list_any-append, list_any_at}
 use Rattle.std.proofs.lemmas.Bool.{eq-eqb}
+use Rattle.std.proofs.lemmas.Option.{slice_get-get_or}
+use Rattle.std.proofs.Math.Seq.{get_or-append_seam}
 use Rattle.ev_types.specs.Same.{bool_same}
 use Rattle.ev_types.specs.Statuses.{is_live}
 use Rattle.ev_types.specs.declared.rows.GenRow.{GenRow}
@@ -11,12 +13,12 @@ use Rattle.ev_model.specs.Watching.{Dependency, dependencies_of}
 use Rattle.ev_generations.specs.Tables.{row_in, numbers_of}
 use Rattle.ev_indexes.specs.declared.state.State.{State}
 use Rattle.ev_indexes.specs.Due.{is_among, has_number}
-use Rattle.ev_indexes.specs.Watched.{watch_in, has_watcher, watchers_of, is_last, with_last, watched_for, unwatched_for, watched_less, numbers_without}
+use Rattle.ev_indexes.specs.Watched.{watch_in, has_watcher, watchers_of, is_last, with_last, watched_for, unwatched_for, watched_less, numbers_without, is_other}
 use Rattle.ev_indexes.specs.Needs.{is_needed, is_need, is_needed_so}
 use Rattle.ev_indexes.specs.Indexes.{IsIndexed, depends_on, waits, numbers_where, numbers_waiting, passes}
 use Rattle.ev_indexes.specs.declared.watches.Watch.{Watch}
 use Rattle.ev_indexes.proofs.RowLemmas.{any-some}
-use Rattle.ev_indexes.proofs.WhereLemmas.{among-where, own-rows}
+use Rattle.ev_indexes.proofs.WhereLemmas.{among-where, own-rows, flipped}
 
 -- one passes where one passes the first test or one the second
 pub any-either : {X : Type 0} (p q r : X → Bool) → ((x : X) → p x ≡ (q x || r x)) → (xs : List X) → list_any p xs ≡ (list_any q xs || list_any r xs)
@@ -119,9 +121,13 @@ pub is_last-with_last : (n : ℕ) (xs : List ℕ) → is_last n (with_last n xs)
 is_last-with_last n xs = by (is_last n xs) refl
   where
     end : (ys : List ℕ) → is_last n (ys ++ n ∷ []) ≡ true
-    end [] = eq-eqb n n refl
-    end (y ∷ []) = eq-eqb n n refl
-    end (y ∷ z ∷ zs) = end (z ∷ zs)
+    end ys =
+        let last : length (ys ++ n ∷ []) - 1 ≡ length ys = omega (arith, length-append ys (n ∷ [])) in
+        let within : length ys < length (ys ++ n ∷ []) = omega (arith, length-append ys (n ∷ [])) in
+        (λ i. is_other n (slice_get (ys ++ n ∷ []) (last i)))
+        ∙ (λ i. is_other n (slice_get-get_or (ys ++ n ∷ []) (length ys) n within i))
+        ∙ (λ i. nat_eq (get_or-append_seam ys n [] n i) n)
+        ∙ eq-eqb n n refl
 
     by : (b : Bool) → is_last n xs ≡ b → is_last n (cond b xs (xs ++ n ∷ [])) ≡ true
     by true e = e
@@ -135,18 +141,19 @@ with_last-twice n xs = λ i. cond (is_last-with_last n xs i) (with_last n xs) (w
 pub with_last-far : (n : ℕ) (xs : List ℕ) → is_among xs n ≡ false → with_last n xs ≡ xs ++ n ∷ []
 with_last-far n xs away = λ i. cond (far xs away i) xs (xs ++ n ∷ [])
   where
-    first : (a b : Bool) → (a || b) ≡ false → a ≡ false
-    first true b h = absurd (true≢false h)
-    first false b h = refl
-
-    rest : (a b : Bool) → (a || b) ≡ false → b ≡ false
-    rest true b h = absurd (true≢false h)
-    rest false b h = h
-
     far : (ys : List ℕ) → is_among ys n ≡ false → is_last n ys ≡ false
     far [] h = refl
-    far (y ∷ []) h = first (nat_eq n y) false h
-    far (y ∷ z ∷ zs) h = far (z ∷ zs) (rest (nat_eq n y) (is_among (z ∷ zs) n) h)
+    far (y ∷ ys) h = by (is_last n (y ∷ ys)) refl
+      where
+        within : length (y ∷ ys) - 1 < length (y ∷ ys)
+        within = omega arith
+
+        read : is_last n (y ∷ ys) ≡ nat_eq (get_or (y ∷ ys) (length (y ∷ ys) - 1) y) n
+        read = λ i. is_other n (slice_get-get_or (y ∷ ys) (length (y ∷ ys) - 1) y within i)
+
+        by : (b : Bool) → is_last n (y ∷ ys) ≡ b → b ≡ false
+        by true e = absurd (true≢false (sym (list_any_at (nat_eq n) (y ∷ ys) (length (y ∷ ys) - 1) y within (flipped n (get_or (y ∷ ys) (length (y ∷ ys) - 1) y) ∙ sym read ∙ e)) ∙ h))
+        by false e = refl
 
 -- a generation that depends on some, and then on more
 pub watched_for-more : (n : ℕ) (name : List ℕ) (ds es : List Dependency) (watch : Watch) → watched_for n name es (watched_for n name ds watch) ≡ watched_for n name (ds ++ es) watch

@@ -87,9 +87,8 @@ limited-with_arrival made TimedOut watch = refl
 limited-with_arrival made (Ended content) watch = refl
 
 -- something came for a name, and its rows were looked at anew
-module _ (s : State) (name : List ℕ) (made : ℕ) (arrival : Arrival) (watches : WatchesKept) (due : List ℕ) (x : IsIndexed s)
-    (sets : Sets unwatched s.watches watches name (with_arrival made arrival (watch_in s.watches name)))
-    (looked : (n : ℕ) → is_among due n ≡ cond (is_among (watchers_of (watch_in watches name)) n) (is_due_at watches s.results n s.table.rows) (is_among s.due n)) where
+module _ (s : State) (name : List ℕ) (made : ℕ) (arrival : Arrival) (watches : WatchesKept) (x : IsIndexed s)
+    (sets : Sets unwatched s.watches watches name (with_arrival made arrival (watch_in s.watches name))) where
   part : {A : Type 0} (f : Watch → A) → ((watch : Watch) → f (with_arrival made arrival watch) ≡ f watch) → (q : List ℕ) → f (watch_in watches q) ≡ f (watch_in s.watches q)
   part f stays q = ap f (sets q) ∙ by (bytes_eq name q) refl
     where
@@ -118,8 +117,14 @@ module _ (s : State) (name : List ℕ) (made : ℕ) (arrival : Arrival) (watches
       by None e = refl
       by (Some row) e = over row e (is_warming row.status) refl (is_needed name (dependencies_of row.content)) refl
 
-  pub indexed-arrived : IsIndexed (record s { watches = watches; due = due })
-  indexed-arrived = record {
+  -- those that depend on the name are still known
+  pub waiting-after : watchers_of (watch_in watches name) ≡ numbers_waiting s.table.rows name
+  waiting-after = (λ i. part (λ (w : Watch). w.unlimited) (unlimited-with_arrival made arrival) name i ++ part (λ (w : Watch). w.limited) (limited-with_arrival made arrival) name i) ∙ watchers-index s x name
+
+  pub indexed-arrived : (due : List ℕ)
+      → ((n : ℕ) → is_among due n ≡ cond (is_among (watchers_of (watch_in watches name)) n) (is_due_at watches s.results n s.table.rows) (is_among s.due n))
+      → IsIndexed (record s { watches = watches; due = due })
+  indexed-arrived due looked = record {
     table = x.table;
     kinds = x.kinds;
     active = x.active;
@@ -131,15 +136,12 @@ module _ (s : State) (name : List ℕ) (made : ℕ) (arrival : Arrival) (watches
     drawn = x.drawn;
   }
     where
-      waiting : watchers_of (watch_in watches name) ≡ numbers_waiting s.table.rows name
-      waiting = (λ i. part (λ (w : Watch). w.unlimited) (unlimited-with_arrival made arrival) name i ++ part (λ (w : Watch). w.limited) (limited-with_arrival made arrival) name i) ∙ watchers-index s x name
-
       by : (n : ℕ) (b : Bool) → is_among (watchers_of (watch_in watches name)) n ≡ b
           → cond b (is_due_at watches s.results n s.table.rows) (is_among s.due n) ≡ is_due_at watches s.results n s.table.rows
       by n true e = refl
       by n false e =
           x.due n
-          ∙ sym (elsewhere n ((λ i. is_among (sym waiting i) n) ∙ e))
+          ∙ sym (elsewhere n ((λ i. is_among (sym waiting-after i) n) ∙ e))
 
 pub is_due_at-agrees : (old new : WatchesKept) (results : ResultsKept) → ((q : List ℕ) → Agrees old new q) → (n : ℕ) (rows : List GenRow) → is_due_at new results n rows ≡ is_due_at old results n rows
 is_due_at-agrees old new results agrees n rows = by (row_in n rows)

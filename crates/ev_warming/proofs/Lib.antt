@@ -21,3 +21,4 @@ pub mod JudgedLemmas
 pub mod QuietLemmas
 pub mod PromotedLemmas
 pub mod MadeLemmas
+pub mod PlaceLemmas

@@ -2,6 +2,7 @@
 -- documentation: values and results belong to what is watched.
 use Rattle.std.specs.Prelude.{◌≡◌, ℕ, Bool, false, not, ◌&&◌, nat_eq, if◌then◌else◌, List, [], Option, Some, None}
 use Rattle.std.specs.List.{list_any}
+use Rattle.std.specs.Str.{bytes_eq}
 use Rattle.ev_types.specs.SameHosts.{has_host}
 use Rattle.ev_types.specs.Statuses.{is_live}
 use Rattle.ev_types.specs.declared.hosts.Host.{Host}
@@ -50,6 +51,11 @@ pub record IsTidyBut (s : State) (stale : List ℕ) : Type 0 where
   pub marks : (name : List ℕ) → list_any (depends_on name) s.table.rows ≡ false → is_need_of s.table.rows stale name ≡ false → IsUnheard (watch_in s.watches name)
   pub results : (number : ℕ) (row : GenRow) (host : Host) → row_in number s.table.rows ≡ Some row → is_among stale number ≡ false → keeps_result s.watches host row ≡ false
       → result_in s.results number host ≡ None
+
+-- nothing is known any more of the name, where no generation depends on it, and of every other name what was known
+abbrev pub ForgetsIdle : WatchesKept → WatchesKept → List ℕ → Type 0
+ForgetsIdle old new name = (other : List ℕ) → watch_in new other
+    ≡ (if bytes_eq name other && not (has_watcher (watch_in old other)) then unwatched else watch_in old other)
 
 -- nothing is known any more of a name that one of these is on, where no generation depends on it, and of every other name what was known
 abbrev pub ForgetsNeeds : WatchesKept → WatchesKept → List Dependency → Type 0

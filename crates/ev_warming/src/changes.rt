@@ -369,8 +369,9 @@ fn unwatch_at(watches: &mut Watches, content: &Content, place: usize, number: Ge
     requires within { place < length (places_of content.now) }
     ensures { UnwatchesNeeds watches.old watches.new number (option_to_list (need_at (places_of content.now) place)) }
 {
-    if let Some(need) = need_at(content, place) {
-        watches.unwatch(need.name, number);
+    match need_at(content, place) {
+        Some(need) => watches.unwatch(need.name, number),
+        None => {}
     }
 }
 

@@ -11,7 +11,7 @@ ghost use Rattle.ev_indexes.specs.Watched.{watch_in, has_watcher};
 ghost use Rattle.ev_indexes.specs.Needs.{need_at, places_of};
 ghost use Rattle.ev_indexes.specs.Ready.{assignment_in};
 ghost use Rattle.ev_indexes.specs.Indexes.{IsIndexed};
-ghost use Rattle.ev_warming.specs.Forgetting.{IsTidyBut, ForgetsNeeds, ForgetsNeedsOf, TrimsRow, TrimsRowOf};
+ghost use Rattle.ev_warming.specs.Forgetting.{IsTidyBut, ForgetsIdle, ForgetsNeeds, ForgetsNeedsOf, TrimsRow, TrimsRowOf};
 ghost use Rattle.ev_warming.specs.Changes.{KeepsTable};
 ghost use Rattle.ev_warming.specs.Worlds.{Follows, without_unneeded};
 
@@ -147,11 +147,20 @@ fn forget_need(watches: &mut Watches, content: &Content, place: usize)
     requires within { place < length (places_of content.now) }
     ensures { ForgetsNeeds watches.old watches.new (option_to_list (need_at (places_of content.now) place)) }
 {
-    if let Some(need) = need_at(content, place) {
-        if is_idle(watches, need.name) {
-            watches.forget(need.name);
-        }
+    match need_at(content, place) {
+        Some(need) => forget_idle(watches, need.name),
+        None => {}
     }
+}
+
+// Forgets what came for a name that no live generation depends on.
+fn forget_idle(watches: &mut Watches, name: &Name)
+    ensures { ForgetsIdle watches.old watches.new name.now }
+{
+    if !is_idle(watches, name) {
+        return;
+    }
+    watches.forget(name);
 }
 
 // Whether no live generation depends on a name.
