@@ -159,9 +159,9 @@ with_last-far n xs away = λ i. cond (far xs away i) xs (xs ++ n ∷ [])
 pub watched_for-more : (n : ℕ) (name : List ℕ) (ds es : List Dependency) (watch : Watch) → watched_for n name es (watched_for n name ds watch) ≡ watched_for n name (ds ++ es) watch
 watched_for-more n name ds es watch = λ i. record watch {
   unlimited = (by (is_needed_so name false ds) (is_needed_so name false es) watch.unlimited
-  ∙ (λ j. cond (sym (list_any-append (is_need name false) ds es) j) (with_last n watch.unlimited) watch.unlimited)) i;
+      ∙ (λ j. cond (sym (list_any-append (is_need name false) ds es) j) (with_last n watch.unlimited) watch.unlimited)) i;
   limited = (by (is_needed_so name true ds) (is_needed_so name true es) watch.limited
-  ∙ (λ j. cond (sym (list_any-append (is_need name true) ds es) j) (with_last n watch.limited) watch.limited)) i;
+      ∙ (λ j. cond (sym (list_any-append (is_need name true) ds es) j) (with_last n watch.limited) watch.limited)) i;
 }
   where
     by : (a b : Bool) (xs : List ℕ) → cond b (with_last n (cond a (with_last n xs) xs)) (cond a (with_last n xs) xs) ≡ cond (a || b) (with_last n xs) xs

@@ -7,13 +7,14 @@ use Rattle.ev_indexes.proofs.state.State.is_held.Goals as goal
 pub returns-then-has_up_to : goal.returns-then-has_up_to
 returns-then-has_up_to c =
     let watch = c.in-Some.watch.now in
-    sym (ap (λ b. b || list_any (λ n. nat_le n c.args.made) watch.limited) (sym c.has_up_to.ensures ∙ c.if-has_up_to.true))
+    c.if-has_up_to.true
+    ∙ sym (ap (λ b. b || list_any (λ n. nat_le n c.args.made) watch.limited) (sym c.has_up_to.ensures ∙ c.if-has_up_to.true))
     ∙ held-found c.args.self.now c.requires.indexed c.args.made c.args.name.now (Some watch) (sym c.in-Some.ensures)
 
 pub returns-else-has_up_to : goal.returns-else-has_up_to
 returns-else-has_up_to c =
     let watch = c.in-Some.watch.now in
-    c.has_up_to-2.ensures
+    c.has_up_to-else-has_up_to.ensures
     ∙ sym (ap (λ b. b || list_any (λ n. nat_le n c.args.made) watch.limited) (sym c.has_up_to.ensures ∙ c.if-has_up_to.false))
     ∙ held-found c.args.self.now c.requires.indexed c.args.made c.args.name.now (Some watch) (sym c.in-Some.ensures)
 
