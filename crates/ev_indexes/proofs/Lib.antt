@@ -2,10 +2,13 @@ pub mod KeptLemmas
 pub mod NumberLemmas
 pub mod WhereLemmas
 pub mod SoundLemmas
+pub mod PlaceLemmas
 pub mod DependencyLemmas
 pub mod WorldLemmas
 pub mod NewLemmas
 pub mod SortLemmas
+pub mod WaitLemmas
+pub mod NameLemmas
 pub mod ReadLemmas
 pub mod ShownLemmas
 pub mod FoundLemmas

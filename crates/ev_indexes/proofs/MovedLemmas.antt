@@ -12,32 +12,33 @@ use Rattle.ev_generations.specs.Tables.{numbers_of}
 use Rattle.ev_indexes.specs.declared.state.State.{State}
 use Rattle.ev_indexes.specs.declared.watches.Watch.{Watch}
 use Rattle.ev_indexes.specs.Watched.{unwatched}
-use Rattle.ev_indexes.specs.Indexes.{IsIndexed, depends_on, numbers_where}
-use Rattle.ev_indexes.specs.Moved.{is_held, numbers_behind}
+use Rattle.ev_indexes.specs.Indexes.{IsIndexed, depends_on, waits, numbers_where}
+use Rattle.ev_indexes.specs.Moved.{is_held, numbers_after}
 use Rattle.ev_indexes.proofs.KeptLemmas.{kept_at-found}
+use Rattle.ev_indexes.proofs.WaitLemmas.{any-either, depends_on-waits}
 
 -- a walk begins with no number
-pub behind-none : {X : Type 0} (f : ℕ → List X) (made : ℕ) → [] ≡ flat_map f (numbers_behind made (made - made))
-behind-none f made =
+pub after-none : {X : Type 0} (f : ℕ → List X) (made : ℕ) → [] ≡ flat_map f (numbers_after made (made - made))
+after-none f made =
     let none : 0 ≡ made - made = omega arith in
-    λ i. flat_map f (numbers_behind made (none i))
+    λ i. flat_map f (numbers_after made (none i))
 
 -- and goes on by one
-pub behind-more : {X : Type 0} (f : ℕ → List X) (made number : ℕ) → made ≤ number
-    → flat_map f (numbers_behind made (number - made)) ++ f (number + 1) ≡ flat_map f (numbers_behind made ((number + 1) - made))
-behind-more f made number later =
+pub after-more : {X : Type 0} (f : ℕ → List X) (made number : ℕ) → made ≤ number
+    → flat_map f (numbers_after made (number - made)) ++ f (number + 1) ≡ flat_map f (numbers_after made ((number + 1) - made))
+after-more f made number later =
     let next : suc (number - made) ≡ (number + 1) - made = omega arith in
     let last : number + 1 ≡ made + suc (number - made) = omega arith in
-    (λ i. flat_map f (numbers_behind made (number - made)) ++ sym (append-nil (f (last i))) i)
-    ∙ sym (flat_map-append f (numbers_behind made (number - made)) ((made + suc (number - made)) ∷ []))
-    ∙ (λ i. flat_map f (numbers_behind made (next i)))
+    (λ i. flat_map f (numbers_after made (number - made)) ++ sym (append-nil (f (last i))) i)
+    ∙ sym (flat_map-append f (numbers_after made (number - made)) ((made + suc (number - made)) ∷ []))
+    ∙ (λ i. flat_map f (numbers_after made (next i)))
 
 -- it ends with the last number
-pub behind-all : {X : Type 0} (f : ℕ → List X) (made drawn number : ℕ) → drawn ≤ number → (made ≤ drawn → number ≤ drawn) → (drawn ≤ made → number ≡ made)
-    → flat_map f (numbers_behind made (number - made)) ≡ flat_map f (numbers_behind made (drawn - made))
-behind-all f made drawn number late early none =
+pub after-all : {X : Type 0} (f : ℕ → List X) (made drawn number : ℕ) → drawn ≤ number → (made ≤ drawn → number ≤ drawn) → (drawn ≤ made → number ≡ made)
+    → flat_map f (numbers_after made (number - made)) ≡ flat_map f (numbers_after made (drawn - made))
+after-all f made drawn number late early none =
     let all : number - made ≡ drawn - made = by (nat_le drawn made) refl in
-    λ i. flat_map f (numbers_behind made (all i))
+    λ i. flat_map f (numbers_after made (all i))
   where
     by : (b : Bool) → nat_le drawn made ≡ b → number - made ≡ drawn - made
     by true is =
@@ -49,10 +50,10 @@ behind-all f made drawn number late early none =
         let last : number ≤ drawn = early (omega arith) in
         omega arith
 
--- a name is held where the number of a generation that depends on it is one of the first
-held-by : (made : ℕ) (name : List ℕ) (rows : List GenRow) → list_any (λ n. nat_le n made) (numbers_where (depends_on name) rows) ≡ is_held made rows name
-held-by made name [] = refl
-held-by made name (row ∷ rows) = by (depends_on name row) (held-by made name rows)
+-- one of the numbers of the rows that pass is one of the first where one of the first rows passes
+first-where : (made : ℕ) (test : GenRow → Bool) (rows : List GenRow) → list_any (λ n. nat_le n made) (numbers_where test rows) ≡ list_any (λ (row : GenRow). nat_le row.number made && test row) rows
+first-where made test [] = refl
+first-where made test (row ∷ rows) = by (test row) (first-where made test rows)
   where
     and_true : (b : Bool) → b ≡ (b && true)
     and_true true = refl
@@ -62,15 +63,29 @@ held-by made name (row ∷ rows) = by (depends_on name row) (held-by made name r
     and_false true = refl
     and_false false = refl
 
-    by : (b : Bool) → list_any (λ n. nat_le n made) (numbers_where (depends_on name) rows) ≡ is_held made rows name
-        → list_any (λ n. nat_le n made) (numbers_of (cond b (row ∷ filter (depends_on name) rows) (filter (depends_on name) rows)))
-        ≡ ((nat_le row.number made && b) || is_held made rows name)
+    by : (b : Bool) → list_any (λ n. nat_le n made) (numbers_where test rows) ≡ list_any (λ (row : GenRow). nat_le row.number made && test row) rows
+        → list_any (λ n. nat_le n made) (numbers_of (cond b (row ∷ filter test rows) (filter test rows)))
+        ≡ ((nat_le row.number made && b) || list_any (λ (row : GenRow). nat_le row.number made && test row) rows)
     by true rest = λ i. and_true (nat_le row.number made) i || rest i
-    by false rest = rest ∙ (λ i. and_false (nat_le row.number made) i || is_held made rows name)
+    by false rest = rest ∙ (λ i. and_false (nat_le row.number made) i || list_any (λ (row : GenRow). nat_le row.number made && test row) rows)
+
+-- a name is held where one of those that wait for it, without a limit or within one, is one of the first
+held-by : (made : ℕ) (name : List ℕ) (rows : List GenRow)
+    → (list_any (λ n. nat_le n made) (numbers_where (waits name false) rows) || list_any (λ n. nat_le n made) (numbers_where (waits name true) rows)) ≡ is_held made rows name
+held-by made name rows =
+    (λ i. first-where made (waits name false) rows i || first-where made (waits name true) rows i)
+    ∙ sym (any-either (λ (row : GenRow). nat_le row.number made && depends_on name row) (λ (row : GenRow). nat_le row.number made && waits name false row)
+    (λ (row : GenRow). nat_le row.number made && waits name true row)
+    (λ row. ap (λ b. nat_le row.number made && b) (depends_on-waits name row) ∙ spread (nat_le row.number made) (waits name false row) (waits name true row)) rows)
+  where
+    spread : (m a b : Bool) → (m && (a || b)) ≡ ((m && a) || (m && b))
+    spread true a b = refl
+    spread false a b = refl
 
 pub held-found : (s : State) (x : IsIndexed s) (made : ℕ) (name : List ℕ) (o : Option Watch) → lookup (bytes_eq name) s.watches ≡ o
-    → list_any (λ n. nat_le n made) (unwrap_or o unwatched).rows ≡ is_held made s.table.rows name
+    → (list_any (λ n. nat_le n made) (unwrap_or o unwatched).unlimited || list_any (λ n. nat_le n made) (unwrap_or o unwatched).limited) ≡ is_held made s.table.rows name
 held-found s x made name o found =
-    (λ i. list_any (λ n. nat_le n made) (sym (kept_at-found unwatched s.watches name o found) i).rows)
-    ∙ ap (list_any (λ n. nat_le n made)) (x.watchers name)
+    (λ i. list_any (λ n. nat_le n made) (sym (kept_at-found unwatched s.watches name o found) i).unlimited
+    || list_any (λ n. nat_le n made) (sym (kept_at-found unwatched s.watches name o found) i).limited)
+    ∙ (λ i. list_any (λ n. nat_le n made) (x.unlimited name i) || list_any (λ n. nat_le n made) (x.limited name i))
     ∙ held-by made name s.table.rows

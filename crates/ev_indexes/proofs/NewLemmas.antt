@@ -11,7 +11,7 @@ use Rattle.ev_indexes.specs.Due.{is_among}
 use Rattle.ev_indexes.specs.Standings.{standing_in}
 use Rattle.ev_indexes.specs.Watched.{watch_in}
 use Rattle.ev_indexes.specs.Ready.{is_due_at}
-use Rattle.ev_indexes.specs.Indexes.{IsIndexed, serves, warms, depends_on, waits_limited, holds, numbers_where}
+use Rattle.ev_indexes.specs.Indexes.{IsIndexed, serves, warms, waits, holds, numbers_where}
 use Rattle.ev_indexes.specs.Worlds.{StandsFor}
 
 empty_table : (made : ℕ) → IsTable (record { rows = []; made = made })
@@ -27,8 +27,8 @@ module _ (s : State) (rows : s.table.rows ≡ []) (names : s.names ≡ []) (watc
     kinds = subst (AllByRecursion (λ (row : GenRow). row.kind ≡ s.kind)) (sym rows) tt;
     active = λ q. (λ i. option_to_list (standing_in (names i) q).active) ∙ (λ i. numbers_where (serves q) (sym rows i));
     warming = λ q. (λ i. option_to_list (standing_in (names i) q).warming) ∙ (λ i. numbers_where (warms q) (sym rows i));
-    watchers = λ q. (λ i. (watch_in (watches i) q).rows) ∙ (λ i. numbers_where (depends_on q) (sym rows i));
-    limited = λ q. (λ i. (watch_in (watches i) q).limited) ∙ (λ i. numbers_where (waits_limited q) (sym rows i));
+    unlimited = λ q. (λ i. (watch_in (watches i) q).unlimited) ∙ (λ i. numbers_where (waits q false) (sym rows i));
+    limited = λ q. (λ i. (watch_in (watches i) q).limited) ∙ (λ i. numbers_where (waits q true) (sym rows i));
     holders = λ a. (λ i. numbers_at (addresses i) a) ∙ (λ i. numbers_where (holds a) (sym rows i));
     due = λ n. (λ i. is_among (due i) n) ∙ (λ i. is_due_at s.watches s.results n (sym rows i));
     drawn = λ n h above. (λ i. result_in (results i) n h);

@@ -1,12 +1,12 @@
 -- What is read of a state that stands for a world is what the machine reads of the world.
-use Rattle.std.proofs.Common.{◌≡◌, ◌∙◌, ℕ, Bool, true, false, cond, not, ◌&&◌, ◌||◌, List, [], ◌∷◌, ◌++◌, Option, option_to_list, unwrap_or, map, filter, refl, sym, ap, true≢false}
-use Rattle.std.specs.List.{list_any, flat_map, AllByRecursion}
+use Rattle.std.proofs.Common.{◌≡◌, ◌∙◌, ℕ, Bool, true, false, cond, not, ◌&&◌, ◌||◌, List, [], ◌∷◌, ◌++◌, Option, unwrap_or, map, filter, refl, sym, ap, true≢false}
+use Rattle.std.specs.List.{list_any, AllByRecursion, flat_map}
 use Rattle.std.specs.Map.{lookup}
 use Rattle.std.specs.Str.{bytes_eq}
 use Rattle.std.proofs.lemmas.Bool.{and_parts}
-use Rattle.std.proofs.Math.Bool.{and_assoc}
 use Rattle.ev_types.specs.Items.{content_kind}
 use Rattle.ev_types.specs.Kinds.{kind_same, kind_decides}
+use Rattle.ev_types.specs.Same.{bool_same, bytes_decide}
 use Rattle.ev_types.specs.Statuses.{is_live}
 use Rattle.ev_types.specs.declared.contents.Kind.{Kind}
 use Rattle.ev_types.specs.declared.contents.Content.{Content}
@@ -14,20 +14,23 @@ use Rattle.ev_types.specs.declared.rows.GenRow.{GenRow}
 use Rattle.ev_types.specs.declared.rows.Live.{Live}
 use Rattle.ev_model.specs.World.{World}
 use Rattle.ev_model.specs.Live.{live_of, lives_of}
-use Rattle.ev_model.specs.Signals.{is_waiting, is_awaited}
-use Rattle.ev_model.specs.Watching.{dependencies_of, is_by_name, has_dependency, has_limited_dependency, is_watched, names_awaited, sorted_names, watched_of}
+use Rattle.ev_model.specs.Signals.{awaits, is_waiting, is_awaited}
+use Rattle.ev_model.specs.Warming.{counts_for, has_word, has_timeout, last_told, last_timed}
+use Rattle.ev_model.specs.Watching.{Dependency, dependencies_of, is_by_name, is_dependency, has_dependency, is_watched, watched_of, names_awaited}
 use Rattle.ev_indexes.specs.declared.state.State.{State}
 use Rattle.ev_indexes.specs.declared.watches.Watch.{Watch}
-use Rattle.ev_indexes.specs.Due.{has_number}
-use Rattle.ev_indexes.specs.Watched.{unwatched, watch_in}
-use Rattle.ev_indexes.specs.Ready.{name_needed, is_limited_in}
-use Rattle.ev_indexes.specs.Indexes.{IsIndexed, is_needed, depends_on, waits_limited}
-use Rattle.ev_indexes.specs.Reads.{live_rows, names_needed, names_watched, is_timeout_due}
+use Rattle.ev_indexes.specs.Watched.{unwatched, watch_in, has_watcher, watchers_of}
+use Rattle.ev_indexes.specs.Needs.{is_need}
+use Rattle.ev_indexes.specs.Indexes.{IsIndexed, depends_on, waits, numbers_waiting, numbers_where}
+use Rattle.ev_indexes.specs.Reads.{live_rows, names_needed, names_watched, awaits_in, is_waiting_in, is_one_waiting, is_timeout_due}
 use Rattle.ev_indexes.specs.Worlds.{needs_of, rows_of_kind, StandsFor}
-use Rattle.ev_indexes.proofs.RowLemmas.{any-some, any_agrees, all_then}
+use Rattle.ev_indexes.proofs.RowLemmas.{any_agrees, all_then}
+use Rattle.ev_indexes.proofs.NameLemmas.{same-names, sorted-in_order, among-watched, among_watched}
+use Rattle.ev_indexes.proofs.PlaceLemmas.{dependency-kinds}
+use Rattle.ev_indexes.proofs.WaitLemmas.{watcher-index, watchers-index, any-where}
 use Rattle.ev_indexes.proofs.KeptLemmas.{kept_at-found}
 use Rattle.ev_indexes.proofs.SoundLemmas.{contents-of}
-use Rattle.ev_indexes.proofs.DependencyLemmas.{has_dependency-same, has_dependency-kind, has_limited_dependency-one, names_awaited-of}
+use Rattle.ev_indexes.proofs.DependencyLemmas.{any-each, any-wider, has_dependency-same, has_dependency-kind}
 
 -- rows of other kinds pass no test that only rows of the kind pass
 any-of-kind : (kind : Kind) (f : GenRow → Bool) (rows : List GenRow) → AllByRecursion (λ (r : GenRow). f r ≡ true → kind_same r.kind kind ≡ true) rows → list_any f (rows_of_kind kind rows) ≡ list_any f rows
@@ -69,15 +72,26 @@ module _ (s : State) (world : World) (stands : StandsFor s world) (rowed : is_by
       (λ r k. ap (λ b. is_live r.status && b) (has_dependency-same s.kind name r.content k)))
 
   pub timeout-world : is_timeout_due s.watches s.table.rows name ≡ is_awaited world.arrivals world.rows (needs_of s.kind) name
-  timeout-world = λ i. waiting i && not (stands.told name i || stands.timed name i)
+  timeout-world =
+      sym (any-dependent (is_waiting world.arrivals (needs_of s.kind) name) (is_waiting_in name (watch_in s.watches name))
+      (λ r h. any-wider (awaits world.arrivals (needs_of s.kind) name r.number) (is_dependency (needs_of s.kind) name)
+      (λ d w. (and_parts (is_dependency (needs_of s.kind) name d) d.limited (and_parts (is_dependency (needs_of s.kind) name d && d.limited) (not (has_word world.arrivals r.number d || has_timeout world.arrivals r.number d)) w).0).0)
+      (dependencies_of r.content) (and_parts (is_live r.status) (list_any (awaits world.arrivals (needs_of s.kind) name r.number) (dependencies_of r.content)) h).1)
+      (λ r k. ap (λ b. is_live r.status && b) (any-each (λ (d : Dependency). d.kind ≡ needs_of (content_kind r.content)) (awaits world.arrivals (needs_of s.kind) name r.number)
+      (awaits_in name (watch_in s.watches name) r.number) (λ d e. one r.number d (e ∙ ap needs_of k)) (dependencies_of r.content) (dependency-kinds r.content))))
     where
-      waiting : list_any (waits_limited name) s.table.rows ≡ list_any (is_waiting (needs_of s.kind) name) world.rows
-      waiting = sym (any-dependent (is_waiting (needs_of s.kind) name) (waits_limited name)
-          (λ r h. (and_parts (has_dependency (needs_of s.kind) name r.content) (is_limited_in r.content)
-          (sym (has_limited_dependency-one (needs_of s.kind) name r.content) ∙ (and_parts (is_live r.status) (has_limited_dependency (needs_of s.kind) name r.content) h).1)).0)
-          (λ r k. ap (λ b. is_live r.status && b)
-          (has_limited_dependency-one (needs_of s.kind) name r.content ∙ ap (λ b. b && is_limited_in r.content) (has_dependency-same s.kind name r.content k))
-          ∙ sym (and_assoc (is_live r.status) (is_needed name (name_needed r.content)) (is_limited_in r.content))))
+      one : (number : ℕ) (d : Dependency) → d.kind ≡ needs_of s.kind → awaits world.arrivals (needs_of s.kind) name number d ≡ awaits_in name (watch_in s.watches name) number d
+      one number d k = by (bytes_eq d.name name) refl
+        where
+          by : (b : Bool) → bytes_eq d.name name ≡ b
+              → (((kind_same d.kind (needs_of s.kind) && b) && d.limited) && not (has_word world.arrivals number d || has_timeout world.arrivals number d))
+              ≡ ((b && d.limited) && not (counts_for number d (watch_in s.watches name).told || counts_for number d (watch_in s.watches name).timed))
+          by true e =
+              let own : d.name ≡ name = (bytes_decide d.name name).0 e in
+              (λ i. (((kind_decides d.kind (needs_of s.kind)).1 k i && true) && d.limited)
+              && not (counts_for number d (last_told world.arrivals (k i) (own i)) || counts_for number d (last_timed world.arrivals (k i) (own i))))
+              ∙ (λ i. (true && d.limited) && not (counts_for number d (sym (stands.told name) i) || counts_for number d (sym (stands.timed name) i)))
+          by false e = λ i. (((kind_decides d.kind (needs_of s.kind)).1 k i && false) && d.limited) && not (has_word world.arrivals number d || has_timeout world.arrivals number d)
 
 -- what is seen of live rows of a kind
 pub lives-world : (kind : Kind) (rows : List GenRow) → map live_of (live_rows (rows_of_kind kind rows)) ≡ filter (λ (live : Live). kind_same live.kind kind) (map live_of (live_rows rows))
@@ -96,39 +110,37 @@ lives-world kind (row ∷ rows) = by (kind_same row.kind kind) refl (is_live row
         rest ∙ (λ i. cond (sym e i) (live_of row ∷ filter (λ (live : Live). kind_same live.kind kind) (map live_of (live_rows rows))) (filter (λ (live : Live). kind_same live.kind kind) (map live_of (live_rows rows))))
     by false e false f rest = rest
 
--- the names that live rows of a kind need
-pub needs-world : (kind : Kind) → is_by_name kind ≡ false → (rows : List GenRow) → AllByRecursion (λ (r : GenRow). content_kind r.content ≡ r.kind) rows
-    → names_needed (rows_of_kind kind rows) ≡ flat_map (λ (live : Live). names_awaited (needs_of kind) (dependencies_of live.content)) (map live_of (live_rows rows))
-needs-world kind rowed [] all = refl
-needs-world kind rowed (row ∷ rows) all = by (kind_same row.kind kind) refl (is_live row.status) refl (needs-world kind rowed rows all.1)
-  where
-    awaited : (k : Bool) → kind_same row.kind kind ≡ k → names_awaited (needs_of kind) (dependencies_of row.content) ≡ cond k (option_to_list (name_needed row.content)) []
-    awaited k e = names_awaited-of kind row.content rowed ∙ (λ i. cond (((λ j. kind_same (all.0 j) kind) ∙ e) i) (option_to_list (name_needed row.content)) [])
-
-    by : (k : Bool) → kind_same row.kind kind ≡ k → (l : Bool) → is_live row.status ≡ l
-        → names_needed (rows_of_kind kind rows) ≡ flat_map (λ (live : Live). names_awaited (needs_of kind) (dependencies_of live.content)) (map live_of (live_rows rows))
-        → names_needed (cond k (row ∷ rows_of_kind kind rows) (rows_of_kind kind rows))
-        ≡ flat_map (λ (live : Live). names_awaited (needs_of kind) (dependencies_of live.content)) (map live_of (cond l (row ∷ live_rows rows) (live_rows rows)))
-    by true e true f rest =
-        (λ i. flat_map (λ (r : GenRow). option_to_list (name_needed r.content)) (cond (f i) (row ∷ live_rows (rows_of_kind kind rows)) (live_rows (rows_of_kind kind rows))))
-        ∙ (λ i. sym (awaited true e) i ++ rest i)
-    by true e false f rest = (λ i. flat_map (λ (r : GenRow). option_to_list (name_needed r.content)) (cond (f i) (row ∷ live_rows (rows_of_kind kind rows)) (live_rows (rows_of_kind kind rows)))) ∙ rest
-    by false e true f rest =
-        rest ∙ (λ i. sym (awaited false e) i ++ flat_map (λ (live : Live). names_awaited (needs_of kind) (dependencies_of live.content)) (map live_of (live_rows rows)))
-    by false e false f rest = rest
-
 pub names-world : (s : State) (world : World) → StandsFor s world → is_by_name s.kind ≡ false → names_watched s.table.rows ≡ watched_of world (needs_of s.kind)
 names-world s world stands rowed =
-    (λ i. names_watched (stands.rows i)) ∙ ap sorted_names (needs-world s.kind rowed world.rows stands.sound.typed)
+    same-names (names_watched s.table.rows) (watched_of world (needs_of s.kind)) (sorted-in_order (names_needed s.table.rows))
+    (sorted-in_order (flat_map (λ (live : Live). names_awaited (needs_of s.kind) (dependencies_of live.content)) (lives_of world)))
+    (λ name. among-watched s.table.rows name ∙ watched-world s world stands rowed name ∙ sym (among_watched (lives_of world) (needs_of s.kind) name))
+
+-- who still waits is one of those that wait within a limit
+pub still-waits : (name : List ℕ) (watch : Watch) (r : GenRow) → is_waiting_in name watch r ≡ true → waits name true r ≡ true
+still-waits name watch r h =
+    let p = and_parts (is_live r.status) (list_any (awaits_in name watch r.number) (dependencies_of r.content)) h in
+    λ i. p.0 i && any-wider (awaits_in name watch r.number) (is_need name true) (λ d w. one d w) (dependencies_of r.content) p.1 i
+  where
+    one : (d : Dependency) → awaits_in name watch r.number d ≡ true → is_need name true d ≡ true
+    one d w =
+        let q = and_parts (bytes_eq d.name name && d.limited) (not (counts_for r.number d watch.told || counts_for r.number d watch.timed)) w in
+        let n = and_parts (bytes_eq d.name name) d.limited q.0 in
+        λ i. bool_same (n.1 i) true && n.0 i
 
 -- a look-up of a name finds who depends on it
 module _ (s : State) (x : IsIndexed s) (name : List ℕ) (o : Option Watch) (found : lookup (bytes_eq name) s.watches ≡ o) where
-  pub rows-found : has_number (unwrap_or o unwatched).rows ≡ list_any (depends_on name) s.table.rows
-  rows-found =
-      (λ i. has_number (sym (kept_at-found unwatched s.watches name o found) i).rows) ∙ ap has_number (x.watchers name) ∙ sym (any-some (depends_on name) s.table.rows)
+  pub watcher-found : has_watcher (unwrap_or o unwatched) ≡ list_any (depends_on name) s.table.rows
+  watcher-found = (λ i. has_watcher (sym (kept_at-found unwatched s.watches name o found) i)) ∙ watcher-index s x name
 
-  pub timeout-found : (has_number (unwrap_or o unwatched).limited && not ((unwrap_or o unwatched).told || (unwrap_or o unwatched).timed)) ≡ is_timeout_due s.watches s.table.rows name
+  pub watchers-found : watchers_of (unwrap_or o unwatched) ≡ numbers_waiting s.table.rows name
+  watchers-found = (λ i. watchers_of (sym (kept_at-found unwatched s.watches name o found) i)) ∙ watchers-index s x name
+
+  pub limited-found : (unwrap_or o unwatched).limited ≡ numbers_where (waits name true) s.table.rows
+  limited-found = (λ i. (sym (kept_at-found unwatched s.watches name o found) i).limited) ∙ x.limited name
+
+  pub timeout-found : is_one_waiting name (unwrap_or o unwatched) s.table.rows (unwrap_or o unwatched).limited ≡ is_timeout_due s.watches s.table.rows name
   timeout-found =
-      (λ i. has_number (sym (kept_at-found unwatched s.watches name o found) i).limited
-      && not ((sym (kept_at-found unwatched s.watches name o found) i).told || (sym (kept_at-found unwatched s.watches name o found) i).timed))
-      ∙ (λ i. (ap has_number (x.limited name) ∙ sym (any-some (waits_limited name) s.table.rows)) i && not ((watch_in s.watches name).told || (watch_in s.watches name).timed))
+      ap (is_one_waiting name (unwrap_or o unwatched) s.table.rows) limited-found
+      ∙ any-where (waits name true) (is_waiting_in name (unwrap_or o unwatched)) (still-waits name (unwrap_or o unwatched)) s.table.rows x.table.apart
+      ∙ (λ i. list_any (is_waiting_in name (sym (kept_at-found unwatched s.watches name o found) i)) s.table.rows)

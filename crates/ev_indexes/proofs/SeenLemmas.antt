@@ -5,7 +5,7 @@ use Rattle.ev_types.specs.Items.{content_kind}
 use Rattle.ev_types.specs.Texts.{IsName}
 use Rattle.ev_types.specs.declared.rows.GenRow.{GenRow}
 use Rattle.ev_model.specs.World.{World, Arrived, HealthResult}
-use Rattle.ev_model.specs.Warming.{is_told_by, is_timed_by, value_by, has_result, is_healthy}
+use Rattle.ev_model.specs.Warming.{last_told, last_timed, value_by, has_result, is_healthy}
 use Rattle.ev_generations.specs.Tables.{GenerationsParts, IsTable}
 use Rattle.ev_indexes.specs.declared.state.State.{State}
 use Rattle.ev_indexes.specs.Worlds.{needs_of, rows_of_kind, IsSound, StandsFor}
@@ -31,8 +31,8 @@ pub seen-stands : (s : State) (before after : World) → SameSeen before after �
 seen-stands s before after seen stands = record {
   sound = seen-sound before after seen stands.sound;
   rows = stands.rows ∙ ap (rows_of_kind s.kind) (sym seen.rows);
-  told = λ q. stands.told q ∙ ap (λ (came : List Arrived). is_told_by came (needs_of s.kind) q) (sym seen.arrivals);
-  timed = λ q. stands.timed q ∙ ap (λ (came : List Arrived). is_timed_by came (needs_of s.kind) q) (sym seen.arrivals);
+  told = λ q. stands.told q ∙ ap (λ (came : List Arrived). last_told came (needs_of s.kind) q) (sym seen.arrivals);
+  timed = λ q. stands.timed q ∙ ap (λ (came : List Arrived). last_timed came (needs_of s.kind) q) (sym seen.arrivals);
   value = λ q. stands.value q ∙ ap (λ (came : List Arrived). value_by came (needs_of s.kind) q) (sym seen.arrivals);
   resulted = λ n h there. stands.resulted n h there ∙ ap (λ (rs : List HealthResult). has_result rs n h) (sym seen.results);
   healthy = λ n h there. stands.healthy n h there ∙ ap (λ (rs : List HealthResult). is_healthy rs n h) (sym seen.results);

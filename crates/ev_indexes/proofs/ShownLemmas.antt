@@ -1,5 +1,5 @@
 -- What is shown of a state that stands for a world is what the machine shows of the world.
-use Rattle.std.proofs.Common.{◌≡◌, ◌∙◌, ℕ, ◌≤◌, Bool, true, false, cond, not, ◌&&◌, ◌||◌, List, [], ◌∷◌, ◌++◌, ◌⊎◌, inl, inr, Option, None, Some, IsSome, option_to_list, map, filter, length, refl, sym, ap, subst, true≢false, arith}
+use Rattle.std.proofs.Common.{◌≡◌, ◌∙◌, ℕ, ◌≤◌, Bool, true, false, cond, not, ◌&&◌, ◌||◌, List, [], ◌∷◌, ◌++◌, ◌⊎◌, inl, inr, Option, None, Some, IsSome, option_map, option_to_list, map, filter, length, refl, sym, ap, subst, true≢false, arith}
 use Rattle.std.specs.List.{IsDistinct, AllByRecursion, flat_map}
 use Rattle.std.specs.Str.{bytes_eq}
 use Rattle.std.proofs.lemmas.Cmp.{nat_list_cmp_total}
@@ -13,19 +13,20 @@ use Rattle.ev_types.specs.Statuses.{is_active}
 use Rattle.ev_types.specs.declared.contents.Kind.TheVariants.{Cds, Lds}
 use Rattle.ev_types.specs.declared.contents.Content.{Content}
 use Rattle.ev_types.specs.declared.contents.Content.TheVariants.{Cluster as a_cluster, Assignment as an_assignment, Listener as a_listener, Routes as routes}
+use Rattle.ev_types.specs.declared.listeners.FilterChain.{FilterChain}
 use Rattle.ev_types.specs.declared.listeners.Serve.{Serve}
-use Rattle.ev_types.specs.declared.listeners.Serve.TheVariants.{Rds as by_rds, Inline, Tcp as by_tcp}
+use Rattle.ev_types.specs.declared.listeners.Serve.TheVariants.{Rds as by_rds, Inline, Tcp as by_tcp, Other as by_other}
 use Rattle.ev_types.specs.declared.rows.GenRow.{GenRow}
 use Rattle.ev_model.specs.declared.pictures.Routing.TheVariants.{Table}
 use Rattle.ev_model.specs.declared.pictures.ServedListener.{ServedListener}
 use Rattle.ev_model.specs.World.{World}
-use Rattle.ev_model.specs.Picture.{by_name, active_rows, served_cluster, served_clusters, served_listener, served_listeners, routing_of, table_in}
+use Rattle.ev_model.specs.Picture.{by_name, active_rows, is_elsewhere, served_chain, served_cluster, served_clusters, served_listener, served_listeners, routing_of, table_in}
 use Rattle.ev_model.specs.Warming.{is_checked, value_by}
 use Rattle.ev_generations.specs.Tables.{row_in, numbers_of}
 use Rattle.ev_indexes.specs.declared.state.State.{State}
 use Rattle.ev_indexes.specs.Standings.{standing_in}
 use Rattle.ev_indexes.specs.Indexes.{IsIndexed, serves, numbers_where}
-use Rattle.ev_indexes.specs.Reads.{active_by_name, cluster_in, clusters_in, listener_in, listeners_in, routing_in}
+use Rattle.ev_indexes.specs.Reads.{active_by_name, chain_in, cluster_in, clusters_in, listener_in, listeners_in, routing_in}
 use Rattle.ev_indexes.specs.Watched.{WatchesKept}
 use Rattle.ev_indexes.specs.Worlds.{needs_of, StandsFor}
 use Rattle.ev_indexes.proofs.RowLemmas.{filter-rows_of_kind, filter_agrees, all_then, both_all}
@@ -125,6 +126,7 @@ module _ (s : State) (world : World) (stands : StandsFor s world) (x : IsIndexed
     number = r.number;
     name = r.name;
     hosts = filter (λ (h : HostRowParts). h.usable && (not (is_checked r.content) || stands.healthy r.number h.host there i)) (hosts s world stands r.content k i);
+    elsewhere = is_elsewhere r.content;
   }
 
   pub clusters-world : s.kind ≡ Cds → clusters_in s.watches s.results s.table.rows ≡ served_clusters world.arrivals world.results world.rows
@@ -144,7 +146,18 @@ listener-shape watches r = by r.content
     by : (content : Content) → (listener_in watches r content ≡ []) ⊎ ((l : ServedListener) × (listener_in watches r content ≡ l ∷ []) × (l.name ≡ r.name))
     by (a_cluster cluster) = inl refl
     by (an_assignment rows) = inl refl
-    by (a_listener listener) = inr (record { number = r.number; name = r.name; address = listener.address; routing = routing_in watches listener.serve }, refl, refl)
+    by (a_listener listener) = inr (
+      record {
+        number = r.number;
+        name = r.name;
+        address = listener.address;
+        takes_every_address = listener.takes_every_address;
+        filter_chains = map (chain_in watches) listener.filter_chains;
+        default_filter_chain = option_map (routing_in watches) listener.default_filter_chain;
+      },
+      refl,
+      refl,
+    )
     by (routes table) = inl refl
 
 flat_map_agrees : {A : Type 0} (f g : GenRow → List A) (rows : List GenRow) → AllByRecursion (λ (r : GenRow). f r ≡ g r) rows → flat_map f rows ≡ flat_map g rows
@@ -159,11 +172,27 @@ module _ (s : State) (world : World) (stands : StandsFor s world) (x : IsIndexed
       routed (by_rds name limited) = λ i. Table (table_in ((stands.value name ∙ (λ j. value_by world.arrivals (needs_of (lds j)) name)) i))
       routed (Inline table) = refl
       routed (by_tcp target) = refl
+      routed by_other = refl
+
+      chained : (chains : List FilterChain) → map (chain_in s.watches) chains ≡ map (served_chain world.arrivals) chains
+      chained [] = refl
+      chained (c ∷ chains) = λ i. record { criteria = c.criteria; routing = routed c.serve i } ∷ chained chains i
+
+      other : (o : Option Serve) → option_map (routing_in s.watches) o ≡ option_map (routing_of world.arrivals) o
+      other None = refl
+      other (Some v) = ap Some (routed v)
 
       by : (content : Content) → listener_in s.watches r content ≡ served_listener world.arrivals r content
       by (a_cluster cluster) = refl
       by (an_assignment rows) = refl
-      by (a_listener listener) = λ i. record { number = r.number; name = r.name; address = listener.address; routing = routed listener.serve i } ∷ []
+      by (a_listener listener) = λ i. record {
+        number = r.number;
+        name = r.name;
+        address = listener.address;
+        takes_every_address = listener.takes_every_address;
+        filter_chains = chained listener.filter_chains i;
+        default_filter_chain = other listener.default_filter_chain i;
+      } ∷ []
       by (routes table) = refl
 
   pub listeners-world : listeners_in s.watches s.table.rows ≡ served_listeners world.arrivals world.rows

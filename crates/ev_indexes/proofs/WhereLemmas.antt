@@ -11,7 +11,7 @@ use Rattle.ev_generations.specs.Tables.{row_in, numbers_of, with_status}
 use Rattle.ev_generations.proofs.TableLemmas.{with_status-absent}
 use Rattle.ev_indexes.specs.Due.{is_among}
 use Rattle.ev_indexes.specs.Watched.{numbers_without}
-use Rattle.ev_indexes.specs.Indexes.{numbers_where}
+use Rattle.ev_indexes.specs.Indexes.{numbers_where, passes}
 
 -- the row with another status
 abbrev pub row_with : RowStatus → GenRow → GenRow
@@ -299,3 +299,29 @@ own-rows (row ∷ rows) apart = (
         → AllByRecursion (λ (r : GenRow). row_in r.number (row ∷ rows) ≡ Some r) rs
     more [] far all = tt
     more (r ∷ rs) far all = ((λ i. cond ((flipped r.number row.number ∙ far.0) i) (Some row) (row_in r.number rows)) ∙ all.0, more rs far.1 all.1)
+
+-- of rows with different numbers a number is among those that pass where its row passes
+pub among-row : (test : GenRow → Bool) (n : ℕ) (rows : List GenRow) → IsDistinct nat_eq (numbers_of rows) → is_among (numbers_where test rows) n ≡ passes test (row_in n rows)
+among-row test n rows apart = by (row_in n rows) refl (is_among (numbers_where test rows) n) refl
+  where
+    over : (row : GenRow) → row_in n rows ≡ Some row → (t : Bool) → test row ≡ t → (b : Bool) → is_among (numbers_where test rows) n ≡ b → b ≡ t
+    over row found true e b f = sym f ∙ among-where test n row rows found e
+    over row found false e true f =
+        let there = found-where test n rows apart f in
+        let own : there.0 ≡ row = some_same (sym there.1 ∙ found) in
+        absurd (true≢false (sym there.2 ∙ ap test own ∙ e))
+      where
+        some_same : {a b : GenRow} → Some a ≡ Some b → a ≡ b
+        some_same h = cc
+    over row found false e false f = refl
+
+    none : row_in n rows ≡ None → (b : Bool) → is_among (numbers_where test rows) n ≡ b → b ≡ false
+    none gone true f =
+        let there = found-where test n rows apart f in
+        let clash : Some there.0 ≡ None = sym there.1 ∙ gone in
+        cc
+    none gone false f = refl
+
+    by : (o : Option GenRow) → row_in n rows ≡ o → (b : Bool) → is_among (numbers_where test rows) n ≡ b → is_among (numbers_where test rows) n ≡ passes test o
+    by None e b f = f ∙ none e b f
+    by (Some row) e b f = f ∙ over row e (test row) refl b f

@@ -1,7 +1,6 @@
 -- Rows of a kind under changes of statuses, and what a state that stands for a world has of it: the same hosts, and the same rows are ready.
-use Rattle.std.proofs.Common.{◌≡◌, ◌∙◌, ℕ, Bool, true, false, cond, not, ◌&&◌, ◌||◌, List, [], ◌∷◌, Option, None, Some, IsSome, is_some, option_map, option_to_list, unwrap_or, refl, sym, ap, true≢false}
-use Rattle.std.proofs.Math.Bool.{and-true}
-use Rattle.std.specs.List.{list_any, list_all}
+use Rattle.std.proofs.Common.{◌≡◌, ◌∙◌, ℕ, Bool, true, false, cond, not, ◌&&◌, ◌||◌, List, [], ◌∷◌, Option, IsSome, is_some, refl, sym, ap, true≢false}
+use Rattle.std.specs.List.{list_any}
 use Rattle.ev_types.specs.Hosts.{HostRowParts}
 use Rattle.ev_types.specs.Items.{content_kind}
 use Rattle.ev_types.specs.Kinds.{kind_same}
@@ -10,20 +9,21 @@ use Rattle.ev_types.specs.declared.contents.Kind.TheVariants.{Eds}
 use Rattle.ev_types.specs.declared.contents.Content.{Content}
 use Rattle.ev_types.specs.declared.contents.Content.TheVariants.{Cluster as a_cluster, Assignment as an_assignment, Listener as a_listener, Routes as routes}
 use Rattle.ev_types.specs.declared.clusters.Discovery.{Discovery}
-use Rattle.ev_types.specs.declared.clusters.Discovery.TheVariants.{Static, Eds as by_eds}
+use Rattle.ev_types.specs.declared.clusters.Discovery.TheVariants.{Static, Eds as by_eds, Elsewhere}
 use Rattle.ev_types.specs.declared.rows.RowStatus.{RowStatus}
 use Rattle.ev_types.specs.declared.rows.GenRow.{GenRow}
 use Rattle.ev_model.specs.World.{World, Arrived, HealthResult}
-use Rattle.ev_model.specs.Watching.{Dependency}
-use Rattle.ev_model.specs.Warming.{is_told_by, is_timed_by, has_answer, discovered, assignment_by, rows_in, has_result, has_all_results, value_by, is_answered_by, is_ready_by, is_checked}
+use Rattle.ev_model.specs.Watching.{Dependency, dependencies_of}
+use Rattle.ev_model.specs.Warming.{counts_for, last_told, last_timed, has_answer, discovered, assignment_by, rows_in, has_result, has_all_results, value_by, is_answered_by, is_ready_by, is_checked}
 use Rattle.ev_model.specs.Rows.{with_statuses}
 use Rattle.ev_endpoints.specs.Results.{ResultsKept, result_in}
 use Rattle.ev_generations.specs.Tables.{row_in}
 use Rattle.ev_indexes.specs.declared.state.State.{State}
 use Rattle.ev_indexes.specs.Watched.{WatchesKept, watch_in}
-use Rattle.ev_indexes.specs.Ready.{dependency_in, has_answer_in, discovered_in, assignment_in, are_results_in, is_answered_in, is_ready_in}
+use Rattle.ev_indexes.specs.Ready.{has_answer_in, discovered_in, assignment_in, are_results_in, is_answered_in, is_ready_in}
 use Rattle.ev_indexes.specs.Worlds.{needs_of, rows_of_kind, StandsFor}
-use Rattle.ev_indexes.proofs.DependencyLemmas.{dependencies_of-one, dependency-kind}
+use Rattle.ev_indexes.proofs.DependencyLemmas.{all-each}
+use Rattle.ev_indexes.proofs.PlaceLemmas.{dependency-kinds}
 
 pub rows_of_kind-with_statuses : (kind : Kind) (f : GenRow → RowStatus) (rows : List GenRow) → rows_of_kind kind (with_statuses f rows) ≡ with_statuses f (rows_of_kind kind rows)
 rows_of_kind-with_statuses kind f [] = refl
@@ -55,7 +55,8 @@ all_results results world_results number same (h ∷ hosts) = λ i. same h i && 
 module _ (kind : Kind) (watches : WatchesKept) (arrivals : List Arrived) (values : (name : List ℕ) → (watch_in watches name).value ≡ value_by arrivals (needs_of kind) name) where
   found_hosts : needs_of kind ≡ Eds → (d : Discovery) → discovered_in watches d ≡ discovered arrivals d
   found_hosts k (Static rows) = refl
-  found_hosts k (by_eds service l) = ap rows_in (values service) ∙ (λ i. rows_in (value_by arrivals (k i) service))
+  found_hosts k (by_eds service l f) = ap rows_in (values service) ∙ (λ i. rows_in (value_by arrivals (k i) service))
+  found_hosts k Elsewhere = refl
 
   pub hosts-by : (content : Content) → content_kind content ≡ kind → assignment_in watches content ≡ assignment_by arrivals content
   hosts-by (a_cluster cluster) k = found_hosts (ap needs_of (sym k)) cluster.discovery
@@ -64,20 +65,15 @@ module _ (kind : Kind) (watches : WatchesKept) (arrivals : List Arrived) (values
   hosts-by (routes table) k = refl
 
 module _ (s : State) (world : World) (stands : StandsFor s world) where
-  answered : (content : Content) → content_kind content ≡ s.kind → is_answered_in s.watches content ≡ is_answered_by world.arrivals content
-  answered content k = by (dependency_in content) refl ∙ sym (ap (list_all (has_answer world.arrivals)) (dependencies_of-one content))
+  answered : (number : ℕ) (content : Content) → content_kind content ≡ s.kind → is_answered_in s.watches number content ≡ is_answered_by world.arrivals number content
+  answered number content k =
+      all-each (λ (d : Dependency). d.kind ≡ needs_of (content_kind content)) (has_answer_in s.watches number) (has_answer world.arrivals number) one (dependencies_of content) (dependency-kinds content)
     where
-      by : (o : Option Dependency) → dependency_in content ≡ o
-          → has_answer_in s.watches (unwrap_or (option_map (λ (d : Dependency). d.limited) o) false) (option_map (λ (d : Dependency). d.name) o)
-          ≡ list_all (has_answer world.arrivals) (option_to_list o)
-      by None e = refl
-      by (Some d) e =
-          (λ i. stands.told d.name i || (stands.timed d.name i && d.limited))
-          ∙ (λ i. is_told_by world.arrivals (kind i) d.name || (is_timed_by world.arrivals (kind i) d.name && d.limited))
-          ∙ sym (and-true (has_answer world.arrivals d))
-        where
-          kind : needs_of s.kind ≡ d.kind
-          kind = sym (dependency-kind content d e ∙ ap needs_of k)
+      one : (d : Dependency) → d.kind ≡ needs_of (content_kind content) → has_answer_in s.watches number d ≡ has_answer world.arrivals number d
+      one d e =
+          let own : needs_of s.kind ≡ d.kind = sym (e ∙ ap needs_of k) in
+          (λ i. counts_for number d (stands.told d.name i) || (counts_for number d (stands.timed d.name i) && d.limited))
+          ∙ (λ i. counts_for number d (last_told world.arrivals (own i) d.name) || (counts_for number d (last_timed world.arrivals (own i) d.name) && d.limited))
 
   pub hosts : (content : Content) → content_kind content ≡ s.kind → assignment_in s.watches content ≡ assignment_by world.arrivals content
   hosts = hosts-by s.kind s.watches world.arrivals stands.value
@@ -85,7 +81,7 @@ module _ (s : State) (world : World) (stands : StandsFor s world) where
   -- the same rows are ready
   pub ready_too : (row : GenRow) → content_kind row.content ≡ s.kind → IsSome (row_in row.number s.table.rows) → is_ready_in s.watches s.results row ≡ is_ready_by world.arrivals world.results row
   ready_too row k there = λ i.
-      answered row.content k i
+      answered row.number row.content k i
       && (not (is_checked row.content)
       || ((λ j. are_results_in s.results row.number (hosts row.content k j))
       ∙ all_results s.results world.results row.number (λ h. stands.resulted row.number h.host there) (assignment_by world.arrivals row.content)) i)

@@ -1,5 +1,5 @@
 -- What the indexes of the table say: each look-up is a search of the rows.
-use Rattle.std.specs.Prelude.{◌≡◌, ◌<◌, ℕ, Bool, false, ◌&&◌, List, [], Option, Some, None, filter, option_to_list}
+use Rattle.std.specs.Prelude.{◌≡◌, ◌<◌, ℕ, Bool, true, false, ◌&&◌, List, [], ◌++◌, Option, Some, None, filter, option_to_list}
 use Rattle.std.specs.List.{AllByRecursion}
 use Rattle.std.specs.Str.{bytes_eq}
 use Rattle.ev_types.specs.Statuses.{is_warming, is_active, is_live}
@@ -7,27 +7,24 @@ use Rattle.ev_types.specs.declared.rows.RowStatus.{RowStatus}
 use Rattle.ev_types.specs.declared.rows.RowStatus.TheVariants.{Dropped}
 use Rattle.ev_types.specs.declared.rows.GenRow.{GenRow}
 use Rattle.ev_types.specs.declared.hosts.Host.{Host}
+use Rattle.ev_model.specs.Watching.{dependencies_of}
 use Rattle.ev_endpoints.specs.Results.{result_in}
 use Rattle.ev_generations.specs.Tables.{IsTable, numbers_of}
 use Rattle.ev_indexes.specs.Addresses.{numbers_at, listens_at}
 use Rattle.ev_indexes.specs.Due.{is_among}
 use Rattle.ev_indexes.specs.Standings.{standing_in}
 use Rattle.ev_indexes.specs.Watched.{WatchesKept, watch_in}
-use Rattle.ev_indexes.specs.Ready.{name_needed, is_limited_in, is_due_at}
+use Rattle.ev_indexes.specs.Needs.{is_needed, is_needed_so}
+use Rattle.ev_indexes.specs.Ready.{is_due_at}
 use Rattle.ev_indexes.specs.declared.state.State.{State}
-
--- the name is the one that is needed
-abbrev pub is_needed : List ℕ → Option (List ℕ) → Bool
-is_needed name None = false
-is_needed name (Some needed) = bytes_eq needed name
 
 -- a live row depends on the name
 abbrev pub depends_on : List ℕ → GenRow → Bool
-depends_on name row = is_live row.status && is_needed name (name_needed row.content)
+depends_on name row = is_live row.status && is_needed name (dependencies_of row.content)
 
--- a live row depends on the name, and its wait is limited
-abbrev pub waits_limited : List ℕ → GenRow → Bool
-waits_limited name row = depends_on name row && is_limited_in row.content
+-- a live row waits for the name with this mark: whether its wait ends at the initial fetch timeout
+abbrev pub waits : List ℕ → Bool → GenRow → Bool
+waits name limited row = is_live row.status && is_needed_so name limited (dependencies_of row.content)
 
 -- the row serves the name
 abbrev pub serves : List ℕ → GenRow → Bool
@@ -44,6 +41,15 @@ holds address row = is_live row.status && listens_at address row.content
 -- the numbers of the rows that pass the test, in order
 abbrev pub numbers_where : (GenRow → Bool) → List GenRow → List ℕ
 numbers_where test rows = numbers_of (filter test rows)
+
+-- the numbers of the live rows that depend on the name: of those that wait without a limit, and then of those that wait within one
+abbrev pub numbers_waiting : List GenRow → List ℕ → List ℕ
+numbers_waiting rows name = numbers_where (waits name false) rows ++ numbers_where (waits name true) rows
+
+-- a row is found, and it passes
+abbrev pub passes : (GenRow → Bool) → Option GenRow → Bool
+passes test None = false
+passes test (Some row) = test row
 
 -- the status of a row that is found
 abbrev pub status_in : Option GenRow → RowStatus
@@ -66,8 +72,8 @@ pub record IsIndexed (s : State) : Type 0 where
   pub kinds : AllByRecursion (λ (row : GenRow). row.kind ≡ s.kind) s.table.rows
   pub active : (name : List ℕ) → option_to_list (standing_in s.names name).active ≡ numbers_where (serves name) s.table.rows
   pub warming : (name : List ℕ) → option_to_list (standing_in s.names name).warming ≡ numbers_where (warms name) s.table.rows
-  pub watchers : (name : List ℕ) → (watch_in s.watches name).rows ≡ numbers_where (depends_on name) s.table.rows
-  pub limited : (name : List ℕ) → (watch_in s.watches name).limited ≡ numbers_where (waits_limited name) s.table.rows
+  pub unlimited : (name : List ℕ) → (watch_in s.watches name).unlimited ≡ numbers_where (waits name false) s.table.rows
+  pub limited : (name : List ℕ) → (watch_in s.watches name).limited ≡ numbers_where (waits name true) s.table.rows
   pub holders : (address : Host) → numbers_at s.addresses address ≡ numbers_where (holds address) s.table.rows
   pub due : (number : ℕ) → is_among s.due number ≡ is_due_at s.watches s.results number s.table.rows
   pub drawn : (number : ℕ) (host : Host) → s.table.made < number → result_in s.results number host ≡ None

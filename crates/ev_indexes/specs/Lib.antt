@@ -1,8 +1,9 @@
 pub mod Kept
 pub mod Standings
-pub mod Watched
 pub mod Numbers
 pub mod Due
+pub mod Needs
+pub mod Watched
 pub mod Addresses
 pub mod Ready
 pub mod Indexes

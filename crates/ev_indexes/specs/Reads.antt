@@ -1,48 +1,68 @@
 -- What is read of a state, by searches of its rows: the machine's words, where what came is looked up.
-use Rattle.std.specs.Prelude.{ℕ, Bool, false, not, ◌&&◌, ◌||◌, List, [], ◌∷◌, filter, map, option_to_list, unwrap_or}
+use Rattle.std.specs.Prelude.{ℕ, Bool, false, not, ◌&&◌, ◌||◌, List, [], ◌∷◌, filter, map, option_map, unwrap_or}
 use Rattle.std.specs.List.{list_any, flat_map}
+use Rattle.std.specs.Str.{bytes_eq}
 use Rattle.ev_types.specs.Hosts.{HostRowParts}
 use Rattle.ev_types.specs.Kinds.{kind_same}
 use Rattle.ev_types.specs.Statuses.{is_live, is_active}
 use Rattle.ev_types.specs.declared.contents.Content.{Content}
 use Rattle.ev_types.specs.declared.contents.Content.TheVariants.{Cluster as a_cluster, Assignment as an_assignment, Listener as a_listener, Routes as routes}
 use Rattle.ev_types.specs.declared.contents.Kind.{Kind}
+use Rattle.ev_types.specs.declared.listeners.FilterChain.{FilterChain}
 use Rattle.ev_types.specs.declared.listeners.Serve.{Serve}
-use Rattle.ev_types.specs.declared.listeners.Serve.TheVariants.{Rds as by_rds, Inline, Tcp as by_tcp}
+use Rattle.ev_types.specs.declared.listeners.Serve.TheVariants.{Rds as by_rds, Inline, Tcp as by_tcp, Other as by_other}
 use Rattle.ev_types.specs.declared.rows.GenRow.{GenRow}
 use Rattle.ev_types.specs.declared.rows.Live.{Live}
 use Rattle.ev_model.specs.declared.pictures.Routing.{Routing}
-use Rattle.ev_model.specs.declared.pictures.Routing.TheVariants.{Table, Tcp}
+use Rattle.ev_model.specs.declared.pictures.Routing.TheVariants.{Table, Tcp, Other}
+use Rattle.ev_model.specs.declared.pictures.ServedChain.{ServedChain}
 use Rattle.ev_model.specs.declared.pictures.ServedCluster.{ServedCluster}
 use Rattle.ev_model.specs.declared.pictures.ServedListener.{ServedListener}
 use Rattle.ev_types.specs.declared.hosts.Host.{Host}
 use Rattle.ev_model.specs.Live.{live_of, lives_of}
-use Rattle.ev_model.specs.Picture.{by_name, table_in}
+use Rattle.ev_model.specs.Picture.{by_name, is_elsewhere, table_in}
 use Rattle.ev_model.specs.Signals.{is_awaited}
-use Rattle.ev_model.specs.Warming.{is_checked}
-use Rattle.ev_model.specs.Watching.{sorted_names}
+use Rattle.ev_model.specs.Warming.{counts_for, is_checked}
+use Rattle.ev_model.specs.Watching.{Dependency, dependencies_of, sorted_names}
 use Rattle.ev_model.specs.World.{World}
 use Rattle.ev_endpoints.specs.Results.{ResultsKept, result_in}
+use Rattle.ev_generations.specs.Tables.{row_in}
 use Rattle.ev_mentions.specs.Lives.{is_at}
+use Rattle.ev_indexes.specs.declared.watches.Watch.{Watch}
+use Rattle.ev_indexes.specs.Needs.{names_of, needs_at, places_of}
 use Rattle.ev_indexes.specs.Watched.{WatchesKept, watch_in}
-use Rattle.ev_indexes.specs.Ready.{name_needed, assignment_in}
-use Rattle.ev_indexes.specs.Indexes.{waits_limited, serves, warms, holds}
+use Rattle.ev_indexes.specs.Ready.{assignment_in}
+use Rattle.ev_indexes.specs.Indexes.{passes, serves, warms, holds}
 
 -- the live ones of these rows
 abbrev pub live_rows : List GenRow → List GenRow
 live_rows rows = filter (λ (row : GenRow). is_live row.status) rows
 
--- the names that live rows depend on, in the order of the rows
+-- the names that live rows depend on, in the order of the rows and of their places
 abbrev pub names_needed : List GenRow → List (List ℕ)
-names_needed rows = flat_map (λ (row : GenRow). option_to_list (name_needed row.content)) (live_rows rows)
+names_needed rows = flat_map (λ (row : GenRow). names_of (needs_at (places_of row.content))) (live_rows rows)
 
 -- the same, sorted and without repeats
 abbrev pub names_watched : List GenRow → List (List ℕ)
 names_watched rows = sorted_names (names_needed rows)
 
--- a live row waits for the name within a limit, and the name was neither told of nor timed out
+-- the generation of this number waits for the name within a limit: by what is known of it, it was neither told of it, nor has the wait
+-- timed out
+abbrev pub awaits_in : List ℕ → Watch → ℕ → Dependency → Bool
+awaits_in name watch number d =
+    bytes_eq d.name name && d.limited && not (counts_for number d watch.told || counts_for number d watch.timed)
+
+-- a live row waits so for the name
+abbrev pub is_waiting_in : List ℕ → Watch → GenRow → Bool
+is_waiting_in name watch row = is_live row.status && list_any (awaits_in name watch row.number) (dependencies_of row.content)
+
+-- one of these rows waits so for the name
 abbrev pub is_timeout_due : WatchesKept → List GenRow → List ℕ → Bool
-is_timeout_due watches rows name = list_any (waits_limited name) rows && not ((watch_in watches name).told || (watch_in watches name).timed)
+is_timeout_due watches rows name = list_any (is_waiting_in name (watch_in watches name)) rows
+
+-- one of these numbers is that of a row that waits so for the name
+abbrev pub is_one_waiting : List ℕ → Watch → List GenRow → List ℕ → Bool
+is_one_waiting name watch rows numbers = list_any (λ number. passes (is_waiting_in name watch) (row_in number rows)) numbers
 
 -- a row serves the name, or none warms under it
 abbrev pub has_come_in : List GenRow → List ℕ → Bool
@@ -66,7 +86,12 @@ eligible_in watches results row = filter (is_eligible_in results row) (assignmen
 
 -- a cluster, with the hosts that may be chosen
 abbrev pub cluster_in : WatchesKept → ResultsKept → GenRow → ServedCluster
-cluster_in watches results row = record { number = row.number; name = row.name; hosts = eligible_in watches results row }
+cluster_in watches results row = record {
+  number = row.number;
+  name = row.name;
+  hosts = eligible_in watches results row;
+  elsewhere = is_elsewhere row.content;
+}
 
 -- the active clusters, in the order of the rows
 abbrev pub clusters_found : WatchesKept → ResultsKept → List GenRow → List ServedCluster
@@ -80,18 +105,29 @@ cluster_found watches results row = clusters_found watches results (row ∷ [])
 abbrev pub clusters_in : WatchesKept → ResultsKept → List GenRow → List ServedCluster
 clusters_in watches results rows = map (cluster_in watches results) (active_by_name rows)
 
--- where a listener's connections go
+-- where a chain's connections go
 abbrev pub routing_in : WatchesKept → Serve → Routing
 routing_in watches (by_rds name limited) = Table (table_in (watch_in watches name).value)
 routing_in watches (Inline table) = Table table
 routing_in watches (by_tcp target) = Tcp target
+routing_in watches by_other = Other
+
+-- a chain, with where its connections go
+abbrev pub chain_in : WatchesKept → FilterChain → ServedChain
+chain_in watches chain = record { criteria = chain.criteria; routing = routing_in watches chain.serve }
 
 -- a listener; what is no listener isn't shown
 abbrev pub listener_in : WatchesKept → GenRow → Content → List ServedListener
 listener_in watches row (a_cluster cluster) = []
 listener_in watches row (an_assignment rows) = []
-listener_in watches row (a_listener listener) =
-    record { number = row.number; name = row.name; address = listener.address; routing = routing_in watches listener.serve } ∷ []
+listener_in watches row (a_listener listener) = record {
+  number = row.number;
+  name = row.name;
+  address = listener.address;
+  takes_every_address = listener.takes_every_address;
+  filter_chains = map (chain_in watches) listener.filter_chains;
+  default_filter_chain = option_map (routing_in watches) listener.default_filter_chain;
+} ∷ []
 listener_in watches row (routes table) = []
 
 -- the active listeners, in the order of the rows
@@ -102,7 +138,7 @@ listeners_found watches rows = flat_map (λ (row : GenRow). listener_in watches 
 abbrev pub listeners_in : WatchesKept → List GenRow → List ServedListener
 listeners_in watches rows = flat_map (λ (row : GenRow). listener_in watches row row.content) (active_by_name rows)
 
--- a live row of the world waits for the name of this kind within a limit, and the name was neither told of nor timed out
+-- a live row of the world waits for the name of this kind within a limit: it was neither told of it, nor has the wait timed out
 abbrev pub is_awaited_at : World → Kind → List ℕ → Bool
 is_awaited_at world kind name = is_awaited world.arrivals world.rows kind name
 

@@ -1,59 +1,44 @@
 -- Which rows are due, by what is known of names and by the results that are kept: the machine's words, where what came is looked
 -- up. Source: cluster manager warming of Envoy's documentation.
-use Rattle.std.specs.Prelude.{◌≡◌, ⊤, ℕ, if◌then◌else◌, Bool, true, false, not, ◌&&◌, ◌||◌, List, [], ◌∷◌, Option, Some, None, is_some, option_map, unwrap_or}
+use Rattle.std.specs.Prelude.{◌≡◌, ℕ, if◌then◌else◌, Bool, false, not, ◌&&◌, ◌||◌, List, [], Option, Some, None, is_some}
 use Rattle.std.specs.List.{list_all}
 use Rattle.ev_types.specs.Hosts.{HostRowParts}
 use Rattle.ev_types.specs.SameHosts.{has_host}
 use Rattle.ev_types.specs.Statuses.{is_warming}
-use Rattle.ev_types.specs.Texts.{IsName}
 use Rattle.ev_types.specs.declared.contents.Content.{Content}
 use Rattle.ev_types.specs.declared.contents.Content.TheVariants.{Cluster as a_cluster, Assignment as an_assignment, Listener as a_listener, Routes as routes}
 use Rattle.ev_types.specs.declared.clusters.Discovery.{Discovery}
-use Rattle.ev_types.specs.declared.clusters.Discovery.TheVariants.{Static, Eds as by_eds}
+use Rattle.ev_types.specs.declared.clusters.Discovery.TheVariants.{Static, Eds as by_eds, Elsewhere}
 use Rattle.ev_types.specs.declared.hosts.Host.{Host}
 use Rattle.ev_types.specs.declared.rows.GenRow.{GenRow}
 use Rattle.ev_model.specs.Watching.{Dependency, dependencies_of}
-use Rattle.ev_model.specs.Warming.{rows_in, is_checked}
+use Rattle.ev_model.specs.Warming.{counts_for, rows_in, is_checked}
 use Rattle.ev_endpoints.specs.Results.{ResultsKept, result_in}
 use Rattle.ev_generations.specs.Tables.{row_in}
 use Rattle.ev_indexes.specs.Due.{is_among}
 use Rattle.ev_indexes.specs.Watched.{WatchesKept, watch_in}
 
--- the first of these dependencies, where there is one
-abbrev pub first_dependency : List Dependency → Option Dependency
-first_dependency [] = None
-first_dependency (d ∷ ds) = Some d
+-- the generation of this number was told of what it depends on
+abbrev pub has_word_in : WatchesKept → ℕ → Dependency → Bool
+has_word_in watches number d = counts_for number d (watch_in watches d.name).told
 
--- the dependency of a content that has one at most: so has each content, a cluster its service and a listener its routes
-abbrev pub dependency_in : Content → Option Dependency
-dependency_in content = first_dependency (dependencies_of content)
+-- its wait timed out
+abbrev pub has_timeout_in : WatchesKept → ℕ → Dependency → Bool
+has_timeout_in watches number d = counts_for number d (watch_in watches d.name).timed
 
--- the name that a generation of this content depends on
-abbrev pub name_needed : Content → Option (List ℕ)
-name_needed content = option_map (λ (d : Dependency). d.name) (dependency_in content)
+-- it was told of what it depends on, or timed out where the wait is limited
+abbrev pub has_answer_in : WatchesKept → ℕ → Dependency → Bool
+has_answer_in watches number d = has_word_in watches number d || (has_timeout_in watches number d && d.limited)
 
--- its wait ends at the initial fetch timeout
-abbrev pub is_limited_in : Content → Bool
-is_limited_in content = unwrap_or (option_map (λ (d : Dependency). d.limited) (dependency_in content)) false
-
--- what is needed has 1 to 512 bytes
-abbrev pub IsNeedName : Option (List ℕ) → Type 0
-IsNeedName None = ⊤
-IsNeedName (Some name) = IsName name
-
--- the name was told of, or timed out where the wait is limited
-abbrev pub has_answer_in : WatchesKept → Bool → Option (List ℕ) → Bool
-has_answer_in watches limited None = true
-has_answer_in watches limited (Some name) = (watch_in watches name).told || ((watch_in watches name).timed && limited)
-
--- a generation of this content is answered
-abbrev pub is_answered_in : WatchesKept → Content → Bool
-is_answered_in watches content = has_answer_in watches (is_limited_in content) (name_needed content)
+-- the generation of this number and content is answered: each of its dependencies is
+abbrev pub is_answered_in : WatchesKept → ℕ → Content → Bool
+is_answered_in watches number content = list_all (has_answer_in watches number) (dependencies_of content)
 
 -- the hosts that stand in a cluster, or the value of its service, or none
 abbrev pub discovered_in : WatchesKept → Discovery → List HostRowParts
 discovered_in watches (Static rows) = rows
-discovered_in watches (by_eds service limited) = rows_in (watch_in watches service).value
+discovered_in watches (by_eds service limited fresh) = rows_in (watch_in watches service).value
+discovered_in watches Elsewhere = []
 
 -- the assignment of a content
 abbrev pub assignment_in : WatchesKept → Content → List HostRowParts
@@ -76,7 +61,7 @@ is_round_done_in watches results number content = not (is_checked content) || ar
 
 -- the row is ready
 abbrev pub is_ready_in : WatchesKept → ResultsKept → GenRow → Bool
-is_ready_in watches results row = is_answered_in watches row.content && is_round_done_in watches results row.number row.content
+is_ready_in watches results row = is_answered_in watches row.number row.content && is_round_done_in watches results row.number row.content
 
 -- the row warms and is ready
 abbrev pub is_due_in : WatchesKept → ResultsKept → GenRow → Bool

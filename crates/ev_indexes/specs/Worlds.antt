@@ -10,7 +10,7 @@ use Rattle.ev_types.specs.declared.hosts.Host.{Host}
 use Rattle.ev_types.specs.declared.rows.GenRow.{GenRow}
 use Rattle.ev_model.specs.World.{World}
 use Rattle.ev_model.specs.Watching.{is_by_name}
-use Rattle.ev_model.specs.Warming.{value_by, is_told_by, is_timed_by, has_result, is_healthy}
+use Rattle.ev_model.specs.Warming.{value_by, last_told, last_timed, has_result, is_healthy}
 use Rattle.ev_endpoints.specs.Results.{result_in}
 use Rattle.ev_generations.specs.Tables.{IsTable, row_in}
 use Rattle.ev_indexes.specs.declared.state.State.{State}
@@ -40,8 +40,8 @@ pub record IsSound (world : World) : Type 0 where
 pub record StandsFor (s : State) (world : World) : Type 0 where
   pub sound : IsSound world
   pub rows : s.table.rows ≡ rows_of_kind s.kind world.rows
-  pub told : (name : List ℕ) → (watch_in s.watches name).told ≡ is_told_by world.arrivals (needs_of s.kind) name
-  pub timed : (name : List ℕ) → (watch_in s.watches name).timed ≡ is_timed_by world.arrivals (needs_of s.kind) name
+  pub told : (name : List ℕ) → (watch_in s.watches name).told ≡ last_told world.arrivals (needs_of s.kind) name
+  pub timed : (name : List ℕ) → (watch_in s.watches name).timed ≡ last_timed world.arrivals (needs_of s.kind) name
   pub value : (name : List ℕ) → (watch_in s.watches name).value ≡ value_by world.arrivals (needs_of s.kind) name
   pub resulted : (number : ℕ) (host : Host) → IsSome (row_in number s.table.rows) → is_some (result_in s.results number host) ≡ has_result world.results number host
   pub healthy : (number : ℕ) (host : Host) → IsSome (row_in number s.table.rows) → unwrap_or (result_in s.results number host) false ≡ is_healthy world.results number host

@@ -41,7 +41,7 @@ impl TryCopy for Standing {
 impl TryCopy for Watch {
     fn copy(&self, alloc: Global) -> Result<Watch, AllocError> {
         Ok(Watch {
-            rows: self.rows.copy(alloc)?,
+            unlimited: self.unlimited.copy(alloc)?,
             limited: self.limited.copy(alloc)?,
             told: self.told,
             timed: self.timed,

@@ -28,6 +28,7 @@ pub(crate) fn assignment<'a>(watches: &'a Watches, content: &'a Content) -> Opti
     match &cluster.get().discovery {
         Discovery::Static(rows) => Some(rows),
         Discovery::Eds { service, .. } => value(watches, service),
+        Discovery::Elsewhere => None,
     }
 }
 

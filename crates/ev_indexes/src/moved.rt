@@ -1,11 +1,12 @@
 //! Which names generations ceased or began to depend on, by the generations that changed alone.
 
-ghost use Rattle.std.specs.Prelude.{◌≡◌, ◌++◌, IfOk, OnOk};
+ghost use Rattle.std.specs.Prelude.{◌≡◌, ◌<◌, ◌++◌, length, option_to_list, IfOk, OnOk};
 ghost use Rattle.ev_indexes.specs.Indexes.{IsIndexed};
-ghost use Rattle.ev_indexes.specs.Moved.{is_held, free_need, need_lost, need_gained, names_lost, names_gained};
+ghost use Rattle.ev_indexes.specs.Needs.{names_of, need_at, places_of};
+ghost use Rattle.ev_indexes.specs.Moved.{is_held, free_names, free_needs, needs_lost, needs_gained, names_lost, names_gained};
 
 use crate::watched::sort;
-use crate::{State, needed};
+use crate::{State, need_at, place_count};
 use ev_types::{Content, Gen, Name, Seq, TryCopy};
 use std::alloc::{AllocError, Global};
 
@@ -43,7 +44,7 @@ impl State {
         Ok(Seq::from_vec(names))
     }
 
-    // Puts to the others the name that a generation up to the number `made` leaves.
+    // Puts to the others the names that a generation up to the number `made` leaves.
     fn push_lost(
         &self,
         alloc: Global,
@@ -52,7 +53,7 @@ impl State {
         names: &mut Vec<Name>,
     ) -> Result<(), AllocError>
         requires indexed { IsIndexed self.now }
-        ensures { OnOk result (names.new.items ≡ names.old.items ++ need_lost made self.now.table.rows number) }
+        ensures { OnOk result (names.new.items ≡ names.old.items ++ needs_lost made self.now.table.rows number) }
     {
         if number.number() > made {
             return Ok(());
@@ -63,7 +64,7 @@ impl State {
         }
     }
 
-    // Puts to the others the name that a live generation brings.
+    // Puts to the others the names that a live generation brings.
     fn push_gained(
         &self,
         alloc: Global,
@@ -72,7 +73,7 @@ impl State {
         names: &mut Vec<Name>,
     ) -> Result<(), AllocError>
         requires indexed { IsIndexed self.now }
-        ensures { OnOk result (names.new.items ≡ names.old.items ++ need_gained made self.now.table.rows number) }
+        ensures { OnOk result (names.new.items ≡ names.old.items ++ needs_gained made self.now.table.rows number) }
     {
         match self.table.get(number) {
             Some(row) if row.status.is_live() => {
@@ -82,7 +83,7 @@ impl State {
         }
     }
 
-    // Puts to the others the name that a generation of this content depends on, where no live one up to the number `made` does.
+    // Puts to the others the names that a generation of this content depends on and no live one up to the number `made` does.
     fn push_free(
         &self,
         alloc: Global,
@@ -91,13 +92,33 @@ impl State {
         names: &mut Vec<Name>,
     ) -> Result<(), AllocError>
         requires indexed { IsIndexed self.now }
-        ensures { OnOk result (names.new.items ≡ names.old.items ++ free_need made self.now.table.rows content.now) }
+        ensures { OnOk result (names.new.items ≡ names.old.items ++ free_needs made self.now.table.rows content.now) }
     {
-        let Some(name) = needed(content) else {
+        for place in 0..place_count(content) {
+            self.push_free_at(alloc, made, content, place, names)?;
+        }
+        Ok(())
+    }
+
+    // The same of what it depends on at a place.
+    fn push_free_at(
+        &self,
+        alloc: Global,
+        made: u32,
+        content: &Content,
+        place: usize,
+        names: &mut Vec<Name>,
+    ) -> Result<(), AllocError>
+        requires indexed { IsIndexed self.now }
+        requires within { place < length (places_of content.now) }
+        ensures { OnOk result (names.new.items ≡ names.old.items ++ free_names made self.now.table.rows
+            (names_of (option_to_list (need_at (places_of content.now) place)))) }
+    {
+        let Some(need) = need_at(content, place) else {
             return Ok(());
         };
-        if !self.is_held(made, name) {
-            names.push(name.copy(alloc)?)?;
+        if !self.is_held(made, need.name) {
+            names.push(need.name.copy(alloc)?)?;
         }
         Ok(())
     }
@@ -108,7 +129,7 @@ impl State {
         ensures { result ≡ is_held made self.now.table.rows name.now }
     {
         match self.watches.get(name) {
-            Some(watch) => watch.rows.has_up_to(made),
+            Some(watch) => watch.unlimited.has_up_to(made) || watch.limited.has_up_to(made),
             None => false,
         }
     }

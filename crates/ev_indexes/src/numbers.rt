@@ -1,13 +1,13 @@
 //! Numbers of the generations that depend on a name. They are lent as a slice, so they stand one after another and not in a tree, and
 //! one is found by halves. The first leaves its place empty, so that generations that retire in the order in which they came cost
-//! no move; the rest moves up after another. That numbers come in rising order is no condition of `push`, so that each clause
+//! no move; the rest moves up after another. That numbers come in rising order is no condition of `put`, so that each clause
 //! holds of every list: each list keeps whether it is known to rise, and is walked where it isn't, which never comes of numbers
 //! in the order in which they are drawn.
 
 ghost use Rattle.std.specs.Prelude.{◌≡◌, ◌++◌, [], ◌∷◌, ◌+◌, ◌-◌, ◌<◌, ◌≤◌, drop, IsTrue, ◌↔◌, length, nat_le, slice_get, OnOk, OnErr};
 ghost use Rattle.std.specs.List.{list_any};
 ghost use Rattle.ev_indexes.specs.Numbers.{is_above_other, is_first_up_to};
-ghost use Rattle.ev_indexes.specs.Watched.{numbers_without};
+ghost use Rattle.ev_indexes.specs.Watched.{is_last, numbers_without, with_last};
 
 use ev_types::{Gen, TryCopy};
 use std::alloc::{AllocError, Global};
@@ -68,8 +68,19 @@ impl Numbers {
         self.len() == 0
     }
 
-    /// Puts a number after the others. Without memory they stay as they were.
-    pub fn push(&mut self, number: Gen) -> Result<(), AllocError>
+    /// Puts a number after the others, unless it is the last of them. Without memory they stay as they were.
+    pub fn put(&mut self, number: Gen) -> Result<(), AllocError>
+        ensures ok { OnOk result (self.new ≡ with_last number self.old) }
+        ensures err { OnErr result (self.new ≡ self.old) }
+    {
+        if is_last(number, self.as_slice()) {
+            return Ok(());
+        }
+        self.push(number)
+    }
+
+    // Puts a number after the others. Without memory they stay as they were.
+    fn push(&mut self, number: Gen) -> Result<(), AllocError>
         ensures ok { OnOk result (self.new ≡ self.old ++ number ∷ []) }
         ensures err { OnErr result (self.new ≡ self.old) }
     {
@@ -118,6 +129,16 @@ impl TryCopy for Numbers {
             gone: self.gone,
             rise: self.rise,
         })
+    }
+}
+
+// Whether a number is the last of these.
+fn is_last(number: Gen, numbers: &[Gen]) -> bool
+    ensures { result ≡ is_last number numbers.now }
+{
+    match numbers.last() {
+        Some(last) => number == *last,
+        None => false,
     }
 }
 

@@ -1,20 +1,22 @@
 //! What is asked of names that generations depend on, and of the live generations.
 
-ghost use Rattle.std.specs.Prelude.{◌≡◌, ◌++◌, [], ◌∷◌, ◌&&◌, ◌||◌, not, map, IfOk, OnOk};
+ghost use Rattle.std.specs.Prelude.{◌≡◌, ◌+◌, ◌≤◌, ◌<◌, ◌++◌, [], ◌∷◌, true, map, length, option_to_list, IfOk, OnOk};
 ghost use Rattle.std.specs.List.{list_any};
 ghost use Rattle.ev_model.specs.Live.{live_of, lives_of};
-ghost use Rattle.ev_model.specs.Watching.{is_watched};
-ghost use Rattle.ev_indexes.specs.Due.{has_number};
+ghost use Rattle.ev_model.specs.Watching.{dependencies_of, is_watched};
 ghost use Rattle.ev_generations.specs.Tables.{numbers_of};
-ghost use Rattle.ev_indexes.specs.Indexes.{IsIndexed, depends_on, numbers_where};
-ghost use Rattle.ev_indexes.specs.Reads.{live_rows, is_timeout_due, is_awaited_at, seen_at};
+ghost use Rattle.ev_indexes.specs.Indexes.{IsIndexed, depends_on, waits, numbers_waiting, numbers_where};
+ghost use Rattle.ev_indexes.specs.Needs.{need_at, places_of};
+ghost use Rattle.ev_indexes.specs.Reads.{live_rows, awaits_in, is_waiting_in, is_one_waiting, is_timeout_due, is_awaited_at, seen_at};
 ghost use Rattle.ev_indexes.specs.Worlds.{InWorlds, InWorldsWatching};
 
-use crate::{Numbers, State, Watch};
-use ev_generations::Generations;
+use crate::ready::counts_for;
+use crate::{Need, State, Watch, need_at, place_count};
+use ev_generations::{Generations, Steps};
 use ev_mentions::LiveRow;
-use ev_types::{Gen, GenRow, Name};
+use ev_types::{Content, Gen, GenRow, Name, Seq};
 use std::alloc::{AllocError, Global};
+use std::sync::ledger::Ledger;
 
 impl State {
     /// Whether a live generation depends on the name.
@@ -24,31 +26,33 @@ impl State {
         ensures world { InWorldsWatching self.now (λ world kind. result ≡ is_watched (lives_of world) kind name.now) }
     {
         match self.watches.get_text(name) {
-            Some(watch) => has_number(&watch.rows),
+            Some(watch) => watch.has_watcher(),
             None => false,
         }
     }
 
-    /// The numbers of the live generations that depend on the name, in order. It costs a look-up of the name.
-    pub fn dependents(&self, name: &str) -> &[Gen]
+    /// Puts the numbers of the live generations that depend on the name to the others: those that wait for it without a limit, and
+    /// then those that wait within one. It costs a look-up of the name.
+    pub fn put_dependents(&self, name: &str, numbers: &mut Seq<Gen>) -> Result<(), AllocError>
         requires indexed { IsIndexed self.now }
-        ensures { result.now ≡ numbers_where (depends_on name.now) self.now.table.rows }
+        ensures { OnOk result (numbers.new ≡ numbers.old ++ numbers_waiting self.now.table.rows name.now) }
     {
         match self.watches.get_text(name) {
-            Some(watch) => watch.rows.as_slice(),
-            None => &[],
+            Some(watch) => watch.put_watchers(numbers),
+            None => Ok(()),
         }
     }
 
-    /// Whether the fetch timeout of the name is due: a live generation waits for it within a limit, and it was neither told of
-    /// nor timed out.
-    pub fn timeout_due(&self, name: &Name) -> bool
+    /// Whether the fetch timeout of the name is due: a live generation waits for it within a limit, was not told of it, and its wait
+    /// didn't time out. Look-ups are counted: at most one for each generation that waits for the name within a limit.
+    pub fn timeout_due<L: Ledger>(&self, name: &Name, steps: &mut Steps<L>) -> bool
         requires indexed { IsIndexed self.now }
         ensures rows { result ≡ is_timeout_due self.now.watches self.now.table.rows name.now }
+        ensures steps { steps.new ≤ steps.old + length (numbers_where (waits name.now true) self.now.table.rows) }
         ensures world { InWorldsWatching self.now (λ world kind. result ≡ is_awaited_at world kind name.now) }
     {
         match self.watches.get(name) {
-            Some(watch) => is_awaited(watch),
+            Some(watch) => is_awaited(&self.table, name, watch, steps),
             None => false,
         }
     }
@@ -90,18 +94,66 @@ fn push_number(row: &GenRow, numbers: &mut Vec<Gen>) -> Result<(), AllocError>
     Ok(())
 }
 
-// Whether there is a number.
-fn has_number(numbers: &Numbers) -> bool
-    ensures { result ≡ has_number numbers.now }
+// Whether one of the generations that wait for a name within a limit still waits.
+fn is_awaited<L: Ledger>(
+    table: &Generations,
+    name: &Name,
+    watch: &Watch,
+    steps: &mut Steps<L>,
+) -> bool
+    ensures value { result ≡ is_one_waiting name.now watch.now table.now.rows watch.now.limited }
+    ensures steps { steps.new ≤ steps.old + length watch.now.limited }
 {
-    !numbers.is_empty()
+    for number in watch.limited.as_slice() {
+        let waits = match table.row(*number, steps) {
+            Some(row) => is_waiting(name, watch, row),
+            None => false,
+        };
+        if waits {
+            return true;
+        }
+    }
+    false
 }
 
-// Whether a row waits within a limit for a name, which was neither told of nor timed out.
-fn is_awaited(watch: &Watch) -> bool
-    ensures { result ≡ (has_number watch.now.limited && not (watch.now.told || watch.now.timed)) }
+// Whether a row is live and waits for a name within a limit: it was neither told of it, nor has its wait timed out.
+fn is_waiting(name: &Name, watch: &Watch, row: &GenRow) -> bool
+    ensures { result ≡ is_waiting_in name.now watch.now row.now }
 {
-    has_number(&watch.limited) && !(watch.told || watch.timed)
+    row.status.is_live() && awaits_one(name, watch, row.number, &row.content)
+}
+
+// Whether the generation of this number and content waits so for a name.
+fn awaits_one(name: &Name, watch: &Watch, number: Gen, content: &Content) -> bool
+    ensures { result ≡ list_any (awaits_in name.now watch.now number) (dependencies_of content.now) }
+{
+    for place in 0..place_count(content) {
+        if awaits_at(name, watch, number, content, place) {
+            return true;
+        }
+    }
+    false
+}
+
+// The same by what it depends on at a place.
+fn awaits_at(name: &Name, watch: &Watch, number: Gen, content: &Content, place: usize) -> bool
+    requires within { place < length (places_of content.now) }
+    ensures { result ≡ list_any (awaits_in name.now watch.now number)
+        (option_to_list (need_at (places_of content.now) place)) }
+{
+    match need_at(content, place) {
+        Some(need) => awaits(name, watch, number, &need),
+        None => false,
+    }
+}
+
+// Whether a dependency is on the name, its wait is limited, and it was neither told nor timed out.
+fn awaits(name: &Name, watch: &Watch, number: Gen, need: &Need<'_>) -> bool
+    ensures { result ≡ awaits_in name.now watch.now number need.now }
+{
+    need.name == name
+        && need.limited
+        && !(counts_for(number, need, watch.told) || counts_for(number, need, watch.timed))
 }
 
 // The live rows of a table.

@@ -1,74 +1,64 @@
 //! Whether generations are ready, and which are due by that.
 
-ghost use Rattle.std.specs.Prelude.{◌≡◌, ◌+◌, Some, length, OnOk};
-ghost use Rattle.std.specs.Option.{option_copied};
-ghost use Rattle.ev_types.specs.Texts.{IsName};
-ghost use Rattle.ev_model.specs.Warming.{rows_in};
+ghost use Rattle.std.specs.Prelude.{◌≡◌, ◌+◌, ◌<◌, length, option_to_list, OnOk};
+ghost use Rattle.std.specs.List.{list_all};
+ghost use Rattle.ev_model.specs.Warming.{counts_for, rows_in};
+ghost use Rattle.ev_indexes.specs.Needs.{need_at, places_of};
 ghost use Rattle.ev_indexes.specs.Watched.{watch_in};
-ghost use Rattle.ev_indexes.specs.Ready.{name_needed, is_limited_in, IsNeedName, are_results_in, is_answered_in, is_round_done_in, is_ready_in, Refreshes};
+ghost use Rattle.ev_indexes.specs.Ready.{has_answer_in, are_results_in, is_answered_in, is_round_done_in, is_ready_in, Refreshes};
 
-use crate::{Due, Watches};
+use crate::{Due, Need, Watches, need_at, place_count};
 use ev_endpoints::Endpoints;
 use ev_generations::{Generations, Steps};
-use ev_types::{Content, Discovery, Gen, GenRow, Name, Serve};
+use ev_types::{Content, Discovery, Gen, GenRow, Name};
 use std::alloc::AllocError;
 use std::sync::ledger::Ledger;
 
-/// The name that a generation of this content depends on.
-pub fn needed(content: &Content) -> Option<&Name>
-    ensures value { option_copied result ≡ name_needed content.now }
-    ensures named { IsNeedName (name_needed content.now) }
+// Whether what came for a name when so many numbers were drawn counts for the generation of this number, which depends on the name.
+pub(crate) fn counts_for(number: Gen, need: &Need<'_>, made: Option<u32>) -> bool
+    ensures { result ≡ counts_for number need.now made }
 {
-    match content {
-        Content::Cluster(cluster) => match &cluster.get().discovery {
-            Discovery::Static(_) => None,
-            Discovery::Eds { service, .. } => given(service),
-        },
-        Content::Listener(listener) => match &listener.get().serve {
-            Serve::Rds { name, .. } => given(name),
-            _ => None,
-        },
-        _ => None,
+    match made {
+        Some(made) => !need.fresh || number.number() <= made,
+        None => false,
     }
 }
 
-// A name that is given has 1 to 512 bytes.
-fn given(name: &Name) -> Option<&Name>
-    ensures value { option_copied result ≡ Some name.now }
-    ensures named { IsName name.now }
+// Whether the generation of this number was told of what it depends on, or its wait timed out where it is limited.
+fn has_answer(watches: &Watches, number: Gen, need: &Need<'_>) -> bool
+    ensures { result ≡ has_answer_in watches.now number need.now }
 {
-    let _text = name.as_str();
-    Some(name)
-}
-
-/// Whether the wait of a generation of this content ends at the initial fetch timeout.
-pub fn limited(content: &Content) -> bool
-    ensures { result ≡ is_limited_in content.now }
-{
-    match content {
-        Content::Cluster(cluster) => match &cluster.get().discovery {
-            Discovery::Static(_) => false,
-            Discovery::Eds { limited, .. } => *limited,
-        },
-        Content::Listener(listener) => match &listener.get().serve {
-            Serve::Rds { limited, .. } => *limited,
-            _ => false,
-        },
-        _ => false,
+    match watches.get(need.name) {
+        Some(watch) => {
+            counts_for(number, need, watch.told)
+                || (counts_for(number, need, watch.timed) && need.limited)
+        }
+        None => false,
     }
 }
 
-// Whether a generation of this content is answered.
-fn is_answered(watches: &Watches, content: &Content) -> bool
-    ensures { result ≡ is_answered_in watches.now content.now }
+// The same of what it depends on at a place of its content.
+fn has_answer_at(watches: &Watches, number: Gen, content: &Content, place: usize) -> bool
+    requires within { place < length (places_of content.now) }
+    ensures { result ≡ list_all (has_answer_in watches.now number)
+        (option_to_list (need_at (places_of content.now) place)) }
 {
-    match needed(content) {
+    match need_at(content, place) {
+        Some(need) => has_answer(watches, number, &need),
         None => true,
-        Some(name) => match watches.get(name) {
-            Some(watch) => watch.told || (watch.timed && limited(content)),
-            None => false,
-        },
     }
+}
+
+// Whether the generation of this number and content is answered: each of its dependencies is.
+fn is_answered(watches: &Watches, number: Gen, content: &Content) -> bool
+    ensures { result ≡ is_answered_in watches.now number content.now }
+{
+    for place in 0..place_count(content) {
+        if !has_answer_at(watches, number, content, place) {
+            return false;
+        }
+    }
+    true
 }
 
 // Whether a generation has a result of each host, where its hosts are health checked.
@@ -85,6 +75,7 @@ fn is_round_done(watches: &Watches, results: &Endpoints, number: Gen, content: &
     match &cluster.discovery {
         Discovery::Static(rows) => results.first_round_done(number, rows),
         Discovery::Eds { service, .. } => is_value_done(watches, results, number, service),
+        Discovery::Elsewhere => true,
     }
 }
 
@@ -105,7 +96,8 @@ fn is_value_done(watches: &Watches, results: &Endpoints, number: Gen, service: &
 fn is_ready(watches: &Watches, results: &Endpoints, row: &GenRow) -> bool
     ensures { result ≡ is_ready_in watches.now results.now row.now }
 {
-    is_answered(watches, &row.content) && is_round_done(watches, results, row.number, &row.content)
+    is_answered(watches, row.number, &row.content)
+        && is_round_done(watches, results, row.number, &row.content)
 }
 
 /// Looks at the rows of these numbers anew: those that are due are put among the due ones, and the others left out. Each look

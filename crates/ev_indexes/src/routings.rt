@@ -1,6 +1,6 @@
 //! What a picture shows of listeners.
 
-ghost use Rattle.std.specs.Prelude.{◌≡◌, ◌++◌, [], ◌∷◌, Some, map, option_to_list, IfOk, OnOk};
+ghost use Rattle.std.specs.Prelude.{◌≡◌, ◌++◌, [], ◌∷◌, Some, map, option_map, option_to_list, IfOk, OnOk};
 ghost use Rattle.std.specs.Str.{bytes_eq};
 ghost use Rattle.std.specs.List.{IsDistinct};
 ghost use Rattle.ev_types.specs.declared.contents.Kind.TheVariants.{Lds};
@@ -9,20 +9,20 @@ ghost use Rattle.ev_model.specs.Sorted.{sorted_by};
 ghost use Rattle.ev_model.specs.Versions.{is_before};
 ghost use Rattle.ev_model.specs.Picture.{table_in};
 ghost use Rattle.ev_indexes.specs.Indexes.{IsIndexed};
-ghost use Rattle.ev_indexes.specs.Reads.{listener_in, routing_in, listeners_found};
+ghost use Rattle.ev_indexes.specs.Reads.{chain_in, listener_in, routing_in, listeners_found};
 ghost use Rattle.ev_indexes.specs.Shown.{first_of, listener_shown_in, listener_by, listeners_by, routed_at, all_routed_at};
 ghost use Rattle.ev_indexes.specs.Watched.{watch_in};
 ghost use Rattle.ev_indexes.specs.Worlds.{InWorldsOf};
 
 use crate::{State, Watches};
 use ev_generations::Generations;
-use ev_model::{Routing, ServedListener};
-use ev_types::{Content, Gen, GenRow, Name, RouteTable, Seq, Serve, Shared, TryCopy};
+use ev_model::{Routing, ServedChain, ServedListener};
+use ev_types::{Content, FilterChain, Gen, GenRow, Name, RouteTable, Seq, Serve, Shared, TryCopy};
 use std::alloc::{AllocError, Global};
 
 impl State {
-    /// What a picture shows of listeners once they serve: each active one with its routes, or its target, in the order of their
-    /// names; where no routes came there are none. It goes over the whole table.
+    /// What a picture shows of listeners once they serve: each active one with its chains and their routes or targets, in the
+    /// order of their names; where no routes came there are none. It goes over the whole table.
     pub fn listeners(&self, alloc: Global) -> Result<Seq<ServedListener>, AllocError>
         requires indexed { IsIndexed self.now }
         ensures rows { IfOk result (λ served. served ≡ listeners_by self.now) }
@@ -33,8 +33,8 @@ impl State {
         Ok(Seq::from_vec(served))
     }
 
-    /// What a picture shows of the listener of this number once listeners serve: where it is active, its routes or its target. It
-    /// costs a look-up of the number, and one of the name that the listener depends on.
+    /// What a picture shows of the listener of this number once listeners serve: where it is active, its chains with their
+    /// routes or targets. It costs a look-up of the number, and one of a name for each chain that depends on one.
     pub fn listener(&self, alloc: Global, number: Gen) -> Result<Option<ServedListener>, AllocError>
         requires indexed { IsIndexed self.now }
         ensures rows { IfOk result (λ served. served ≡ listener_by self.now number) }
@@ -47,7 +47,7 @@ impl State {
     }
 }
 
-// A listener with its routes or its target, where it is active.
+// A listener with its chains, where it is active.
 fn active_listener(
     alloc: Global,
     watches: &Watches,
@@ -61,7 +61,7 @@ fn active_listener(
     listener(alloc, watches, row)
 }
 
-// A listener with its routes or its target; what is no listener isn't shown.
+// A listener with its chains; what is no listener isn't shown.
 fn listener(
     alloc: Global,
     watches: &Watches,
@@ -78,7 +78,9 @@ fn listener(
         number: row.number,
         name: row.name.copy(alloc)?,
         address: listener.address.copy(alloc)?,
-        routing: routing(alloc, watches, &listener.serve)?,
+        takes_every_address: listener.takes_every_address,
+        filter_chains: chains(alloc, watches, listener.filter_chains.as_slice())?,
+        default_filter_chain: default_chain(alloc, watches, &listener.default_filter_chain)?,
     }))
 }
 
@@ -115,7 +117,39 @@ fn push_listener(
     Ok(())
 }
 
-// Where a listener's connections go.
+// These chains, each with where its connections go.
+fn chains(
+    alloc: Global,
+    watches: &Watches,
+    chains: &[FilterChain],
+) -> Result<Seq<ServedChain>, AllocError>
+    ensures { IfOk result (λ served. served ≡ map (chain_in watches.now) chains.now) }
+{
+    let mut served = Vec::new(alloc);
+    for chain in chains {
+        served.push(ServedChain {
+            criteria: chain.criteria.copy(alloc)?,
+            routing: routing(alloc, watches, &chain.serve)?,
+        })?;
+    }
+    Ok(Seq::from_vec(served))
+}
+
+// Where connections go that no chain takes, if they go anywhere.
+fn default_chain(
+    alloc: Global,
+    watches: &Watches,
+    serve: &Option<Serve>,
+) -> Result<Option<Routing>, AllocError>
+    ensures { IfOk result (λ routing. routing ≡ option_map (routing_in watches.now) serve.now) }
+{
+    match serve {
+        Some(serve) => Ok(Some(routing(alloc, watches, serve)?)),
+        None => Ok(None),
+    }
+}
+
+// Where a chain's connections go.
 fn routing(alloc: Global, watches: &Watches, serve: &Serve) -> Result<Routing, AllocError>
     ensures { IfOk result (λ routing. routing ≡ routing_in watches.now serve.now) }
 {
@@ -123,6 +157,7 @@ fn routing(alloc: Global, watches: &Watches, serve: &Serve) -> Result<Routing, A
         Serve::Rds { name, .. } => Ok(Routing::Table(value(alloc, watches, name)?)),
         Serve::Inline(table) => Ok(Routing::Table(table.copy(alloc)?)),
         Serve::Tcp(target) => Ok(Routing::Tcp(target.copy(alloc)?)),
+        Serve::Other => Ok(Routing::Other),
     }
 }
 

@@ -6,6 +6,7 @@ ghost use Rattle.std.specs.List.{IsDistinct};
 ghost use Rattle.ev_types.specs.declared.contents.Kind.TheVariants.{Cds};
 ghost use Rattle.ev_types.specs.declared.limits.TheConstants.{ROW_LIMIT};
 ghost use Rattle.ev_types.specs.declared.rows.GenRow as declared;
+ghost use Rattle.ev_model.specs.Picture.{is_elsewhere};
 ghost use Rattle.ev_model.specs.Sorted.{sorted_by};
 ghost use Rattle.ev_model.specs.Versions.{is_before};
 ghost use Rattle.ev_indexes.specs.Indexes.{IsIndexed};
@@ -18,7 +19,7 @@ use crate::{State, Watches};
 use ev_endpoints::Endpoints;
 use ev_generations::Generations;
 use ev_model::ServedCluster;
-use ev_types::{Assignment, Gen, GenRow, HostRow, Seq, TryCopy};
+use ev_types::{Assignment, Content, Discovery, Gen, GenRow, HostRow, Seq, TryCopy};
 use std::alloc::{AllocError, Global};
 
 impl State {
@@ -76,7 +77,18 @@ fn cluster(
         number: row.number,
         name: row.name.copy(alloc)?,
         hosts: eligible(alloc, watches, results, row)?,
+        elsewhere: is_elsewhere(&row.content),
     })
+}
+
+// Whether Envoy, or an extension of it, finds the hosts of a cluster by itself.
+fn is_elsewhere(content: &Content) -> bool
+    ensures { result ≡ is_elsewhere content.now }
+{
+    match content {
+        Content::Cluster(cluster) => matches!(&cluster.get().discovery, Discovery::Elsewhere),
+        Content::Assignment(_) | Content::Listener(_) | Content::Routes(_) => false,
+    }
 }
 
 // The active clusters of a table, in the order of the rows.

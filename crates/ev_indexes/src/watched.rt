@@ -1,11 +1,12 @@
-ghost use Rattle.std.specs.Prelude.{◌≡◌, ◌++◌, [], ◌∷◌, IfOk, OnOk};
+ghost use Rattle.std.specs.Prelude.{◌≡◌, ◌<◌, ◌++◌, [], ◌∷◌, length, option_to_list, IfOk, OnOk};
 ghost use Rattle.ev_model.specs.Watching.{watched_of, sorted_names};
+ghost use Rattle.ev_indexes.specs.Needs.{names_of, need_at, needs_at, places_of};
 ghost use Rattle.ev_indexes.specs.Reads.{names_needed, names_watched};
 ghost use Rattle.ev_indexes.specs.Worlds.{InWorldsWatching};
 
-use crate::{State, needed};
+use crate::{State, need_at, place_count};
 use ev_generations::Generations;
-use ev_types::{GenRow, Name, Seq, TryCopy};
+use ev_types::{Content, GenRow, Name, Seq, TryCopy};
 use std::alloc::{AllocError, Global};
 
 impl State {
@@ -26,20 +27,44 @@ fn needs(alloc: Global, table: &Generations) -> Result<Vec<Name>, AllocError>
 {
     let mut names = Vec::new(alloc);
     for row in table.rows() {
-        push_need(alloc, row, &mut names)?;
+        push_needs_of(alloc, row, &mut names)?;
     }
     Ok(names)
 }
 
-// Puts the name that a row depends on to the others, where it is live and depends on one.
-fn push_need(alloc: Global, row: &GenRow, names: &mut Vec<Name>) -> Result<(), AllocError>
+// Puts the names that a row depends on to the others, where it is live.
+fn push_needs_of(alloc: Global, row: &GenRow, names: &mut Vec<Name>) -> Result<(), AllocError>
     ensures { OnOk result (names.new.items ≡ names.old.items ++ names_needed (row.now ∷ [])) }
 {
-    if !row.status.is_live() {
-        return Ok(());
+    if row.status.is_live() {
+        push_needs(alloc, &row.content, names)?;
     }
-    if let Some(name) = needed(&row.content) {
-        names.push(name.copy(alloc)?)?;
+    Ok(())
+}
+
+// Puts the names that a generation of this content depends on to the others, place by place.
+fn push_needs(alloc: Global, content: &Content, names: &mut Vec<Name>) -> Result<(), AllocError>
+    ensures { OnOk result (names.new.items ≡ names.old.items ++ names_of (needs_at (places_of content.now))) }
+{
+    for place in 0..place_count(content) {
+        push_need(alloc, content, place, names)?;
+    }
+    Ok(())
+}
+
+// Puts the name that it depends on at a place to the others.
+fn push_need(
+    alloc: Global,
+    content: &Content,
+    place: usize,
+    names: &mut Vec<Name>,
+) -> Result<(), AllocError>
+    requires within { place < length (places_of content.now) }
+    ensures { OnOk result (names.new.items ≡ names.old.items
+        ++ names_of (option_to_list (need_at (places_of content.now) place))) }
+{
+    if let Some(need) = need_at(content, place) {
+        names.push(need.name.copy(alloc)?)?;
     }
     Ok(())
 }

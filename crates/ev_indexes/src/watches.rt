@@ -1,30 +1,68 @@
 //! What is known of names that generations depend on. Values stand beside the marks of their names, for endpoints and for routes
 //! alike: a content is shared, so there is one place for both.
 
-ghost use Rattle.std.specs.Prelude.{◌≡◌, ◌≢◌, [], Decides, IsSome, OnOk, OnErr};
+ghost use Rattle.std.specs.Prelude.{◌≡◌, ◌≢◌, ◌++◌, [], Decides, IsSome, OnOk, OnErr};
 ghost use Rattle.std.specs.Map.{lookup};
 ghost use Rattle.std.specs.Option.{option_copied};
 ghost use Rattle.std.specs.Str.{bytes_eq};
 ghost use Rattle.ev_indexes.specs.Kept.{Sets};
-ghost use Rattle.ev_indexes.specs.Watched.{Turns, unwatched, watched_too, watched_less, with_arrival};
+ghost use Rattle.ev_indexes.specs.Due.{has_number};
+ghost use Rattle.ev_indexes.specs.Watched.{Turns, unwatched, has_watcher, watchers_of, watched_too, watched_less, with_arrival};
 
 use crate::Numbers;
 use crate::copies::copy_map;
 use ev_mentions::NameKey;
-use ev_types::{Arrival, Content, Gen, Name, TryCopy};
+use ev_types::{Arrival, Content, Gen, Name, Seq, TryCopy};
 use indexmap::IndexMap;
 use std::alloc::{AllocError, Global};
 use std::marker::Model;
 
-/// What is known of a name that is watched: the generations that depend on it, those among them whose wait is limited, whether
-/// the name was told of, whether its wait timed out, and its last value.
+/// What is known of a name that is watched: the generations that wait for it without a limit, and those that wait for it at most
+/// until the initial fetch timeout; one may stand in both. How many numbers were drawn when the name was last told of, and when
+/// its wait last timed out: that answers the generations up to the last of these numbers, and none that has to be told anew.
+/// And its last value.
 #[derive(Drop)]
 pub struct Watch {
-    pub rows: Numbers,
+    pub unlimited: Numbers,
     pub limited: Numbers,
-    pub told: bool,
-    pub timed: bool,
+    pub told: Option<u32>,
+    pub timed: Option<u32>,
     pub value: Option<Content>,
+}
+
+impl Watch {
+    /// Whether a generation depends on the name.
+    pub fn has_watcher(&self) -> bool
+        ensures { result ≡ has_watcher self.now }
+    {
+        has_number(&self.unlimited) || has_number(&self.limited)
+    }
+
+    /// Puts the numbers of the generations that depend on the name to the others. One that waits for it both ways is put twice.
+    pub fn put_watchers(&self, numbers: &mut Seq<Gen>) -> Result<(), AllocError>
+        ensures { OnOk result (numbers.new ≡ numbers.old ++ watchers_of self.now) }
+    {
+        put_all(numbers, self.unlimited.as_slice())?;
+        put_all(numbers, self.limited.as_slice())?;
+        Ok(())
+    }
+}
+
+// Whether there is a number.
+fn has_number(numbers: &Numbers) -> bool
+    ensures { result ≡ has_number numbers.now }
+{
+    !numbers.is_empty()
+}
+
+/// Puts numbers to the others.
+pub fn put_all(numbers: &mut Seq<Gen>, more: &[Gen]) -> Result<(), AllocError>
+    ensures { OnOk result (numbers.new ≡ numbers.old ++ more.now) }
+{
+    for number in more {
+        numbers.push(*number)?;
+    }
+    Ok(())
 }
 
 /// By name what is known of it. A name of which nothing is known has no entry.
@@ -68,7 +106,7 @@ impl Watches {
         self.watches.get(&NameKey::new(text))
     }
 
-    /// One more generation depends on the name. Without memory nothing is promised.
+    /// One more generation depends on the name; the one that was put last isn't put again. Without memory nothing is promised.
     pub fn watch(
         &mut self,
         alloc: Global,
@@ -102,15 +140,21 @@ impl Watches {
         }
     }
 
-    /// Something came for the name. Without memory nothing is promised.
-    pub fn tell(&mut self, alloc: Global, name: &Name, arrival: &Arrival) -> Result<(), AllocError>
+    /// Something came for the name, when so many numbers were drawn. Without memory nothing is promised.
+    pub fn tell(
+        &mut self,
+        alloc: Global,
+        made: u32,
+        name: &Name,
+        arrival: &Arrival,
+    ) -> Result<(), AllocError>
         requires { IsSome (lookup (bytes_eq name.now) self.old) }
-        ensures { OnOk result (Turns (with_arrival arrival.now) self.old self.new name.now) }
+        ensures { OnOk result (Turns (with_arrival made arrival.now) self.old self.new name.now) }
     {
         let Some(watch) = self.watches.get_mut(name) else {
             unreachable!()
         };
-        note(alloc, watch, arrival)
+        note(alloc, watch, made, arrival)
     }
 
     /// Forgets all that is known of the name. It takes no memory.
@@ -134,10 +178,10 @@ fn nothing(alloc: Global) -> Watch
     ensures { result ≡ unwatched }
 {
     Watch {
-        rows: Numbers::new(alloc),
+        unlimited: Numbers::new(alloc),
         limited: Numbers::new(alloc),
-        told: false,
-        timed: false,
+        told: None,
+        timed: None,
         value: None,
     }
 }
@@ -146,10 +190,10 @@ fn nothing(alloc: Global) -> Watch
 fn is_nothing(watch: &Watch) -> bool
     ensures { Decides result (watch.now ≡ unwatched) }
 {
-    !watch.told
-        && !watch.timed
+    watch.told.is_none()
+        && watch.timed.is_none()
         && watch.value.is_none()
-        && watch.rows.is_empty()
+        && watch.unlimited.is_empty()
         && watch.limited.is_empty()
 }
 
@@ -159,9 +203,10 @@ fn add(watch: &mut Watch, number: Gen, limited: bool) -> Result<(), AllocError>
     ensures some { OnOk result (watch.new ≢ unwatched) }
     ensures err { OnErr result (watch.old ≢ unwatched → watch.new ≢ unwatched) }
 {
-    watch.rows.push(number)?;
     if limited {
-        watch.limited.push(number)?;
+        watch.limited.put(number)?;
+    } else {
+        watch.unlimited.put(number)?;
     }
     Ok(())
 }
@@ -170,23 +215,24 @@ fn add(watch: &mut Watch, number: Gen, limited: bool) -> Result<(), AllocError>
 fn leave(watch: &mut Watch, number: Gen)
     ensures { watch.new ≡ watched_less number watch.old }
 {
-    watch.rows.leave_out(number);
+    watch.unlimited.leave_out(number);
     watch.limited.leave_out(number);
 }
 
 // Something came for a name.
-fn note(alloc: Global, watch: &mut Watch, arrival: &Arrival) -> Result<(), AllocError>
-    ensures ok { OnOk result (watch.new ≡ with_arrival arrival.now watch.old) }
+fn note(alloc: Global, watch: &mut Watch, made: u32, arrival: &Arrival) -> Result<(), AllocError>
+    ensures ok { OnOk result (watch.new ≡ with_arrival made arrival.now watch.old) }
     ensures some { OnOk result (watch.new ≢ unwatched) }
     ensures err { OnErr result (watch.new ≡ watch.old) }
 {
     match arrival {
         Arrival::Value(content) => {
             watch.value = Some(content.copy(alloc)?);
-            watch.told = true;
+            watch.told = Some(made);
         }
-        Arrival::Absent | Arrival::Bad => watch.told = true,
-        Arrival::TimedOut => watch.timed = true,
+        Arrival::Absent | Arrival::Bad => watch.told = Some(made),
+        Arrival::TimedOut => watch.timed = Some(made),
+        Arrival::Ended(content) => watch.value = Some(content.copy(alloc)?),
     }
     Ok(())
 }

@@ -1,12 +1,12 @@
 -- What an event of one kind leaves as it was for the manager of the other kind.
 use Rattle.std.proofs.Common.{◌≡◌, ◌≤◌, arith, ℕ, Bool, true, false, ◌&&◌, ◌||◌, cond, List, [], ◌∷◌, ◌++◌, map, filter, None, refl, sym, ap, ◌∙◌, subst}
-use Rattle.std.specs.Prelude.{IsSome, filter_map, nat_eq, Option, Some, unwrap_or}
+use Rattle.std.specs.Prelude.{IsSome, nat_eq, Option, Some, unwrap_or}
 use Rattle.std.proofs.lemmas.List.Folds.{list_any-append}
 use Rattle.std.specs.List.{list_any, fold, zip, AllByRecursion as ByRecursion, last_or}
 use Rattle.std.specs.Str.{bytes_eq}
 use Rattle.std.proofs.lemmas.Bool.{both_ways, false≢true}
 use Rattle.std.proofs.Math.Bool.{or-false}
-use Rattle.std.proofs.lemmas.List.{append-nil, map-append}
+use Rattle.std.proofs.lemmas.List.{append-nil}
 use Rattle.std.proofs.lemmas.List.Elements.{filter-append}
 use Rattle.ev_types.specs.Items.{ItemParts, ResponseParts}
 use Rattle.ev_types.specs.Kinds.{kind_same, kind_decides}
@@ -21,28 +21,28 @@ use Rattle.ev_types.specs.declared.events.Verdict.{Verdict}
 use Rattle.ev_types.specs.declared.events.Verdict.TheVariants.{New, Same, Kept, Unasked, Renewed, Refused}
 use Rattle.ev_types.specs.declared.hosts.Host.{Host}
 use Rattle.ev_types.specs.declared.rows.Arrival.{Arrival}
-use Rattle.ev_types.specs.declared.rows.Arrival.TheVariants.{Value, Absent, Bad as bad}
+use Rattle.ev_types.specs.declared.rows.Arrival.TheVariants.{Value, Absent, Ended, Bad as bad}
 use Rattle.ev_types.specs.declared.rows.GenRow.{GenRow}
 use Rattle.ev_types.specs.declared.rows.RowStatus.TheVariants.{Dropped}
 use Rattle.ev_types.specs.declared.rows.RowStatus.{RowStatus}
 use Rattle.ev_model.specs.World.{World, Arrived, HealthResult}
 use Rattle.ev_model.specs.Live.{lives_of}
 use Rattle.ev_model.specs.Verdicts.{is_removed}
-use Rattle.ev_model.specs.Warming.{came_for, content_in, is_word, is_timeout, has_result, is_healthy, is_result_of, is_checked, assignment_by}
+use Rattle.ev_model.specs.Warming.{is_word, is_timeout, has_result, is_healthy, is_result_of, is_checked, assignment_by, is_for}
 use Rattle.ev_model.specs.Watching.{is_by_name, is_watched}
 use Rattle.ev_model.specs.Rows.{removed_status, with_statuses, status_left, arrived, absent_names, with_removals, replaced_status, new_row, add_row, keep_version, keep_value, with_content, refuse, add_item, add_items}
 use Rattle.ev_model.specs.Signals.{ended_status, rows_ended, with_end, is_meant, rows_meant, result_for, with_results}
 use Rattle.ev_generations.specs.Tables.{row_in, numbers_of}
 use Rattle.ev_indexes.specs.declared.state.State.{State}
 use Rattle.ev_indexes.specs.Due.{is_among}
-use Rattle.ev_indexes.specs.Indexes.{depends_on}
-use Rattle.ev_warming.specs.Health.{passes}
-use Rattle.ev_warming.proofs.HealthLemmas.{among-row}
-use Rattle.ev_indexes.proofs.WhereLemmas.{flipped}
+use Rattle.ev_indexes.specs.Indexes.{depends_on, passes}
+use Rattle.ev_warming.proofs.MadeLemmas.{value-made}
+use Rattle.ev_warming.proofs.SortedLemmas.{last_made-same, value_by-same}
+use Rattle.ev_indexes.proofs.WhereLemmas.{flipped, among-row}
 use Rattle.ev_indexes.specs.Worlds.{StandsFor, IsSound, needs_of, rows_of_kind}
 use Rattle.ev_indexes.proofs.SeenLemmas.{SameSeen, seen-stands}
 use Rattle.ev_warming.specs.Arrivals.{AreOnValues, IsOnValue, with_arrived}
-use Rattle.ev_warming.specs.Worlds.{Follows, FollowsDrawing, with_response, with_rows_ended}
+use Rattle.ev_warming.specs.Worlds.{Follows, FollowsDrawing, with_response, with_rows_ended, FollowsAt}
 use Rattle.ev_warming.specs.Managers.{IsKept}
 use Rattle.ev_warming.specs.declared.manager.Manager.{Manager}
 use Rattle.ev_managers.specs.declared.managers.Managers.{Managers}
@@ -51,7 +51,7 @@ use Rattle.ev_managers.specs.Managers.{AreForgotten, AreKept, HaveSameRows, IsMa
 -- what a manager of this kind sees is the same in both worlds, but for health results
 pub record Leaves (kind : Kind) (before after : World) : Type 0 where
   pub rows : rows_of_kind kind after.rows ≡ rows_of_kind kind before.rows
-  pub came : (name : List ℕ) → came_for after.arrivals (needs_of kind) name ≡ came_for before.arrivals (needs_of kind) name
+  pub came : (name : List ℕ) → filter (is_for (needs_of kind) name) after.arrivals ≡ filter (is_for (needs_of kind) name) before.arrivals
 
 -- health results of each row of a manager are the same in both worlds
 pub record LeavesResults (s : State) (before after : World) : Type 0 where
@@ -70,9 +70,9 @@ pub stays : (s : State) (before after : World) → StandsFor s before → IsSoun
 stays s before after has sound leaves results = record {
   sound = sound;
   rows = has.rows ∙ sym leaves.rows;
-  told = λ name. has.told name ∙ sym (ap (list_any is_word) (leaves.came name));
-  timed = λ name. has.timed name ∙ sym (ap (list_any is_timeout) (leaves.came name));
-  value = λ name. has.value name ∙ sym (ap (λ (came : List Arrival). last_or None (filter_map content_in came)) (leaves.came name));
+  told = λ name. has.told name ∙ sym (last_made-same is_word after.arrivals before.arrivals (needs_of s.kind) name (leaves.came name));
+  timed = λ name. has.timed name ∙ sym (last_made-same is_timeout after.arrivals before.arrivals (needs_of s.kind) name (leaves.came name));
+  value = λ name. has.value name ∙ sym (value_by-same after.arrivals before.arrivals (needs_of s.kind) name (leaves.came name));
   resulted = λ number host there. has.resulted number host there ∙ sym (results.resulted number host there);
   healthy = λ number host there. has.healthy number host there ∙ sym (results.healthy number host there);
 }
@@ -111,25 +111,22 @@ more_leave kind rows row other =
 
 -- what came of another kind is nothing for this one
 came_of_other : (kind other : Kind) (name : List ℕ) → kind_same other kind ≡ false → (more : List Arrived)
-    → ByRecursion (λ (a : Arrived). a.kind ≡ other) more → came_for more kind name ≡ []
+    → ByRecursion (λ (a : Arrived). a.kind ≡ other) more → filter (is_for kind name) more ≡ []
 came_of_other kind other name apart [] all = refl
 came_of_other kind other name apart (a ∷ more) all =
-    (λ i. map (λ (x : Arrived). x.arrival) (cond ((ap (λ k. kind_same k kind) all.0 ∙ apart) i && bytes_eq a.name name)
-    (a ∷ filter (λ (x : Arrived). kind_same x.kind kind && bytes_eq x.name name) more) (filter (λ (x : Arrived). kind_same x.kind kind && bytes_eq x.name name) more)))
+    (λ i. cond ((ap (λ k. kind_same k kind) all.0 ∙ apart) i && bytes_eq a.name name) (a ∷ filter (is_for kind name) more) (filter (is_for kind name) more))
     ∙ came_of_other kind other name apart more all.1
 
 pub came_more : (kind other : Kind) (name : List ℕ) → kind_same other kind ≡ false → (arrivals more : List Arrived)
-    → ByRecursion (λ (a : Arrived). a.kind ≡ other) more → came_for (arrivals ++ more) kind name ≡ came_for arrivals kind name
+    → ByRecursion (λ (a : Arrived). a.kind ≡ other) more → filter (is_for kind name) (arrivals ++ more) ≡ filter (is_for kind name) arrivals
 came_more kind other name apart arrivals more all =
-    ap (map (λ (a : Arrived). a.arrival)) (filter-append (λ (a : Arrived). kind_same a.kind kind && bytes_eq a.name name) arrivals more)
-    ∙ map-append (λ (a : Arrived). a.arrival) (filter (λ (a : Arrived). kind_same a.kind kind && bytes_eq a.name name) arrivals)
-    (filter (λ (a : Arrived). kind_same a.kind kind && bytes_eq a.name name) more)
-    ∙ ap (λ came. came_for arrivals kind name ++ came) (came_of_other kind other name apart more all)
-    ∙ append-nil (came_for arrivals kind name)
+    filter-append (is_for kind name) arrivals more
+    ∙ ap (λ (came : List Arrived). filter (is_for kind name) arrivals ++ came) (came_of_other kind other name apart more all)
+    ∙ append-nil (filter (is_for kind name) arrivals)
 
-all_arrived : (kind : Kind) (arrival : Arrival) (names : List (List ℕ)) → ByRecursion (λ (a : Arrived). a.kind ≡ kind) (map (arrived kind arrival) names)
-all_arrived kind arrival [] = tt
-all_arrived kind arrival (name ∷ names) = (refl, all_arrived kind arrival names)
+all_arrived : (made : ℕ) (kind : Kind) (arrival : Arrival) (names : List (List ℕ)) → ByRecursion (λ (a : Arrived). a.kind ≡ kind) (map (arrived made kind arrival) names)
+all_arrived made kind arrival [] = tt
+all_arrived made kind arrival (name ∷ names) = (refl, all_arrived made kind arrival names)
 
 -- the other kind is neither that of the rows nor that of what they wait for
 pub record IsApart (other kind : Kind) : Type 0 where
@@ -177,14 +174,14 @@ module _ (other kind : Kind) (apart : IsApart other kind) where
   value_leaves : (item : ItemParts) (body : Body) (world : World) → Leaves kind world (with_content (keep_value other item) body world)
   value_leaves item (Good content) world = record {
     rows = refl;
-    came = λ name. came_more (needs_of kind) other name apart.needs world.arrivals (arrived other (Value content) item.name ∷ []) (refl, tt);
+    came = λ name. came_more (needs_of kind) other name apart.needs world.arrivals (arrived world.made other (Value content) item.name ∷ []) (refl, tt);
   }
   value_leaves item (Bad rule) world = leaves_itself kind world
   value_leaves item Beat world = leaves_itself kind world
 
   told_leaves : (watched : Bool) (name : List ℕ) (world : World)
-      → Leaves kind world (cond watched (record world { arrivals = world.arrivals ++ arrived other bad name ∷ [] }) world)
-  told_leaves true name world = arrival_leaves (arrived other bad name ∷ []) world (refl, tt)
+      → Leaves kind world (cond watched (record world { arrivals = world.arrivals ++ arrived world.made other bad name ∷ [] }) world)
+  told_leaves true name world = arrival_leaves (arrived world.made other bad name ∷ []) world (refl, tt)
   told_leaves false name world = leaves_itself kind world
 
   refused_leaves : (name : List ℕ) (world : World) → Leaves kind world (refuse other name world)
@@ -194,10 +191,10 @@ module _ (other kind : Kind) (apart : IsApart other kind) where
       by Cds same = leaves_itself kind world
       by Lds same = leaves_itself kind world
       by Eds same =
-          subst (λ (o : Kind). Leaves kind world (cond (is_watched (lives_of world) Eds name) (record world { arrivals = world.arrivals ++ arrived o bad name ∷ [] }) world))
+          subst (λ (o : Kind). Leaves kind world (cond (is_watched (lives_of world) Eds name) (record world { arrivals = world.arrivals ++ arrived world.made o bad name ∷ [] }) world))
           (sym same) (told_leaves (is_watched (lives_of world) Eds name) name world)
       by Rds same =
-          subst (λ (o : Kind). Leaves kind world (cond (is_watched (lives_of world) Rds name) (record world { arrivals = world.arrivals ++ arrived o bad name ∷ [] }) world))
+          subst (λ (o : Kind). Leaves kind world (cond (is_watched (lives_of world) Rds name) (record world { arrivals = world.arrivals ++ arrived world.made o bad name ∷ [] }) world))
           (sym same) (told_leaves (is_watched (lives_of world) Rds name) name world)
 
   item_leaves : (verdict : Verdict) (item : ItemParts) (world : World) → Leaves kind world (add_item other verdict item world)
@@ -220,8 +217,8 @@ module _ (other kind : Kind) (apart : IsApart other kind) where
       rows_left_same : rows_of_kind kind (with_statuses (status_left other response) world.rows) ≡ rows_of_kind kind world.rows
       rows_left_same = statuses_leave kind (status_left other response) (left_keeps response) world.rows
 
-      came_same : (names : List (List ℕ)) (name : List ℕ) → came_for (world.arrivals ++ map (arrived other Absent) names) (needs_of kind) name ≡ came_for world.arrivals (needs_of kind) name
-      came_same names name = came_more (needs_of kind) other name apart.needs world.arrivals (map (arrived other Absent) names) (all_arrived other Absent names)
+      came_same : (names : List (List ℕ)) (name : List ℕ) → filter (is_for (needs_of kind) name) (world.arrivals ++ map (arrived world.made other Absent) names) ≡ filter (is_for (needs_of kind) name) world.arrivals
+      came_same names name = came_more (needs_of kind) other name apart.needs world.arrivals (map (arrived world.made other Absent) names) (all_arrived world.made other Absent names)
 
       by : (k : Kind) → k ≡ other → Leaves kind world (with_removals k response world)
       by Cds same = record {
@@ -234,12 +231,12 @@ module _ (other kind : Kind) (apart : IsApart other kind) where
       }
       by Eds same = record {
         rows = refl;
-        came = λ name. subst (λ (o : Kind). came_for (world.arrivals ++ map (arrived o Absent) (absent_names Eds response world)) (needs_of kind) name ≡ came_for world.arrivals (needs_of kind) name)
+        came = λ name. subst (λ (o : Kind). filter (is_for (needs_of kind) name) (world.arrivals ++ map (arrived world.made o Absent) (absent_names Eds response world)) ≡ filter (is_for (needs_of kind) name) world.arrivals)
             (sym same) (came_same (absent_names Eds response world) name);
       }
       by Rds same = record {
         rows = refl;
-        came = λ name. subst (λ (o : Kind). came_for (world.arrivals ++ map (arrived o Absent) (absent_names Rds response world)) (needs_of kind) name ≡ came_for world.arrivals (needs_of kind) name)
+        came = λ name. subst (λ (o : Kind). filter (is_for (needs_of kind) name) (world.arrivals ++ map (arrived world.made o Absent) (absent_names Rds response world)) ≡ filter (is_for (needs_of kind) name) world.arrivals)
             (sym same) (came_same (absent_names Rds response world) name);
       }
 
@@ -366,50 +363,6 @@ pub response_results : (kind : Kind) (response : ResponseParts) (verdicts : List
 response_results kind response verdicts world =
     items_results kind (zip verdicts response.items) (with_removals kind response world) ∙ removals_results kind response world
 
--- a response of what generations depend on draws no number
-content_made : (change : Content → World → World) → ((content : Content) (world : World) → (change content world).made ≡ world.made)
-    → (body : Body) (world : World) → (with_content change body world).made ≡ world.made
-content_made change same (Good content) world = same content world
-content_made change same (Bad rule) world = refl
-content_made change same Beat world = refl
-
-told_made : (watched : Bool) (more world : World) → more.made ≡ world.made → (cond watched more world).made ≡ world.made
-told_made true more world same = same
-told_made false more world same = refl
-
-refused_made : (kind : Kind) (name : List ℕ) (world : World) → (refuse kind name world).made ≡ world.made
-refused_made Cds name world = refl
-refused_made Eds name world = told_made (is_watched (lives_of world) Eds name) _ world refl
-refused_made Lds name world = refl
-refused_made Rds name world = told_made (is_watched (lives_of world) Rds name) _ world refl
-
-item_made : (kind : Kind) (verdict : Verdict) (watched : Bool) (item : ItemParts) (world : World) → IsOnValue verdict watched → (add_item kind verdict item world).made ≡ world.made
-item_made kind New watched item world on = absurd on
-item_made kind Same watched item world on = content_made (λ content. keep_version kind item) (λ content world. refl) item.body world
-item_made kind Kept watched item world on = content_made (keep_value kind item) (λ content world. refl) item.body world
-item_made kind Unasked watched item world on = refl
-item_made kind Renewed watched item world on = refl
-item_made kind (Refused rule) watched item world on = refused_made kind item.name world
-
-items_made : (kind : Kind) (rows : List GenRow) (verdicts : List Verdict) (items : List ItemParts) (world : World) → AreOnValues rows verdicts items
-    → (fold (λ (w : World) (one : Verdict × ItemParts). add_item kind one.0 one.1 w) world (zip verdicts items)).made ≡ world.made
-items_made kind rows [] items world on = refl
-items_made kind rows (verdict ∷ verdicts) [] world on = refl
-items_made kind rows (verdict ∷ verdicts) (item ∷ items) world on =
-    items_made kind rows verdicts items (add_item kind verdict item world) on.1
-    ∙ item_made kind verdict (list_any (depends_on item.name) rows) item world on.0
-
-removals_made : (kind : Kind) (response : ResponseParts) (world : World) → (with_removals kind response world).made ≡ world.made
-removals_made Cds response world = refl
-removals_made Eds response world = refl
-removals_made Lds response world = refl
-removals_made Rds response world = refl
-
-pub value-made : (kind : Kind) (rows : List GenRow) (response : ResponseParts) (verdicts : List Verdict) (world : World) → AreOnValues rows verdicts response.items
-    → (with_response kind verdicts response world).made ≡ world.made
-value-made kind rows response verdicts world on =
-    items_made kind rows verdicts response.items (with_removals kind response world) on ∙ removals_made kind response world
-
 -- what each of both is
 pub kept-of : (m : Managers) (kind : Kind) → AreKept m → IsManager (rows_of kind) m.made (manager_of m kind)
 kept-of m Cds kept = kept.clusters
@@ -502,20 +455,20 @@ stand-drawn m Rds own made before after kept stand has drawn leaves same =
 
 -- something came for a name, a response came, and a name came to its end: of the kind that one of both followed
 pub arrival-stands : (m : Managers) (kind : Kind) (own : Manager) (arrival : Arrival) (name : List ℕ) → AreKept m → is_by_name kind ≡ true
-    → Follows (manager_of m kind).state own.state (with_arrived (needs_of (manager_of m kind).state.kind) arrival name)
+    → FollowsAt m.made (manager_of m kind).state own.state (with_arrived (needs_of (manager_of m kind).state.kind) arrival name)
     → Follow m (with_manager m kind own) (with_arrived kind arrival name)
 arrival-stands m kind own arrival name kept by_name follows world stand =
     stand-with m kind own world (with_arrived kind arrival name world) kept stand
-    (subst (λ (k : Kind). StandsFor own.state (with_arrived k arrival name world)) (needs-back m kind kept by_name) (follows world (stand-of m kind world stand)))
-    refl (arrival_leaves kind (others_of kind) (kinds-apart kind) (arrived kind arrival name ∷ []) world (refl, tt)) refl
+    (subst (λ (k : Kind). StandsFor own.state (with_arrived k arrival name world)) (needs-back m kind kept by_name) (follows world (stand-of m kind world stand) stand.made))
+    refl (arrival_leaves kind (others_of kind) (kinds-apart kind) (arrived world.made kind arrival name ∷ []) world (refl, tt)) refl
 
 pub values-stand : (m : Managers) (kind : Kind) (own : Manager) (response : ResponseParts) (verdicts : List Verdict) → AreKept m → is_by_name kind ≡ true
     → AreOnValues (manager_of m kind).state.table.rows verdicts response.items
-    → Follows (manager_of m kind).state own.state (with_response (needs_of (manager_of m kind).state.kind) verdicts response)
+    → FollowsAt m.made (manager_of m kind).state own.state (with_response (needs_of (manager_of m kind).state.kind) verdicts response)
     → Follow m (with_manager m kind own) (with_response kind verdicts response)
 values-stand m kind own response verdicts kept by_name on follows world stand =
     stand-with m kind own world (with_response kind verdicts response world) kept stand
-    (subst (λ (k : Kind). StandsFor own.state (with_response k verdicts response world)) (needs-back m kind kept by_name) (follows world (stand-of m kind world stand)))
+    (subst (λ (k : Kind). StandsFor own.state (with_response k verdicts response world)) (needs-back m kind kept by_name) (follows world (stand-of m kind world stand) stand.made))
     (value-made kind (manager_of m kind).state.table.rows response verdicts world on)
     (response_leaves kind (others_of kind) (kinds-apart kind) response verdicts world) (response_results kind response verdicts world)
 
@@ -531,8 +484,8 @@ rows-stand m kind own made response verdicts kept whole drawn follows world stan
     (drawn ∙ led.1 ∙ (λ i. (with_response (of_kind i) verdicts response world).made))
     (response_leaves kind (others_of kind) (kinds-apart kind) response verdicts world) (response_results kind response verdicts world)
 
--- endpoints and routes come to their end by an arrival of none
-pub value-end : (kind : Kind) (name : List ℕ) (world : World) → is_by_name kind ≡ true → with_arrived kind (Value (no_value kind)) name world ≡ with_end kind name world
+-- endpoints and routes come to their end by an arrival with none
+pub value-end : (kind : Kind) (name : List ℕ) (world : World) → is_by_name kind ≡ true → with_arrived kind (Ended (no_value kind)) name world ≡ with_end kind name world
 value-end Cds name world by_name = absurd (false≢true by_name)
 value-end Eds name world by_name = refl
 value-end Lds name world by_name = absurd (false≢true by_name)

@@ -5,6 +5,7 @@ ghost use Rattle.ev_warming.specs.Worlds.{Follows};
 ghost use Rattle.ev_managers.specs.Moved.{TellsPromoted};
 
 use ev_generations::Steps;
+use ev_indexes::put_all;
 use ev_types::{Gen, Seq};
 use ev_warming::Manager;
 use std::alloc::{AllocError, Global};
@@ -59,15 +60,5 @@ pub(crate) fn promote<L: Ledger>(
     put_all(&mut moved.retired, promoted.drained.as_slice())?;
     put_all(&mut moved.changed, promoted.served.as_slice())?;
     put_all(&mut moved.changed, promoted.drained.as_slice())?;
-    Ok(())
-}
-
-// Puts numbers to the others.
-fn put_all(numbers: &mut Seq<Gen>, more: &[Gen]) -> Result<(), AllocError>
-    ensures { OnOk result (numbers.new ≡ numbers.old ++ more.now) }
-{
-    for number in more {
-        numbers.push(*number)?;
-    }
     Ok(())
 }

@@ -84,8 +84,9 @@ impl Managers {
         ensures rows { OnOk result (HaveSameRows self.old self.new) }
         ensures stands { OnOk result (Follow self.old self.new (with_response kind verdicts.now response.now)) }
     {
+        let made = self.made;
         let own = self.of_mut(kind);
-        own.arrive_all(alloc, response, verdicts, steps)?;
+        own.arrive_all(alloc, made, response, verdicts, steps)?;
         Ok(())
     }
 }

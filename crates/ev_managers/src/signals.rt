@@ -1,7 +1,7 @@
 ghost use Rattle.std.specs.Prelude.{◌≡◌, ◌++◌, false, true, IfOk, OnOk, option_to_list};
 ghost use Rattle.ev_model.specs.Signals.{with_end};
 ghost use Rattle.ev_model.specs.Watching.{is_by_name};
-ghost use Rattle.ev_types.specs.declared.rows.Arrival.TheVariants.{Value};
+ghost use Rattle.ev_types.specs.declared.rows.Arrival.TheVariants.{Ended};
 ghost use Rattle.ev_warming.specs.Arrivals.{with_arrived};
 ghost use Rattle.ev_managers.specs.Managers.{AreKept, HaveSameRows, is_watched_in, no_value, Follow, FollowEnd};
 ghost use Rattle.ev_managers.specs.Moved.{AreRetired};
@@ -30,8 +30,9 @@ impl Managers {
         ensures rows { OnOk result (HaveSameRows self.old self.new) }
         ensures stands { OnOk result (Follow self.old self.new (with_arrived kind arrival.now name.now)) }
     {
+        let made = self.made;
         let own = self.of_mut(kind);
-        own.arrive(alloc, name, arrival, steps)?;
+        own.arrive(alloc, made, name, arrival, steps)?;
         Ok(())
     }
 
@@ -79,7 +80,8 @@ impl Managers {
         Ok(retired)
     }
 
-    // A name of what generations depend on has come to its end: where it is watched, its value is none from now on.
+    // A name of what generations depend on has come to its end: where it is watched, its value is none from now on. That tells
+    // nothing.
     fn end_value<L: Ledger>(
         &mut self,
         alloc: Global,
@@ -102,20 +104,20 @@ impl Managers {
     }
 }
 
-// The arrival of no endpoints, or of no routes.
+// The end of a time to live, with no endpoints or no routes from now on.
 fn none_of(alloc: Global, kind: Kind) -> Result<Arrival, AllocError>
-    ensures { IfOk result (λ arrival. arrival ≡ Value (no_value kind)) }
+    ensures { IfOk result (λ arrival. arrival ≡ Ended (no_value kind)) }
 {
     match kind {
         Kind::Cds | Kind::Eds => {
             let none = Assignment::new(Seq::new(alloc));
-            Ok(Arrival::Value(Content::Assignment(Shared::new(alloc, none)?)))
+            Ok(Arrival::Ended(Content::Assignment(Shared::new(alloc, none)?)))
         }
         Kind::Lds | Kind::Rds => {
             let none = RouteTable {
                 hosts: Seq::new(alloc),
             };
-            Ok(Arrival::Value(Content::Routes(Shared::new(alloc, none)?)))
+            Ok(Arrival::Ended(Content::Routes(Shared::new(alloc, none)?)))
         }
     }
 }

@@ -8,20 +8,21 @@ use Rattle.std.proofs.lemmas.List.Folds.{list_any-append}
 use Rattle.ev_types.specs.Statuses.{is_live}
 use Rattle.ev_types.specs.declared.rows.GenRow.{GenRow}
 use Rattle.ev_model.specs.Requests.{other_than}
+use Rattle.ev_model.specs.Watching.{dependencies_of}
 use Rattle.ev_model_laws.proofs.AnyLemmas.{or_so, any_so}
 use Rattle.ev_generations.specs.Tables.{IsTable, row_in}
 use Rattle.ev_generations.proofs.TableLemmas.{number-row_in}
 use Rattle.ev_indexes.specs.Due.{is_among}
 use Rattle.ev_warming.specs.Changes.{is_over, has_retired}
-use Rattle.ev_indexes.specs.Ready.{name_needed}
-use Rattle.ev_indexes.specs.Indexes.{is_needed, depends_on}
+use Rattle.ev_indexes.specs.Indexes.{depends_on}
 use Rattle.ev_indexes.specs.Reads.{names_watched, names_needed}
-use Rattle.ev_indexes.specs.Moved.{is_held, need_lost, need_gained, numbers_behind, names_lost, names_gained}
+use Rattle.ev_indexes.specs.Moved.{is_held, needs_lost, needs_gained, numbers_after, names_lost, names_gained}
+use Rattle.ev_indexes.specs.Needs.{is_needed}
 use Rattle.ev_indexes.proofs.WhereLemmas.{own-rows}
 use Rattle.ev_state.specs.Ages.{IsLater, AreLater}
 use Rattle.ev_state.proofs.AgeLemmas.{found-later, found-earlier}
-use Rattle.ev_state.proofs.NameLists.{needs_it, is_watcher, sorted-in_order, other-in_order, same-names, among-watched, among-lost, among-gained}
-use Rattle.ev_state.proofs.WatchedNames.{among_other}
+use Rattle.ev_state.proofs.NameLists.{needs_it, is_watcher, among-lost, among-gained}
+use Rattle.ev_indexes.proofs.NameLemmas.{among_other, sorted-in_order, other-in_order, same-names, among-watched}
 
 -- an element that passes is there
 record Passing {X : Type 0} (Q : X → Type 0) (p : X → Bool) : Type 0 where
@@ -75,19 +76,19 @@ any_number p n (m ∷ ms) there is = by (nat_eq n m) refl there (λ rest. any_nu
     by false other there rest = or_right (p m) (list_any p ms) (rest there)
 
 -- the numbers behind this one, so many of them
-behind : (made count number : ℕ) → made < number → number ≤ made + count → is_among (numbers_behind made count) number ≡ true
+behind : (made count number : ℕ) → made < number → number ≤ made + count → is_among (numbers_after made count) number ≡ true
 behind made zero number low high = absurd (omega arith)
 behind made (suc count) number low high =
-    list_any-append (nat_eq number) (numbers_behind made count) ((made + suc count) ∷ [])
+    list_any-append (nat_eq number) (numbers_after made count) ((made + suc count) ∷ [])
     ∙ by (nat_le number (made + count)) refl (behind made count number low)
   where
-    by : (b : Bool) → nat_le number (made + count) ≡ b → (number ≤ made + count → is_among (numbers_behind made count) number ≡ true)
-        → (is_among (numbers_behind made count) number || (nat_eq number (made + suc count) || false)) ≡ true
-    by true is rest = or_left (is_among (numbers_behind made count) number) (nat_eq number (made + suc count) || false) (rest (leb-true number (made + count) is))
+    by : (b : Bool) → nat_le number (made + count) ≡ b → (number ≤ made + count → is_among (numbers_after made count) number ≡ true)
+        → (is_among (numbers_after made count) number || (nat_eq number (made + suc count) || false)) ≡ true
+    by true is rest = or_left (is_among (numbers_after made count) number) (nat_eq number (made + suc count) || false) (rest (leb-true number (made + count) is))
     by false isnt rest =
         let above : made + count < number = leb-false number (made + count) isnt in
         let last : number ≡ made + suc count = omega arith in
-        or_right (is_among (numbers_behind made count) number) (nat_eq number (made + suc count) || false) (or_left (nat_eq number (made + suc count)) false (eq-eqb number (made + suc count) last))
+        or_right (is_among (numbers_after made count) number) (nat_eq number (made + suc count) || false) (or_left (nat_eq number (made + suc count)) false (eq-eqb number (made + suc count) last))
 
 not_true : (b : Bool) → not b ≡ true → b ≡ false
 not_true true h = sym h
@@ -124,7 +125,7 @@ module _ (before after : List GenRow) (made drawn : ℕ) (first : IsTable (recor
   comes name n = is_watcher name (row_in n after)
 
   abbrev new_numbers : List ℕ
-  new_numbers = numbers_behind made (drawn - made)
+  new_numbers = numbers_after made (drawn - made)
 
   -- a name is watched now where it is held or a new generation depends on it
   module _ (name : List ℕ) where
@@ -162,20 +163,20 @@ module _ (before after : List GenRow) (made drawn : ℕ) (first : IsTable (recor
     then_there any =
         let p = pick (IsAt before) (depends_on name) before (own-rows before first.apart) any in
         let f = found-later made p.one.number p.one before after later p.so in
-        by p.one f.row p.so f.at f.so (and_parts (is_live p.one.status) (is_needed name (name_needed p.one.content)) p.passes).0
-        (and_parts (is_live p.one.status) (is_needed name (name_needed p.one.content)) p.passes).1
+        by p.one f.row p.so f.at f.so (and_parts (is_live p.one.status) (is_needed name (dependencies_of p.one.content)) p.passes).0
+        (and_parts (is_live p.one.status) (is_needed name (dependencies_of p.one.content)) p.passes).1
         (low_number made p.one.number p.one before first p.so) (is_live f.row.status) refl
       where
         by : (row other : GenRow) → row_in row.number before ≡ Some row → row_in row.number after ≡ Some other → IsLater row other
-            → is_live row.status ≡ true → is_needed name (name_needed row.content) ≡ true → row.number ≤ made
+            → is_live row.status ≡ true → is_needed name (dependencies_of row.content) ≡ true → row.number ≤ made
             → (b : Bool) → is_live other.status ≡ b → (is_held made after name || list_any (leaves name) retired) ≡ true
         by row other at there is live needs low true lives =
             or_left (is_held made after name) (list_any (leaves name) retired)
             (any_found (first_watcher name) row.number other after there
             (both_true (nat_le other.number made) (depends_on name other)
             ((λ i. nat_le (number-row_in row.number other after there i) made) ∙ le-leb row.number made low)
-            (both_true (is_live other.status) (is_needed name (name_needed other.content)) lives
-            (ap (λ (r : GenRow). is_needed name (name_needed r.content)) is.same ∙ needs))))
+            (both_true (is_live other.status) (is_needed name (dependencies_of other.content)) lives
+            (ap (λ (r : GenRow). is_needed name (dependencies_of r.content)) is.same ∙ needs))))
         by row other at there is live needs low false over =
             or_right (is_held made after name) (list_any (leaves name) retired)
             (any_number (leaves name) row.number retired
@@ -183,7 +184,7 @@ module _ (before after : List GenRow) (made drawn : ℕ) (first : IsTable (recor
             ((λ i. is_over (there i) && not (is_over (at i)))
             ∙ both_true (not (is_live other.status)) (not (not (is_live row.status))) (ap not over) (λ i. not (not (live i)))))
             (both_true (nat_le row.number made) (needs_it name (row_in row.number after)) (le-leb row.number made low)
-            ((λ i. needs_it name (there i)) ∙ ap (λ (r : GenRow). is_needed name (name_needed r.content)) is.same ∙ needs)))
+            ((λ i. needs_it name (there i)) ∙ ap (λ (r : GenRow). is_needed name (dependencies_of r.content)) is.same ∙ needs)))
 
     then_back : (is_held made after name || list_any (leaves name) retired) ≡ true → list_any (depends_on name) before ≡ true
     then_back any =
@@ -192,11 +193,11 @@ module _ (before after : List GenRow) (made drawn : ℕ) (first : IsTable (recor
         (λ left. let q = pick_number (leaves name) retired left in left_by q.one q.so q.passes) any
       where
         found : (n : ℕ) (row other : GenRow) → row_in n before ≡ Some row → IsLater row other → is_live row.status ≡ true
-            → is_needed name (name_needed other.content) ≡ true → list_any (depends_on name) before ≡ true
+            → is_needed name (dependencies_of other.content) ≡ true → list_any (depends_on name) before ≡ true
         found n row other at is live needs =
             any_found (depends_on name) n row before at
-            (both_true (is_live row.status) (is_needed name (name_needed row.content)) live
-            (ap (λ (r : GenRow). is_needed name (name_needed r.content)) (sym is.same) ∙ needs))
+            (both_true (is_live row.status) (is_needed name (dependencies_of row.content)) live
+            (ap (λ (r : GenRow). is_needed name (dependencies_of r.content)) (sym is.same) ∙ needs))
 
         was_live : (row other : GenRow) → IsLater row other → is_live other.status ≡ true → (b : Bool) → is_live row.status ≡ b → is_live row.status ≡ true
         was_live row other is live true h = h
@@ -205,7 +206,7 @@ module _ (before after : List GenRow) (made drawn : ℕ) (first : IsTable (recor
         held_by : (other : GenRow) → IsAt after other → first_watcher name other ≡ true → list_any (depends_on name) before ≡ true
         held_by other at passes =
             let parts = and_parts (nat_le other.number made) (depends_on name other) passes in
-            let needs = and_parts (is_live other.status) (is_needed name (name_needed other.content)) parts.1 in
+            let needs = and_parts (is_live other.status) (is_needed name (dependencies_of other.content)) parts.1 in
             let e = found-earlier made other.number other before after later (leb-true other.number made parts.0) at in
             found other.number e.row other e.at e.so (was_live e.row other e.so needs.0 (is_live e.row.status) refl) needs.1
 
@@ -238,7 +239,7 @@ module _ (before after : List GenRow) (made drawn : ℕ) (first : IsTable (recor
   pub names-begun : other_than (names_lost made after retired) (names_gained made drawn after) ≡ other_than (names_watched before) (names_watched after)
   names-begun =
       same-names (other_than (names_lost made after retired) (names_gained made drawn after)) (other_than (names_watched before) (names_watched after))
-      (other-in_order (names_lost made after retired) (names_gained made drawn after) (sorted-in_order (flat_map (need_gained made after) (numbers_behind made (drawn - made)))))
+      (other-in_order (names_lost made after retired) (names_gained made drawn after) (sorted-in_order (flat_map (needs_gained made after) (numbers_after made (drawn - made)))))
       (other-in_order (names_watched before) (names_watched after) (sorted-in_order (names_needed after)))
       (λ name. among_other (names_lost made after retired) (names_gained made drawn after) name
       ∙ (λ i. among-gained made after name drawn i && not (among-lost made after name retired i))
@@ -250,7 +251,7 @@ module _ (before after : List GenRow) (made drawn : ℕ) (first : IsTable (recor
   pub names-ended : other_than (names_gained made drawn after) (names_lost made after retired) ≡ other_than (names_watched after) (names_watched before)
   names-ended =
       same-names (other_than (names_gained made drawn after) (names_lost made after retired)) (other_than (names_watched after) (names_watched before))
-      (other-in_order (names_gained made drawn after) (names_lost made after retired) (sorted-in_order (flat_map (need_lost made after) retired)))
+      (other-in_order (names_gained made drawn after) (names_lost made after retired) (sorted-in_order (flat_map (needs_lost made after) retired)))
       (other-in_order (names_watched after) (names_watched before) (sorted-in_order (names_needed before)))
       (λ name. among_other (names_gained made drawn after) (names_lost made after retired) name
       ∙ (λ i. among-lost made after name retired i && not (among-gained made after name drawn i))

@@ -21,10 +21,10 @@ use Rattle.ev_generations.specs.Tables.{row_in, numbers_of}
 use Rattle.ev_indexes.specs.declared.state.State.{State}
 use Rattle.ev_indexes.specs.Due.{is_among}
 use Rattle.ev_warming.specs.Changes.{has_retired}
-use Rattle.ev_indexes.specs.Indexes.{depends_on, numbers_where}
 use Rattle.ev_indexes.specs.Worlds.{needs_of, rows_of_kind}
-use Rattle.ev_indexes.proofs.WhereLemmas.{among-where}
+use Rattle.ev_indexes.specs.Indexes.{numbers_waiting}
 use Rattle.ev_indexes.proofs.DependencyLemmas.{has_dependency-needs}
+use Rattle.ev_indexes.proofs.WaitLemmas.{among-depends}
 use Rattle.ev_state.specs.Changed.{dependents_in, dependents_of}
 use Rattle.ev_state.proofs.FindLemmas.{only, found-only}
 use Rattle.ev_state.proofs.StillLemmas.{serving, still-kind}
@@ -55,28 +55,28 @@ served-at kind n row rows mine apart are at =
 
 -- and its number is among those of what depends on a name
 depended : (kind : Kind) (n : ℕ) (row : GenRow) (rows mine : List GenRow) (q : List ℕ) → IsDistinct nat_eq (numbers_of rows) → mine ≡ rows_of_kind kind rows
-    → serving kind (row_in n rows) ≡ Some row → has_dependency (needs_of kind) q row.content ≡ true → is_among (numbers_where (depends_on q) mine) n ≡ true
+    → serving kind (row_in n rows) ≡ Some row → has_dependency (needs_of kind) q row.content ≡ true → is_among (numbers_waiting mine q) n ≡ true
 depended kind n row rows mine q apart are at needs =
     let served = served-is kind (row_in n rows) row at in
-    among-where (depends_on q) n row mine (served-at kind n row rows mine apart are at)
+    among-depends q n row mine (served-at kind n row rows mine apart are at)
     (λ i. active-live row.status served.active i && has_dependency-needs (needs_of kind) q row.content needs i)
 
 -- so it depends on no name whose dependents don't have its number
-apart_from : (name q : List ℕ) (n : ℕ) (rows : List GenRow) → is_among (numbers_where (depends_on q) rows) n ≡ true → is_among (numbers_where (depends_on name) rows) n ≡ false → bytes_eq name q ≡ false
+apart_from : (name q : List ℕ) (n : ℕ) (rows : List GenRow) → is_among (numbers_waiting rows q) n ≡ true → is_among (numbers_waiting rows name) n ≡ false → bytes_eq name q ≡ false
 apart_from name q n rows among none = by (bytes_eq name q) refl
   where
     by : (b : Bool) → bytes_eq name q ≡ b → b ≡ false
-    by true is = absurd (false≢true (sym none ∙ (λ i. is_among (numbers_where (depends_on ((bytes_decide name q).0 is i)) rows) n) ∙ among))
+    by true is = absurd (false≢true (sym none ∙ (λ i. is_among (numbers_waiting rows ((bytes_decide name q).0 is i)) n) ∙ among))
     by false isnt = refl
 
-cluster_apart : (clusters listeners : State) (kind : Kind) (name q : List ℕ) (n : ℕ) → is_among (numbers_where (depends_on q) clusters.table.rows) n ≡ true
+cluster_apart : (clusters listeners : State) (kind : Kind) (name q : List ℕ) (n : ℕ) → is_among (numbers_waiting clusters.table.rows q) n ≡ true
     → is_among (dependents_in clusters listeners kind name) n ≡ false → (kind_same kind Eds && bytes_eq name q) ≡ false
 cluster_apart clusters listeners Cds name q n among none = refl
 cluster_apart clusters listeners Eds name q n among none = apart_from name q n clusters.table.rows among none
 cluster_apart clusters listeners Lds name q n among none = refl
 cluster_apart clusters listeners Rds name q n among none = refl
 
-listener_apart : (clusters listeners : State) (kind : Kind) (name q : List ℕ) (n : ℕ) → is_among (numbers_where (depends_on q) listeners.table.rows) n ≡ true
+listener_apart : (clusters listeners : State) (kind : Kind) (name q : List ℕ) (n : ℕ) → is_among (numbers_waiting listeners.table.rows q) n ≡ true
     → is_among (dependents_in clusters listeners kind name) n ≡ false → (kind_same kind Rds && bytes_eq name q) ≡ false
 listener_apart clusters listeners Cds name q n among none = refl
 listener_apart clusters listeners Eds name q n among none = refl
@@ -101,8 +101,8 @@ module _ (changed : List ℕ) (clusters listeners : State) (before after : World
     (retired_too : (n : ℕ) → is_among changed n ≡ false → has_retired n (rows_of_kind Lds before.rows) (rows_of_kind Lds after.rows) ≡ false) where
   -- an event after which each value that a generation of another number depends on is what it was
   by_values : Enters before after
-      → ((n : ℕ) (q : List ℕ) → is_among changed n ≡ false → is_among (numbers_where (depends_on q) clusters.table.rows) n ≡ true → value_by after.arrivals Eds q ≡ value_by before.arrivals Eds q)
-      → ((n : ℕ) (q : List ℕ) → is_among changed n ≡ false → is_among (numbers_where (depends_on q) listeners.table.rows) n ≡ true → value_by after.arrivals Rds q ≡ value_by before.arrivals Rds q)
+      → ((n : ℕ) (q : List ℕ) → is_among changed n ≡ false → is_among (numbers_waiting clusters.table.rows q) n ≡ true → value_by after.arrivals Eds q ≡ value_by before.arrivals Eds q)
+      → ((n : ℕ) (q : List ℕ) → is_among changed n ≡ false → is_among (numbers_waiting listeners.table.rows q) n ≡ true → value_by after.arrivals Rds q ≡ value_by before.arrivals Rds q)
       → AreSame changed before after
   by_values enters endpoints routes = record {
     clusters = record {

@@ -13,12 +13,12 @@ use Rattle.ev_types.specs.declared.rows.GenRow.{GenRow}
 use Rattle.ev_types.specs.declared.rows.Live.{Live}
 use Rattle.ev_model.specs.World.{World}
 use Rattle.ev_model.specs.Live.{live_of, lives_of, is_named, latest, newest_of}
-use Rattle.ev_model.specs.Watching.{is_by_name, is_watched, has_dependency}
+use Rattle.ev_model.specs.Watching.{is_by_name, is_watched, has_dependency, dependencies_of}
 use Rattle.ev_indexes.specs.declared.state.State.{State}
-use Rattle.ev_indexes.specs.Indexes.{IsIndexed, is_needed}
-use Rattle.ev_indexes.specs.Ready.{name_needed}
+use Rattle.ev_indexes.specs.Indexes.{IsIndexed}
 use Rattle.ev_indexes.specs.Reads.{live_rows}
 use Rattle.ev_indexes.specs.Worlds.{StandsFor as HasRows, needs_of}
+use Rattle.ev_indexes.specs.Needs.{is_needed}
 use Rattle.ev_indexes.proofs.DependencyLemmas.{has_dependency-one}
 use Rattle.ev_indexes.proofs.HolderLemmas.{holders-world}
 use Rattle.ev_indexes.proofs.NewestLemmas.{newest-world}
@@ -67,7 +67,7 @@ newest_none kind world whole by_name name =
 -- nothing depends on a cluster or a listener
 no_dependency : (kind : Kind) (name : List ℕ) (content : Content) → is_by_name kind ≡ false → has_dependency kind name content ≡ false
 no_dependency kind name content whole =
-    has_dependency-one kind name content ∙ ap (λ b. b && is_needed name (name_needed content)) (by (kind_same (needs_of (content_kind content)) kind) refl)
+    has_dependency-one kind name content ∙ ap (λ b. b && is_needed name (dependencies_of content)) (by (kind_same (needs_of (content_kind content)) kind) refl)
   where
     named : (k : Kind) → is_by_name (needs_of k) ≡ true
     named Cds = refl

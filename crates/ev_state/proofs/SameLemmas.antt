@@ -1,35 +1,39 @@
 -- What a picture shows of a number is the same where its generation, the values that it depends on and its results are.
-use Rattle.std.proofs.Common.{◌≡◌, ◌∙◌, ℕ, Bool, true, false, cond, not, ◌&&◌, ◌||◌, List, [], ◌∷◌, Option, None, Some, option_map, filter, refl, sym, ap}
+use Rattle.std.proofs.Common.{◌≡◌, ◌∙◌, ℕ, Bool, true, false, cond, not, ◌&&◌, ◌||◌, List, [], ◌∷◌, Option, None, Some, option_map, filter, refl, sym, ap, ◌++◌, option_to_list, map}
 use Rattle.std.specs.Option.{option_and_then}
 use Rattle.std.specs.List.{list_any, AllByRecursion}
 use Rattle.std.specs.Str.{bytes_eq}
 use Rattle.std.proofs.Math.Bool.{or-false}
+use Rattle.std.proofs.lemmas.List.Folds.{list_any-append}
 use Rattle.ev_types.specs.Hosts.{HostRowParts}
 use Rattle.ev_types.specs.Kinds.{kind_same}
 use Rattle.ev_types.specs.Same.{bytes_decide}
 use Rattle.ev_types.specs.Statuses.{is_active}
 use Rattle.ev_types.specs.declared.clusters.Discovery.{Discovery}
-use Rattle.ev_types.specs.declared.clusters.Discovery.TheVariants.{Static, Eds as by_eds}
+use Rattle.ev_types.specs.declared.clusters.Discovery.TheVariants.{Static, Eds as by_eds, Elsewhere}
 use Rattle.ev_types.specs.declared.contents.Kind.{Kind}
 use Rattle.ev_types.specs.declared.contents.Kind.TheVariants.{Cds, Eds, Lds, Rds}
 use Rattle.ev_types.specs.declared.contents.Content.{Content}
 use Rattle.ev_types.specs.declared.contents.Content.TheVariants.{Cluster as a_cluster, Assignment as an_assignment, Listener as a_listener, Routes as routes}
+use Rattle.ev_types.specs.declared.listeners.FilterChain.{FilterChain}
 use Rattle.ev_types.specs.declared.listeners.Serve.{Serve}
-use Rattle.ev_types.specs.declared.listeners.Serve.TheVariants.{Rds as by_rds, Inline, Tcp}
+use Rattle.ev_types.specs.declared.listeners.Serve.TheVariants.{Rds as by_rds, Inline, Tcp, Other}
 use Rattle.ev_types.specs.declared.rows.GenRow.{GenRow}
 use Rattle.ev_model.specs.declared.pictures.Routing.TheVariants.{Table}
 use Rattle.ev_model.specs.declared.pictures.ServedListener.{ServedListener}
 use Rattle.ev_model.specs.World.{World, Arrived, HealthResult}
 use Rattle.ev_model.specs.Phase.{is_serving}
-use Rattle.ev_model.specs.Picture.{served_cluster, served_listener, routing_of, table_in}
+use Rattle.ev_model.specs.Picture.{served_cluster, served_listener, routing_of, table_in, is_elsewhere, served_chain}
 use Rattle.ev_model.specs.Warming.{value_by, rows_in, discovered, assignment_by, is_healthy, is_eligible_by, is_checked}
-use Rattle.ev_model.specs.Watching.{discovery_dependencies, serve_dependencies, is_dependency, has_dependency}
+use Rattle.ev_model.specs.Watching.{discovery_dependencies, is_dependency, has_dependency, Dependency}
 use Rattle.ev_generations.specs.Tables.{row_in}
 use Rattle.ev_indexes.specs.Due.{is_among}
 use Rattle.ev_indexes.specs.Worlds.{needs_of}
 use Rattle.ev_indexes.specs.Shown.{cluster_shown, first_of, listener_shown}
+use Rattle.ev_indexes.specs.Needs.{serve_need, listener_places, needs_at}
 use Rattle.ev_state.specs.Changed.{HaveChanged}
 use Rattle.ev_state.proofs.StillLemmas.{serving}
+use Rattle.ev_indexes.proofs.PlaceLemmas.{any-places}
 
 -- what a picture shows of a generation of the kind that serves is what it shows of one that is found
 cluster_served : (arrivals : List Arrived) (results : List HealthResult) (found : Option GenRow)
@@ -61,7 +65,8 @@ discovered_same : (before after : List Arrived) (d : Discovery)
     → ((q : List ℕ) → list_any (is_dependency Eds q) (discovery_dependencies d) ≡ true → value_by after Eds q ≡ value_by before Eds q)
     → discovered after d ≡ discovered before d
 discovered_same before after (Static rows) same = refl
-discovered_same before after (by_eds service limited) same = ap rows_in (same service (or-false (bytes_eq service service) ∙ (bytes_decide service service).1 refl))
+discovered_same before after (by_eds service limited fresh) same = ap rows_in (same service (or-false (bytes_eq service service) ∙ (bytes_decide service service).1 refl))
+discovered_same before after Elsewhere same = refl
 
 assignment_same : (before after : List Arrived) (content : Content) → SameNeeds Eds before after content → assignment_by after content ≡ assignment_by before content
 assignment_same before after (a_cluster cluster) same = discovered_same before after cluster.discovery same
@@ -69,20 +74,62 @@ assignment_same before after (an_assignment rows) same = refl
 assignment_same before after (a_listener listener) same = refl
 assignment_same before after (routes table) same = refl
 
-routing_same : (before after : List Arrived) (serve : Serve)
-    → ((q : List ℕ) → list_any (is_dependency Rds q) (serve_dependencies serve) ≡ true → value_by after Rds q ≡ value_by before Rds q)
-    → routing_of after serve ≡ routing_of before serve
+-- what a chain depends on is met on the way
+abbrev ServeSame : List Arrived → List Arrived → Serve → Type 0
+ServeSame before after serve = (q : List ℕ) → list_any (is_dependency Rds q) (option_to_list (serve_need serve)) ≡ true → value_by after Rds q ≡ value_by before Rds q
+
+routing_same : (before after : List Arrived) (serve : Serve) → ServeSame before after serve → routing_of after serve ≡ routing_of before serve
 routing_same before after (by_rds name limited) same = ap (λ v. Table (table_in v)) (same name (or-false (bytes_eq name name) ∙ (bytes_decide name name).1 refl))
 routing_same before after (Inline table) same = refl
 routing_same before after (Tcp target) same = refl
+routing_same before after Other same = refl
 
-listener_same : (before after : List Arrived) (row : GenRow) (content : Content) → SameNeeds Rds before after content
-    → served_listener after row content ≡ served_listener before row content
-listener_same before after row (a_cluster cluster) same = refl
-listener_same before after row (an_assignment rows) same = refl
-listener_same before after row (a_listener listener) same =
-    λ i. record { number = row.number; name = row.name; address = listener.address; routing = routing_same before after listener.serve same i } ∷ []
-listener_same before after row (routes table) same = refl
+-- what one of some depends on, one of all does
+any_first : (p : Dependency → Bool) (ds es : List Dependency) → list_any p ds ≡ true → list_any p (ds ++ es) ≡ true
+any_first p ds es h = list_any-append p ds es ∙ ap (λ b. b || list_any p es) h
+
+any_second : (p : Dependency → Bool) (ds es : List Dependency) → list_any p es ≡ true → list_any p (ds ++ es) ≡ true
+any_second p ds es h = list_any-append p ds es ∙ (λ i. list_any p ds || h i) ∙ late (list_any p ds)
+  where
+    late : (b : Bool) → (b || true) ≡ true
+    late true = refl
+    late false = refl
+
+module _ (before after : List Arrived) where
+  -- a name at one of these places has the same value
+  abbrev PlacesSame : List (Option Dependency) → Type 0
+  PlacesSame places = (q : List ℕ) → list_any (is_dependency Rds q) (needs_at places) ≡ true → value_by after Rds q ≡ value_by before Rds q
+
+  chains_same : (chains : List FilterChain) (other : Option Dependency) → PlacesSame (map (λ (c : FilterChain). serve_need c.serve) chains ++ other ∷ [])
+      → map (served_chain after) chains ≡ map (served_chain before) chains
+  chains_same [] other same = refl
+  chains_same (c ∷ chains) other same = λ i.
+      record {
+        criteria = c.criteria;
+        routing = routing_same before after c.serve (λ q h. same q (any_first (is_dependency Rds q) (option_to_list (serve_need c.serve)) _ h)) i;
+      }
+      ∷ chains_same chains other (λ q h. same q (any_second (is_dependency Rds q) (option_to_list (serve_need c.serve)) _ h)) i
+
+  default_same : (chains : List FilterChain) (other : Option Serve) → PlacesSame (map (λ (c : FilterChain). serve_need c.serve) chains ++ option_and_then serve_need other ∷ [])
+      → option_map (routing_of after) other ≡ option_map (routing_of before) other
+  default_same [] None same = refl
+  default_same [] (Some v) same = ap Some (routing_same before after v (λ q h. same q (any_first (is_dependency Rds q) (option_to_list (serve_need v)) [] h)))
+  default_same (c ∷ chains) other same = default_same chains other (λ q h. same q (any_second (is_dependency Rds q) (option_to_list (serve_need c.serve)) _ h))
+
+  listener_same : (row : GenRow) (content : Content) → SameNeeds Rds before after content → served_listener after row content ≡ served_listener before row content
+  listener_same row (a_cluster cluster) same = refl
+  listener_same row (an_assignment rows) same = refl
+  listener_same row (a_listener listener) same =
+      let at_places : PlacesSame (listener_places listener) = λ q h. same q (sym (any-places (is_dependency Rds q) (a_listener listener)) ∙ h) in
+      λ i. record {
+        number = row.number;
+        name = row.name;
+        address = listener.address;
+        takes_every_address = listener.takes_every_address;
+        filter_chains = chains_same listener.filter_chains (option_and_then serve_need listener.default_filter_chain) at_places i;
+        default_filter_chain = default_same listener.filter_chains listener.default_filter_chain at_places i;
+      } ∷ []
+  listener_same row (routes table) same = refl
 
 -- the last results of these hosts are the same
 abbrev pub SameResults : List HealthResult → List HealthResult → ℕ → List HostRowParts → Type 0
@@ -131,7 +178,7 @@ same-changed changed before after same = record {
         let assigned = assignment_same before.arrivals after.arrivals row.content (same.clusters.values n row other at) in
         let chosen = ap (filter (is_eligible_by after.results row)) assigned
         ∙ eligible_same before.results after.results row (assignment_by before.arrivals row.content) (same.results n row other at) in
-        λ i. Some (record { number = row.number; name = row.name; hosts = chosen i })
+        λ i. Some (record { number = row.number; name = row.name; hosts = chosen i; elsewhere = is_elsewhere row.content })
 
     listener : (n : ℕ) → is_among changed n ≡ false → (found : Option GenRow) → serving Lds (row_in n before.rows) ≡ found
         → option_and_then (first_served after.arrivals) found ≡ option_and_then (first_served before.arrivals) found

@@ -17,12 +17,14 @@ use Rattle.std.proofs.lemmas.List.Elements.{All-filter, recursion_from_All}
 use Rattle.ev_types.specs.declared.contents.Kind.{Kind}
 use Rattle.ev_types.specs.declared.contents.Kind.TheVariants.{Cds, Eds, Lds, Rds}
 use Rattle.ev_indexes.specs.Worlds.{InWorldsWatching, StandsFor as HasRows, needs_of}
-use Rattle.ev_indexes.proofs.ReadLemmas.{watched-world}
+use Rattle.ev_indexes.proofs.ReadLemmas.{watched-world, still-waits}
+use Rattle.ev_indexes.proofs.WaitLemmas.{waits-depends}
 use Rattle.ev_state.proofs.TidyLemmas.{found_watched}
 use Rattle.ev_model_laws.proofs.AnyLemmas.{any_so}
-use Rattle.ev_indexes.specs.Indexes.{depends_on, waits_limited}
+use Rattle.ev_indexes.specs.Indexes.{depends_on}
 use Rattle.ev_indexes.specs.declared.state.State.{State as Part}
-use Rattle.ev_indexes.specs.Reads.{is_awaited_at, is_timeout_due}
+use Rattle.ev_indexes.specs.Reads.{is_awaited_at, is_timeout_due, is_waiting_in}
+use Rattle.ev_indexes.specs.Watched.{watch_in}
 use Rattle.ev_managers.specs.declared.managers.Managers.{Managers}
 use Rattle.ev_managers.specs.declared.moved.Moved.{Moved}
 use Rattle.ev_managers.specs.Managers.{AreForgotten, AreKept, StandFor, is_watched_in, manager_of}
@@ -142,8 +144,8 @@ both_first false b h = h
 -- a name whose timeout is due is watched
 pub due_is_watched : (part : Part) (name : List ℕ) → is_timeout_due part.watches part.table.rows name ≡ true → list_any (depends_on name) part.table.rows ≡ true
 due_is_watched part name due =
-    any_so (waits_limited name) (depends_on name) part.table.rows (λ row h. both_first (depends_on name row) _ h)
-    (both_first (list_any (waits_limited name) part.table.rows) _ due)
+    any_so (is_waiting_in name (watch_in part.watches name)) (depends_on name) part.table.rows
+    (λ row h. waits-depends name true row (still-waits name (watch_in part.watches name) row h)) due
 
 pub not_false : (b : Bool) → not b ≡ false → b ≡ true
 not_false true h = refl

@@ -53,10 +53,10 @@ quiet-changed changed before after rows values results phase = same-changed chan
 })
 
 -- a fetch timeout brings no value
-pub timeout-changed : (changed : List ℕ) (kind : Kind) (name : List ℕ) (world : World) → HaveChanged changed world (record world { arrivals = world.arrivals ++ arrived kind TimedOut name ∷ [] })
+pub timeout-changed : (changed : List ℕ) (kind : Kind) (name : List ℕ) (world : World) → HaveChanged changed world (record world { arrivals = world.arrivals ++ arrived world.made kind TimedOut name ∷ [] })
 timeout-changed changed kind name world =
-    quiet-changed changed world (record world { arrivals = world.arrivals ++ arrived kind TimedOut name ∷ [] }) refl
-    (λ k q. value-quiet world.arrivals (arrived kind TimedOut name ∷ []) k q (mute-quiet kind TimedOut name k q refl)) refl refl
+    quiet-changed changed world (record world { arrivals = world.arrivals ++ arrived world.made kind TimedOut name ∷ [] }) refl
+    (λ k q. value-quiet world.arrivals (arrived world.made kind TimedOut name ∷ []) k q (mute-quiet world.made kind TimedOut name k q refl)) refl refl
 
 -- a generation that is over isn't shown
 over_hidden : (kind : Kind) (found : Option GenRow) → is_over found ≡ true → serving kind found ≡ None

@@ -16,7 +16,7 @@ use Rattle.ev_model_laws.proofs.AnyLemmas.{or_so}
 use Rattle.ev_model_laws.proofs.VersionLemmas.{version_decides}
 use Rattle.ev_subscription.specs.Subscriptions.{AreEnded}
 use Rattle.ev_state.proofs.HeardLemmas.{IsDue}
-use Rattle.ev_state.proofs.WatchedNames.{among_watched, among_other}
+use Rattle.ev_indexes.proofs.NameLemmas.{among_watched, among_other}
 
 due_watched : (lives : List Live) (kind : Kind) (name : List ℕ) (kept : KeptVersion) → is_by_name kind ≡ true → IsDue lives kept
     → is_version_of kind name kept ≡ true → is_watched lives kind name ≡ true

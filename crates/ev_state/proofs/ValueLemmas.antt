@@ -14,7 +14,7 @@ use Rattle.ev_types.specs.declared.contents.Content.{Content}
 use Rattle.ev_types.specs.declared.events.Verdict.{Verdict}
 use Rattle.ev_types.specs.declared.events.Verdict.TheVariants.{New, Same, Kept, Unasked, Renewed, Refused}
 use Rattle.ev_types.specs.declared.rows.Arrival.{Arrival}
-use Rattle.ev_types.specs.declared.rows.Arrival.TheVariants.{Value, Absent, Bad as bad}
+use Rattle.ev_types.specs.declared.rows.Arrival.TheVariants.{Value, Absent, Ended, Bad as bad}
 use Rattle.ev_model.specs.World.{World, Arrived}
 use Rattle.ev_model.specs.Live.{lives_of}
 use Rattle.ev_model.specs.Watching.{is_watched}
@@ -42,28 +42,28 @@ value-quiet xs ys kind q none =
     ∙ (λ i. last_or (value_by xs kind q) (none i))
 
 -- one thing for another name
-pub other-quiet : (kind : Kind) (arrival : Arrival) (name : List ℕ) (k : Kind) (q : List ℕ) → (kind_same kind k && bytes_eq name q) ≡ false
-    → values (arrived kind arrival name ∷ []) k q ≡ []
-other-quiet kind arrival name k q other = λ i. filter_map content_in (map arrival_of (cond (other i) (arrived kind arrival name ∷ []) []))
+pub other-quiet : (made : ℕ) (kind : Kind) (arrival : Arrival) (name : List ℕ) (k : Kind) (q : List ℕ) → (kind_same kind k && bytes_eq name q) ≡ false
+    → values (arrived made kind arrival name ∷ []) k q ≡ []
+other-quiet made kind arrival name k q other = λ i. filter_map content_in (map arrival_of (cond (other i) (arrived made kind arrival name ∷ []) []))
 
 -- one thing that is no resource
-pub mute-quiet : (kind : Kind) (arrival : Arrival) (name : List ℕ) (k : Kind) (q : List ℕ) → content_in arrival ≡ None
-    → values (arrived kind arrival name ∷ []) k q ≡ []
-mute-quiet kind arrival name k q mute = by (kind_same kind k && bytes_eq name q)
+pub mute-quiet : (made : ℕ) (kind : Kind) (arrival : Arrival) (name : List ℕ) (k : Kind) (q : List ℕ) → content_in arrival ≡ None
+    → values (arrived made kind arrival name ∷ []) k q ≡ []
+mute-quiet made kind arrival name k q mute = by (kind_same kind k && bytes_eq name q)
   where
-    by : (b : Bool) → filter_map content_in (map arrival_of (cond b (arrived kind arrival name ∷ []) [])) ≡ []
+    by : (b : Bool) → filter_map content_in (map arrival_of (cond b (arrived made kind arrival name ∷ []) [])) ≡ []
     by true = ap (λ o. cons_option o []) mute
     by false = refl
 
 -- notices of absence
-absences-quiet : (kind : Kind) (names : List (List ℕ)) (k : Kind) (q : List ℕ) → values (map (arrived kind Absent) names) k q ≡ []
-absences-quiet kind [] k q = refl
-absences-quiet kind (name ∷ names) k q = by (kind_same kind k && bytes_eq name q) (absences-quiet kind names k q)
+absences-quiet : (made : ℕ) (kind : Kind) (names : List (List ℕ)) (k : Kind) (q : List ℕ) → values (map (arrived made kind Absent) names) k q ≡ []
+absences-quiet made kind [] k q = refl
+absences-quiet made kind (name ∷ names) k q = by (kind_same kind k && bytes_eq name q) (absences-quiet made kind names k q)
   where
     rest : List Arrived
-    rest = filter (is_for k q) (map (arrived kind Absent) names)
+    rest = filter (is_for k q) (map (arrived made kind Absent) names)
 
-    by : (b : Bool) → filter_map content_in (map arrival_of rest) ≡ [] → filter_map content_in (map arrival_of (cond b (arrived kind Absent name ∷ rest) rest)) ≡ []
+    by : (b : Bool) → filter_map content_in (map arrival_of rest) ≡ [] → filter_map content_in (map arrival_of (cond b (arrived made kind Absent name ∷ rest) rest)) ≡ []
     by true none = none
     by false none = none
 
@@ -81,9 +81,9 @@ module _ (kind k : Kind) (q : List ℕ) where
     where
       by : (kind : Kind) → IsSame world (with_removals kind response world)
       by Cds = refl
-      by Eds = value-quiet world.arrivals (map (arrived Eds Absent) (absent_names Eds response world)) k q (absences-quiet Eds (absent_names Eds response world) k q)
+      by Eds = value-quiet world.arrivals (map (arrived world.made Eds Absent) (absent_names Eds response world)) k q (absences-quiet world.made Eds (absent_names Eds response world) k q)
       by Lds = refl
-      by Rds = value-quiet world.arrivals (map (arrived Rds Absent) (absent_names Rds response world)) k q (absences-quiet Rds (absent_names Rds response world) k q)
+      by Rds = value-quiet world.arrivals (map (arrived world.made Rds Absent) (absent_names Rds response world)) k q (absences-quiet world.made Rds (absent_names Rds response world) k q)
 
   new_same : (item : ItemParts) (body : Body) (world : World) → IsSame world (with_content (add_row kind item) body world)
   new_same item (Good content) world = refl
@@ -97,13 +97,13 @@ module _ (kind k : Kind) (q : List ℕ) where
 
   kept_same : (item : ItemParts) → IsOther item → (body : Body) (world : World) → IsSame world (with_content (keep_value kind item) body world)
   kept_same item other (Good content) world =
-      value-quiet world.arrivals (arrived kind (Value content) item.name ∷ []) k q (other-quiet kind (Value content) item.name k q other)
+      value-quiet world.arrivals (arrived world.made kind (Value content) item.name ∷ []) k q (other-quiet world.made kind (Value content) item.name k q other)
   kept_same item other (Bad rule) world = refl
   kept_same item other Beat world = refl
 
   told_same : (watched : Bool) (told : Kind) (name : List ℕ) (world : World)
-      → IsSame world (cond watched (record world { arrivals = world.arrivals ++ arrived told bad name ∷ [] }) world)
-  told_same true told name world = value-quiet world.arrivals (arrived told bad name ∷ []) k q (mute-quiet told bad name k q refl)
+      → IsSame world (cond watched (record world { arrivals = world.arrivals ++ arrived world.made told bad name ∷ [] }) world)
+  told_same true told name world = value-quiet world.arrivals (arrived world.made told bad name ∷ []) k q (mute-quiet world.made told bad name k q refl)
   told_same false told name world = refl
 
   refused_same : (name : List ℕ) (world : World) → IsSame world (refuse kind name world)
@@ -141,6 +141,6 @@ module _ (kind k : Kind) (q : List ℕ) where
     where
       by : (kind : Kind) → (kind_same kind k && bytes_eq name q) ≡ false → IsSame world (with_end kind name world)
       by Cds other = refl
-      by Eds other = value-quiet world.arrivals (arrived Eds (Value no_hosts) name ∷ []) k q (other-quiet Eds (Value no_hosts) name k q other)
+      by Eds other = value-quiet world.arrivals (arrived world.made Eds (Ended no_hosts) name ∷ []) k q (other-quiet world.made Eds (Ended no_hosts) name k q other)
       by Lds other = refl
-      by Rds other = value-quiet world.arrivals (arrived Rds (Value no_routes) name ∷ []) k q (other-quiet Rds (Value no_routes) name k q other)
+      by Rds other = value-quiet world.arrivals (arrived world.made Rds (Ended no_routes) name ∷ []) k q (other-quiet world.made Rds (Ended no_routes) name k q other)

@@ -10,7 +10,7 @@ use Rattle.ev_model.specs.Phase.{is_serving}
 use Rattle.ev_generations.specs.Tables.{numbers_of}
 use Rattle.ev_indexes.specs.declared.state.State.{State}
 use Rattle.ev_indexes.specs.Due.{is_among}
-use Rattle.ev_indexes.specs.Indexes.{depends_on, numbers_where}
+use Rattle.ev_indexes.specs.Indexes.{numbers_waiting}
 use Rattle.ev_indexes.specs.Reads.{live_rows}
 use Rattle.ev_indexes.specs.Shown.{cluster_at, listener_at}
 
@@ -19,12 +19,12 @@ pub record HaveChanged (changed : List ℕ) (before after : World) : Type 0 wher
   pub clusters : (number : ℕ) → is_among changed number ≡ false → cluster_at after number ≡ cluster_at before number
   pub listeners : (number : ℕ) → is_among changed number ≡ false → listener_at after number ≡ listener_at before number
 
--- the numbers of the live generations that depend on this name of endpoints or of routes
+-- the numbers of the live generations that depend on this name of endpoints or of routes; one that waits for it both ways stands twice
 abbrev pub dependents_in : State → State → Kind → List ℕ → List ℕ
 dependents_in clusters listeners Cds name = []
-dependents_in clusters listeners Eds name = numbers_where (depends_on name) clusters.table.rows
+dependents_in clusters listeners Eds name = numbers_waiting clusters.table.rows name
 dependents_in clusters listeners Lds name = []
-dependents_in clusters listeners Rds name = numbers_where (depends_on name) listeners.table.rows
+dependents_in clusters listeners Rds name = numbers_waiting listeners.table.rows name
 
 -- the numbers of those that depend on the name of one of these resources
 abbrev pub dependents_of : State → State → Kind → List ItemParts → List ℕ

@@ -4,6 +4,7 @@ ghost use Rattle.ev_managers.specs.Managers.{AreKept};
 ghost use Rattle.ev_state.specs.Changed.{dependents_in, dependents_of, listeners_begun};
 
 use crate::state::State;
+use ev_indexes::put_all;
 use ev_types::{Gen, Kind, Name, Phase, Response, Seq};
 use std::alloc::{AllocError, Global};
 
@@ -20,8 +21,8 @@ impl State {
             ++ dependents_in self.now.managers.clusters.state self.now.managers.listeners.state kind name.now) }
     {
         match kind {
-            Kind::Eds => put_all(changed, self.managers.clusters.state.dependents(name)),
-            Kind::Rds => put_all(changed, self.managers.listeners.state.dependents(name)),
+            Kind::Eds => self.managers.clusters.state.put_dependents(name, changed),
+            Kind::Rds => self.managers.listeners.state.put_dependents(name, changed),
             Kind::Cds | Kind::Lds => Ok(()),
         }
     }
@@ -73,14 +74,4 @@ impl State {
             _ => Ok(()),
         }
     }
-}
-
-// Puts numbers to the others.
-fn put_all(numbers: &mut Seq<Gen>, more: &[Gen]) -> Result<(), AllocError>
-    ensures { OnOk result (numbers.new ≡ numbers.old ++ more.now) }
-{
-    for number in more {
-        numbers.push(*number)?;
-    }
-    Ok(())
 }

@@ -80,7 +80,7 @@ impl State {
         requires by_name { is_by_name kind ≡ true }
         ensures { IfOk result (λ told. StepBy (name_timeout kind name.now) self.old self.new told.0 told.1) }
     {
-        if !self.managers.of(kind).state.timeout_due(name) {
+        if !self.managers.of(kind).state.timeout_due(name, steps) {
             return Ok((Answer::Ignored, Moved::none(alloc)));
         }
         self.managers

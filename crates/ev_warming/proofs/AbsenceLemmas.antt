@@ -16,31 +16,34 @@ use Rattle.ev_types.specs.declared.rows.Arrival.TheVariants.{Absent, Bad as bad}
 use Rattle.ev_types.specs.declared.rows.GenRow.{GenRow}
 use Rattle.ev_model.specs.World.{World, Arrived}
 use Rattle.ev_model.specs.Live.{lives_of}
-use Rattle.ev_model.specs.Watching.{is_watched, is_by_name}
+use Rattle.ev_model.specs.Watching.{is_watched, is_by_name, dependencies_of, Dependency}
 use Rattle.ev_model.specs.Verdicts.{is_among, is_removed}
 use Rattle.ev_model.specs.Rows.{arrived, absent_names, versions_left, with_removals, refuse}
 use Rattle.ev_indexes.specs.declared.state.State.{State}
-use Rattle.ev_indexes.specs.Ready.{name_needed, IsNeedName}
-use Rattle.ev_indexes.specs.Indexes.{is_needed, depends_on}
+use Rattle.ev_indexes.specs.Indexes.{depends_on}
 use Rattle.ev_indexes.specs.Worlds.{needs_of, StandsFor}
+use Rattle.ev_indexes.specs.Needs.{HaveNames, is_needed}
 use Rattle.ev_warming.specs.Changes.{is_unlisted}
 use Rattle.ev_warming.specs.Arrivals.{told_where}
 use Rattle.ev_warming.proofs.ForgottenLemmas.{watched-same}
 use Rattle.ev_warming.proofs.ResponseLemmas.{versions-stand}
 
 -- nothing depends on a text that is no name
-pub unneeded : (q : List ℕ) → (IsName q → ⊥) → (rows : List GenRow) → AllByRecursion (λ (r : GenRow). IsNeedName (name_needed r.content)) rows → list_any (depends_on q) rows ≡ false
+pub unneeded : (q : List ℕ) → (IsName q → ⊥) → (rows : List GenRow) → AllByRecursion (λ (r : GenRow). HaveNames (dependencies_of r.content)) rows → list_any (depends_on q) rows ≡ false
 unneeded q no_name [] all = refl
-unneeded q no_name (row ∷ rows) all = (λ i. by (is_live row.status) (name_needed row.content) all.0 i || list_any (depends_on q) rows) ∙ unneeded q no_name rows all.1
+unneeded q no_name (row ∷ rows) all = (λ i. by (is_live row.status) (dependencies_of row.content) all.0 i || list_any (depends_on q) rows) ∙ unneeded q no_name rows all.1
   where
     over : (name : List ℕ) → IsName name → (b : Bool) → bytes_eq name q ≡ b → b ≡ false
     over name named true e = absurd (no_name (subst IsName ((bytes_decide name q).0 e) named))
     over name named false e = refl
 
-    by : (l : Bool) (o : Option (List ℕ)) → IsNeedName o → (l && is_needed q o) ≡ false
-    by false o named = refl
-    by true None named = refl
-    by true (Some name) named = over name named (bytes_eq name q) refl
+    none : (ds : List Dependency) → HaveNames ds → is_needed q ds ≡ false
+    none [] named = refl
+    none (d ∷ ds) named = (λ i. over d.name named.0 (bytes_eq d.name q) refl i || is_needed q ds) ∙ none ds named.1
+
+    by : (l : Bool) (ds : List Dependency) → HaveNames ds → (l && is_needed q ds) ≡ false
+    by false ds named = refl
+    by true ds named = none ds named
 
 -- the test of an absence
 abbrev is_absent : ResponseParts → Kind → World → List ℕ → Bool
@@ -48,29 +51,29 @@ is_absent response kind world name = is_removed response name && is_watched (liv
 
 -- the arrivals after the absences of these names
 abbrev pub with_absent : ResponseParts → Kind → World → List (List ℕ) → World
-with_absent response kind world names = record world { arrivals = world.arrivals ++ map (arrived kind Absent) (filter (is_absent response kind world) names) }
+with_absent response kind world names = record world { arrivals = world.arrivals ++ map (arrived world.made kind Absent) (filter (is_absent response kind world) names) }
 
-absent-one : (kind : Kind) (name : List ℕ) (b : Bool) → map (arrived kind Absent) (cond b (name ∷ []) []) ≡ cond b (arrived kind Absent name ∷ []) []
-absent-one kind name true = refl
-absent-one kind name false = refl
+absent-one : (made : ℕ) (kind : Kind) (name : List ℕ) (b : Bool) → map (arrived made kind Absent) (cond b (name ∷ []) []) ≡ cond b (arrived made kind Absent name ∷ []) []
+absent-one made kind name true = refl
+absent-one made kind name false = refl
 
 told-is : (b : Bool) (kind : Kind) (name : List ℕ) (world : World) (before : List Arrived)
-    → told_where b kind Absent name (record world { arrivals = world.arrivals ++ before }) ≡ record world { arrivals = world.arrivals ++ (before ++ cond b (arrived kind Absent name ∷ []) []) }
-told-is true kind name world before = λ i. record world { arrivals = append_assoc world.arrivals before (arrived kind Absent name ∷ []) i }
+    → told_where b kind Absent name (record world { arrivals = world.arrivals ++ before }) ≡ record world { arrivals = world.arrivals ++ (before ++ cond b (arrived world.made kind Absent name ∷ []) []) }
+told-is true kind name world before = λ i. record world { arrivals = append_assoc world.arrivals before (arrived world.made kind Absent name ∷ []) i }
 told-is false kind name world before = λ i. record world { arrivals = world.arrivals ++ sym (append-nil before) i }
 
 pub absent-more : (s t : State) (world : World) (response : ResponseParts) (kind : Kind) (rows : List GenRow) (i : ℕ) (name : List ℕ)
     → i < length response.removed → name ≡ get_or response.removed i name
     → is_watched (lives_of world) kind name ≡ list_any (depends_on name) rows
     → StandsFor s (with_absent response kind world (take i response.removed))
-    → ((w : World) → StandsFor s w → StandsFor t (told_where (is_unlisted response name && list_any (depends_on name) rows) kind Absent name w))
+    → ((w : World) → StandsFor s w → w.made ≡ world.made → StandsFor t (told_where (is_unlisted response name && list_any (depends_on name) rows) kind Absent name w))
     → StandsFor t (with_absent response kind world (take (i + 1) response.removed))
 absent-more s t world response kind rows i name within is watched before step =
     subst (StandsFor t)
     ((λ j. told_where (sym test j) kind Absent name (with_absent response kind world (take i response.removed)))
-    ∙ told-is (is_absent response kind world name) kind name world (map (arrived kind Absent) (filter (is_absent response kind world) (take i response.removed)))
+    ∙ told-is (is_absent response kind world name) kind name world (map (arrived world.made kind Absent) (filter (is_absent response kind world) (take i response.removed)))
     ∙ (λ j. record world { arrivals = world.arrivals ++ sym more j }))
-    (step (with_absent response kind world (take i response.removed)) before)
+    (step (with_absent response kind world (take i response.removed)) before refl)
   where
     among : is_among name response.removed ≡ true
     among = list_any_at (λ n. bytes_eq n name) response.removed i name within ((λ j. bytes_eq (sym is j) name) ∙ (bytes_decide name name).1 refl)
@@ -78,21 +81,21 @@ absent-more s t world response kind rows i name within is watched before step =
     test : is_absent response kind world name ≡ (is_unlisted response name && list_any (depends_on name) rows)
     test = λ j. (among j && is_unlisted response name) && watched j
 
-    more : map (arrived kind Absent) (filter (is_absent response kind world) (take (i + 1) response.removed))
-        ≡ map (arrived kind Absent) (filter (is_absent response kind world) (take i response.removed)) ++ cond (is_absent response kind world name) (arrived kind Absent name ∷ []) []
+    more : map (arrived world.made kind Absent) (filter (is_absent response kind world) (take (i + 1) response.removed))
+        ≡ map (arrived world.made kind Absent) (filter (is_absent response kind world) (take i response.removed)) ++ cond (is_absent response kind world name) (arrived world.made kind Absent name ∷ []) []
     more =
-        (λ j. map (arrived kind Absent) (filter (is_absent response kind world) (take_more response.removed i name within j)))
-        ∙ (λ j. map (arrived kind Absent) (filter (is_absent response kind world) (take i response.removed ++ sym is j ∷ [])))
-        ∙ ap (map (arrived kind Absent)) (filter-append (is_absent response kind world) (take i response.removed) (name ∷ []))
-        ∙ map-append (arrived kind Absent) (filter (is_absent response kind world) (take i response.removed)) (filter (is_absent response kind world) (name ∷ []))
-        ∙ ap (λ xs. map (arrived kind Absent) (filter (is_absent response kind world) (take i response.removed)) ++ xs) (absent-one kind name (is_absent response kind world name))
+        (λ j. map (arrived world.made kind Absent) (filter (is_absent response kind world) (take_more response.removed i name within j)))
+        ∙ (λ j. map (arrived world.made kind Absent) (filter (is_absent response kind world) (take i response.removed ++ sym is j ∷ [])))
+        ∙ ap (map (arrived world.made kind Absent)) (filter-append (is_absent response kind world) (take i response.removed) (name ∷ []))
+        ∙ map-append (arrived world.made kind Absent) (filter (is_absent response kind world) (take i response.removed)) (filter (is_absent response kind world) (name ∷ []))
+        ∙ ap (λ xs. map (arrived world.made kind Absent) (filter (is_absent response kind world) (take i response.removed)) ++ xs) (absent-one world.made kind name (is_absent response kind world name))
 
 pub absent-none : (s : State) (world : World) (response : ResponseParts) (kind : Kind) → StandsFor s world → StandsFor s (with_absent response kind world [])
 absent-none s world response kind stands = subst (λ (came : List Arrived). StandsFor s (record world { arrivals = came })) (sym (append-nil world.arrivals)) stands
 
 -- removals, where versions are left aside
 absences-are : (kind : Kind) (response : ResponseParts) (world : World) → is_by_name kind ≡ false
-    → record world { arrivals = world.arrivals ++ map (arrived (needs_of kind) Absent) (absent_names (needs_of kind) response world); versions = versions_left (needs_of kind) response world.versions }
+    → record world { arrivals = world.arrivals ++ map (arrived world.made (needs_of kind) Absent) (absent_names (needs_of kind) response world); versions = versions_left (needs_of kind) response world.versions }
     ≡ with_removals (needs_of kind) response world
 absences-are Cds response world h = refl
 absences-are Lds response world h = refl
@@ -100,11 +103,11 @@ absences-are Eds response world h = absurd (true≢false h)
 absences-are Rds response world h = absurd (true≢false h)
 
 pub absences-stand : (s : State) (world : World) (kind : Kind) (response : ResponseParts) → is_by_name kind ≡ false
-    → StandsFor s (record world { arrivals = world.arrivals ++ map (arrived (needs_of kind) Absent) (absent_names (needs_of kind) response world) })
+    → StandsFor s (record world { arrivals = world.arrivals ++ map (arrived world.made (needs_of kind) Absent) (absent_names (needs_of kind) response world) })
     → StandsFor s (with_removals (needs_of kind) response world)
 absences-stand s world kind response rows stands =
     subst (StandsFor s) (absences-are kind response world rows)
-    (versions-stand s (record world { arrivals = world.arrivals ++ map (arrived (needs_of kind) Absent) (absent_names (needs_of kind) response world) }) (versions_left (needs_of kind) response world.versions) stands)
+    (versions-stand s (record world { arrivals = world.arrivals ++ map (arrived world.made (needs_of kind) Absent) (absent_names (needs_of kind) response world) }) (versions_left (needs_of kind) response world.versions) stands)
 
 -- a refusal
 refusal-is : (kind : Kind) (name : List ℕ) (world : World) → is_by_name kind ≡ false

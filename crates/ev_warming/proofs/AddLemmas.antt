@@ -15,20 +15,22 @@ use Rattle.ev_types.specs.declared.rows.RowStatus.{RowStatus}
 use Rattle.ev_types.specs.declared.rows.RowStatus.TheVariants.{Warming, Active, Draining, Dropped}
 use Rattle.ev_types.specs.declared.rows.GenRow.{GenRow}
 use Rattle.ev_model.specs.Rows.{removed_status, replaced_status, is_row_of, with_statuses, new_row}
+use Rattle.ev_model.specs.Watching.{dependencies_of}
 use Rattle.ev_generations.specs.Tables.{GenerationsParts, IsTable, is_number, row_in, status_with, with_status, numbers_of}
-use Rattle.ev_indexes.specs.declared.watches.Watch.{Watch}
 use Rattle.ev_indexes.specs.declared.state.State.{State}
 use Rattle.ev_indexes.specs.Addresses.{AddressesKept, HoldsAddress, listens_at}
 use Rattle.ev_indexes.specs.Due.{is_among}
 use Rattle.ev_indexes.specs.Kept.{Sets}
 use Rattle.ev_indexes.specs.Standings.{NamesKept, nobody, standing_in}
-use Rattle.ev_indexes.specs.Watched.{WatchesKept, watch_in, watched_too, numbers_without}
-use Rattle.ev_indexes.specs.Ready.{name_needed, is_limited_in, is_due_found, is_due_at}
-use Rattle.ev_indexes.specs.Indexes.{IsIndexed, is_needed, depends_on, waits_limited, serves, warms, holds, numbers_where, status_in}
-use Rattle.ev_indexes.proofs.WhereLemmas.{where-left, where-members, found-where, flipped, emptied, without-one}
+use Rattle.ev_indexes.specs.Watched.{WatchesKept, watch_in, numbers_without, watched_for, with_last}
+use Rattle.ev_indexes.specs.Ready.{is_due_found, is_due_at}
+use Rattle.ev_indexes.specs.Indexes.{IsIndexed, waits, serves, warms, holds, numbers_where, status_in, passes}
+use Rattle.ev_indexes.specs.Needs.{is_needed_so}
+use Rattle.ev_indexes.proofs.WhereLemmas.{where-left, where-members, found-where, flipped, emptied, without-one, among-row}
 use Rattle.ev_warming.proofs.ReadyLemmas.{Agrees}
 use Rattle.ev_warming.proofs.IndexLemmas.{live-warming, is_due_at-agrees}
 use Rattle.ev_indexes.proofs.RowLemmas.{all_then, both_all, statuses_agree}
+use Rattle.ev_indexes.proofs.WaitLemmas.{with_last-far}
 use Rattle.ev_warming.proofs.PromotionLemmas.{statuses_same}
 
 removed-warming : (status : RowStatus) → is_warming status ≡ true → removed_status status ≡ Dropped
@@ -117,23 +119,18 @@ module _ (s : State) (x : IsIndexed s) (name : List ℕ) (content : Content) (al
     (table : GenerationsParts) (rows : table.rows ≡ s.table.rows ++ new_row s.kind s.table.made name content ∷ []) (made : table.made ≡ s.table.made + 1) (tabled : IsTable table)
     (names : NamesKept) (stands : Sets nobody s.names names name (record { active = (standing_in s.names name).active; warming = Some (s.table.made + 1) }))
     (watches : WatchesKept)
-    (more : (q : List ℕ) → watch_in watches q ≡ cond (is_needed q (name_needed content)) (watched_too (s.table.made + 1) (is_limited_in content) (watch_in s.watches q)) (watch_in s.watches q))
+    (more : (q : List ℕ) → watch_in watches q ≡ watched_for (s.table.made + 1) q (dependencies_of content) (watch_in s.watches q))
     (addresses : AddressesKept) (held : HoldsAddress s.addresses addresses (s.table.made + 1) content)
     (due : List ℕ) (looked : (n : ℕ) → is_among due n ≡ cond (is_among ((s.table.made + 1) ∷ []) n) (is_due_at watches s.results n table.rows) (is_among s.due n)) where
   pushed : (test : GenRow → Bool) → numbers_where test table.rows ≡ numbers_where test s.table.rows ++ cond (test (new_row s.kind s.table.made name content)) ((s.table.made + 1) ∷ []) []
   pushed test = ap (numbers_where test) rows ∙ where-push test (new_row s.kind s.table.made name content) s.table.rows
 
   agrees : (q : List ℕ) → Agrees s.watches watches q
-  agrees q = record {
-    told = ap (λ (w : Watch). w.told) (more q) ∙ by (λ (w : Watch). w.told) (λ w. refl) (is_needed q (name_needed content));
-    timed = ap (λ (w : Watch). w.timed) (more q) ∙ by (λ (w : Watch). w.timed) (λ w. refl) (is_needed q (name_needed content));
-    value = ap (λ (w : Watch). w.value) (more q) ∙ by (λ (w : Watch). w.value) (λ w. refl) (is_needed q (name_needed content));
-  }
-    where
-      by : {A : Type 0} (f : Watch → A) → ((w : Watch) → f (watched_too (s.table.made + 1) (is_limited_in content) w) ≡ f w) → (b : Bool)
-          → f (cond b (watched_too (s.table.made + 1) (is_limited_in content) (watch_in s.watches q)) (watch_in s.watches q)) ≡ f (watch_in s.watches q)
-      by f stays true = stays (watch_in s.watches q)
-      by f stays false = refl
+  agrees q = record { told = λ i. (more q i).told; timed = λ i. (more q i).timed; value = λ i. (more q i).value }
+
+  -- the new number is among none of the others
+  away : (test : GenRow → Bool) → is_among (numbers_where test s.table.rows) (s.table.made + 1) ≡ false
+  away test = among-row test (s.table.made + 1) s.table.rows x.table.apart ∙ ap (passes test) (x.table.drawn (s.table.made + 1) (omega arith))
 
   active_too : (q : List ℕ) (b : Bool) → bytes_eq name q ≡ b
       → option_to_list (cond b (record { active = (standing_in s.names name).active; warming = Some (s.table.made + 1) }) (standing_in s.names q)).active ≡ numbers_where (serves q) s.table.rows ++ []
@@ -149,16 +146,10 @@ module _ (s : State) (x : IsIndexed s) (name : List ℕ) (content : Content) (al
       λ i. sym none i ++ (s.table.made + 1) ∷ []
   warming_too q false e = x.warming q ∙ sym (append-nil (numbers_where (warms q) s.table.rows))
 
-  watchers_too : (q : List ℕ) (b : Bool) → (cond b (watched_too (s.table.made + 1) (is_limited_in content) (watch_in s.watches q)) (watch_in s.watches q)).rows
-      ≡ numbers_where (depends_on q) s.table.rows ++ cond b ((s.table.made + 1) ∷ []) []
-  watchers_too q true = ap (λ ns. ns ++ (s.table.made + 1) ∷ []) (x.watchers q)
-  watchers_too q false = x.watchers q ∙ sym (append-nil (numbers_where (depends_on q) s.table.rows))
-
-  limited_too : (q : List ℕ) (b l : Bool) → (cond b (watched_too (s.table.made + 1) l (watch_in s.watches q)) (watch_in s.watches q)).limited
-      ≡ numbers_where (waits_limited q) s.table.rows ++ cond (b && l) ((s.table.made + 1) ∷ []) []
-  limited_too q true true = ap (λ ns. ns ++ (s.table.made + 1) ∷ []) (x.limited q)
-  limited_too q true false = x.limited q ∙ sym (append-nil (numbers_where (waits_limited q) s.table.rows))
-  limited_too q false l = x.limited q ∙ sym (append-nil (numbers_where (waits_limited q) s.table.rows))
+  put_too : (test : GenRow → Bool) (ns : List ℕ) → ns ≡ numbers_where test s.table.rows → (b : Bool)
+      → cond b (with_last (s.table.made + 1) ns) ns ≡ numbers_where test s.table.rows ++ cond b ((s.table.made + 1) ∷ []) []
+  put_too test ns index true = ap (with_last (s.table.made + 1)) index ∙ with_last-far (s.table.made + 1) (numbers_where test s.table.rows) (away test)
+  put_too test ns index false = index ∙ sym (append-nil (numbers_where test s.table.rows))
 
   due_too : (n : ℕ) (b : Bool) → nat_eq n (s.table.made + 1) ≡ b
       → cond (b || false) (is_due_at watches s.results n table.rows) (is_among s.due n) ≡ is_due_at watches s.results n table.rows
@@ -180,8 +171,8 @@ module _ (s : State) (x : IsIndexed s) (name : List ℕ) (content : Content) (al
     kinds = subst (AllByRecursion (λ (r : GenRow). r.kind ≡ s.kind)) (sym rows) (kinds-push s.kind (new_row s.kind s.table.made name content) s.table.rows refl x.kinds);
     active = λ q. (λ i. option_to_list (stands q i).active) ∙ active_too q (bytes_eq name q) refl ∙ sym (pushed (serves q));
     warming = λ q. (λ i. option_to_list (stands q i).warming) ∙ warming_too q (bytes_eq name q) refl ∙ sym (pushed (warms q));
-    watchers = λ q. (λ i. (more q i).rows) ∙ watchers_too q (is_needed q (name_needed content)) ∙ sym (pushed (depends_on q));
-    limited = λ q. (λ i. (more q i).limited) ∙ limited_too q (is_needed q (name_needed content)) (is_limited_in content) ∙ sym (pushed (waits_limited q));
+    unlimited = λ q. (λ i. (more q i).unlimited) ∙ put_too (waits q false) (watch_in s.watches q).unlimited (x.unlimited q) (is_needed_so q false (dependencies_of content)) ∙ sym (pushed (waits q false));
+    limited = λ q. (λ i. (more q i).limited) ∙ put_too (waits q true) (watch_in s.watches q).limited (x.limited q) (is_needed_so q true (dependencies_of content)) ∙ sym (pushed (waits q true));
     holders = λ a. held a ∙ (λ i. x.holders a i ++ cond (listens_at a content) ((s.table.made + 1) ∷ []) []) ∙ sym (pushed (holds a));
     due = λ n. looked n ∙ due_too n (nat_eq n (s.table.made + 1)) refl;
     drawn = λ n h above. x.drawn n h (omega (arith, made, above));

@@ -13,7 +13,7 @@ use Rattle.ev_types.specs.declared.contents.Content.{Content}
 use Rattle.ev_types.specs.declared.hosts.Host.{Host}
 use Rattle.ev_types.specs.declared.rows.GenRow.{GenRow}
 use Rattle.ev_model.specs.World.{World, HealthResult}
-use Rattle.ev_model.specs.Warming.{is_told_by, is_timed_by, value_by, has_result, is_healthy, is_result_of}
+use Rattle.ev_model.specs.Warming.{last_told, last_timed, value_by, has_result, is_healthy, is_result_of}
 use Rattle.ev_model.specs.Rows.{with_statuses, replaced_status, new_row, rows_with_new}
 use Rattle.ev_endpoints.specs.Results.{result_in}
 use Rattle.ev_generations.specs.Tables.{is_number, row_in}
@@ -67,8 +67,8 @@ added-stands s t world name content named typed x stands level kind results made
         sound = sound-added world s.kind name content stands.sound named typed;
         rows = rows ∙ (λ i. rows_with_new s.kind (level i) name content (stands.rows i)) ∙ new-rows s.kind world.made name content world.rows
             ∙ (λ i. rows_of_kind (sym kind i) (rows_with_new s.kind world.made name content world.rows));
-        told = λ q. (marks q).0 ∙ stands.told q ∙ (λ i. is_told_by world.arrivals (needs_of (sym kind i)) q);
-        timed = λ q. (marks q).1 ∙ stands.timed q ∙ (λ i. is_timed_by world.arrivals (needs_of (sym kind i)) q);
+        told = λ q. (marks q).0 ∙ stands.told q ∙ (λ i. last_told world.arrivals (needs_of (sym kind i)) q);
+        timed = λ q. (marks q).1 ∙ stands.timed q ∙ (λ i. last_timed world.arrivals (needs_of (sym kind i)) q);
         value = λ q. (marks q).2 ∙ stands.value q ∙ (λ i. value_by world.arrivals (needs_of (sym kind i)) q);
         resulted = λ n h found. (λ i. is_some (result_in (results i) n h))
             ∙ ⊎_elim (λ above. ap is_some (x.drawn n h above) ∙ sym (stands.sound.heard n h (subst (λ m. m < n) level above)))

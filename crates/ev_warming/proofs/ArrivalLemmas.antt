@@ -1,21 +1,20 @@
 -- A state that stands for a world stands for it once something came for a name, and once a name has come to its end.
-use Rattle.std.proofs.Common.{◌≡◌, ◌∙◌, ℕ, Bool, true, false, cond, ◌&&◌, ◌||◌, List, [], ◌∷◌, ◌++◌, Option, None, Some, IsSome, is_some, unwrap_or, map, filter, refl, sym, ap, subst, true≢false}
-use Rattle.std.proofs.Math.Bool.{or-false, or-true}
-use Rattle.std.specs.List.{list_any, filter_map, last_or, AllByRecursion}
+use Rattle.std.proofs.Common.{◌≡◌, ◌∙◌, ℕ, Bool, true, false, cond, ◌&&◌, List, [], ◌∷◌, ◌++◌, Option, None, Some, IsSome, is_some, unwrap_or, map, filter, refl, sym, ap, subst, true≢false}
+use Rattle.std.specs.List.{filter_map, last_or, AllByRecursion}
 use Rattle.std.specs.Str.{bytes_eq}
-use Rattle.std.proofs.lemmas.List.Folds.{list_any-append}
-use Rattle.std.proofs.lemmas.List.Elements.{filter_map-append}
+use Rattle.std.proofs.lemmas.List.Elements.{filter_map-append, filter-append}
+use Rattle.std.proofs.lemmas.List.{map-append}
 use Rattle.ev_types.specs.Kinds.{kind_same, kind_decides}
 use Rattle.ev_types.specs.Same.{bytes_decide}
 use Rattle.ev_types.specs.Statuses.{is_warming, is_active}
 use Rattle.ev_types.specs.declared.contents.Kind.{Kind}
 use Rattle.ev_types.specs.declared.rows.Arrival.{Arrival}
-use Rattle.ev_types.specs.declared.rows.Arrival.TheVariants.{Value, Absent, Bad, TimedOut}
+use Rattle.ev_types.specs.declared.rows.Arrival.TheVariants.{Value, Absent, Bad, TimedOut, Ended}
 use Rattle.ev_types.specs.declared.rows.RowStatus.{RowStatus}
 use Rattle.ev_types.specs.declared.rows.RowStatus.TheVariants.{Warming, Active, Draining, Dropped}
 use Rattle.ev_types.specs.declared.rows.GenRow.{GenRow}
 use Rattle.ev_model.specs.World.{World, Arrived}
-use Rattle.ev_model.specs.Warming.{came_for, content_in, is_word, is_timeout, is_told_by, is_timed_by, value_by}
+use Rattle.ev_model.specs.Warming.{content_in, is_word, is_timeout, last_told, last_timed, value_by, is_for, last_made}
 use Rattle.ev_model.specs.Rows.{arrived, with_statuses, replaced_status, removed_status}
 use Rattle.ev_model.specs.Signals.{ended_status}
 use Rattle.ev_endpoints.specs.Results.{result_in}
@@ -32,95 +31,103 @@ use Rattle.ev_warming.proofs.PromotionLemmas.{with_statuses-twice}
 use Rattle.ev_indexes.proofs.SoundLemmas.{sound-with_statuses}
 use Rattle.ev_indexes.proofs.WorldLemmas.{rows_of_kind-with_statuses}
 use Rattle.ev_warming.proofs.PromotedLemmas.{there_before}
+use Rattle.ev_warming.proofs.SortedLemmas.{sort-for}
 
 -- what came for a name, after one thing more
-came_for-push : (arrivals : List Arrived) (kind : Kind) (arrival : Arrival) (name q : List ℕ)
-    → came_for (arrivals ++ arrived kind arrival name ∷ []) kind q ≡ came_for arrivals kind q ++ cond (bytes_eq name q) (arrival ∷ []) []
-came_for-push [] kind arrival name q =
-    (λ i. map (λ (a : Arrived). a.arrival) (cond ((kind_decides kind kind).1 refl i && bytes_eq name q) (arrived kind arrival name ∷ []) [])) ∙ by (bytes_eq name q)
-  where
-    by : (b : Bool) → map (λ (a : Arrived). a.arrival) (cond b (arrived kind arrival name ∷ []) []) ≡ [] ++ cond b (arrival ∷ []) []
-    by true = refl
-    by false = refl
-came_for-push (a ∷ arrivals) kind arrival name q = by (kind_same a.kind kind && bytes_eq a.name q) (came_for-push arrivals kind arrival name q)
-  where
-    by : (b : Bool) → map (λ (a : Arrived). a.arrival) (filter (λ (a : Arrived). kind_same a.kind kind && bytes_eq a.name q) (arrivals ++ arrived kind arrival name ∷ []))
-        ≡ map (λ (a : Arrived). a.arrival) (filter (λ (a : Arrived). kind_same a.kind kind && bytes_eq a.name q) arrivals) ++ cond (bytes_eq name q) (arrival ∷ []) []
-        → map (λ (a : Arrived). a.arrival) (cond b (a ∷ filter (λ (a : Arrived). kind_same a.kind kind && bytes_eq a.name q) (arrivals ++ arrived kind arrival name ∷ []))
-        (filter (λ (a : Arrived). kind_same a.kind kind && bytes_eq a.name q) (arrivals ++ arrived kind arrival name ∷ [])))
-        ≡ map (λ (a : Arrived). a.arrival) (cond b (a ∷ filter (λ (a : Arrived). kind_same a.kind kind && bytes_eq a.name q) arrivals)
-        (filter (λ (a : Arrived). kind_same a.kind kind && bytes_eq a.name q) arrivals)) ++ cond (bytes_eq name q) (arrival ∷ []) []
-    by true h = ap (λ (xs : List Arrival). a.arrival ∷ xs) h
-    by false h = h
+for-push : (arrivals : List Arrived) (made : ℕ) (kind : Kind) (arrival : Arrival) (name q : List ℕ)
+    → filter (is_for kind q) (arrivals ++ arrived made kind arrival name ∷ []) ≡ filter (is_for kind q) arrivals ++ cond (bytes_eq name q) (arrived made kind arrival name ∷ []) []
+for-push arrivals made kind arrival name q =
+    filter-append (is_for kind q) arrivals (arrived made kind arrival name ∷ [])
+    ∙ (λ i. filter (is_for kind q) arrivals ++ cond ((kind_decides kind kind).1 refl i && bytes_eq name q) (arrived made kind arrival name ∷ []) [])
 
 pub last_or-append : {A : Type 0} (o : Option A) (xs ys : List A) → last_or o (xs ++ ys) ≡ last_or (last_or o xs) ys
 last_or-append o [] ys = refl
 last_or-append o (x ∷ xs) ys = last_or-append (Some x) xs ys
 
-told-with_arrival : (arrival : Arrival) (watch : Watch) → (with_arrival arrival watch).told ≡ (watch.told || (is_word arrival || false))
-told-with_arrival (Value content) watch = sym (or-true watch.told)
-told-with_arrival Absent watch = sym (or-true watch.told)
-told-with_arrival Bad watch = sym (or-true watch.told)
-told-with_arrival TimedOut watch = sym (or-false watch.told)
+-- the last of a sort, of what came for a name
+abbrev last_in : (Arrival → Bool) → Option ℕ → List Arrived → Option ℕ
+last_in is o came = last_or o (map (λ (a : Arrived). a.made) (filter (λ (a : Arrived). is a.arrival) came))
 
-timed-with_arrival : (arrival : Arrival) (watch : Watch) → (with_arrival arrival watch).timed ≡ (watch.timed || (is_timeout arrival || false))
-timed-with_arrival (Value content) watch = sym (or-false watch.timed)
-timed-with_arrival Absent watch = sym (or-false watch.timed)
-timed-with_arrival Bad watch = sym (or-false watch.timed)
-timed-with_arrival TimedOut watch = sym (or-true watch.timed)
+-- after one thing more
+last-push : (is : Arrival → Bool) (arrivals : List Arrived) (made : ℕ) (kind : Kind) (arrival : Arrival) (name q : List ℕ)
+    → last_made is (arrivals ++ arrived made kind arrival name ∷ []) kind q
+    ≡ last_in is (last_made is arrivals kind q) (cond (bytes_eq name q) (arrived made kind arrival name ∷ []) [])
+last-push is arrivals made kind arrival name q =
+    (λ i. last_or None (map (λ (a : Arrived). a.made) (sort-for is (arrivals ++ arrived made kind arrival name ∷ []) kind q i)))
+    ∙ ap (last_in is None) (for-push arrivals made kind arrival name q)
+    ∙ (λ i. last_or None (map (λ (a : Arrived). a.made) (filter-append (λ (a : Arrived). is a.arrival) (filter (is_for kind q) arrivals) (cond (bytes_eq name q) (arrived made kind arrival name ∷ []) []) i)))
+    ∙ ap (last_or None) (map-append (λ (a : Arrived). a.made) (filter (λ (a : Arrived). is a.arrival) (filter (is_for kind q) arrivals))
+    (filter (λ (a : Arrived). is a.arrival) (cond (bytes_eq name q) (arrived made kind arrival name ∷ []) [])))
+    ∙ last_or-append None (map (λ (a : Arrived). a.made) (filter (λ (a : Arrived). is a.arrival) (filter (is_for kind q) arrivals)))
+    (map (λ (a : Arrived). a.made) (filter (λ (a : Arrived). is a.arrival) (cond (bytes_eq name q) (arrived made kind arrival name ∷ []) [])))
+    ∙ (λ i. last_in is (last_or None (map (λ (a : Arrived). a.made) (sym (sort-for is arrivals kind q) i))) (cond (bytes_eq name q) (arrived made kind arrival name ∷ []) []))
 
-value-with_arrival : (arrival : Arrival) (watch : Watch) → (with_arrival arrival watch).value ≡ last_or watch.value (filter_map content_in (arrival ∷ []))
-value-with_arrival (Value content) watch = refl
-value-with_arrival Absent watch = refl
-value-with_arrival Bad watch = refl
-value-with_arrival TimedOut watch = refl
+told-with_arrival : (made : ℕ) (kind : Kind) (arrival : Arrival) (name : List ℕ) (watch : Watch) → (with_arrival made arrival watch).told ≡ last_in is_word watch.told (arrived made kind arrival name ∷ [])
+told-with_arrival made kind (Value content) name watch = refl
+told-with_arrival made kind Absent name watch = refl
+told-with_arrival made kind Bad name watch = refl
+told-with_arrival made kind TimedOut name watch = refl
+told-with_arrival made kind (Ended content) name watch = refl
+
+timed-with_arrival : (made : ℕ) (kind : Kind) (arrival : Arrival) (name : List ℕ) (watch : Watch) → (with_arrival made arrival watch).timed ≡ last_in is_timeout watch.timed (arrived made kind arrival name ∷ [])
+timed-with_arrival made kind (Value content) name watch = refl
+timed-with_arrival made kind Absent name watch = refl
+timed-with_arrival made kind Bad name watch = refl
+timed-with_arrival made kind TimedOut name watch = refl
+timed-with_arrival made kind (Ended content) name watch = refl
+
+value-with_arrival : (made : ℕ) (arrival : Arrival) (watch : Watch) → (with_arrival made arrival watch).value ≡ last_or watch.value (filter_map content_in (arrival ∷ []))
+value-with_arrival made (Value content) watch = refl
+value-with_arrival made Absent watch = refl
+value-with_arrival made Bad watch = refl
+value-with_arrival made TimedOut watch = refl
+value-with_arrival made (Ended content) watch = refl
 
 module _ (s : State) (world : World) (stands : StandsFor s world) (name : List ℕ) (arrival : Arrival) (watches : WatchesKept)
-    (sets : Sets unwatched s.watches watches name (with_arrival arrival (watch_in s.watches name))) where
-  told_after : (q : List ℕ) → (watch_in watches q).told ≡ is_told_by (world.arrivals ++ arrived (needs_of s.kind) arrival name ∷ []) (needs_of s.kind) q
-  told_after q =
-      (λ i. (sets q i).told) ∙ by (bytes_eq name q) refl
-      ∙ sym (ap (list_any is_word) (came_for-push world.arrivals (needs_of s.kind) arrival name q)
-      ∙ list_any-append is_word (came_for world.arrivals (needs_of s.kind) q) (cond (bytes_eq name q) (arrival ∷ []) []))
-    where
-      by : (b : Bool) → bytes_eq name q ≡ b → (cond b (with_arrival arrival (watch_in s.watches name)) (watch_in s.watches q)).told
-          ≡ (is_told_by world.arrivals (needs_of s.kind) q || list_any is_word (cond b (arrival ∷ []) []))
-      by true e =
-          told-with_arrival arrival (watch_in s.watches name)
-          ∙ (λ i. (watch_in s.watches ((bytes_decide name q).0 e i)).told || (is_word arrival || false))
-          ∙ (λ i. stands.told q i || (is_word arrival || false))
-      by false e = stands.told q ∙ sym (or-false (is_told_by world.arrivals (needs_of s.kind) q))
+    (sets : Sets unwatched s.watches watches name (with_arrival world.made arrival (watch_in s.watches name))) where
+  abbrev new : Arrived
+  new = arrived world.made (needs_of s.kind) arrival name
 
-  timed_after : (q : List ℕ) → (watch_in watches q).timed ≡ is_timed_by (world.arrivals ++ arrived (needs_of s.kind) arrival name ∷ []) (needs_of s.kind) q
-  timed_after q =
-      (λ i. (sets q i).timed) ∙ by (bytes_eq name q) refl
-      ∙ sym (ap (list_any is_timeout) (came_for-push world.arrivals (needs_of s.kind) arrival name q)
-      ∙ list_any-append is_timeout (came_for world.arrivals (needs_of s.kind) q) (cond (bytes_eq name q) (arrival ∷ []) []))
+  told_after : (q : List ℕ) → (watch_in watches q).told ≡ last_told (world.arrivals ++ new ∷ []) (needs_of s.kind) q
+  told_after q = (λ i. (sets q i).told) ∙ by (bytes_eq name q) refl ∙ sym (last-push is_word world.arrivals world.made (needs_of s.kind) arrival name q)
     where
-      by : (b : Bool) → bytes_eq name q ≡ b → (cond b (with_arrival arrival (watch_in s.watches name)) (watch_in s.watches q)).timed
-          ≡ (is_timed_by world.arrivals (needs_of s.kind) q || list_any is_timeout (cond b (arrival ∷ []) []))
+      by : (b : Bool) → bytes_eq name q ≡ b → (cond b (with_arrival world.made arrival (watch_in s.watches name)) (watch_in s.watches q)).told
+          ≡ last_in is_word (last_told world.arrivals (needs_of s.kind) q) (cond b (new ∷ []) [])
       by true e =
-          timed-with_arrival arrival (watch_in s.watches name)
-          ∙ (λ i. (watch_in s.watches ((bytes_decide name q).0 e i)).timed || (is_timeout arrival || false))
-          ∙ (λ i. stands.timed q i || (is_timeout arrival || false))
-      by false e = stands.timed q ∙ sym (or-false (is_timed_by world.arrivals (needs_of s.kind) q))
+          told-with_arrival world.made (needs_of s.kind) arrival name (watch_in s.watches name)
+          ∙ (λ i. last_in is_word (watch_in s.watches ((bytes_decide name q).0 e i)).told (new ∷ []))
+          ∙ (λ i. last_in is_word (stands.told q i) (new ∷ []))
+      by false e = stands.told q
 
-  value_after : (q : List ℕ) → (watch_in watches q).value ≡ value_by (world.arrivals ++ arrived (needs_of s.kind) arrival name ∷ []) (needs_of s.kind) q
+  timed_after : (q : List ℕ) → (watch_in watches q).timed ≡ last_timed (world.arrivals ++ new ∷ []) (needs_of s.kind) q
+  timed_after q = (λ i. (sets q i).timed) ∙ by (bytes_eq name q) refl ∙ sym (last-push is_timeout world.arrivals world.made (needs_of s.kind) arrival name q)
+    where
+      by : (b : Bool) → bytes_eq name q ≡ b → (cond b (with_arrival world.made arrival (watch_in s.watches name)) (watch_in s.watches q)).timed
+          ≡ last_in is_timeout (last_timed world.arrivals (needs_of s.kind) q) (cond b (new ∷ []) [])
+      by true e =
+          timed-with_arrival world.made (needs_of s.kind) arrival name (watch_in s.watches name)
+          ∙ (λ i. last_in is_timeout (watch_in s.watches ((bytes_decide name q).0 e i)).timed (new ∷ []))
+          ∙ (λ i. last_in is_timeout (stands.timed q i) (new ∷ []))
+      by false e = stands.timed q
+
+  value_after : (q : List ℕ) → (watch_in watches q).value ≡ value_by (world.arrivals ++ new ∷ []) (needs_of s.kind) q
   value_after q =
       (λ i. (sets q i).value) ∙ by (bytes_eq name q) refl
-      ∙ sym (ap (λ (xs : List Arrival). last_or None (filter_map content_in xs)) (came_for-push world.arrivals (needs_of s.kind) arrival name q)
-      ∙ ap (last_or None) (filter_map-append content_in (came_for world.arrivals (needs_of s.kind) q) (cond (bytes_eq name q) (arrival ∷ []) []))
-      ∙ last_or-append None (filter_map content_in (came_for world.arrivals (needs_of s.kind) q)) (filter_map content_in (cond (bytes_eq name q) (arrival ∷ []) [])))
+      ∙ sym (ap (λ (xs : List Arrived). last_or None (filter_map content_in (map (λ (a : Arrived). a.arrival) xs))) (for-push world.arrivals world.made (needs_of s.kind) arrival name q)
+      ∙ (λ i. last_or None (filter_map content_in (map-append (λ (a : Arrived). a.arrival) (filter (is_for (needs_of s.kind) q) world.arrivals) (cond (bytes_eq name q) (new ∷ []) []) i)))
+      ∙ ap (last_or None) (filter_map-append content_in (map (λ (a : Arrived). a.arrival) (filter (is_for (needs_of s.kind) q) world.arrivals)) (map (λ (a : Arrived). a.arrival) (cond (bytes_eq name q) (new ∷ []) [])))
+      ∙ last_or-append None (filter_map content_in (map (λ (a : Arrived). a.arrival) (filter (is_for (needs_of s.kind) q) world.arrivals)))
+      (filter_map content_in (map (λ (a : Arrived). a.arrival) (cond (bytes_eq name q) (new ∷ []) []))))
     where
-      by : (b : Bool) → bytes_eq name q ≡ b → (cond b (with_arrival arrival (watch_in s.watches name)) (watch_in s.watches q)).value
-          ≡ last_or (value_by world.arrivals (needs_of s.kind) q) (filter_map content_in (cond b (arrival ∷ []) []))
+      by : (b : Bool) → bytes_eq name q ≡ b → (cond b (with_arrival world.made arrival (watch_in s.watches name)) (watch_in s.watches q)).value
+          ≡ last_or (value_by world.arrivals (needs_of s.kind) q) (filter_map content_in (map (λ (a : Arrived). a.arrival) (cond b (new ∷ []) [])))
       by true e =
-          value-with_arrival arrival (watch_in s.watches name)
+          value-with_arrival world.made arrival (watch_in s.watches name)
           ∙ (λ i. last_or (watch_in s.watches ((bytes_decide name q).0 e i)).value (filter_map content_in (arrival ∷ [])))
           ∙ (λ i. last_or (stands.value q i) (filter_map content_in (arrival ∷ [])))
       by false e = stands.value q
 
-  pub arrived-stands : (due : List ℕ) → StandsFor (record s { watches = watches; due = due }) (record world { arrivals = world.arrivals ++ arrived (needs_of s.kind) arrival name ∷ [] })
+  pub arrived-stands : (due : List ℕ) → StandsFor (record s { watches = watches; due = due }) (record world { arrivals = world.arrivals ++ new ∷ [] })
   arrived-stands due = record {
     sound = record { table = stands.sound.table; typed = stands.sound.typed; named = stands.sound.named; heard = stands.sound.heard };
     rows = stands.rows;
@@ -137,8 +144,8 @@ pub statused-stands : (s t : State) (world : World) (f : GenRow → RowStatus) �
 statused-stands s t world f stands kind results marks rows = record {
   sound = sound-with_statuses world f stands.sound;
   rows = rows ∙ ap (with_statuses f) stands.rows ∙ sym (rows_of_kind-with_statuses s.kind f world.rows) ∙ (λ i. rows_of_kind (sym kind i) (with_statuses f world.rows));
-  told = λ name. (marks name).0 ∙ stands.told name ∙ (λ i. is_told_by world.arrivals (needs_of (sym kind i)) name);
-  timed = λ name. (marks name).1 ∙ stands.timed name ∙ (λ i. is_timed_by world.arrivals (needs_of (sym kind i)) name);
+  told = λ name. (marks name).0 ∙ stands.told name ∙ (λ i. last_told world.arrivals (needs_of (sym kind i)) name);
+  timed = λ name. (marks name).1 ∙ stands.timed name ∙ (λ i. last_timed world.arrivals (needs_of (sym kind i)) name);
   value = λ name. (marks name).2 ∙ stands.value name ∙ (λ i. value_by world.arrivals (needs_of (sym kind i)) name);
   resulted = λ n h there. (λ i. is_some (result_in (results i) n h)) ∙ stands.resulted n h (there_before n f s.table.rows (subst (λ (rs : List GenRow). IsSome (row_in n rs)) rows there));
   healthy = λ n h there. (λ i. unwrap_or (result_in (results i) n h) false) ∙ stands.healthy n h (there_before n f s.table.rows (subst (λ (rs : List GenRow). IsSome (row_in n rs)) rows there));

@@ -1,28 +1,30 @@
 -- What forgetting does to a state: no live row looks at what goes, so the indexes stay searches of the rows.
-use Rattle.std.proofs.Common.{◌≡◌, ◌∙◌, ◌<◌, ℕ, Bool, true, false, cond, not, ◌&&◌, ◌||◌, nat_eq, List, [], ◌∷◌, Option, None, Some, is_some, filter, refl, sym, ap, subst, true≢false, ◌+◌, take, get_or, length}
+use Rattle.std.proofs.Common.{◌≡◌, ◌∙◌, ◌<◌, ℕ, Bool, true, false, cond, not, ◌&&◌, ◌||◌, nat_eq, List, [], ◌∷◌, Option, None, Some, is_some, filter, refl, sym, ap, subst, true≢false, ◌+◌, take, get_or, length, ◌++◌}
 use Rattle.std.specs.List.{list_any, AllByRecursion}
-use Rattle.std.proofs.lemmas.Bool.{eqb-true, ne_eqb, not-true, or_right}
-use Rattle.std.proofs.lemmas.List.{nil_from_length}
-use Rattle.std.proofs.lemmas.List.Folds.{list_any_more}
+use Rattle.std.specs.Str.{bytes_eq}
+use Rattle.std.proofs.lemmas.Bool.{eqb-true, not-true, or_right}
+use Rattle.std.proofs.lemmas.List.Folds.{list_any_more, list_any-append}
 use Rattle.ev_types.specs.Hosts.{HostRowParts}
-use Rattle.ev_types.specs.Same.{bytes_decide}
 use Rattle.ev_types.specs.SameHosts.{host_same, host_decides, has_host}
 use Rattle.ev_types.specs.Statuses.{is_warming, is_live}
 use Rattle.ev_types.specs.declared.hosts.Host.{Host}
 use Rattle.ev_types.specs.declared.rows.GenRow.{GenRow}
 use Rattle.ev_model.specs.Warming.{is_checked}
+use Rattle.ev_model.specs.Watching.{dependencies_of, Dependency}
 use Rattle.ev_endpoints.specs.Results.{ResultsKept, result_in}
 use Rattle.ev_generations.specs.Tables.{row_in, numbers_of}
 use Rattle.ev_generations.proofs.TableLemmas.{number-row_in}
 use Rattle.ev_indexes.specs.declared.watches.Watch.{Watch}
 use Rattle.ev_indexes.specs.declared.state.State.{State}
-use Rattle.ev_indexes.specs.Watched.{WatchesKept, unwatched, watch_in}
-use Rattle.ev_indexes.specs.Ready.{name_needed, assignment_in, are_results_in, is_answered_in, is_ready_in, is_due_found, is_due_at}
-use Rattle.ev_indexes.specs.Indexes.{IsIndexed, is_needed, depends_on, waits_limited, numbers_where}
+use Rattle.ev_indexes.specs.Watched.{WatchesKept, unwatched, watch_in, has_watcher}
+use Rattle.ev_indexes.specs.Ready.{assignment_in, are_results_in, is_answered_in, is_ready_in, is_due_found, is_due_at}
+use Rattle.ev_indexes.specs.Indexes.{IsIndexed, depends_on, waits, numbers_where}
 use Rattle.ev_indexes.specs.Due.{is_among}
-use Rattle.ev_warming.specs.Forgetting.{need_in, is_need_of, is_idle, keeps_result, loses_result, IsUnheard, IsTidyBut}
-use Rattle.ev_indexes.proofs.WhereLemmas.{any-found, where-some, flipped}
-use Rattle.ev_warming.proofs.ReadyLemmas.{Agrees, assignment_in-agrees, is_ready_in-agrees}
+use Rattle.ev_indexes.specs.Needs.{is_needed}
+use Rattle.ev_warming.specs.Forgetting.{needs_in, is_need_of, is_idle, keeps_result, loses_result, IsUnheard, IsTidyBut}
+use Rattle.ev_indexes.proofs.WhereLemmas.{any-found, flipped}
+use Rattle.ev_indexes.proofs.WaitLemmas.{waits-depends, watcher-index}
+use Rattle.ev_warming.proofs.ReadyLemmas.{Agrees, assignment_in-agrees, is_ready_in-agrees, AgreesOn, agrees-needed}
 use Rattle.ev_warming.proofs.IndexLemmas.{live-warming}
 
 -- where none passes, no number is among those that pass
@@ -44,10 +46,6 @@ any-less f g less (row ∷ rows) none = by (f row) refl none (g row) refl (any-l
     by true e h b d rest = absurd (true≢false h)
     by false e h true d rest = absurd (true≢false (sym (less row d) ∙ e))
     by false e h false d rest = rest h
-
-early : (a b : Bool) → (a && b) ≡ true → a ≡ true
-early true b h = refl
-early false b h = absurd (true≢false (sym h))
 
 all-map : {X : Type 0} (P Q : X → Type 0) → ((x : X) → P x → Q x) → (xs : List X) → AllByRecursion P xs → AllByRecursion Q xs
 all-map P Q f [] all = tt
@@ -81,10 +79,10 @@ module _ (rows : List GenRow) (old new : WatchesKept) (test : List ℕ → Bool)
       by true = refl
       by false = refl
 
-  need-same : (n : ℕ) (r : GenRow) → row_in n rows ≡ Some r → is_live r.status ≡ true → (q : List ℕ) → name_needed r.content ≡ Some q → Agrees old new q
-  need-same n r at live q needs =
-      agrees-same old new q
-      (busy-same q (any-found (depends_on q) n r rows at ((λ i. live i && is_needed q (needs i)) ∙ (bytes_decide q q).1 refl)))
+  need-same : (n : ℕ) (r : GenRow) → row_in n rows ≡ Some r → is_live r.status ≡ true → AgreesOn old new (dependencies_of r.content)
+  need-same n r at live =
+      agrees-needed old new (dependencies_of r.content)
+      (λ q needs. agrees-same old new q (busy-same q (any-found (depends_on q) n r rows at (λ i. live i && needs i))))
 
   -- the same results are kept
   pub loses-same : (n : ℕ) (host : Host) → loses_result new host (row_in n rows) ≡ loses_result old host (row_in n rows)
@@ -102,7 +100,7 @@ module _ (rows : List GenRow) (old new : WatchesKept) (test : List ℕ → Bool)
 -- what nobody needs any more of one row went
 module _ (s : State) (number : ℕ) (row : GenRow) (x : IsIndexed s) (found : row_in number s.table.rows ≡ Some row)
     (watches : WatchesKept)
-    (forgot : (q : List ℕ) → watch_in watches q ≡ cond (is_needed q (name_needed row.content) && is_idle s.table.rows q) unwatched (watch_in s.watches q))
+    (forgot : (q : List ℕ) → watch_in watches q ≡ cond (is_needed q (dependencies_of row.content) && is_idle s.table.rows q) unwatched (watch_in s.watches q))
     (results : ResultsKept)
     (trimmed : (n : ℕ) (h : Host) → result_in results n h ≡ cond (nat_eq number n && not (keeps_result s.watches h row)) None (result_in s.results n h)) where
   own_row : (n : ℕ) (r : GenRow) → row_in n s.table.rows ≡ Some r → nat_eq number r.number ≡ true → r ≡ row
@@ -132,16 +130,16 @@ module _ (s : State) (number : ℕ) (row : GenRow) (x : IsIndexed s) (found : ro
       over : (r : GenRow) → row_in n s.table.rows ≡ Some r → (w : Bool) → is_warming r.status ≡ w → (w && is_ready_in watches results r) ≡ (w && is_ready_in s.watches s.results r)
       over r at false e = refl
       over r at true e =
-          is_ready_in-agrees s.watches watches results r (need-same s.table.rows s.watches watches (λ q. is_needed q (name_needed row.content)) forgot n r at (live-warming r.status e))
-          ∙ (λ i. is_answered_in s.watches r.content && (not (is_checked r.content) || round n r at (live-warming r.status e) i))
+          is_ready_in-agrees s.watches watches results r (need-same s.table.rows s.watches watches (λ q. is_needed q (dependencies_of row.content)) forgot n r at (live-warming r.status e))
+          ∙ (λ i. is_answered_in s.watches r.number r.content && (not (is_checked r.content) || round n r at (live-warming r.status e) i))
 
       by : (o : Option GenRow) → row_in n s.table.rows ≡ o → is_due_found watches results o ≡ is_due_found s.watches s.results o
       by None at = refl
       by (Some r) at = over r at (is_warming r.status) refl
 
-  waits : (test : GenRow → Bool) (q : List ℕ) (f : Watch → List ℕ) → f unwatched ≡ [] → f (watch_in s.watches q) ≡ numbers_where test s.table.rows
+  stays : (test : GenRow → Bool) (q : List ℕ) (f : Watch → List ℕ) → f unwatched ≡ [] → f (watch_in s.watches q) ≡ numbers_where test s.table.rows
       → ((r : GenRow) → test r ≡ true → depends_on q r ≡ true) → f (watch_in watches q) ≡ numbers_where test s.table.rows
-  waits test q f empty index narrower = ap f (forgot q) ∙ by (is_needed q (name_needed row.content)) (list_any (depends_on q) s.table.rows) refl
+  stays test q f empty index narrower = ap f (forgot q) ∙ by (is_needed q (dependencies_of row.content)) (list_any (depends_on q) s.table.rows) refl
     where
       by : (a b : Bool) → list_any (depends_on q) s.table.rows ≡ b → f (cond (a && not b) unwatched (watch_in s.watches q)) ≡ numbers_where test s.table.rows
       by false b e = index
@@ -158,8 +156,8 @@ module _ (s : State) (number : ℕ) (row : GenRow) (x : IsIndexed s) (found : ro
     kinds = x.kinds;
     active = x.active;
     warming = x.warming;
-    watchers = λ q. waits (depends_on q) q (λ (w : Watch). w.rows) refl (x.watchers q) (λ r h. h);
-    limited = λ q. waits (waits_limited q) q (λ (w : Watch). w.limited) refl (x.limited q) (λ r h. early (depends_on q r) _ h);
+    unlimited = λ q. stays (waits q false) q (λ (w : Watch). w.unlimited) refl (x.unlimited q) (λ r h. waits-depends q false r h);
+    limited = λ q. stays (waits q true) q (λ (w : Watch). w.limited) refl (x.limited q) (λ r h. waits-depends q true r h);
     holders = x.holders;
     due = λ n. x.due n ∙ sym (due_same n);
     drawn = λ n h above. trimmed n h ∙ undrawn (nat_eq number n && not (keeps_result s.watches h row)) (result_in s.results n h) (x.drawn n h above);
@@ -204,18 +202,18 @@ module _ (s : State) (stale : List ℕ) (tidy : IsTidyBut s stale) (watches : Wa
 -- the step of forgetting, row by row
 pub watch-more : (rows : List GenRow) (old now new : WatchesKept) (stale : List ℕ) (i number : ℕ) → i < length stale → number ≡ get_or stale i number
     → ((q : List ℕ) → watch_in now q ≡ cond (is_need_of rows (take i stale) q && is_idle rows q) unwatched (watch_in old q))
-    → ((q : List ℕ) → watch_in new q ≡ cond (is_needed q (need_in (row_in number rows)) && is_idle rows q) unwatched (watch_in now q))
+    → ((q : List ℕ) → watch_in new q ≡ cond (is_needed q (needs_in (row_in number rows)) && is_idle rows q) unwatched (watch_in now q))
     → (q : List ℕ) → watch_in new q ≡ cond (is_need_of rows (take (i + 1) stale) q && is_idle rows q) unwatched (watch_in old q)
 watch-more rows old now new stale i number within is before step q =
     step q
-    ∙ (λ j. cond (is_needed q (need_in (row_in number rows)) && is_idle rows q) unwatched (before q j))
-    ∙ cond_more (is_need_of rows (take i stale) q) (is_needed q (need_in (row_in number rows))) (is_idle rows q) unwatched (watch_in old q)
+    ∙ (λ j. cond (is_needed q (needs_in (row_in number rows)) && is_idle rows q) unwatched (before q j))
+    ∙ cond_more (is_need_of rows (take i stale) q) (is_needed q (needs_in (row_in number rows))) (is_idle rows q) unwatched (watch_in old q)
     ∙ (λ j. cond (sym one j && is_idle rows q) unwatched (watch_in old q))
   where
-    one : is_need_of rows (take (i + 1) stale) q ≡ (is_need_of rows (take i stale) q || is_needed q (need_in (row_in number rows)))
+    one : is_need_of rows (take (i + 1) stale) q ≡ (is_need_of rows (take i stale) q || is_needed q (needs_in (row_in number rows)))
     one =
-        list_any_more (λ n. is_needed q (need_in (row_in n rows))) stale i number within
-        ∙ (λ j. is_need_of rows (take i stale) q || is_needed q (need_in (row_in (sym is j) rows)))
+        list_any_more (λ n. is_needed q (needs_in (row_in n rows))) stale i number within
+        ∙ (λ j. is_need_of rows (take i stale) q || is_needed q (needs_in (row_in (sym is j) rows)))
 
 pub result-more : (rows : List GenRow) (watches now : WatchesKept) (old mid new : ResultsKept) (stale : List ℕ) (i number : ℕ) → i < length stale → number ≡ get_or stale i number
     → ((q : List ℕ) → watch_in now q ≡ cond (is_need_of rows (take i stale) q && is_idle rows q) unwatched (watch_in watches q))
@@ -235,12 +233,28 @@ result-more rows watches now old mid new stale i number within is forgot before 
         ∙ (λ j. is_among (take i stale) n || flipped n number j)
 
 -- a name is idle where no number is in its index
-pub idle-index : (s : State) → IsIndexed s → (q : List ℕ) → nat_eq (length (watch_in s.watches q).rows) 0 ≡ is_idle s.table.rows q
-idle-index s x q = (λ i. nat_eq (length (x.watchers q i)) 0) ∙ by (list_any (depends_on q) s.table.rows) refl
+pub idle-index : (s : State) → IsIndexed s → (q : List ℕ) → not (has_watcher (watch_in s.watches q)) ≡ is_idle s.table.rows q
+idle-index s x q = ap not (watcher-index s x q)
+
+-- some are forgotten, and then more
+pub forgets-more : (q : List ℕ) (ds es : List Dependency) (old now new : Watch)
+    → now ≡ cond (is_needed q ds && not (has_watcher old)) unwatched old
+    → new ≡ cond (is_needed q es && not (has_watcher now)) unwatched now
+    → new ≡ cond (is_needed q (ds ++ es) && not (has_watcher old)) unwatched old
+forgets-more q ds es old now new first second =
+    second
+    ∙ (λ i. cond (is_needed q es && not (has_watcher (first i))) unwatched (first i))
+    ∙ by (is_needed q ds) (is_needed q es) (has_watcher old) refl
+    ∙ (λ i. cond (sym (list_any-append (λ (d : Dependency). bytes_eq d.name q) ds es) i && not (has_watcher old)) unwatched old)
   where
-    by : (b : Bool) → list_any (depends_on q) s.table.rows ≡ b → nat_eq (length (numbers_where (depends_on q) s.table.rows)) 0 ≡ not b
-    by true e = ne_eqb (length (numbers_where (depends_on q) s.table.rows)) 0 (λ none. where-some (depends_on q) s.table.rows e (nil_from_length (numbers_where (depends_on q) s.table.rows) none))
-    by false e = λ i. nat_eq (length (where-none (depends_on q) s.table.rows e i)) 0
+    by : (a b w : Bool) → has_watcher old ≡ w
+        → cond (b && not (has_watcher (cond (a && not w) unwatched old))) unwatched (cond (a && not w) unwatched old) ≡ cond ((a || b) && not w) unwatched old
+    by true true true e = λ i. cond (not (e i)) unwatched old
+    by true true false e = refl
+    by true false true e = refl
+    by true false false e = refl
+    by false true w e = λ i. cond (not (e i)) unwatched old
+    by false false w e = refl
 
 -- the results that one row loses
 pub loses-at : (rows : List GenRow) (watches : WatchesKept) (number : ℕ) (row : GenRow) → row_in number rows ≡ Some row → (n : ℕ) (h : Host)

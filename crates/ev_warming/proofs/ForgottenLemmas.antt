@@ -15,8 +15,8 @@ use Rattle.ev_types.specs.declared.rows.Live.{Live}
 use Rattle.ev_types.specs.declared.rows.GenRow.{GenRow}
 use Rattle.ev_model.specs.World.{World, Arrived, HealthResult}
 use Rattle.ev_model.specs.Live.{live_of, lives_of}
-use Rattle.ev_model.specs.Watching.{has_dependency, is_watched, is_by_name}
-use Rattle.ev_model.specs.Warming.{came_for, content_in, is_word, is_timeout, is_told_by, is_timed_by, value_by, has_result, is_healthy, is_result_of, assignment_by}
+use Rattle.ev_model.specs.Watching.{has_dependency, is_watched, is_by_name, dependencies_of}
+use Rattle.ev_model.specs.Warming.{content_in, is_word, is_timeout, last_told, last_timed, value_by, has_result, is_healthy, is_result_of, assignment_by, is_for}
 use Rattle.ev_model.specs.Tidy.{arrivals_watched, without_unwatched, is_result_due, without_old_results}
 use Rattle.ev_endpoints.specs.Results.{ResultsKept, result_in}
 use Rattle.ev_generations.specs.Tables.{row_in, numbers_of}
@@ -24,9 +24,9 @@ use Rattle.ev_generations.proofs.TableLemmas.{number-row_in}
 use Rattle.ev_indexes.specs.declared.state.State.{State}
 use Rattle.ev_indexes.specs.Due.{is_among}
 use Rattle.ev_indexes.specs.Watched.{WatchesKept, unwatched, watch_in}
-use Rattle.ev_indexes.specs.Ready.{name_needed}
-use Rattle.ev_indexes.specs.Indexes.{is_needed, depends_on}
+use Rattle.ev_indexes.specs.Indexes.{depends_on}
 use Rattle.ev_indexes.specs.Worlds.{needs_of, rows_of_kind, StandsFor}
+use Rattle.ev_indexes.specs.Needs.{is_needed}
 use Rattle.ev_warming.specs.Forgetting.{is_need_of, is_idle, keeps_result, loses_result, IsUnheard, IsTidyBut}
 use Rattle.ev_indexes.proofs.WhereLemmas.{any-found, all-found}
 use Rattle.ev_indexes.proofs.RowLemmas.{any_agrees, all_then, found-of_kind, all-at}
@@ -34,6 +34,7 @@ use Rattle.ev_indexes.proofs.SoundLemmas.{contents-of}
 use Rattle.ev_indexes.proofs.DependencyLemmas.{has_dependency-of}
 use Rattle.ev_indexes.proofs.WorldLemmas.{hosts-by}
 use Rattle.ev_warming.proofs.ForgettingLemmas.{busy-same, loses-same, tidy-forgot}
+use Rattle.ev_warming.proofs.SortedLemmas.{last_made-same, value_by-same}
 
 -- who is watched in the world
 
@@ -67,8 +68,8 @@ watched-same s world stands k q =
     ∙ any_agrees (λ (r : GenRow). is_live r.status && has_dependency (needs_of s.kind) q r.content) (λ (r : GenRow). kind_same r.kind s.kind && depends_on q r) world.rows
     (all_then (λ (r : GenRow). content_kind r.content ≡ r.kind)
     (λ (r : GenRow). (is_live r.status && has_dependency (needs_of s.kind) q r.content) ≡ (kind_same r.kind s.kind && depends_on q r)) world.rows
-    (λ r typed. (λ i. is_live r.status && has_dependency-of s.kind q r.content k i) ∙ (λ i. is_live r.status && (kind_same (typed i) s.kind && is_needed q (name_needed r.content)))
-    ∙ swapped (is_live r.status) (kind_same r.kind s.kind) (is_needed q (name_needed r.content)))
+    (λ r typed. (λ i. is_live r.status && has_dependency-of s.kind q r.content k i) ∙ (λ i. is_live r.status && (kind_same (typed i) s.kind && is_needed q (dependencies_of r.content)))
+    ∙ swapped (is_live r.status) (kind_same r.kind s.kind) (is_needed q (dependencies_of r.content)))
     stands.sound.typed)
     ∙ sym (any-of_kind s.kind (depends_on q) world.rows)
     ∙ ap (list_any (depends_on q)) (sym stands.rows)
@@ -77,16 +78,10 @@ pub both-same : {A : Type 0} (x : A) (b : Bool) → x ≡ cond b x x
 both-same x true = refl
 both-same x false = refl
 
-abbrev is_for : Kind → List ℕ → Arrived → Bool
-is_for kind q other = kind_same other.kind kind && bytes_eq other.name q
-
-abbrev arrival_of : Arrived → Arrival
-arrival_of other = other.arrival
-
 -- what is left of what came for a name
-came-left : (lives : List Live) (arrivals : List Arrived) (kind : Kind) (q : List ℕ) → came_for (arrivals_watched lives arrivals) kind q ≡ cond (is_watched lives kind q) (came_for arrivals kind q) []
-came-left lives [] kind q = both-same [] (is_watched lives kind q)
-came-left lives (a ∷ arrivals) kind q = by (is_watched lives a.kind a.name) refl (kind_same a.kind kind && bytes_eq a.name q) refl (came-left lives arrivals kind q)
+pub left-for : (lives : List Live) (arrivals : List Arrived) (kind : Kind) (q : List ℕ) → filter (is_for kind q) (arrivals_watched lives arrivals) ≡ cond (is_watched lives kind q) (filter (is_for kind q) arrivals) []
+left-for lives [] kind q = both-same [] (is_watched lives kind q)
+left-for lives (a ∷ arrivals) kind q = by (is_watched lives a.kind a.name) refl (is_for kind q a) refl (left-for lives arrivals kind q)
   where
     same : is_for kind q a ≡ true → is_watched lives kind q ≡ is_watched lives a.kind a.name
     same e =
@@ -94,18 +89,18 @@ came-left lives (a ∷ arrivals) kind q = by (is_watched lives a.kind a.name) re
         λ i. is_watched lives (sym ((kind_decides a.kind kind).0 p.0) i) (sym ((bytes_decide a.name q).0 p.1) i)
 
     by : (w : Bool) → is_watched lives a.kind a.name ≡ w → (t : Bool) → is_for kind q a ≡ t
-        → came_for (arrivals_watched lives arrivals) kind q ≡ cond (is_watched lives kind q) (came_for arrivals kind q) []
-        → map arrival_of (filter (is_for kind q) (cond w (a ∷ arrivals_watched lives arrivals) (arrivals_watched lives arrivals)))
-        ≡ cond (is_watched lives kind q) (map arrival_of (cond t (a ∷ filter (is_for kind q) arrivals) (filter (is_for kind q) arrivals))) []
+        → filter (is_for kind q) (arrivals_watched lives arrivals) ≡ cond (is_watched lives kind q) (filter (is_for kind q) arrivals) []
+        → filter (is_for kind q) (cond w (a ∷ arrivals_watched lives arrivals) (arrivals_watched lives arrivals))
+        ≡ cond (is_watched lives kind q) (cond t (a ∷ filter (is_for kind q) arrivals) (filter (is_for kind q) arrivals)) []
     by true e true f h =
         let on : is_watched lives kind q ≡ true = same f ∙ e in
-        (λ i. map arrival_of (cond (f i) (a ∷ filter (is_for kind q) (arrivals_watched lives arrivals)) (filter (is_for kind q) (arrivals_watched lives arrivals))))
-        ∙ ap (λ (xs : List Arrival). a.arrival ∷ xs) (h ∙ (λ i. cond (on i) (came_for arrivals kind q) []))
-        ∙ (λ i. cond (sym on i) (a.arrival ∷ came_for arrivals kind q) [])
-    by true e false f h = (λ i. map arrival_of (cond (f i) (a ∷ filter (is_for kind q) (arrivals_watched lives arrivals)) (filter (is_for kind q) (arrivals_watched lives arrivals)))) ∙ h
+        (λ i. cond (f i) (a ∷ filter (is_for kind q) (arrivals_watched lives arrivals)) (filter (is_for kind q) (arrivals_watched lives arrivals)))
+        ∙ ap (λ (xs : List Arrived). a ∷ xs) (h ∙ (λ i. cond (on i) (filter (is_for kind q) arrivals) []))
+        ∙ (λ i. cond (sym on i) (a ∷ filter (is_for kind q) arrivals) [])
+    by true e false f h = (λ i. cond (f i) (a ∷ filter (is_for kind q) (arrivals_watched lives arrivals)) (filter (is_for kind q) (arrivals_watched lives arrivals))) ∙ h
     by false e true f h =
         let off : is_watched lives kind q ≡ false = same f ∙ e in
-        h ∙ (λ i. cond (off i) (came_for arrivals kind q) []) ∙ (λ i. cond (sym off i) (a.arrival ∷ came_for arrivals kind q) [])
+        h ∙ (λ i. cond (off i) (filter (is_for kind q) arrivals) []) ∙ (λ i. cond (sym off i) (a ∷ filter (is_for kind q) arrivals) [])
     by false e false f h = h
 
 -- what is left of the results of one row and host
@@ -191,15 +186,15 @@ module _ (s : State) (stale : List ℕ) (tidy : IsTidyBut s stale) (watches : Wa
   abbrev arrivals : List Arrived
   arrivals = arrivals_watched (lives_of world) world.arrivals
 
-  came-busy : (q : List ℕ) → list_any (depends_on q) s.table.rows ≡ true → came_for arrivals (needs_of s.kind) q ≡ came_for world.arrivals (needs_of s.kind) q
+  came-busy : (q : List ℕ) → list_any (depends_on q) s.table.rows ≡ true → filter (is_for (needs_of s.kind) q) arrivals ≡ filter (is_for (needs_of s.kind) q) world.arrivals
   came-busy q e =
-      came-left (lives_of world) world.arrivals (needs_of s.kind) q
-      ∙ (λ i. cond ((watched-same s world stands rows q ∙ e) i) (came_for world.arrivals (needs_of s.kind) q) [])
+      left-for (lives_of world) world.arrivals (needs_of s.kind) q
+      ∙ (λ i. cond ((watched-same s world stands rows q ∙ e) i) (filter (is_for (needs_of s.kind) q) world.arrivals) [])
 
-  came-idle : (q : List ℕ) → list_any (depends_on q) s.table.rows ≡ false → came_for arrivals (needs_of s.kind) q ≡ []
+  came-idle : (q : List ℕ) → list_any (depends_on q) s.table.rows ≡ false → filter (is_for (needs_of s.kind) q) arrivals ≡ []
   came-idle q e =
-      came-left (lives_of world) world.arrivals (needs_of s.kind) q
-      ∙ (λ i. cond ((watched-same s world stands rows q ∙ e) i) (came_for world.arrivals (needs_of s.kind) q) [])
+      left-for (lives_of world) world.arrivals (needs_of s.kind) q
+      ∙ (λ i. cond ((watched-same s world stands rows q ∙ e) i) (filter (is_for (needs_of s.kind) q) world.arrivals) [])
 
   busy : (q : List ℕ) → list_any (depends_on q) s.table.rows ≡ true → watch_in watches q ≡ watch_in s.watches q
   busy q e = busy-same s.table.rows s.watches watches (is_need_of s.table.rows stale) forgot q e
@@ -207,26 +202,26 @@ module _ (s : State) (stale : List ℕ) (tidy : IsTidyBut s stale) (watches : Wa
   idle : (q : List ℕ) → list_any (depends_on q) s.table.rows ≡ false → IsUnheard (watch_in watches q)
   idle q e = (tidy-forgot s stale tidy watches forgot results trimmed).marks q e refl
 
-  told : (q : List ℕ) → (watch_in watches q).told ≡ is_told_by arrivals (needs_of s.kind) q
+  told : (q : List ℕ) → (watch_in watches q).told ≡ last_told arrivals (needs_of s.kind) q
   told q = by (list_any (depends_on q) s.table.rows) refl
     where
-      by : (b : Bool) → list_any (depends_on q) s.table.rows ≡ b → (watch_in watches q).told ≡ is_told_by arrivals (needs_of s.kind) q
-      by true e = (λ i. (busy q e i).told) ∙ stands.told q ∙ sym (ap (list_any is_word) (came-busy q e))
-      by false e = (idle q e).told ∙ sym (ap (list_any is_word) (came-idle q e))
+      by : (b : Bool) → list_any (depends_on q) s.table.rows ≡ b → (watch_in watches q).told ≡ last_told arrivals (needs_of s.kind) q
+      by true e = (λ i. (busy q e i).told) ∙ stands.told q ∙ last_made-same is_word world.arrivals arrivals (needs_of s.kind) q (sym (came-busy q e))
+      by false e = (idle q e).told ∙ last_made-same is_word [] arrivals (needs_of s.kind) q (sym (came-idle q e))
 
-  timed : (q : List ℕ) → (watch_in watches q).timed ≡ is_timed_by arrivals (needs_of s.kind) q
+  timed : (q : List ℕ) → (watch_in watches q).timed ≡ last_timed arrivals (needs_of s.kind) q
   timed q = by (list_any (depends_on q) s.table.rows) refl
     where
-      by : (b : Bool) → list_any (depends_on q) s.table.rows ≡ b → (watch_in watches q).timed ≡ is_timed_by arrivals (needs_of s.kind) q
-      by true e = (λ i. (busy q e i).timed) ∙ stands.timed q ∙ sym (ap (list_any is_timeout) (came-busy q e))
-      by false e = (idle q e).timed ∙ sym (ap (list_any is_timeout) (came-idle q e))
+      by : (b : Bool) → list_any (depends_on q) s.table.rows ≡ b → (watch_in watches q).timed ≡ last_timed arrivals (needs_of s.kind) q
+      by true e = (λ i. (busy q e i).timed) ∙ stands.timed q ∙ last_made-same is_timeout world.arrivals arrivals (needs_of s.kind) q (sym (came-busy q e))
+      by false e = (idle q e).timed ∙ last_made-same is_timeout [] arrivals (needs_of s.kind) q (sym (came-idle q e))
 
   value : (q : List ℕ) → (watch_in watches q).value ≡ value_by arrivals (needs_of s.kind) q
   value q = by (list_any (depends_on q) s.table.rows) refl
     where
       by : (b : Bool) → list_any (depends_on q) s.table.rows ≡ b → (watch_in watches q).value ≡ value_by arrivals (needs_of s.kind) q
-      by true e = (λ i. (busy q e i).value) ∙ stands.value q ∙ sym (ap (λ (xs : List Arrival). last_or None (filter_map content_in xs)) (came-busy q e))
-      by false e = (idle q e).value ∙ sym (ap (λ (xs : List Arrival). last_or None (filter_map content_in xs)) (came-idle q e))
+      by true e = (λ i. (busy q e i).value) ∙ stands.value q ∙ value_by-same world.arrivals arrivals (needs_of s.kind) q (sym (came-busy q e))
+      by false e = (idle q e).value ∙ value_by-same [] arrivals (needs_of s.kind) q (sym (came-idle q e))
 
   -- the machine keeps the results that the state keeps
   module _ (n : ℕ) (h : Host) (row : GenRow) (at : row_in n s.table.rows ≡ Some row) where

@@ -29,11 +29,11 @@ use Rattle.ev_indexes.specs.Due.{is_among, has_number}
 use Rattle.ev_indexes.specs.Standings.{standing_in}
 use Rattle.ev_indexes.specs.Watched.{WatchesKept}
 use Rattle.ev_indexes.specs.Ready.{are_results_in, assignment_in, is_answered_in, is_due_at, is_due_found, takes_result}
-use Rattle.ev_indexes.specs.Indexes.{IsIndexed, serves, warms, numbers_where}
+use Rattle.ev_indexes.specs.Indexes.{IsIndexed, serves, warms, numbers_where, passes}
 use Rattle.ev_warming.specs.Forgetting.{IsTidyBut, keeps_result}
-use Rattle.ev_warming.specs.Health.{passes, takes_at, is_meant_in, numbers_meant, NotesEach}
+use Rattle.ev_warming.specs.Health.{takes_at, is_meant_in, numbers_meant, NotesEach}
 use Rattle.ev_indexes.specs.Worlds.{StandsFor, rows_of_kind}
-use Rattle.ev_indexes.proofs.WhereLemmas.{flipped, among-where, found-where}
+use Rattle.ev_indexes.proofs.WhereLemmas.{flipped, among-where, found-where, among-row}
 use Rattle.ev_indexes.proofs.RowLemmas.{all_then, both_all, any-some, filter-rows_of_kind, filter_agrees}
 use Rattle.ev_indexes.proofs.SoundLemmas.{contents-of}
 use Rattle.ev_indexes.proofs.WorldLemmas.{hosts}
@@ -69,7 +69,7 @@ indexed-noted s number row host healthy results due x found notes looked = recor
   kinds = x.kinds;
   active = x.active;
   warming = x.warming;
-  watchers = x.watchers;
+  unlimited = x.unlimited;
   limited = x.limited;
   holders = x.holders;
   due = λ n. looked n ∙ by n (is_among (number ∷ []) n) refl;
@@ -106,32 +106,6 @@ notes-one old new number host healthy notes n h = notes n h ∙ (λ i. cond (sam
 
     same : nat_eq number n ≡ is_among (number ∷ []) n
     same = flipped number n ∙ alone (nat_eq n number)
-
--- of rows with different numbers a number is among those that pass where its row passes
-pub among-row : (test : GenRow → Bool) (n : ℕ) (rows : List GenRow) → IsDistinct nat_eq (numbers_of rows) → is_among (numbers_where test rows) n ≡ passes test (row_in n rows)
-among-row test n rows apart = by (row_in n rows) refl (is_among (numbers_where test rows) n) refl
-  where
-    over : (row : GenRow) → row_in n rows ≡ Some row → (t : Bool) → test row ≡ t → (b : Bool) → is_among (numbers_where test rows) n ≡ b → b ≡ t
-    over row found true e b f = sym f ∙ among-where test n row rows found e
-    over row found false e true f =
-        let there = found-where test n rows apart f in
-        let own : there.0 ≡ row = some_same (sym there.1 ∙ found) in
-        absurd (true≢false (sym there.2 ∙ ap test own ∙ e))
-      where
-        some_same : {a b : GenRow} → Some a ≡ Some b → a ≡ b
-        some_same h = cc
-    over row found false e false f = refl
-
-    none : row_in n rows ≡ None → (b : Bool) → is_among (numbers_where test rows) n ≡ b → b ≡ false
-    none gone true f =
-        let there = found-where test n rows apart f in
-        let clash : Some there.0 ≡ None = sym there.1 ∙ gone in
-        cc
-    none gone false f = refl
-
-    by : (o : Option GenRow) → row_in n rows ≡ o → (b : Bool) → is_among (numbers_where test rows) n ≡ b → is_among (numbers_where test rows) n ≡ passes test o
-    by None e b f = f ∙ none e b f
-    by (Some row) e b f = f ∙ over row e (test row) refl b f
 
 -- a number that takes the result or none of both
 among-taken : (q : GenRow → Bool) (rows : List GenRow) (o : Option ℕ) (m : Bool) → m ≡ passes q (option_and_then (λ n. row_in n rows) o) → (n : ℕ)

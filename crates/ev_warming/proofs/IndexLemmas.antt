@@ -1,5 +1,5 @@
 -- What each step does to the indexes: they stay searches of the rows.
-use Rattle.std.proofs.Common.{◌≡◌, ◌∙◌, ◌<◌, ℕ, Bool, true, false, cond, not, ◌&&◌, nat_eq, List, Option, None, Some, IsSome, option_to_list, refl, sym, ap, subst, true≢false, Result, Ok, Err, OnOk}
+use Rattle.std.proofs.Common.{◌≡◌, ◌∙◌, ◌<◌, ℕ, Bool, true, false, cond, not, ◌&&◌, nat_eq, List, Option, None, Some, IsSome, option_to_list, refl, sym, ap, subst, true≢false, Result, Ok, Err, OnOk, ◌++◌}
 use Rattle.std.specs.List.{list_any, AllByRecursion}
 use Rattle.std.specs.Map.{lookup}
 use Rattle.std.specs.Str.{bytes_eq}
@@ -7,12 +7,13 @@ use Rattle.std.proofs.lemmas.Bool.{false_from_ne_true, and_right, and_parts}
 use Rattle.ev_types.specs.Same.{bytes_decide}
 use Rattle.ev_types.specs.Statuses.{is_warming, is_active, is_live}
 use Rattle.ev_types.specs.declared.rows.Arrival.{Arrival}
-use Rattle.ev_types.specs.declared.rows.Arrival.TheVariants.{Value, Absent, Bad, TimedOut}
+use Rattle.ev_types.specs.declared.rows.Arrival.TheVariants.{Value, Absent, Bad, TimedOut, Ended}
 use Rattle.ev_types.specs.declared.rows.RowStatus.{RowStatus}
 use Rattle.ev_types.specs.declared.rows.RowStatus.TheVariants.{Warming, Active, Draining, Dropped}
 use Rattle.ev_types.specs.declared.hosts.Host.{Host}
 use Rattle.ev_types.specs.declared.rows.GenRow.{GenRow}
 use Rattle.ev_model.specs.Rows.{removed_status}
+use Rattle.ev_model.specs.Watching.{dependencies_of}
 use Rattle.ev_endpoints.specs.Results.{ResultsKept}
 use Rattle.ev_generations.specs.Tables.{GenerationsParts, IsTable, row_in, status_with, with_status}
 use Rattle.ev_generations.proofs.TableLemmas.{table-with_status}
@@ -23,12 +24,14 @@ use Rattle.ev_indexes.specs.Addresses.{AddressesKept, ReleasesAddress, listens_a
 use Rattle.ev_indexes.specs.Due.{is_among}
 use Rattle.ev_indexes.specs.Kept.{Sets}
 use Rattle.ev_indexes.specs.Standings.{NamesKept, nobody, standing_in}
-use Rattle.ev_indexes.specs.Watched.{WatchesKept, unwatched, watch_in, watched_less, with_arrival, numbers_without}
-use Rattle.ev_indexes.specs.Ready.{name_needed, is_limited_in, is_ready_in, is_due_found, is_due_at}
-use Rattle.ev_indexes.specs.Indexes.{IsIndexed, is_needed, depends_on, waits_limited, serves, warms, holds, numbers_where}
+use Rattle.ev_indexes.specs.Watched.{WatchesKept, unwatched, watch_in, watched_less, with_arrival, numbers_without, has_watcher, watchers_of, unwatched_for}
+use Rattle.ev_indexes.specs.Ready.{is_ready_in, is_due_found, is_due_at}
+use Rattle.ev_indexes.specs.Indexes.{IsIndexed, depends_on, waits, serves, warms, holds, numbers_where, numbers_waiting}
+use Rattle.ev_indexes.specs.Needs.{is_needed, is_needed_so}
 use Rattle.ev_indexes.proofs.KeptLemmas.{kept_at-found}
-use Rattle.ev_indexes.proofs.WhereLemmas.{kinds-with_statuses, row_with, among-where, where-left, where-absent, where-kept, where-one, where-some, without-one}
-use Rattle.ev_warming.proofs.ReadyLemmas.{Agrees, is_ready_in-agrees, is_due_at-with_status}
+use Rattle.ev_indexes.proofs.WhereLemmas.{kinds-with_statuses, row_with, among-where, where-left, where-absent, where-kept, where-one, without-one}
+use Rattle.ev_indexes.proofs.WaitLemmas.{watcher-index, watchers-index, among-depends, depends-waits}
+use Rattle.ev_warming.proofs.ReadyLemmas.{Agrees, is_ready_in-agrees, is_due_at-with_status, agrees-other, agrees-all}
 
 own_name : (name : List ℕ) → bytes_eq name name ≡ true
 own_name name = (bytes_decide name name).1 refl
@@ -66,79 +69,86 @@ pub watched-some : (s : State) (name : List ℕ) → IsIndexed s → list_any (d
 watched-some s name x any = by (lookup (bytes_eq name) s.watches) refl
   where
     by : (o : Option Watch) → lookup (bytes_eq name) s.watches ≡ o → IsSome o
-    by None e = absurd (where-some (depends_on name) s.table.rows any (sym (x.watchers name) ∙ (λ i. (kept_at-found unwatched s.watches name None e i).rows)))
+    by None e = absurd (true≢false (sym any ∙ sym (watcher-index s x name) ∙ (λ i. has_watcher (kept_at-found unwatched s.watches name None e i))))
     by (Some watch) e = refl
 
-rows-with_arrival : (arrival : Arrival) (watch : Watch) → (with_arrival arrival watch).rows ≡ watch.rows
-rows-with_arrival (Value content) watch = refl
-rows-with_arrival Absent watch = refl
-rows-with_arrival Bad watch = refl
-rows-with_arrival TimedOut watch = refl
+unlimited-with_arrival : (made : ℕ) (arrival : Arrival) (watch : Watch) → (with_arrival made arrival watch).unlimited ≡ watch.unlimited
+unlimited-with_arrival made (Value content) watch = refl
+unlimited-with_arrival made Absent watch = refl
+unlimited-with_arrival made Bad watch = refl
+unlimited-with_arrival made TimedOut watch = refl
+unlimited-with_arrival made (Ended content) watch = refl
 
-limited-with_arrival : (arrival : Arrival) (watch : Watch) → (with_arrival arrival watch).limited ≡ watch.limited
-limited-with_arrival (Value content) watch = refl
-limited-with_arrival Absent watch = refl
-limited-with_arrival Bad watch = refl
-limited-with_arrival TimedOut watch = refl
+limited-with_arrival : (made : ℕ) (arrival : Arrival) (watch : Watch) → (with_arrival made arrival watch).limited ≡ watch.limited
+limited-with_arrival made (Value content) watch = refl
+limited-with_arrival made Absent watch = refl
+limited-with_arrival made Bad watch = refl
+limited-with_arrival made TimedOut watch = refl
+limited-with_arrival made (Ended content) watch = refl
 
 -- something came for a name, and its rows were looked at anew
-module _ (s : State) (name : List ℕ) (arrival : Arrival) (watches : WatchesKept) (due : List ℕ) (x : IsIndexed s)
-    (sets : Sets unwatched s.watches watches name (with_arrival arrival (watch_in s.watches name)))
-    (looked : (n : ℕ) → is_among due n ≡ cond (is_among (watch_in watches name).rows n) (is_due_at watches s.results n s.table.rows) (is_among s.due n)) where
-  part : {A : Type 0} (f : Watch → A) → ((watch : Watch) → f (with_arrival arrival watch) ≡ f watch) → (q : List ℕ) → f (watch_in watches q) ≡ f (watch_in s.watches q)
+module _ (s : State) (name : List ℕ) (made : ℕ) (arrival : Arrival) (watches : WatchesKept) (x : IsIndexed s)
+    (sets : Sets unwatched s.watches watches name (with_arrival made arrival (watch_in s.watches name))) where
+  part : {A : Type 0} (f : Watch → A) → ((watch : Watch) → f (with_arrival made arrival watch) ≡ f watch) → (q : List ℕ) → f (watch_in watches q) ≡ f (watch_in s.watches q)
   part f stays q = ap f (sets q) ∙ by (bytes_eq name q) refl
     where
-      by : (b : Bool) → bytes_eq name q ≡ b → f (cond b (with_arrival arrival (watch_in s.watches name)) (watch_in s.watches q)) ≡ f (watch_in s.watches q)
+      by : (b : Bool) → bytes_eq name q ≡ b → f (cond b (with_arrival made arrival (watch_in s.watches name)) (watch_in s.watches q)) ≡ f (watch_in s.watches q)
       by true e = stays (watch_in s.watches name) ∙ (λ i. f (watch_in s.watches ((bytes_decide name q).0 e i)))
       by false e = refl
 
   other : (q : List ℕ) → bytes_eq q name ≡ false → Agrees s.watches watches q
   other q apart =
       let far : bytes_eq name q ≡ false = false_from_ne_true (bytes_eq name q) (λ h. true≢false (sym ((bytes_decide q name).1 (sym ((bytes_decide name q).0 h))) ∙ apart)) in
-      let same : watch_in watches q ≡ watch_in s.watches q = sets q ∙ (λ i. cond (far i) (with_arrival arrival (watch_in s.watches name)) (watch_in s.watches q)) in
+      let same : watch_in watches q ≡ watch_in s.watches q = sets q ∙ (λ i. cond (far i) (with_arrival made arrival (watch_in s.watches name)) (watch_in s.watches q)) in
       record { told = λ i. (same i).told; timed = λ i. (same i).timed; value = λ i. (same i).value }
 
-  elsewhere : (n : ℕ) → is_among (numbers_where (depends_on name) s.table.rows) n ≡ false → is_due_at watches s.results n s.table.rows ≡ is_due_at s.watches s.results n s.table.rows
+  elsewhere : (n : ℕ) → is_among (numbers_waiting s.table.rows name) n ≡ false → is_due_at watches s.results n s.table.rows ≡ is_due_at s.watches s.results n s.table.rows
   elsewhere n away = by (row_in n s.table.rows) refl
     where
-      over : (row : GenRow) → row_in n s.table.rows ≡ Some row → (w : Bool) → is_warming row.status ≡ w → (needs : Bool) → is_needed name (name_needed row.content) ≡ needs
+      over : (row : GenRow) → row_in n s.table.rows ≡ Some row → (w : Bool) → is_warming row.status ≡ w → (needs : Bool) → is_needed name (dependencies_of row.content) ≡ needs
           → (w && is_ready_in watches s.results row) ≡ (w && is_ready_in s.watches s.results row)
       over row e false cold needs f = refl
       over row e true warm true f =
-          absurd (true≢false (sym (among-where (depends_on name) n row s.table.rows e (λ i. live-warming row.status warm i && f i)) ∙ away))
+          absurd (true≢false (sym (among-depends name n row s.table.rows e (λ i. live-warming row.status warm i && f i)) ∙ away))
       over row e true warm false f =
-          is_ready_in-agrees s.watches watches s.results row (λ q needed. other q (ap (is_needed name) (sym needed) ∙ f))
+          is_ready_in-agrees s.watches watches s.results row (agrees-other s.watches watches name other (dependencies_of row.content) f)
 
       by : (o : Option GenRow) → row_in n s.table.rows ≡ o → is_due_found watches s.results o ≡ is_due_found s.watches s.results o
       by None e = refl
-      by (Some row) e = over row e (is_warming row.status) refl (is_needed name (name_needed row.content)) refl
+      by (Some row) e = over row e (is_warming row.status) refl (is_needed name (dependencies_of row.content)) refl
 
-  pub indexed-arrived : IsIndexed (record s { watches = watches; due = due })
-  indexed-arrived = record {
+  -- those that depend on the name are still known
+  pub waiting-after : watchers_of (watch_in watches name) ≡ numbers_waiting s.table.rows name
+  waiting-after = (λ i. part (λ (w : Watch). w.unlimited) (unlimited-with_arrival made arrival) name i ++ part (λ (w : Watch). w.limited) (limited-with_arrival made arrival) name i) ∙ watchers-index s x name
+
+  pub indexed-arrived : (due : List ℕ)
+      → ((n : ℕ) → is_among due n ≡ cond (is_among (watchers_of (watch_in watches name)) n) (is_due_at watches s.results n s.table.rows) (is_among s.due n))
+      → IsIndexed (record s { watches = watches; due = due })
+  indexed-arrived due looked = record {
     table = x.table;
     kinds = x.kinds;
     active = x.active;
     warming = x.warming;
-    watchers = λ q. part (λ (w : Watch). w.rows) (rows-with_arrival arrival) q ∙ x.watchers q;
-    limited = λ q. part (λ (w : Watch). w.limited) (limited-with_arrival arrival) q ∙ x.limited q;
+    unlimited = λ q. part (λ (w : Watch). w.unlimited) (unlimited-with_arrival made arrival) q ∙ x.unlimited q;
+    limited = λ q. part (λ (w : Watch). w.limited) (limited-with_arrival made arrival) q ∙ x.limited q;
     holders = x.holders;
-    due = λ n. looked n ∙ by n (is_among (watch_in watches name).rows n) refl;
+    due = λ n. looked n ∙ by n (is_among (watchers_of (watch_in watches name)) n) refl;
     drawn = x.drawn;
   }
     where
-      by : (n : ℕ) (b : Bool) → is_among (watch_in watches name).rows n ≡ b
+      by : (n : ℕ) (b : Bool) → is_among (watchers_of (watch_in watches name)) n ≡ b
           → cond b (is_due_at watches s.results n s.table.rows) (is_among s.due n) ≡ is_due_at watches s.results n s.table.rows
       by n true e = refl
       by n false e =
           x.due n
-          ∙ sym (elsewhere n ((λ i. is_among ((sym (x.watchers name) ∙ sym (part (λ (w : Watch). w.rows) (rows-with_arrival arrival) name)) i) n) ∙ e))
+          ∙ sym (elsewhere n ((λ i. is_among (sym waiting-after i) n) ∙ e))
 
 pub is_due_at-agrees : (old new : WatchesKept) (results : ResultsKept) → ((q : List ℕ) → Agrees old new q) → (n : ℕ) (rows : List GenRow) → is_due_at new results n rows ≡ is_due_at old results n rows
 is_due_at-agrees old new results agrees n rows = by (row_in n rows)
   where
     by : (o : Option GenRow) → is_due_found new results o ≡ is_due_found old results o
     by None = refl
-    by (Some row) = ap (λ b. is_warming row.status && b) (is_ready_in-agrees old new results row (λ q needed. agrees q))
+    by (Some row) = ap (λ b. is_warming row.status && b) (is_ready_in-agrees old new results row (agrees-all old new agrees (dependencies_of row.content)))
 
 -- a row of the table gets another status
 module _ (s : State) (number : ℕ) (row : GenRow) (status : RowStatus) (x : IsIndexed s) (found : row_in number s.table.rows ≡ Some row)
@@ -167,7 +177,7 @@ module _ (s : State) (number : ℕ) (row : GenRow) (status : RowStatus) (x : IsI
   module _ (live : is_live row.status ≡ true) (ended : is_live status ≡ false) (names : NamesKept) (watches : WatchesKept) (addresses : AddressesKept) (due : List ℕ)
       (stands : Sets nobody s.names names row.name
       (cond (is_warming row.status) (record (standing_in s.names row.name) { warming = None }) (record (standing_in s.names row.name) { active = None })))
-      (less : (q : List ℕ) → watch_in watches q ≡ cond (is_needed q (name_needed row.content)) (watched_less number (watch_in s.watches q)) (watch_in s.watches q))
+      (less : (q : List ℕ) → watch_in watches q ≡ unwatched_for number q (dependencies_of row.content) (watch_in s.watches q))
       (released : ReleasesAddress s.addresses addresses number row.content)
       (dues : (n : ℕ) → is_among due n ≡ (not (nat_eq number n) && is_among s.due n)) where
     cold : (st : RowStatus) → is_live st ≡ false → (is_warming st ≡ false) × (is_active st ≡ false)
@@ -198,20 +208,20 @@ module _ (s : State) (number : ℕ) (row : GenRow) (status : RowStatus) (x : IsI
 
     -- a list of those that wait for a name
     fewer : (f : Watch → List ℕ) → ((w : Watch) → f (watched_less number w) ≡ numbers_without number (f w)) → (test : List ℕ → GenRow → Bool)
-        → ((q : List ℕ) (r : GenRow) → test q (row_with status r) ≡ false) → ((q : List ℕ) → is_needed q (name_needed row.content) ≡ false → test q row ≡ false)
+        → ((q : List ℕ) (r : GenRow) → test q (row_with status r) ≡ false) → ((q : List ℕ) → is_needed q (dependencies_of row.content) ≡ false → test q row ≡ false)
         → ((q : List ℕ) → f (watch_in s.watches q) ≡ numbers_where (test q) s.table.rows) → (q : List ℕ) → f (watch_in watches q) ≡ numbers_where (test q) table.rows
     fewer f out test fails apart index q =
-        ap f (less q) ∙ by (is_needed q (name_needed row.content)) refl ∙ sym (ap (numbers_where (test q)) rows ∙ where-left (test q) number status (fails q) s.table.rows)
+        ap f (less q) ∙ by (is_needed q (dependencies_of row.content)) refl ∙ sym (ap (numbers_where (test q)) rows ∙ where-left (test q) number status (fails q) s.table.rows)
       where
-        by : (b : Bool) → is_needed q (name_needed row.content) ≡ b → f (cond b (watched_less number (watch_in s.watches q)) (watch_in s.watches q)) ≡ numbers_without number (numbers_where (test q) s.table.rows)
+        by : (b : Bool) → is_needed q (dependencies_of row.content) ≡ b → f (cond b (watched_less number (watch_in s.watches q)) (watch_in s.watches q)) ≡ numbers_without number (numbers_where (test q) s.table.rows)
         by true e = out (watch_in s.watches q) ∙ ap (numbers_without number) (index q)
         by false e = index q ∙ sym (where-absent (test q) number row s.table.rows found x.table.apart (apart q e))
 
     agrees : (q : List ℕ) → Agrees s.watches watches q
     agrees q = record {
-      told = ap (λ (w : Watch). w.told) (less q) ∙ by (λ (w : Watch). w.told) (λ w. refl) (is_needed q (name_needed row.content));
-      timed = ap (λ (w : Watch). w.timed) (less q) ∙ by (λ (w : Watch). w.timed) (λ w. refl) (is_needed q (name_needed row.content));
-      value = ap (λ (w : Watch). w.value) (less q) ∙ by (λ (w : Watch). w.value) (λ w. refl) (is_needed q (name_needed row.content));
+      told = ap (λ (w : Watch). w.told) (less q) ∙ by (λ (w : Watch). w.told) (λ w. refl) (is_needed q (dependencies_of row.content));
+      timed = ap (λ (w : Watch). w.timed) (less q) ∙ by (λ (w : Watch). w.timed) (λ w. refl) (is_needed q (dependencies_of row.content));
+      value = ap (λ (w : Watch). w.value) (less q) ∙ by (λ (w : Watch). w.value) (λ w. refl) (is_needed q (dependencies_of row.content));
     }
       where
         by : {A : Type 0} (f : Watch → A) → ((w : Watch) → f (watched_less number w) ≡ f w) → (b : Bool)
@@ -241,10 +251,10 @@ module _ (s : State) (number : ℕ) (row : GenRow) (status : RowStatus) (x : IsI
           let a = warming_left q row.status live (bytes_eq row.name q) refl in
           leaves (warms q) (standing_in s.names q).warming (standing_in names q).warming (x.warming q) (λ r. ap (λ b. b && bytes_eq r.name q) (cold status ended).0)
           (λ h. (λ i. (stands q i).warming) ∙ a.0 h) (λ h. (λ i. (stands q i).warming) ∙ a.1 h);
-      watchers = fewer (λ (w : Watch). w.rows) (λ w. refl) depends_on (λ q r. ap (λ b. b && is_needed q (name_needed r.content)) ended)
-          (λ q e. (λ i. live i && e i)) x.watchers;
-      limited = fewer (λ (w : Watch). w.limited) (λ w. refl) waits_limited (λ q r. ap (λ b. (b && is_needed q (name_needed r.content)) && is_limited_in r.content) ended)
-          (λ q e. (λ i. (live i && e i) && is_limited_in row.content)) x.limited;
+      unlimited = fewer (λ (w : Watch). w.unlimited) (λ w. refl) (λ q. waits q false) (λ q r. ap (λ b. b && is_needed_so q false (dependencies_of r.content)) ended)
+          (λ q e. depends-waits q false row (λ i. live i && e i)) x.unlimited;
+      limited = fewer (λ (w : Watch). w.limited) (λ w. refl) (λ q. waits q true) (λ q r. ap (λ b. b && is_needed_so q true (dependencies_of r.content)) ended)
+          (λ q e. depends-waits q true row (λ i. live i && e i)) x.limited;
       holders = holders_less;
       due = λ n.
           dues n ∙ ap (λ b. not (nat_eq number n) && b) (x.due n)
@@ -269,8 +279,8 @@ module _ (s : State) (number : ℕ) (row : GenRow) (x : IsIndexed s) (found : ro
       x.active q ∙ sym (where-kept (serves q) number Active row s.table.rows found x.table.apart (e ∙ sym (and_right (is_active row.status) (bytes_eq row.name q) e)))
 
   -- those that wait for a name, or hold an address, stay
-  waits : (test : GenRow → Bool) (ns : List ℕ) → ns ≡ numbers_where test s.table.rows → test (row_with Active row) ≡ test row → ns ≡ numbers_where test table.rows
-  waits test ns index same = index ∙ sym (ap (numbers_where test) rows ∙ where-kept test number Active row s.table.rows found x.table.apart same)
+  stays : (test : GenRow → Bool) (ns : List ℕ) → ns ≡ numbers_where test s.table.rows → test (row_with Active row) ≡ test row → ns ≡ numbers_where test table.rows
+  stays test ns index same = index ∙ sym (ap (numbers_where test) rows ∙ where-kept test number Active row s.table.rows found x.table.apart same)
 
   pub indexed-served : IsIndexed (record s { table = table; names = names; due = due })
   indexed-served = record {
@@ -281,9 +291,9 @@ module _ (s : State) (number : ℕ) (row : GenRow) (x : IsIndexed s) (found : ro
         leaves s number row Active x found table rows made (warms q) (standing_in s.names q).warming (standing_in names q).warming (x.warming q) (λ r. refl)
         (λ h. (λ i. (stands q i).warming) ∙ (λ i. (cond ((and_parts (is_warming row.status) (bytes_eq row.name q) h).1 i) (record { active = Some number; warming = None }) (standing_in s.names q)).warming))
         (λ h. (λ i. (stands q i).warming) ∙ (λ i. (cond (((λ j. sym warm j && bytes_eq row.name q) ∙ h) i) (record { active = Some number; warming = None }) (standing_in s.names q)).warming));
-    watchers = λ q. waits (depends_on q) (watch_in s.watches q).rows (x.watchers q) (λ i. sym (live-warming row.status warm) i && is_needed q (name_needed row.content));
-    limited = λ q. waits (waits_limited q) (watch_in s.watches q).limited (x.limited q) (λ i. (sym (live-warming row.status warm) i && is_needed q (name_needed row.content)) && is_limited_in row.content);
-    holders = λ a. waits (holds a) (numbers_at s.addresses a) (x.holders a) (λ i. sym (live-warming row.status warm) i && listens_at a row.content);
+    unlimited = λ q. stays (waits q false) (watch_in s.watches q).unlimited (x.unlimited q) (λ i. sym (live-warming row.status warm) i && is_needed_so q false (dependencies_of row.content));
+    limited = λ q. stays (waits q true) (watch_in s.watches q).limited (x.limited q) (λ i. sym (live-warming row.status warm) i && is_needed_so q true (dependencies_of row.content));
+    holders = λ a. stays (holds a) (numbers_at s.addresses a) (x.holders a) (λ i. sym (live-warming row.status warm) i && listens_at a row.content);
     due = λ n.
         dues n ∙ ap (λ b. not (nat_eq number n) && b) (x.due n)
         ∙ sym (is_due_at-with_status s.watches s.results number Active refl n s.table.rows)

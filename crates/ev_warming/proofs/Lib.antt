@@ -4,6 +4,7 @@ pub mod PromotionLemmas
 pub mod WayLemmas
 pub mod AddLemmas
 pub mod AddedLemmas
+pub mod SortedLemmas
 pub mod ArrivalLemmas
 pub mod ForgettingLemmas
 pub mod ForgottenLemmas
@@ -19,3 +20,5 @@ pub mod AbsenceLemmas
 pub mod JudgedLemmas
 pub mod QuietLemmas
 pub mod PromotedLemmas
+pub mod MadeLemmas
+pub mod PlaceLemmas

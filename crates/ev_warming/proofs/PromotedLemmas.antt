@@ -9,7 +9,7 @@ use Rattle.ev_types.specs.Statuses.{is_warming}
 use Rattle.ev_types.specs.declared.rows.RowStatus.{RowStatus}
 use Rattle.ev_types.specs.declared.rows.GenRow.{GenRow}
 use Rattle.ev_model.specs.World.{World}
-use Rattle.ev_model.specs.Warming.{value_by, is_told_by, is_timed_by, is_ready_by}
+use Rattle.ev_model.specs.Warming.{value_by, last_told, last_timed, is_ready_by}
 use Rattle.ev_model.specs.Rows.{is_row_of, with_statuses}
 use Rattle.ev_model.specs.Tidy.{is_due, has_successor, status_by, promoted_status, promoted_rows, promoted}
 use Rattle.ev_endpoints.specs.Results.{result_in}
@@ -69,8 +69,8 @@ promoted-stands s t world x stands kind results marks rows =
     record {
       sound = sound-with_statuses world (promoted_status world.arrivals world.results world.rows) stands.sound;
       rows = rows ∙ promoted_too s world stands x ∙ (λ i. rows_of_kind (sym kind i) (promoted_rows world.arrivals world.results world.rows));
-      told = λ name. (marks name).0 ∙ stands.told name ∙ (λ i. is_told_by world.arrivals (needs_of (sym kind i)) name);
-      timed = λ name. (marks name).1 ∙ stands.timed name ∙ (λ i. is_timed_by world.arrivals (needs_of (sym kind i)) name);
+      told = λ name. (marks name).0 ∙ stands.told name ∙ (λ i. last_told world.arrivals (needs_of (sym kind i)) name);
+      timed = λ name. (marks name).1 ∙ stands.timed name ∙ (λ i. last_timed world.arrivals (needs_of (sym kind i)) name);
       value = λ name. (marks name).2 ∙ stands.value name ∙ (λ i. value_by world.arrivals (needs_of (sym kind i)) name);
       resulted = λ n h there. (λ i. is_some (result_in (results i) n h)) ∙ stands.resulted n h (there_before n f s.table.rows (subst (λ (rs : List GenRow). IsSome (row_in n rs)) rows there));
       healthy = λ n h there. (λ i. unwrap_or (result_in (results i) n h) false) ∙ stands.healthy n h (there_before n f s.table.rows (subst (λ (rs : List GenRow). IsSome (row_in n rs)) rows there));

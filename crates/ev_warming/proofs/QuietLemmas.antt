@@ -1,5 +1,5 @@
 -- Where no row stops being live, the same names are watched.
-use Rattle.std.proofs.Common.{◌≡◌, ◌∙◌, ◌++◌, ℕ, Bool, true, false, cond, ◌&&◌, nat_eq, List, [], ◌∷◌, Some, option_map, option_to_list, refl, sym, ap, true≢false}
+use Rattle.std.proofs.Common.{◌≡◌, ◌∙◌, ◌++◌, ℕ, Bool, true, false, cond, ◌&&◌, nat_eq, List, [], ◌∷◌, Some, option_map, refl, sym, ap, true≢false}
 use Rattle.std.specs.List.{flat_map, IsDistinct, AllByRecursion}
 use Rattle.ev_types.specs.Statuses.{is_live, is_active}
 use Rattle.ev_types.specs.declared.rows.RowStatus.{RowStatus}
@@ -16,20 +16,20 @@ use Rattle.ev_warming.specs.Changes.{began_to_drain}
 use Rattle.ev_indexes.specs.Indexes.{status_in}
 use Rattle.ev_warming.specs.Promotion.{succeeded_by, rows_promoted}
 use Rattle.ev_indexes.specs.Reads.{live_rows, names_needed, names_watched}
-use Rattle.ev_indexes.specs.Ready.{name_needed}
+use Rattle.ev_indexes.specs.Needs.{names_of, needs_at, places_of}
 use Rattle.ev_indexes.proofs.RowLemmas.{all_then}
 use Rattle.ev_indexes.proofs.WhereLemmas.{row_with, own-rows}
 
 pub needs-live : (f : GenRow → RowStatus) (rows : List GenRow) → AllByRecursion (λ (r : GenRow). is_live (f r) ≡ is_live r.status) rows → names_needed (with_statuses f rows) ≡ names_needed rows
 needs-live f [] all = refl
 needs-live f (row ∷ rows) all =
-    (λ i. flat_map (λ (r : GenRow). option_to_list (name_needed r.content)) (cond (all.0 i) (row_with (f row) row ∷ live_rows (with_statuses f rows)) (live_rows (with_statuses f rows))))
+    (λ i. flat_map (λ (r : GenRow). names_of (needs_at (places_of r.content))) (cond (all.0 i) (row_with (f row) row ∷ live_rows (with_statuses f rows)) (live_rows (with_statuses f rows))))
     ∙ by (is_live row.status) (needs-live f rows all.1)
   where
     by : (b : Bool) → names_needed (with_statuses f rows) ≡ names_needed rows
-        → flat_map (λ (r : GenRow). option_to_list (name_needed r.content)) (cond b (row_with (f row) row ∷ live_rows (with_statuses f rows)) (live_rows (with_statuses f rows)))
-        ≡ flat_map (λ (r : GenRow). option_to_list (name_needed r.content)) (cond b (row ∷ live_rows rows) (live_rows rows))
-    by true h = ap (λ (names : List (List ℕ)). option_to_list (name_needed row.content) ++ names) h
+        → flat_map (λ (r : GenRow). names_of (needs_at (places_of r.content))) (cond b (row_with (f row) row ∷ live_rows (with_statuses f rows)) (live_rows (with_statuses f rows)))
+        ≡ flat_map (λ (r : GenRow). names_of (needs_at (places_of r.content))) (cond b (row ∷ live_rows rows) (live_rows rows))
+    by true h = ap (λ (names : List (List ℕ)). names_of (needs_at (places_of row.content)) ++ names) h
     by false h = h
 
 -- a promotion by which none begins to drain

@@ -12,16 +12,19 @@ use Rattle.ev_types.specs.declared.rows.RowStatus.{RowStatus}
 use Rattle.ev_types.specs.declared.rows.RowStatus.TheVariants.{Warming, Active, Draining, Dropped}
 use Rattle.ev_types.specs.declared.rows.GenRow.{GenRow}
 use Rattle.ev_model.specs.World.{World}
+use Rattle.ev_model.specs.Watching.{dependencies_of}
 use Rattle.ev_generations.specs.Tables.{GenerationsParts, IsTable, is_number, row_in, numbers_of, without_row}
 use Rattle.ev_warming.specs.declared.manager.Manager.{Manager}
-use Rattle.ev_indexes.specs.Ready.{name_needed, is_limited_in, is_ready_in, is_due_found, is_due_at, IsNeedName}
+use Rattle.ev_indexes.specs.Ready.{is_ready_in, is_due_found, is_due_at}
 use Rattle.ev_indexes.specs.Addresses.{listens_at}
-use Rattle.ev_indexes.specs.Indexes.{depends_on, waits_limited, serves, warms, is_needed, numbers_where, holds}
+use Rattle.ev_indexes.specs.Indexes.{depends_on, waits, serves, warms, numbers_where, holds}
 use Rattle.ev_indexes.specs.Worlds.{rows_of_kind, StandsFor}
+use Rattle.ev_indexes.specs.Needs.{HaveNames, is_needed}
 use Rattle.ev_warming.specs.Changes.{is_over}
 use Rattle.ev_warming.specs.Forgetting.{is_need_of}
 use Rattle.ev_warming.specs.Managers.{IsKept}
 use Rattle.ev_indexes.proofs.WhereLemmas.{all-found}
+use Rattle.ev_indexes.proofs.WaitLemmas.{depends-waits}
 use Rattle.ev_warming.proofs.ForgottenLemmas.{both-same}
 
 -- a filter keeps rows apart, and what holds of each
@@ -127,7 +130,7 @@ module _ (m : Manager) (number : ℕ) (kept : IsKept m) (forgotten : m.stale ≡
   found n = (λ i. row_in n (rows i)) ∙ row_in-without number n m.state.table.rows
 
   dependent : (q : List ℕ) → depends_on q gone.0 ≡ false
-  dependent q = λ i. gone.2 i && is_needed q (name_needed gone.0.content)
+  dependent q = λ i. gone.2 i && is_needed q (dependencies_of gone.0.content)
 
   due : (n : ℕ) → is_due_at m.state.watches m.state.results n m.state.table.rows ≡ is_due_at m.state.watches m.state.results n table.rows
   due n = by (nat_eq number n) refl ∙ (λ i. is_due_found m.state.watches m.state.results (sym (found n) i))
@@ -174,14 +177,14 @@ module _ (m : Manager) (number : ℕ) (kept : IsKept m) (forgotten : m.stale ≡
       kinds = subst (AllByRecursion (λ (r : GenRow). r.kind ≡ m.state.kind)) (sym rows) (all-filter (λ (r : GenRow). r.kind ≡ m.state.kind) (λ (r : GenRow). not (is_number number r)) m.state.table.rows kept.indexed.kinds);
       active = λ q. kept.indexed.active q ∙ sym (fails (serves q) (λ i. (cold gone.0.status gone.2).1 i && bytes_eq gone.0.name q));
       warming = λ q. kept.indexed.warming q ∙ sym (fails (warms q) (λ i. (cold gone.0.status gone.2).0 i && bytes_eq gone.0.name q));
-      watchers = λ q. kept.indexed.watchers q ∙ sym (fails (depends_on q) (dependent q));
-      limited = λ q. kept.indexed.limited q ∙ sym (fails (waits_limited q) (λ i. dependent q i && is_limited_in gone.0.content));
+      unlimited = λ q. kept.indexed.unlimited q ∙ sym (fails (waits q false) (depends-waits q false gone.0 (dependent q)));
+      limited = λ q. kept.indexed.limited q ∙ sym (fails (waits q true) (depends-waits q true gone.0 (dependent q)));
       holders = λ a. kept.indexed.holders a ∙ sym (fails (holds a) (λ i. gone.2 i && listens_at a gone.0.content));
       due = λ n. kept.indexed.due n ∙ due n;
       drawn = λ n h above. kept.indexed.drawn n h (subst (λ k. k < n) made above);
     };
-    needs = subst (AllByRecursion (λ (r : GenRow). IsNeedName (name_needed r.content))) (sym rows)
-        (all-filter (λ (r : GenRow). IsNeedName (name_needed r.content)) (λ (r : GenRow). not (is_number number r)) m.state.table.rows kept.needs);
+    needs = subst (AllByRecursion (λ (r : GenRow). HaveNames (dependencies_of r.content))) (sym rows)
+        (all-filter (λ (r : GenRow). HaveNames (dependencies_of r.content)) (λ (r : GenRow). not (is_number number r)) m.state.table.rows kept.needs);
     tidy = record {
       marks = λ q none unneeded. kept.tidy.marks q (any-same q none) (λ i. is_need_of m.state.table.rows (forgotten i) q);
       results = λ n row h at absent lost. kept.tidy.results n row h (found-before (nat_eq number n) (row_in n m.state.table.rows) row (sym (found n) ∙ at)) absent lost;

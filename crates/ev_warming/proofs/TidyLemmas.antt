@@ -21,6 +21,7 @@ use Rattle.ev_model.specs.World.{opening}
 use Rattle.ev_model.specs.Rows.{is_row_of, with_statuses, replaced_status, removed_status, new_row, rows_with_new}
 use Rattle.ev_model.specs.Signals.{ended_status, rows_ended, is_draining}
 use Rattle.ev_model.specs.Tidy.{status_by}
+use Rattle.ev_model.specs.Watching.{dependencies_of}
 use Rattle.ev_endpoints.specs.Results.{result_in}
 use Rattle.ev_generations.specs.Tables.{is_number, row_in, numbers_of}
 use Rattle.ev_generations.proofs.TableLemmas.{row_in-with_statuses}
@@ -30,15 +31,17 @@ use Rattle.ev_indexes.specs.declared.state.State.{State}
 use Rattle.ev_indexes.specs.Due.{is_among}
 use Rattle.ev_indexes.specs.Kept.{Sets}
 use Rattle.ev_indexes.specs.Standings.{standing_in}
-use Rattle.ev_indexes.specs.Watched.{WatchesKept, unwatched, watch_in, with_arrival}
-use Rattle.ev_indexes.specs.Ready.{name_needed, assignment_in}
-use Rattle.ev_indexes.specs.Indexes.{IsIndexed, is_needed, depends_on, serves, warms, numbers_where, status_in, SameMarks}
+use Rattle.ev_indexes.specs.Watched.{WatchesKept, unwatched, watch_in, with_arrival, watchers_of}
+use Rattle.ev_indexes.specs.Ready.{assignment_in}
+use Rattle.ev_indexes.specs.Indexes.{IsIndexed, depends_on, serves, warms, numbers_where, status_in, SameMarks}
 use Rattle.ev_warming.specs.Promotion.{succeeded_by, rows_promoted}
 use Rattle.ev_warming.specs.Changes.{began_to_drain}
 use Rattle.ev_indexes.specs.Worlds.{StandsFor}
-use Rattle.ev_warming.specs.Forgetting.{need_in, is_need_of, keeps_result, IsUnheard, IsTidyBut}
+use Rattle.ev_indexes.specs.Needs.{is_needed}
+use Rattle.ev_warming.specs.Forgetting.{needs_in, is_need_of, keeps_result, IsUnheard, IsTidyBut}
 use Rattle.ev_indexes.proofs.WhereLemmas.{any-found, own-rows, among-where}
-use Rattle.ev_warming.proofs.ReadyLemmas.{Agrees, assignment_in-agrees}
+use Rattle.ev_indexes.proofs.WaitLemmas.{watchers-index, among-depends}
+use Rattle.ev_warming.proofs.ReadyLemmas.{Agrees, assignment_in-agrees, agrees-other}
 use Rattle.ev_warming.proofs.DrainLemmas.{status-promoted}
 
 -- a row that passes, found by its number
@@ -98,17 +101,17 @@ module _ (s t : State) (f : GenRow → RowStatus) (stale more : List ℕ) (apart
   row-after : (n : ℕ) → row_in n t.table.rows ≡ option_map (λ (r : GenRow). record r { status = f r }) (row_in n s.table.rows)
   row-after n = (λ i. row_in n (rows i)) ∙ row_in-with_statuses n f s.table.rows
 
-  need-after : (n : ℕ) → need_in (row_in n t.table.rows) ≡ need_in (row_in n s.table.rows)
-  need-after n = ap need_in (row-after n) ∙ by (row_in n s.table.rows)
+  need-after : (n : ℕ) → needs_in (row_in n t.table.rows) ≡ needs_in (row_in n s.table.rows)
+  need-after n = ap needs_in (row-after n) ∙ by (row_in n s.table.rows)
     where
-      by : (o : Option GenRow) → need_in (option_map (λ (r : GenRow). record r { status = f r }) o) ≡ need_in o
+      by : (o : Option GenRow) → needs_in (option_map (λ (r : GenRow). record r { status = f r }) o) ≡ needs_in o
       by None = refl
       by (Some r) = refl
 
   no-need : (q : List ℕ) → is_need_of t.table.rows (stale ++ more) q ≡ false → (is_need_of s.table.rows stale q ≡ false) × (is_need_of s.table.rows more q ≡ false)
   no-need q none =
       let both : (is_need_of s.table.rows stale q || is_need_of s.table.rows more q) ≡ false =
-      sym (list_any-append (λ n. is_needed q (need_in (row_in n s.table.rows))) stale more) ∙ sym (λ i. list_any (λ n. is_needed q (need-after n i)) (stale ++ more)) ∙ none in
+      sym (list_any-append (λ n. is_needed q (needs_in (row_in n s.table.rows))) stale more) ∙ sym (λ i. list_any (λ n. is_needed q (need-after n i)) (stale ++ more)) ∙ none in
       (none-first (is_need_of s.table.rows stale q) (is_need_of s.table.rows more q) both, none-second (is_need_of s.table.rows stale q) (is_need_of s.table.rows more q) both)
 
   idle-before : (q : List ℕ) → list_any (depends_on q) t.table.rows ≡ false → is_need_of s.table.rows more q ≡ false → list_any (depends_on q) s.table.rows ≡ false
@@ -121,15 +124,15 @@ module _ (s t : State) (f : GenRow → RowStatus) (stale more : List ℕ) (apart
           found : (row : GenRow) × (row_in row.number s.table.rows ≡ Some row) × (depends_on q row ≡ true)
           found = any-row (depends_on q) s.table.rows apart e
 
-          p : (is_live found.0.status ≡ true) × (is_needed q (name_needed found.0.content) ≡ true)
-          p = and_parts (is_live found.0.status) (is_needed q (name_needed found.0.content)) found.2
+          p : (is_live found.0.status ≡ true) × (is_needed q (dependencies_of found.0.content) ≡ true)
+          p = and_parts (is_live found.0.status) (is_needed q (dependencies_of found.0.content)) found.2
 
-          over : (r : GenRow) → row_in r.number s.table.rows ≡ Some r → is_live r.status ≡ true → is_needed q (name_needed r.content) ≡ true → (b : Bool) → is_live (f r) ≡ b → true ≡ false
+          over : (r : GenRow) → row_in r.number s.table.rows ≡ Some r → is_live r.status ≡ true → is_needed q (dependencies_of r.content) ≡ true → (b : Bool) → is_live (f r) ≡ b → true ≡ false
           over r at live needs true l =
               sym (any-found (depends_on q) r.number (record r { status = f r }) t.table.rows (row-after r.number ∙ (λ i. option_map (λ (r : GenRow). record r { status = f r }) (at i)))
               (λ i. l i && needs i)) ∙ none
           over r at live needs false l =
-              sym (any-among (λ n. is_needed q (need_in (row_in n s.table.rows))) more r.number (told r.number r at live l) ((λ i. is_needed q (need_in (at i))) ∙ needs)) ∙ unneeded
+              sym (any-among (λ n. is_needed q (needs_in (row_in n s.table.rows))) more r.number (told r.number r at live l) ((λ i. is_needed q (needs_in (at i))) ∙ needs)) ∙ unneeded
 
   pub tidy-statused : IsTidyBut t (stale ++ more)
   tidy-statused = record {
@@ -163,10 +166,10 @@ module _ (s t : State) (new : GenRow) (stale : List ℕ)
   row-more : (n : ℕ) → row_in n t.table.rows ≡ option_or (row_in n s.table.rows) (cond (nat_eq n new.number) (Some new) None)
   row-more n = (λ i. row_in n (rows i)) ∙ find-append (is_number n) s.table.rows (new ∷ [])
 
-  needs-more : (q : List ℕ) (n : ℕ) → is_needed q (need_in (row_in n s.table.rows)) ≡ true → is_needed q (need_in (row_in n t.table.rows)) ≡ true
-  needs-more q n h = ap (λ o. is_needed q (need_in o)) (row-more n) ∙ by (row_in n s.table.rows) h
+  needs-more : (q : List ℕ) (n : ℕ) → is_needed q (needs_in (row_in n s.table.rows)) ≡ true → is_needed q (needs_in (row_in n t.table.rows)) ≡ true
+  needs-more q n h = ap (λ o. is_needed q (needs_in o)) (row-more n) ∙ by (row_in n s.table.rows) h
     where
-      by : (o : Option GenRow) → is_needed q (need_in o) ≡ true → is_needed q (need_in (option_or o (cond (nat_eq n new.number) (Some new) None))) ≡ true
+      by : (o : Option GenRow) → is_needed q (needs_in o) ≡ true → is_needed q (needs_in (option_or o (cond (nat_eq n new.number) (Some new) None))) ≡ true
       by None h = absurd (true≢false (sym h))
       by (Some r) h = h
 
@@ -176,7 +179,7 @@ module _ (s t : State) (new : GenRow) (stale : List ℕ)
         unheard-same (watch_in s.watches q) (watch_in t.watches q) (marks q).0 (marks q).1 (marks q).2
         (tidy.marks q
         (none-first (list_any (depends_on q) s.table.rows) (list_any (depends_on q) (new ∷ [])) (sym (list_any-append (depends_on q) s.table.rows (new ∷ [])) ∙ (λ i. list_any (depends_on q) (sym rows i)) ∙ none))
-        (none-less (λ n. is_needed q (need_in (row_in n t.table.rows))) (λ n. is_needed q (need_in (row_in n s.table.rows))) (needs-more q) stale unneeded));
+        (none-less (λ n. is_needed q (needs_in (row_in n t.table.rows))) (λ n. is_needed q (needs_in (row_in n s.table.rows))) (needs-more q) stale unneeded));
     results = λ n row h at absent lost. (λ i. result_in (results i) n h) ∙ gone n row h (row_in n s.table.rows) refl (sym (row-more n) ∙ at) absent lost;
   }
     where
@@ -304,37 +307,37 @@ module _ (s t : State) (ready : GenRow → Bool) (drained stale : List ℕ) (x :
       tidy-statused s t status_of stale drained x.table.apart rows marks results over (λ row h. ends row.status (succeeded_by ready s.table.rows row) (ready row) h) tidy
 
 -- something came for a name: those that depend on it are told
-pub tidy-arrived : (s t : State) (name : List ℕ) (arrival : Arrival) (stale : List ℕ) → IsIndexed s → list_any (depends_on name) s.table.rows ≡ true → t.table ≡ s.table
-    → Sets unwatched s.watches t.watches name (with_arrival arrival (watch_in s.watches name)) → t.results ≡ s.results → IsTidyBut s stale
-    → IsTidyBut t (stale ++ (watch_in s.watches name).rows)
-tidy-arrived s t name arrival stale x watched table sets results tidy = record {
+pub tidy-arrived : (s t : State) (name : List ℕ) (made : ℕ) (arrival : Arrival) (stale : List ℕ) → IsIndexed s → list_any (depends_on name) s.table.rows ≡ true → t.table ≡ s.table
+    → Sets unwatched s.watches t.watches name (with_arrival made arrival (watch_in s.watches name)) → t.results ≡ s.results → IsTidyBut s stale
+    → IsTidyBut t (stale ++ (watchers_of (watch_in s.watches name)))
+tidy-arrived s t name made arrival stale x watched table sets results tidy = record {
   marks = λ q none unneeded. marks q ((λ i. list_any (depends_on q) (sym table i).rows) ∙ none) unneeded (bytes_eq name q) refl;
   results = λ n row h at absent lost. (λ i. result_in (results i) n h)
-      ∙ gone n row h ((λ i. row_in n (sym table i).rows) ∙ at) (sym (list_any-append (nat_eq n) stale (watch_in s.watches name).rows) ∙ absent) lost (is_live row.status) refl (is_needed name (name_needed row.content)) refl;
+      ∙ gone n row h ((λ i. row_in n (sym table i).rows) ∙ at) (sym (list_any-append (nat_eq n) stale (watchers_of (watch_in s.watches name))) ∙ absent) lost (is_live row.status) refl (is_needed name (dependencies_of row.content)) refl;
 }
   where
     same : (q : List ℕ) → bytes_eq name q ≡ false → watch_in t.watches q ≡ watch_in s.watches q
-    same q e = sets q ∙ (λ i. cond (e i) (with_arrival arrival (watch_in s.watches name)) (watch_in s.watches q))
+    same q e = sets q ∙ (λ i. cond (e i) (with_arrival made arrival (watch_in s.watches name)) (watch_in s.watches q))
 
-    marks : (q : List ℕ) → list_any (depends_on q) s.table.rows ≡ false → is_need_of t.table.rows (stale ++ (watch_in s.watches name).rows) q ≡ false → (b : Bool) → bytes_eq name q ≡ b → IsUnheard (watch_in t.watches q)
+    marks : (q : List ℕ) → list_any (depends_on q) s.table.rows ≡ false → is_need_of t.table.rows (stale ++ (watchers_of (watch_in s.watches name))) q ≡ false → (b : Bool) → bytes_eq name q ≡ b → IsUnheard (watch_in t.watches q)
     marks q none unneeded true e = absurd (true≢false (sym watched ∙ (λ i. list_any (depends_on ((bytes_decide name q).0 e i)) s.table.rows) ∙ none))
     marks q none unneeded false e =
         subst IsUnheard (sym (same q e))
         (tidy.marks q none
-        (none-first (is_need_of s.table.rows stale q) (is_need_of s.table.rows (watch_in s.watches name).rows q)
-        (sym (list_any-append (λ n. is_needed q (need_in (row_in n s.table.rows))) stale (watch_in s.watches name).rows)
-        ∙ (λ i. is_need_of (sym table i).rows (stale ++ (watch_in s.watches name).rows) q) ∙ unneeded)))
+        (none-first (is_need_of s.table.rows stale q) (is_need_of s.table.rows (watchers_of (watch_in s.watches name)) q)
+        (sym (list_any-append (λ n. is_needed q (needs_in (row_in n s.table.rows))) stale (watchers_of (watch_in s.watches name)))
+        ∙ (λ i. is_need_of (sym table i).rows (stale ++ (watchers_of (watch_in s.watches name))) q) ∙ unneeded)))
 
-    gone : (n : ℕ) (row : GenRow) (h : Host) → row_in n s.table.rows ≡ Some row → (is_among stale n || is_among (watch_in s.watches name).rows n) ≡ false → keeps_result t.watches h row ≡ false
-        → (l : Bool) → is_live row.status ≡ l → (needs : Bool) → is_needed name (name_needed row.content) ≡ needs → result_in s.results n h ≡ None
+    gone : (n : ℕ) (row : GenRow) (h : Host) → row_in n s.table.rows ≡ Some row → (is_among stale n || is_among (watchers_of (watch_in s.watches name)) n) ≡ false → keeps_result t.watches h row ≡ false
+        → (l : Bool) → is_live row.status ≡ l → (needs : Bool) → is_needed name (dependencies_of row.content) ≡ needs → result_in s.results n h ≡ None
     gone n row h at absent lost false l needs f =
-        tidy.results n row h at (none-first (is_among stale n) (is_among (watch_in s.watches name).rows n) absent) (λ i. l i && has_host h (assignment_in s.watches row.content))
+        tidy.results n row h at (none-first (is_among stale n) (is_among (watchers_of (watch_in s.watches name)) n) absent) (λ i. l i && has_host h (assignment_in s.watches row.content))
     gone n row h at absent lost true l true f =
-        absurd (true≢false (sym ((λ i. is_among (x.watchers name i) n) ∙ among-where (depends_on name) n row s.table.rows at (λ i. l i && f i))
-        ∙ none-second (is_among stale n) (is_among (watch_in s.watches name).rows n) absent))
+        absurd (true≢false (sym ((λ i. is_among (watchers-index s x name i) n) ∙ among-depends name n row s.table.rows at (λ i. l i && f i))
+        ∙ none-second (is_among stale n) (is_among (watchers_of (watch_in s.watches name)) n) absent))
     gone n row h at absent lost true l false f =
-        tidy.results n row h at (none-first (is_among stale n) (is_among (watch_in s.watches name).rows n) absent)
-        ((λ i. is_live row.status && has_host h (sym (assignment_in-agrees s.watches t.watches row.content (λ q needs. other q ((λ i. is_needed name (sym needs i)) ∙ f))) i)) ∙ lost)
+        tidy.results n row h at (none-first (is_among stale n) (is_among (watchers_of (watch_in s.watches name)) n) absent)
+        ((λ i. is_live row.status && has_host h (sym (assignment_in-agrees s.watches t.watches row.content (agrees-other s.watches t.watches name other (dependencies_of row.content) f)) i)) ∙ lost)
       where
         other : (q : List ℕ) → bytes_eq q name ≡ false → Agrees s.watches t.watches q
         other q e =

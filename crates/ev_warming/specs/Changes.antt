@@ -13,10 +13,10 @@ use Rattle.ev_model.specs.Verdicts.{items_named, is_among}
 use Rattle.ev_generations.specs.Tables.{row_in, with_status}
 use Rattle.ev_indexes.specs.declared.state.State.{State}
 use Rattle.ev_indexes.specs.Due.{is_among as among}
-use Rattle.ev_indexes.specs.Indexes.{status_in, name_in, depends_on, serves, warms, numbers_where}
+use Rattle.ev_indexes.specs.Indexes.{status_in, name_in, serves, warms, numbers_where}
 use Rattle.ev_indexes.specs.Ready.{is_ready_in, is_due_at}
 use Rattle.ev_indexes.specs.Reads.{names_watched}
-use Rattle.ev_indexes.specs.Watched.{watch_in}
+use Rattle.ev_indexes.specs.Watched.{watch_in, watchers_of}
 use Rattle.ev_warming.specs.Promotion.{rows_promoted, status_drained}
 
 -- the row of this number serves after, and it didn't serve before
@@ -82,13 +82,9 @@ ServesName number name s = option_to_list number ≡ numbers_where (serves name)
 abbrev pub WarmsUnder : Option ℕ → List ℕ → State → Type 0
 WarmsUnder number name s = option_to_list number ≡ numbers_where (warms name) s.table.rows
 
--- the numbers of the live rows that depend on the name
-abbrev pub dependents_in : State → List ℕ → List ℕ
-dependents_in s name = numbers_where (depends_on name) s.table.rows
-
 -- the numbers that are kept with the name: those of the generations that depend on it
 abbrev pub watchers_in : State → List ℕ → List ℕ
-watchers_in s name = (watch_in s.watches name).rows
+watchers_in s name = watchers_of (watch_in s.watches name)
 
 -- the rows once the name has come to its end
 abbrev pub EndsRows : State → State → List ℕ → Type 0

@@ -13,12 +13,7 @@ use Rattle.ev_indexes.specs.declared.state.State.{State}
 use Rattle.ev_indexes.specs.Due.{is_among}
 use Rattle.ev_indexes.specs.Watched.{WatchesKept}
 use Rattle.ev_indexes.specs.Ready.{takes_result}
-use Rattle.ev_indexes.specs.Indexes.{numbers_where}
-
--- a row is found, and it passes
-abbrev pub passes : (GenRow → Bool) → Option GenRow → Bool
-passes test None = false
-passes test (Some row) = test row
+use Rattle.ev_indexes.specs.Indexes.{passes, numbers_where}
 
 -- there is a row of this number, where there is a number, and it takes a result of the host
 abbrev pub takes_at : WatchesKept → Host → Option ℕ → List GenRow → Bool

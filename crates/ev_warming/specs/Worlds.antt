@@ -27,6 +27,10 @@ use Rattle.ev_warming.specs.Changes.{is_unlisted, status_left_by}
 abbrev pub Follows : State → State → (World → World) → Type 0
 Follows old new change = (world : World) → StandsFor old world → StandsFor new (change world)
 
+-- whatever world the first state stands for in which so many numbers were drawn, the second one stands for that world changed so
+abbrev pub FollowsAt : ℕ → State → State → (World → World) → Type 0
+FollowsAt made old new change = (world : World) → StandsFor old world → made ≡ world.made → StandsFor new (change world)
+
 -- whatever world the first state stands for in which so many numbers were drawn, the second one stands for that world changed so, and as
 -- many numbers were drawn in both
 abbrev pub FollowsDrawing : ℕ → State → State → (World → World) → Type 0
@@ -78,7 +82,7 @@ with_name_absent s response name world =
 -- the world once each watched name that a response removes is told of as absent
 abbrev pub with_names_absent : Kind → ResponseParts → World → World
 with_names_absent kind response world =
-    record world { arrivals = world.arrivals ++ map (arrived kind Absent) (absent_names kind response world) }
+    record world { arrivals = world.arrivals ++ map (arrived world.made kind Absent) (absent_names kind response world) }
 
 -- the world with a health result of a host of a cluster, for the rows that it means something to
 abbrev pub with_result : List ℕ → Host → Bool → World → World

@@ -9,7 +9,7 @@ ghost use Rattle.ev_indexes.specs.Indexes.{depends_on};
 ghost use Rattle.ev_indexes.specs.Worlds.{needs_of};
 ghost use Rattle.ev_warming.specs.Managers.{IsKept};
 ghost use Rattle.ev_warming.specs.Arrivals.{IsOnValue, AreOnValues};
-ghost use Rattle.ev_warming.specs.Worlds.{Follows, with_name_absent, with_names_absent, with_response, with_told};
+ghost use Rattle.ev_warming.specs.Worlds.{FollowsAt, with_name_absent, with_names_absent, with_response, with_told};
 
 use crate::Manager;
 use ev_generations::Steps;
@@ -21,11 +21,12 @@ use std::sync::ledger::Ledger;
 impl Manager {
     /// A response of what the manager's generations depend on, with the verdicts on its resources: a watched name that is removed
     /// is told of as absent; then, in order, each resource that is kept arrives, and one that is refused is told of where its
-    /// name is watched. Look-ups are counted: one for each generation that depends on a name that something came for. Without
-    /// memory nothing is promised.
+    /// name is watched; so many numbers were drawn by then. Look-ups are counted: one for each generation that depends on a name
+    /// that something came for, for each way in which it waits. Without memory nothing is promised.
     pub fn arrive_all<L: Ledger>(
         &mut self,
         alloc: Global,
+        made: u32,
         response: &Response,
         verdicts: &[Verdict],
         steps: &mut Steps<L>,
@@ -37,12 +38,13 @@ impl Manager {
         ensures kept { OnOk result (IsKept self.new) }
         ensures kind { OnOk result (self.new.state.kind ≡ self.old.state.kind) }
         ensures table { OnOk result (self.new.state.table ≡ self.old.state.table) }
-        // Whatever world the manager stood for, it stands for that world once the response's removals and resources are in.
-        ensures stands { OnOk result (Follows self.old.state self.new.state
+        // Whatever world the manager stood for in which so many numbers were drawn, it stands for that world once the response's
+        // removals and resources are in.
+        ensures stands { OnOk result (FollowsAt made self.old.state self.new.state
             (with_response (needs_of self.old.state.kind) verdicts.now response.now)) }
     {
-        self.tell_absences(alloc, response, steps)?;
-        self.take_values(alloc, response.items.as_slice(), verdicts, steps)?;
+        self.tell_absences(alloc, made, response, steps)?;
+        self.take_values(alloc, made, response.items.as_slice(), verdicts, steps)?;
         Ok(())
     }
 
@@ -50,6 +52,7 @@ impl Manager {
     fn tell_absences<L: Ledger>(
         &mut self,
         alloc: Global,
+        made: u32,
         response: &Response,
         steps: &mut Steps<L>,
     ) -> Result<(), AllocError>
@@ -57,7 +60,7 @@ impl Manager {
         ensures kept { OnOk result (IsKept self.new) }
         ensures kind { OnOk result (self.new.state.kind ≡ self.old.state.kind) }
         ensures table { OnOk result (self.new.state.table ≡ self.old.state.table) }
-        ensures stands { OnOk result (Follows self.old.state self.new.state
+        ensures stands { OnOk result (FollowsAt made self.old.state self.new.state
             (with_names_absent (needs_of self.old.state.kind) response.now)) }
     {
         if response.removed.is_empty() {
@@ -65,7 +68,7 @@ impl Manager {
         }
         let mentions = Mentions::of(alloc, response)?;
         for name in response.removed.as_slice() {
-            self.tell_absence(alloc, &mentions, name, steps)?;
+            self.tell_absence(alloc, made, &mentions, name, steps)?;
         }
         Ok(())
     }
@@ -74,6 +77,7 @@ impl Manager {
     fn tell_absence<L: Ledger>(
         &mut self,
         alloc: Global,
+        made: u32,
         mentions: &Mentions<'_>,
         name: &Text,
         steps: &mut Steps<L>,
@@ -83,19 +87,20 @@ impl Manager {
         ensures kept { OnOk result (IsKept self.new) }
         ensures kind { OnOk result (self.new.state.kind ≡ self.old.state.kind) }
         ensures table { OnOk result (self.new.state.table ≡ self.old.state.table) }
-        ensures stands { OnOk result (Follows self.old.state self.new.state
+        ensures stands { OnOk result (FollowsAt made self.old.state self.new.state
             (with_name_absent self.old.state mentions.now name.now)) }
     {
         if !mentions.is_removed(name.as_str()) {
             return Ok(());
         }
-        self.tell(alloc, name, &Arrival::Absent, steps)
+        self.tell(alloc, made, name, &Arrival::Absent, steps)
     }
 
     // Something came for a text, where it is a name that is watched.
     fn tell<L: Ledger>(
         &mut self,
         alloc: Global,
+        made: u32,
         name: &Text,
         arrival: &Arrival,
         steps: &mut Steps<L>,
@@ -104,11 +109,11 @@ impl Manager {
         ensures kept { OnOk result (IsKept self.new) }
         ensures kind { OnOk result (self.new.state.kind ≡ self.old.state.kind) }
         ensures table { OnOk result (self.new.state.table ≡ self.old.state.table) }
-        ensures stands { OnOk result (Follows self.old.state self.new.state
+        ensures stands { OnOk result (FollowsAt made self.old.state self.new.state
             (with_told self.old.state arrival.now name.now)) }
     {
         match Name::new(alloc, name.as_str()) {
-            Ok(name) => self.tell_name(alloc, &name, arrival, steps),
+            Ok(name) => self.tell_name(alloc, made, &name, arrival, steps),
             Err(NameError::Length) => Ok(()),
             Err(NameError::OutOfMemory) => Err(AllocError),
         }
@@ -118,6 +123,7 @@ impl Manager {
     fn tell_name<L: Ledger>(
         &mut self,
         alloc: Global,
+        made: u32,
         name: &Name,
         arrival: &Arrival,
         steps: &mut Steps<L>,
@@ -126,11 +132,11 @@ impl Manager {
         ensures kept { OnOk result (IsKept self.new) }
         ensures kind { OnOk result (self.new.state.kind ≡ self.old.state.kind) }
         ensures table { OnOk result (self.new.state.table ≡ self.old.state.table) }
-        ensures stands { OnOk result (Follows self.old.state self.new.state
+        ensures stands { OnOk result (FollowsAt made self.old.state self.new.state
             (with_told self.old.state arrival.now name.now)) }
     {
         if self.state.is_watched(name.as_str()) {
-            return self.arrive(alloc, name, arrival, steps);
+            return self.arrive(alloc, made, name, arrival, steps);
         }
         Ok(())
     }
@@ -139,6 +145,7 @@ impl Manager {
     fn take_values<L: Ledger>(
         &mut self,
         alloc: Global,
+        made: u32,
         items: &[Item],
         verdicts: &[Verdict],
         steps: &mut Steps<L>,
@@ -149,11 +156,11 @@ impl Manager {
         ensures kept { OnOk result (IsKept self.new) }
         ensures kind { OnOk result (self.new.state.kind ≡ self.old.state.kind) }
         ensures table { OnOk result (self.new.state.table ≡ self.old.state.table) }
-        ensures stands { OnOk result (Follows self.old.state self.new.state
+        ensures stands { OnOk result (FollowsAt made self.old.state self.new.state
             (add_items (needs_of self.old.state.kind) verdicts.now items.now)) }
     {
         for (place, item) in items.iter().enumerate() {
-            self.take_value(alloc, verdicts[place], item, steps)?;
+            self.take_value(alloc, made, verdicts[place], item, steps)?;
         }
         Ok(())
     }
@@ -162,6 +169,7 @@ impl Manager {
     fn take_value<L: Ledger>(
         &mut self,
         alloc: Global,
+        made: u32,
         verdict: Verdict,
         item: &Item,
         steps: &mut Steps<L>,
@@ -171,12 +179,12 @@ impl Manager {
         ensures kept { OnOk result (IsKept self.new) }
         ensures kind { OnOk result (self.new.state.kind ≡ self.old.state.kind) }
         ensures table { OnOk result (self.new.state.table ≡ self.old.state.table) }
-        ensures stands { OnOk result (Follows self.old.state self.new.state
+        ensures stands { OnOk result (FollowsAt made self.old.state self.new.state
             (add_item (needs_of self.old.state.kind) verdict item.now)) }
     {
         match verdict {
-            Verdict::Kept => self.keep_value(alloc, item, steps),
-            Verdict::Refused(_) => self.tell(alloc, &item.name, &Arrival::Bad, steps),
+            Verdict::Kept => self.keep_value(alloc, made, item, steps),
+            Verdict::Refused(_) => self.tell(alloc, made, &item.name, &Arrival::Bad, steps),
             _ => Ok(()),
         }
     }
@@ -185,6 +193,7 @@ impl Manager {
     fn keep_value<L: Ledger>(
         &mut self,
         alloc: Global,
+        made: u32,
         item: &Item,
         steps: &mut Steps<L>,
     ) -> Result<(), AllocError>
@@ -193,7 +202,7 @@ impl Manager {
         ensures kept { OnOk result (IsKept self.new) }
         ensures kind { OnOk result (self.new.state.kind ≡ self.old.state.kind) }
         ensures table { OnOk result (self.new.state.table ≡ self.old.state.table) }
-        ensures stands { OnOk result (Follows self.old.state self.new.state
+        ensures stands { OnOk result (FollowsAt made self.old.state self.new.state
             (add_item (needs_of self.old.state.kind) Kept item.now)) }
     {
         let Body::Good(content) = &item.body else {
@@ -201,6 +210,6 @@ impl Manager {
         };
         let name = item.resource_name(alloc)?;
         let arrival = Arrival::Value(content.copy(alloc)?);
-        self.arrive(alloc, &name, &arrival, steps)
+        self.arrive(alloc, made, &name, &arrival, steps)
     }
 }

@@ -9,18 +9,19 @@ ghost use Rattle.ev_types.specs.Items.{content_kind};
 ghost use Rattle.ev_types.specs.Statuses.{is_live, is_warming};
 ghost use Rattle.ev_generations.specs.Tables.{row_in, with_status};
 ghost use Rattle.ev_indexes.specs.Standings.{standing_in};
-ghost use Rattle.ev_indexes.specs.Ready.{name_needed, IsNeedName};
+ghost use Rattle.ev_indexes.specs.Needs.{HaveNames, need_at, places_of};
 ghost use Rattle.ev_indexes.specs.Due.{is_among};
 ghost use Rattle.ev_model.specs.Tidy.{promoted};
+ghost use Rattle.ev_model.specs.Watching.{dependencies_of};
 ghost use Rattle.ev_indexes.specs.Worlds.{needs_of};
 ghost use Rattle.ev_warming.specs.Promotion.{status_drained};
-ghost use Rattle.ev_indexes.specs.Indexes.{IsIndexed, SameMarks, depends_on, status_in, name_in};
-ghost use Rattle.ev_warming.specs.Arrivals.{Hears, UnwatchesNeed, WatchesNeed, with_arrived};
-ghost use Rattle.ev_warming.specs.Changes.{AddsRow, AppendsRow, AreDue, BeganToDrain, CameToServe, EndsRows, KeepsKnown, KeepsResults, LeavesNoneDue, dependents_in, promoted_by, rows_giving_way, rows_retired};
-ghost use Rattle.ev_warming.specs.Worlds.{Follows, FollowsDrawing, with_generation, with_rows_ended};
+ghost use Rattle.ev_indexes.specs.Indexes.{IsIndexed, SameMarks, depends_on, numbers_waiting, status_in, name_in};
+ghost use Rattle.ev_warming.specs.Arrivals.{Hears, UnwatchesNeeds, WatchesNeeds, with_arrived};
+ghost use Rattle.ev_warming.specs.Changes.{AddsRow, AppendsRow, AreDue, BeganToDrain, CameToServe, EndsRows, KeepsKnown, KeepsResults, LeavesNoneDue, promoted_by, rows_giving_way, rows_retired};
+ghost use Rattle.ev_warming.specs.Worlds.{Follows, FollowsAt, FollowsDrawing, with_generation, with_rows_ended};
 
 use ev_generations::Steps;
-use ev_indexes::{Standing, State, Watches, limited, needed, refresh};
+use ev_indexes::{Standing, State, Watches, need_at, place_count, refresh};
 use ev_types::{Arrival, Content, Gen, Name, Seq, TryCopy};
 use std::alloc::{AllocError, Global};
 use std::sync::ledger::Ledger;
@@ -32,11 +33,12 @@ pub struct Promoted {
     pub drained: Seq<Gen>,
 }
 
-/// Something came for a watched name: it is kept, and the rows that depend on the name are looked at anew, each once.
-/// Without memory nothing is promised of the state.
+/// Something came for a watched name when so many numbers were drawn: it is kept, and the rows that depend on the name are looked
+/// at anew, each once for each way in which it waits. Without memory nothing is promised of the state.
 pub(crate) fn arrive<L: Ledger>(
     state: &mut State,
     alloc: Global,
+    made: u32,
     name: &Name,
     arrival: &Arrival,
     steps: &mut Steps<L>,
@@ -44,14 +46,14 @@ pub(crate) fn arrive<L: Ledger>(
     requires indexed { IsIndexed state.old }
     requires watched { list_any (depends_on name.now) state.old.table.rows ≡ true }
     ensures indexed { OnOk result (IsIndexed state.new) }
-    ensures told { OnOk result (Hears state.old.watches state.new.watches name.now arrival.now) }
+    ensures told { OnOk result (Hears state.old.watches state.new.watches name.now made arrival.now) }
     ensures others { OnOk result (state.new ≡ record state.old { watches = state.new.watches; due = state.new.due }) }
-    ensures steps { OnOk result (steps.new ≡ steps.old + length (dependents_in state.old name.now)) }
-    // Whatever world the state stood for, it stands for that world with the arrival.
-    ensures stands { OnOk result (Follows state.old state.new
+    ensures steps { OnOk result (steps.new ≡ steps.old + length (numbers_waiting state.old.table.rows name.now)) }
+    // Whatever world the state stood for in which so many numbers were drawn, it stands for that world with the arrival.
+    ensures stands { OnOk result (FollowsAt made state.old state.new
         (with_arrived (needs_of state.old.kind) arrival.now name.now)) }
 {
-    state.watches.tell(alloc, name, arrival)?;
+    state.watches.tell(alloc, made, name, arrival)?;
     let Some(watch) = state.watches.get(name) else {
         unreachable!()
     };
@@ -60,9 +62,18 @@ pub(crate) fn arrive<L: Ledger>(
         &state.watches,
         &state.results,
         &mut state.due,
-        watch.rows.as_slice(),
+        watch.unlimited.as_slice(),
         steps,
-    )
+    )?;
+    refresh(
+        &state.table,
+        &state.watches,
+        &state.results,
+        &mut state.due,
+        watch.limited.as_slice(),
+        steps,
+    )?;
+    Ok(())
 }
 
 // A live row drains, or is dropped where it warmed.
@@ -217,7 +228,7 @@ pub(crate) fn add<L: Ledger>(
     ensures marks { OnOk result (SameMarks state.old.watches state.new.watches) }
     ensures others { OnOk result (KeepsResults state.old state.new) }
     ensures steps { OnOk result (steps.new ≤ steps.old + 2) }
-    ensures needs { OnOk result (IsNeedName (name_needed content)) }
+    ensures needs { OnOk result (HaveNames (dependencies_of content)) }
     // Whatever world the state stood for in which no other number was drawn, it stands for that world with the new generation.
     ensures stands { OnOk result (FollowsDrawing state.old.table.made state.old state.new
         (with_generation state.old.kind name content)) }
@@ -293,7 +304,7 @@ fn append<L: Ledger>(
     ensures marks { OnOk result (SameMarks state.old.watches state.new.watches) }
     ensures others { OnOk result (KeepsResults state.old state.new) }
     ensures steps { OnOk result (steps.new ≡ steps.old + 1) }
-    ensures needs { OnOk result (IsNeedName (name_needed content)) }
+    ensures needs { OnOk result (HaveNames (dependencies_of content)) }
 {
     let active = state.names.standing(&name).active;
     let number = state
@@ -346,10 +357,21 @@ fn left(standing: Standing, warms: bool) -> Standing
 
 // A generation of this content no longer depends on anything.
 fn unwatch(watches: &mut Watches, content: &Content, number: Gen)
-    ensures { UnwatchesNeed watches.old watches.new number content.now }
+    ensures { UnwatchesNeeds watches.old watches.new number (dependencies_of content.now) }
 {
-    if let Some(name) = needed(content) {
-        watches.unwatch(name, number);
+    for place in 0..place_count(content) {
+        unwatch_at(watches, content, place, number);
+    }
+}
+
+// It no longer depends on what stands at a place.
+fn unwatch_at(watches: &mut Watches, content: &Content, place: usize, number: Gen)
+    requires within { place < length (places_of content.now) }
+    ensures { UnwatchesNeeds watches.old watches.new number (option_to_list (need_at (places_of content.now) place)) }
+{
+    match need_at(content, place) {
+        Some(need) => watches.unwatch(need.name, number),
+        None => {}
     }
 }
 
@@ -360,11 +382,30 @@ fn watch(
     content: &Content,
     number: Gen,
 ) -> Result<(), AllocError>
-    ensures watched { OnOk result (WatchesNeed watches.old watches.new number content.now) }
-    ensures named { IsNeedName (name_needed content.now) }
+    ensures watched { OnOk result (WatchesNeeds watches.old watches.new number (dependencies_of content.now)) }
+    ensures named { OnOk result (HaveNames (dependencies_of content.now)) }
 {
-    match needed(content) {
-        Some(name) => watches.watch(alloc, name, number, limited(content)),
+    for place in 0..place_count(content) {
+        watch_at(watches, alloc, content, place, number)?;
+    }
+    Ok(())
+}
+
+// It depends on what stands at a place.
+fn watch_at(
+    watches: &mut Watches,
+    alloc: Global,
+    content: &Content,
+    place: usize,
+    number: Gen,
+) -> Result<(), AllocError>
+    requires within { place < length (places_of content.now) }
+    ensures watched { OnOk result (WatchesNeeds watches.old watches.new number
+        (option_to_list (need_at (places_of content.now) place))) }
+    ensures named { OnOk result (HaveNames (option_to_list (need_at (places_of content.now) place))) }
+{
+    match need_at(content, place) {
+        Some(need) => watches.watch(alloc, need.name, number, need.limited),
         None => Ok(()),
     }
 }

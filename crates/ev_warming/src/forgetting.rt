@@ -3,20 +3,21 @@
 //! generations that retired, and those whose name something came for. A name that may have to go is one of theirs, so no list
 //! of names is kept.
 
-ghost use Rattle.std.specs.Prelude.{◌≡◌, ◌+◌, false, Some, nat_eq, [], length, OnOk};
-ghost use Rattle.ev_model.specs.Watching.{is_by_name};
+ghost use Rattle.std.specs.Prelude.{◌≡◌, ◌+◌, ◌<◌, false, not, [], length, option_to_list, OnOk};
+ghost use Rattle.ev_model.specs.Watching.{dependencies_of, is_by_name};
 ghost use Rattle.ev_model.specs.Warming.{rows_in};
 ghost use Rattle.ev_endpoints.specs.Results.{Trims};
-ghost use Rattle.ev_indexes.specs.Watched.{watch_in};
-ghost use Rattle.ev_indexes.specs.Ready.{name_needed, assignment_in};
+ghost use Rattle.ev_indexes.specs.Watched.{watch_in, has_watcher};
+ghost use Rattle.ev_indexes.specs.Needs.{need_at, places_of};
+ghost use Rattle.ev_indexes.specs.Ready.{assignment_in};
 ghost use Rattle.ev_indexes.specs.Indexes.{IsIndexed};
-ghost use Rattle.ev_warming.specs.Forgetting.{IsTidyBut, ForgetsNeed, ForgetsNeedOf, TrimsRow, TrimsRowOf};
+ghost use Rattle.ev_warming.specs.Forgetting.{IsTidyBut, ForgetsIdle, ForgetsNeeds, ForgetsNeedsOf, TrimsRow, TrimsRowOf};
 ghost use Rattle.ev_warming.specs.Changes.{KeepsTable};
 ghost use Rattle.ev_warming.specs.Worlds.{Follows, without_unneeded};
 
 use ev_endpoints::Endpoints;
 use ev_generations::Steps;
-use ev_indexes::{State, Watches, needed};
+use ev_indexes::{State, Watches, need_at, place_count};
 use ev_types::{Content, Discovery, Gen, GenRow, Name};
 use std::alloc::{AllocError, Global};
 use std::sync::ledger::Ledger;
@@ -47,7 +48,7 @@ pub(crate) fn forget<L: Ledger>(
     Ok(())
 }
 
-// Forgets what nobody needs any more of the generation of this number and of the name that it depends on.
+// Forgets what nobody needs any more of the generation of this number and of the names that it depends on.
 fn forget_row<L: Ledger>(
     state: &mut State,
     alloc: Global,
@@ -56,7 +57,7 @@ fn forget_row<L: Ledger>(
 ) -> Result<(), AllocError>
     requires indexed { IsIndexed state.old }
     ensures indexed { OnOk result (IsIndexed state.new) }
-    ensures watches { OnOk result (ForgetsNeedOf state.old state.new number) }
+    ensures watches { OnOk result (ForgetsNeedsOf state.old state.new number) }
     ensures results { OnOk result (TrimsRowOf state.old state.new number) }
     ensures others { OnOk result (KeepsTable state.old state.new) }
     ensures steps { OnOk result (steps.new ≡ steps.old + 1) }
@@ -65,7 +66,7 @@ fn forget_row<L: Ledger>(
         return Ok(());
     };
     trim(&state.watches, &mut state.results, alloc, row)?;
-    forget_need(&mut state.watches, &row.content);
+    forget_needs(&mut state.watches, &row.content);
     Ok(())
 }
 
@@ -102,6 +103,10 @@ fn trim_hosts(
     match &cluster.get().discovery {
         Discovery::Static(rows) => results.trim(alloc, number, rows),
         Discovery::Eds { service, .. } => trim_value(watches, results, alloc, number, service),
+        Discovery::Elsewhere => {
+            results.forget(number);
+            Ok(())
+        }
     }
 }
 
@@ -128,30 +133,42 @@ fn trim_value(
     }
 }
 
-// Forgets what came for the name that a generation of this content depends on, where no live one does.
-fn forget_need(watches: &mut Watches, content: &Content)
-    ensures { ForgetsNeed watches.old watches.new (name_needed content.now) }
+// Forgets what came for the names that a generation of this content depends on, where no live one does.
+fn forget_needs(watches: &mut Watches, content: &Content)
+    ensures { ForgetsNeeds watches.old watches.new (dependencies_of content.now) }
 {
-    if let Some(name) = needed(content) {
-        forget_idle(watches, name);
+    for place in 0..place_count(content) {
+        forget_need(watches, content, place);
+    }
+}
+
+// The same of the name that it depends on at a place.
+fn forget_need(watches: &mut Watches, content: &Content, place: usize)
+    requires within { place < length (places_of content.now) }
+    ensures { ForgetsNeeds watches.old watches.new (option_to_list (need_at (places_of content.now) place)) }
+{
+    match need_at(content, place) {
+        Some(need) => forget_idle(watches, need.name),
+        None => {}
     }
 }
 
 // Forgets what came for a name that no live generation depends on.
 fn forget_idle(watches: &mut Watches, name: &Name)
-    ensures { ForgetsNeed watches.old watches.new (Some name.now) }
+    ensures { ForgetsIdle watches.old watches.new name.now }
 {
-    if is_idle(watches, name) {
-        watches.forget(name);
+    if !is_idle(watches, name) {
+        return;
     }
+    watches.forget(name);
 }
 
 // Whether no live generation depends on a name.
 fn is_idle(watches: &Watches, name: &Name) -> bool
-    ensures { result ≡ nat_eq (length (watch_in watches.now name.now).rows) 0 }
+    ensures { result ≡ not (has_watcher (watch_in watches.now name.now)) }
 {
     match watches.get(name) {
-        Some(watch) => watch.rows.len() == 0,
+        Some(watch) => !watch.has_watcher(),
         None => true,
     }
 }

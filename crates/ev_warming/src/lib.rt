@@ -1,5 +1,5 @@
 //! Warming: what changes the generations of one kind. A generation that warms waits, as an init manager of Envoy for its init
-//! targets, for a word on the name that it depends on and for a first health result of each of its hosts; then it serves in
+//! targets, for a word on each name that it depends on and for a first health result of each of its hosts; then it serves in
 //! place of the one before it. A `Manager` takes responses, arrivals, health results and ends; promotion and then forgetting
 //! follow each of them. The kind is a value, so that clusters and listeners share all of it.
 //!

@@ -5,16 +5,16 @@ ghost use Rattle.std.specs.List.{list_any};
 ghost use Rattle.ev_model.specs.World.{opening};
 ghost use Rattle.ev_model.specs.Watching.{is_by_name};
 ghost use Rattle.ev_model.specs.Tidy.{promoted};
-ghost use Rattle.ev_indexes.specs.Indexes.{depends_on};
+ghost use Rattle.ev_indexes.specs.Indexes.{depends_on, numbers_waiting};
 ghost use Rattle.ev_indexes.specs.Worlds.{StandsFor, needs_of};
 ghost use Rattle.ev_warming.specs.Arrivals.{with_arrived};
-ghost use Rattle.ev_warming.specs.Changes.{AreDue, BeganToDrain, CameToServe, EndsRows, ServesName, WarmsUnder, WatchesTheSame, dependents_in, watchers_in};
-ghost use Rattle.ev_warming.specs.Worlds.{Follows, with_rows_ended, without_unneeded};
+ghost use Rattle.ev_warming.specs.Changes.{AreDue, BeganToDrain, CameToServe, EndsRows, ServesName, WarmsUnder, WatchesTheSame, watchers_in};
+ghost use Rattle.ev_warming.specs.Worlds.{Follows, FollowsAt, with_rows_ended, without_unneeded};
 
 use crate::changes::{self, Promoted, put_one};
 use crate::forgetting::forget;
 use ev_generations::Steps;
-use ev_indexes::{Standing, State};
+use ev_indexes::{Standing, State, put_all};
 use ev_types::{Arrival, Gen, Kind, Name, Seq, TryCopy};
 use std::alloc::{AllocError, Global};
 use std::mem;
@@ -48,11 +48,12 @@ impl Manager {
         }
     }
 
-    /// Something came for a name that a live generation depends on. Each that depends on it is looked at once. Without memory
-    /// nothing is promised.
+    /// Something came for a name that a live generation depends on, when so many numbers were drawn. Each that depends on it is
+    /// looked at once for each way in which it waits. Without memory nothing is promised.
     pub fn arrive<L: Ledger>(
         &mut self,
         alloc: Global,
+        made: u32,
         name: &Name,
         arrival: &Arrival,
         steps: &mut Steps<L>,
@@ -62,13 +63,13 @@ impl Manager {
         ensures kept { OnOk result (IsKept self.new) }
         ensures kind { OnOk result (self.new.state.kind ≡ self.old.state.kind) }
         ensures table { OnOk result (self.new.state.table ≡ self.old.state.table) }
-        ensures steps { OnOk result (steps.new ≡ steps.old + length (dependents_in self.old.state name.now)) }
-        // Whatever world the manager stood for, it stands for that world with the arrival.
-        ensures stands { OnOk result (Follows self.old.state self.new.state
+        ensures steps { OnOk result (steps.new ≡ steps.old + length (numbers_waiting self.old.state.table.rows name.now)) }
+        // Whatever world the manager stood for in which so many numbers were drawn, it stands for that world with the arrival.
+        ensures stands { OnOk result (FollowsAt made self.old.state self.new.state
             (with_arrived (needs_of self.old.state.kind) arrival.now name.now)) }
     {
         self.touch(name)?;
-        changes::arrive(&mut self.state, alloc, name, arrival, steps)
+        changes::arrive(&mut self.state, alloc, made, name, arrival, steps)
     }
 
     // The next forgetting looks at the generations that depend on a name.
@@ -79,7 +80,7 @@ impl Manager {
         let Some(watch) = self.state.watches.get(name) else {
             return Ok(());
         };
-        put_all(&mut self.stale, watch.rows.as_slice())
+        watch.put_watchers(&mut self.stale)
     }
 
     /// What a name stands for has come to its end, or is removed: the generation that warms under it is dropped, and the one that
@@ -161,14 +162,4 @@ impl TryCopy for Manager {
             stale: self.stale.copy(alloc)?,
         })
     }
-}
-
-// Puts numbers to the others.
-fn put_all(numbers: &mut Seq<Gen>, more: &[Gen]) -> Result<(), AllocError>
-    ensures { OnOk result (numbers.new ≡ numbers.old ++ more.now) }
-{
-    for number in more {
-        numbers.push(*number)?;
-    }
-    Ok(())
 }

@@ -1,12 +1,12 @@
 use Rattle.std.proofs.Common.{◌≡◌, ◌∙◌, ◌+◌, ◌++◌, [], ◌∷◌, Some, cond}
 use Rattle.std.specs.Str.{bytes_eq}
 use Rattle.ev_model.specs.Rows.{new_row}
+use Rattle.ev_model.specs.Watching.{dependencies_of}
 use Rattle.ev_indexes.specs.Addresses.{listens_at, numbers_at}
 use Rattle.ev_indexes.specs.Due.{is_among}
-use Rattle.ev_indexes.specs.Ready.{name_needed, is_limited_in, is_due_at}
+use Rattle.ev_indexes.specs.Ready.{is_due_at}
 use Rattle.ev_indexes.specs.Standings.{standing_in}
-use Rattle.ev_indexes.specs.Watched.{watch_in, watched_too}
-use Rattle.ev_indexes.specs.Indexes.{is_needed}
+use Rattle.ev_indexes.specs.Watched.{watch_in, watched_for}
 use Rattle.ev_warming.proofs.AddLemmas.{indexed-added}
 use Rattle.ev_warming.proofs.changes.append.Goals as goal
 
@@ -23,7 +23,7 @@ returns-clause-indexed g c =
     c.enter.new.self
     (λ q. c.in_ok-enter.ensures.ok q ∙ (λ i. cond (bytes_eq name q) (record { active = (c.standing-active.ensures i).active; warming = Some (number i) }) (standing_in s.names q)))
     c.watch.new.watches
-    (λ q. c.in_ok-watch.ensures.watched q ∙ (λ i. cond (is_needed q (name_needed content)) (watched_too (number i) (is_limited_in content) (watch_in s.watches q)) (watch_in s.watches q)))
+    (λ q. c.in_ok-watch.ensures.watched q ∙ (λ i. watched_for (number i) q (dependencies_of content) (watch_in s.watches q)))
     c.hold.new.self
     (λ a. c.in_ok-hold.ensures a ∙ (λ i. numbers_at s.addresses a ++ cond (listens_at a content) (number i ∷ []) []))
     c.refresh.new.due

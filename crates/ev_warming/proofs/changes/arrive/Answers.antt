@@ -1,26 +1,56 @@
-use Rattle.std.proofs.Common.{◌≡◌, ◌∙◌, cond, sym, Some}
+use Rattle.std.proofs.Common.{◌≡◌, ◌∙◌, ◌||◌, ◌+◌, ◌++◌, ℕ, Bool, true, false, cond, List, length, refl, sym, ap, Some, arith, length-append}
+use Rattle.std.proofs.lemmas.List.Folds.{list_any-append}
+use Rattle.std.specs.Prelude.{nat_eq}
+use Rattle.std.specs.Str.{bytes_eq}
 use Rattle.ev_indexes.specs.Due.{is_among}
+use Rattle.ev_indexes.specs.Indexes.{numbers_waiting}
 use Rattle.ev_indexes.specs.Ready.{is_due_at}
-use Rattle.ev_indexes.specs.Watched.{watch_in, unwatched}
+use Rattle.ev_indexes.specs.Watched.{watch_in, watchers_of, unwatched, with_arrival}
 use Rattle.ev_indexes.proofs.KeptLemmas.{kept_at-found}
-use Rattle.ev_warming.proofs.IndexLemmas.{watched-some, indexed-arrived, on_ok}
+use Rattle.ev_warming.proofs.IndexLemmas.{watched-some, indexed-arrived, waiting-after}
 use Rattle.ev_warming.proofs.ArrivalLemmas.{arrived-stands}
 use Rattle.ev_warming.proofs.changes.arrive.Goals as goal
 
 pub tell-requires : goal.tell-requires
 tell-requires g c = watched-some c.args.state.now c.args.name.now c.requires.indexed c.requires.watched
 
+-- to look at some and then at others is to look at all of them
+both-looked : (a b : List ℕ) (n : ℕ) (due was : Bool) → cond (is_among b n) due (cond (is_among a n) due was) ≡ cond (is_among (a ++ b) n) due was
+both-looked a b n due was = by (is_among a n) (is_among b n) ∙ (λ i. cond (sym (list_any-append (nat_eq n) a b) i) due was)
+  where
+    by : (x y : Bool) → cond y due (cond x due was) ≡ cond (x || y) due was
+    by true true = refl
+    by true false = refl
+    by false y = refl
+
 pub returns-clause-indexed : goal.returns-clause-indexed
 returns-clause-indexed g c =
     let s = c.args.state.now in
     let watches = c.tell.new.self in
-    let rows : c.as_slice.result.now ≡ (watch_in watches c.args.name.now).rows =
-    c.as_slice.ensures.elements ∙ (λ i. (sym (kept_at-found unwatched watches c.args.name.now (Some c.in-Some.watch.now) (sym c.in-Some.ensures)) i).rows) in
-    on_ok c.refresh.result c.refresh.ensures.due (λ looked.
-    indexed-arrived s c.args.name.now c.args.arrival.now watches c.refresh.new.due c.requires.indexed c.in_ok-tell.ensures
-    (λ n. looked n ∙ (λ i. cond (is_among (rows i) n) (is_due_at watches s.results n s.table.rows) (is_among s.due n))))
+    let watch = c.in-Some.watch.now in
+    let found : watch_in watches c.args.name.now ≡ watch = kept_at-found unwatched watches c.args.name.now (Some watch) (sym c.in-Some.ensures) in
+    indexed-arrived s c.args.name.now c.args.made c.args.arrival.now watches c.requires.indexed c.in_ok-tell.ensures c.refresh-2.new.due
+    (λ n.
+    c.in_ok-refresh-2.ensures.due n
+    ∙ (λ i. cond (is_among (c.as_slice-2.ensures.elements i) n) (is_due_at watches s.results n s.table.rows) (c.in_ok-refresh.ensures.due n i))
+    ∙ (λ i. cond (is_among watch.limited n) (is_due_at watches s.results n s.table.rows) (cond (is_among (c.as_slice.ensures.elements i) n) (is_due_at watches s.results n s.table.rows) (is_among s.due n)))
+    ∙ both-looked watch.unlimited watch.limited n (is_due_at watches s.results n s.table.rows) (is_among s.due n)
+    ∙ (λ i. cond (is_among (watchers_of (sym found i)) n) (is_due_at watches s.results n s.table.rows) (is_among s.due n)))
+
+pub returns-clause-steps : goal.returns-clause-steps
+returns-clause-steps g c =
+    let s = c.args.state.now in
+    let watches = c.tell.new.self in
+    let watch = c.in-Some.watch.now in
+    let found : watch_in watches c.args.name.now ≡ watch = kept_at-found unwatched watches c.args.name.now (Some watch) (sym c.in-Some.ensures) in
+    let all : length (watch.unlimited ++ watch.limited) ≡ length (numbers_waiting s.table.rows c.args.name.now) =
+    (λ i. length (watchers_of (sym found i))) ∙ ap length (waiting-after s c.args.name.now c.args.made c.args.arrival.now watches c.requires.indexed c.in_ok-tell.ensures) in
+    let first : length c.as_slice.result.now ≡ length watch.unlimited = ap length c.as_slice.ensures.elements in
+    let second : length c.as_slice-2.result.now ≡ length watch.limited = ap length c.as_slice-2.ensures.elements in
+    omega (arith, all, first, second, length-append watch.unlimited watch.limited, c.in_ok-refresh.ensures.steps, c.in_ok-refresh-2.ensures.steps)
 
 pub returns-clause-stands : goal.returns-clause-stands
-returns-clause-stands g c =
-    on_ok c.refresh.result c.refresh.ensures.due (λ looked world stands.
-    arrived-stands c.args.state.now world stands c.args.name.now c.args.arrival.now c.tell.new.self c.in_ok-tell.ensures c.refresh.new.due)
+returns-clause-stands g c = λ world stands drawn.
+    let s = c.args.state.now in
+    arrived-stands s world stands c.args.name.now c.args.arrival.now c.tell.new.self
+    (λ q. c.in_ok-tell.ensures q ∙ (λ i. cond (bytes_eq c.args.name.now q) (with_arrival (drawn i) c.args.arrival.now (watch_in s.watches c.args.name.now)) (watch_in s.watches q))) c.refresh-2.new.due

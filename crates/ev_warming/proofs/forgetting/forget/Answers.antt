@@ -6,9 +6,9 @@ use Rattle.ev_generations.specs.Tables.{row_in}
 use Rattle.ev_indexes.specs.declared.state.State.{State}
 use Rattle.ev_indexes.specs.Due.{is_among}
 use Rattle.ev_indexes.specs.Watched.{unwatched, watch_in}
-use Rattle.ev_indexes.specs.Indexes.{is_needed}
 use Rattle.ev_indexes.specs.Worlds.{StandsFor}
-use Rattle.ev_warming.specs.Forgetting.{need_in, is_need_of, is_idle, loses_result, IsTidyBut}
+use Rattle.ev_indexes.specs.Needs.{is_needed}
+use Rattle.ev_warming.specs.Forgetting.{needs_in, is_need_of, is_idle, loses_result, IsTidyBut}
 use Rattle.ev_warming.proofs.ForgettingLemmas.{watch-more, result-more, tidy-forgot}
 use Rattle.ev_warming.proofs.ForgottenLemmas.{forgot-stands}
 use Rattle.ev_warming.proofs.forgetting.forget.Goals as goal
@@ -25,7 +25,7 @@ loop-number-preserved g c =
       indexed = e.indexed;
       others = e.others ∙ (λ j. record (i.others j) { watches = t.watches; results = t.results });
       watches = watch-more s0.table.rows s0.watches s.watches t.watches c.args.stale.now c.loop-number.number-index n0 c.loop-number-test.true c.number-item.is i.watches
-          (λ q. e.watches q ∙ (λ j. cond (is_needed q (need_in (row_in n0 (i.others j).table.rows)) && is_idle (i.others j).table.rows q) unwatched (watch_in s.watches q)));
+          (λ q. e.watches q ∙ (λ j. cond (is_needed q (needs_in (row_in n0 (i.others j).table.rows)) && is_idle (i.others j).table.rows q) unwatched (watch_in s.watches q)));
       results = result-more s0.table.rows s0.watches s.watches s0.results s.results t.results c.args.stale.now c.loop-number.number-index n0 c.loop-number-test.true c.number-item.is i.watches i.results
           (λ n h. e.results n h ∙ (λ j. cond (nat_eq n0 n && loses_result s.watches h (row_in n (i.others j).table.rows)) None (result_in s.results n h)));
       steps = omega (arith, i.steps, e.steps);

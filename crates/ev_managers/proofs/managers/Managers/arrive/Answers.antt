@@ -6,7 +6,7 @@ use Rattle.ev_indexes.specs.Worlds.{needs_of}
 use Rattle.ev_model.specs.Watching.{is_by_name}
 use Rattle.ev_warming.specs.Arrivals.{with_arrived}
 use Rattle.ev_warming.specs.Managers.{IsKept}
-use Rattle.ev_warming.specs.Worlds.{Follows}
+use Rattle.ev_warming.specs.Worlds.{FollowsAt}
 use Rattle.ev_warming.specs.declared.manager.Manager.{Manager}
 use Rattle.ev_managers.specs.Managers.{manager_of}
 use Rattle.ev_managers.proofs.FrameLemmas.{arrival-stands, kept-of}
@@ -24,5 +24,5 @@ pub returns-clause-stands : goal.returns-clause-stands
 returns-clause-stands g c =
     let watched = and_parts (is_by_name c.args.kind) (list_any (depends_on c.args.name.now) (manager_of c.args.self.now c.args.kind).state.table.rows) c.requires.watched in
     arrival-stands c.args.self.now c.args.kind c.arrive.new.self c.args.arrival.now c.args.name.now c.requires.kept watched.0
-    (subst (λ (o : Manager). Follows o.state c.arrive.new.self.state (with_arrived (needs_of o.state.kind) c.args.arrival.now c.args.name.now))
+    (subst (λ (o : Manager). FollowsAt c.args.self.now.made o.state c.arrive.new.self.state (with_arrived (needs_of o.state.kind) c.args.arrival.now c.args.name.now))
     c.of_mut-own.ensures.value c.in_ok-arrive.ensures.stands)

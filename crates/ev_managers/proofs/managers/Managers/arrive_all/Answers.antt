@@ -3,7 +3,7 @@ use Rattle.ev_types.specs.declared.contents.Kind.{Kind}
 use Rattle.ev_warming.specs.Arrivals.{AreOnValues}
 use Rattle.ev_warming.specs.Managers.{IsKept}
 use Rattle.ev_indexes.specs.Worlds.{needs_of}
-use Rattle.ev_warming.specs.Worlds.{Follows, with_response}
+use Rattle.ev_warming.specs.Worlds.{FollowsAt, with_response}
 use Rattle.ev_warming.specs.declared.manager.Manager.{Manager}
 use Rattle.ev_managers.proofs.FrameLemmas.{kept-of, needs-back, values-stand}
 use Rattle.ev_managers.proofs.managers.Managers.arrive_all.Goals as goal
@@ -23,5 +23,5 @@ arrive_all-requires-clause-on_values g c =
 pub returns-clause-stands : goal.returns-clause-stands
 returns-clause-stands g c =
     values-stand c.args.self.now c.args.kind c.arrive_all.new.self c.args.response.now c.args.verdicts.now c.requires.kept c.requires.by_name (c.requires.given c.requires.by_name)
-    (subst (λ (o : Manager). Follows o.state c.arrive_all.new.self.state (with_response (needs_of o.state.kind) c.args.verdicts.now c.args.response.now))
+    (subst (λ (o : Manager). FollowsAt c.args.self.now.made o.state c.arrive_all.new.self.state (with_response (needs_of o.state.kind) c.args.verdicts.now c.args.response.now))
     c.of_mut-own.ensures.value c.in_ok-arrive_all.ensures.stands)

@@ -29,14 +29,14 @@ arrive-requires-clause-watched g c =
 pub returns-then-not-timeout_due : goal.returns-then-not-timeout_due
 returns-then-not-timeout_due g c = λ world follows.
     where_false c.args.self.now Ignored c.none.result world (is_awaited world.arrivals world.rows c.args.kind c.args.name.now)
-    (moved world (record world { arrivals = world.arrivals ++ arrived c.args.kind TimedOut c.args.name.now ∷ [] })) (world, Ignored)
+    (moved world (record world { arrivals = world.arrivals ++ arrived world.made c.args.kind TimedOut c.args.name.now ∷ [] })) (world, Ignored)
     (sym (due-awaited c.args.self.now.managers c.args.kind c.of.result.now c.timeout_due.result c.args.name.now world c.of.ensures c.requires.kept c.requires.by_name follows.stands.managers c.timeout_due.ensures.world)
     ∙ c.if-not-timeout_due.true)
     (ignores c.args.self.now c.none.result world c.none.ensures c.requires.kept c.requires.forgotten follows)
 
 pub returns : goal.returns
 returns g c = λ world follows.
-    let after : World = record world { arrivals = world.arrivals ++ arrived c.args.kind TimedOut c.args.name.now ∷ [] } in
+    let after : World = record world { arrivals = world.arrivals ++ arrived world.made c.args.kind TimedOut c.args.name.now ∷ [] } in
     where_true c.finish.new.self c.in_ok-told.told.0 c.in_ok-told.told.1 world (is_awaited world.arrivals world.rows c.args.kind c.args.name.now) (moved world after) (world, Ignored)
     (sym (due-awaited c.args.self.now.managers c.args.kind c.of.result.now c.timeout_due.result c.args.name.now world c.of.ensures c.requires.kept c.requires.by_name follows.stands.managers c.timeout_due.ensures.world)
     ∙ c.if-not-timeout_due.false)

@@ -1,11 +1,11 @@
 use Rattle.std.proofs.Common.{◌≡◌, ◌∙◌, ◌++◌, true, List, sym, subst}
 use Rattle.std.specs.List.{list_any, AllByRecursion}
 use Rattle.ev_types.specs.declared.rows.GenRow.{GenRow}
-use Rattle.ev_indexes.specs.Ready.{name_needed, IsNeedName}
-use Rattle.ev_model.specs.Watching.{is_by_name}
+use Rattle.ev_model.specs.Watching.{is_by_name, dependencies_of}
 use Rattle.ev_indexes.specs.declared.state.State.{State}
-use Rattle.ev_indexes.specs.Watched.{watch_in}
+use Rattle.ev_indexes.specs.Watched.{watch_in, watchers_of}
 use Rattle.ev_indexes.specs.Indexes.{IsIndexed, depends_on}
+use Rattle.ev_indexes.specs.Needs.{HaveNames}
 use Rattle.ev_warming.specs.Forgetting.{IsTidyBut}
 use Rattle.ev_warming.proofs.AddedLemmas.{on_ok4}
 use Rattle.ev_warming.proofs.TidyLemmas.{tidy-arrived}
@@ -24,7 +24,7 @@ returns-clause-kept g c =
     on_ok4 c.arrive.result c.arrive.ensures.indexed c.arrive.ensures.told c.arrive.ensures.others c.arrive.ensures.steps (λ after told others steps. record {
       rows = (λ i. is_by_name (others i).kind) ∙ (λ i. is_by_name (e i).state.kind) ∙ c.requires.kept.rows;
       indexed = after;
-      needs = subst (λ (rows : List GenRow). AllByRecursion (λ (r : GenRow). IsNeedName (name_needed r.content)) rows) (sym ((λ i. (others i).table.rows) ∙ (λ i. (e i).state.table.rows))) c.requires.kept.needs;
-      tidy = subst (IsTidyBut t) ((λ i. m.stale ++ (watch_in (e i).state.watches name).rows) ∙ sym (λ i. (e i).stale))
-          (tidy-arrived s t name c.args.arrival.now m.stale indexed watched (λ i. (others i).table) told (λ i. (others i).results) tidy);
+      needs = subst (λ (rows : List GenRow). AllByRecursion (λ (r : GenRow). HaveNames (dependencies_of r.content)) rows) (sym ((λ i. (others i).table.rows) ∙ (λ i. (e i).state.table.rows))) c.requires.kept.needs;
+      tidy = subst (IsTidyBut t) ((λ i. m.stale ++ watchers_of (watch_in (e i).state.watches name)) ∙ sym (λ i. (e i).stale))
+          (tidy-arrived s t name c.args.made c.args.arrival.now m.stale indexed watched (λ i. (others i).table) told (λ i. (others i).results) tidy);
     })

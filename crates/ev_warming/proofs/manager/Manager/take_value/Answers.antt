@@ -14,7 +14,7 @@ returns-in-Refused-clause-stands g c =
     let s = c.args.self.now.state in
     let t = c.tell.new.self.state in
     let item = c.args.item.now in
-    on_ok c.tell.result c.tell.ensures.stands (λ step world stands.
+    on_ok c.tell.result c.tell.ensures.stands (λ step world stands drawn.
     subst (StandsFor t) (λ i. add_item (needs_of s.kind) (sym c.in-Refused.is i) item world)
     (refusal-stands s t world item.name c.requires.kept.rows stands
-    (subst (λ (name : List ℕ). StandsFor t (told_where (list_any (depends_on name) s.table.rows) (needs_of s.kind) Bad name world)) (λ i. (c.item.view_is i).name) (step world stands))))
+    (subst (λ (name : List ℕ). StandsFor t (told_where (list_any (depends_on name) s.table.rows) (needs_of s.kind) Bad name world)) (λ i. (c.item.view_is i).name) (step world stands drawn))))

@@ -12,7 +12,7 @@ invariant-loop-place g l = record {
   kind : l.self.state.kind ≡ l.initial.self.state.kind;
   table : l.self.state.table ≡ l.initial.self.state.table;
   on_values : AreOnValues l.initial.self.state.table.rows (drop l.place l.verdicts) (drop l.place l.items);
-  stands : (world : World) → StandsFor l.initial.self.state world
-      → (w : World) × StandsFor l.self.state w
+  stands : (world : World) → StandsFor l.initial.self.state world → l.made ≡ world.made
+      → (w : World) × StandsFor l.self.state w × (l.made ≡ w.made)
       × (add_items (needs_of l.initial.self.state.kind) (drop l.place l.verdicts) (drop l.place l.items) w ≡ add_items (needs_of l.initial.self.state.kind) l.verdicts l.items world);
 }

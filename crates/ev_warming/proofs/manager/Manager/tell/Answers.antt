@@ -13,6 +13,6 @@ returns-in-Err-Length-clause-stands g c =
     let text = c.as_str.result.now in
     let bad : IsName text → ⊥ = λ named. ⊎_elim (λ none. absurd (omega (arith, named.given, none))) (λ long. absurd (omega (arith, named.short, long)))
     (c.in-Err-Length.ensures.length.0 (λ i. Err (c.in-Err-Length.field-0-is i))) in
-    λ world stands.
+    λ world stands drawn.
     quiet-stands m.state world (list_any (depends_on name) m.state.table.rows) (needs_of m.state.kind) c.args.arrival.now name
     (unneeded name (λ named. bad (subst IsName (sym c.as_str.ensures.bytes) named)) m.state.table.rows c.requires.kept.needs) stands

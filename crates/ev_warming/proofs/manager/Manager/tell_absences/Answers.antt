@@ -28,10 +28,10 @@ loop-name-preserved g c =
       kind = e.kind ∙ i.kind;
       table = e.table ∙ i.table;
       items = i.items;
-      stands = λ world stands.
-          absent-more s t world response (needs_of s0.kind) s0.table.rows place name within (c.name-item.is ∙ (λ j. get_or (i.items j) place name)) (watched-same s0 world stands c.requires.kept.rows name) (i.stands world stands)
-          (λ w standing.
-          subst (StandsFor t) (λ j. told_where (is_unlisted (c.in_ok-mentions.ensures j) name && list_any (depends_on name) (i.table j).rows) (needs_of (i.kind j)) Absent name w) (e.stands w standing));
+      stands = λ world stands drawn.
+          absent-more s t world response (needs_of s0.kind) s0.table.rows place name within (c.name-item.is ∙ (λ j. get_or (i.items j) place name)) (watched-same s0 world stands c.requires.kept.rows name) (i.stands world stands drawn)
+          (λ w standing same.
+          subst (StandsFor t) (λ j. told_where (is_unlisted (c.in_ok-mentions.ensures j) name && list_any (depends_on name) (i.table j).rows) (needs_of (i.kind j)) Absent name w) (e.stands w standing (drawn ∙ sym same)));
     }
 
 pub tell_absence-requires-clause-listed : goal.tell_absence-requires-clause-listed
@@ -45,7 +45,7 @@ returns-then-is_empty-clause-stands g c =
     let none : c.args.response.now.removed ≡ [] = (λ i. (sym c.response.view_is i).removed) ∙ nil_from_length c.response.inside.removed (c.is_empty.ensures.0 c.if-is_empty.true) in
     let response = c.args.response.now in
     let kind = needs_of c.args.self.now.state.kind in
-    λ world stands.
+    λ world stands drawn.
     subst (λ names. StandsFor c.args.self.now.state (with_absent response kind world names)) (sym none) (absent-none c.args.self.now.state world response kind stands)
 
 pub returns-clause-stands : goal.returns-clause-stands
@@ -53,5 +53,5 @@ returns-clause-stands g c =
     let response = c.args.response.now in
     let kind = needs_of c.args.self.now.state.kind in
     let done : length response.removed ≤ c.loop-name.name-index = subst (λ (names : List (List ℕ)). length names ≤ c.loop-name.name-index) c.loop-name.invariant.items c.loop-name-test.false in
-    λ world stands.
-    subst (λ (names : List (List ℕ)). StandsFor c.loop-name.self.state (with_absent response kind world names)) (take_all c.loop-name.name-index response.removed done) (c.loop-name.invariant.stands world stands)
+    λ world stands drawn.
+    subst (λ (names : List (List ℕ)). StandsFor c.loop-name.self.state (with_absent response kind world names)) (take_all c.loop-name.name-index response.removed done) (c.loop-name.invariant.stands world stands drawn)

@@ -11,6 +11,6 @@ invariant-loop-name g l = record {
   kind : l.self.state.kind ≡ l.initial.self.state.kind;
   table : l.self.state.table ≡ l.initial.self.state.table;
   items : l.name-items ≡ l.response.removed;
-  stands : (world : World) → StandsFor l.initial.self.state world
+  stands : (world : World) → StandsFor l.initial.self.state world → l.made ≡ world.made
       → StandsFor l.self.state (with_absent l.response (needs_of l.initial.self.state.kind) world (take l.name-index l.response.removed));
 }

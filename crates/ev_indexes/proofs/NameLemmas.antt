@@ -1,18 +1,33 @@
--- The names that are watched, as a sorted list and by a test.
-use Rattle.std.proofs.Common.{◌≡◌, ℕ, Bool, true, false, not, ◌||◌, ◌&&◌, cond, List, [], ◌∷◌, filter, map, refl, sym, ap, ◌∙◌}
-use Rattle.std.specs.List.{list_any, flat_map, dedup, dedup_from}
+-- Lists of names, sorted and each once: what stands in them, that two with the same names are one, and the names that are watched, as a
+-- list and by a test.
+use Rattle.std.proofs.Common.{◌≡◌, ℕ, Bool, true, false, not, ◌||◌, ◌&&◌, cond, List, [], ◌∷◌, filter, map, refl, sym, ap, subst, ◌∙◌}
+use Rattle.std.specs.Cmp.Lexicographic.{slice_cmp}
+use Rattle.std.specs.List.{AllByRecursion, list_any, flat_map, dedup, dedup_from}
+use Rattle.std.specs.List.Sorted.{IsStrictlySortedBy}
+use Rattle.std.specs.Ordering.{nat_cmp}
 use Rattle.std.specs.Str.{bytes_eq}
-use Rattle.std.proofs.lemmas.Bool.{cond_both}
+use Rattle.std.proofs.lemmas.Bool.{cond_both, false≢true}
+use Rattle.std.proofs.lemmas.Cmp.{nat_list_cmp_total}
 use Rattle.std.proofs.lemmas.List.Folds.{list_any-append}
+use Rattle.std.proofs.lemmas.List.Kept.{IsStrictlySortedBy-filter}
+use Rattle.std.proofs.lemmas.Map.Text.{is_eq-slice_cmp}
 use Rattle.ev_types.specs.Kinds.{kind_same}
 use Rattle.ev_types.specs.Same.{bytes_decide}
+use Rattle.ev_types.specs.Statuses.{is_live}
+use Rattle.ev_types.specs.declared.contents.Content.{Content}
 use Rattle.ev_types.specs.declared.contents.Kind.{Kind}
+use Rattle.ev_types.specs.declared.rows.GenRow.{GenRow}
 use Rattle.ev_types.specs.declared.rows.Live.{Live}
 use Rattle.ev_model.specs.Sorted.{put_by, sorted_by}
 use Rattle.ev_model.specs.Versions.{is_before}
 use Rattle.ev_model.specs.Verdicts.{is_among}
 use Rattle.ev_model.specs.Watching.{Dependency, dependencies_of, is_dependency, is_watched, names_awaited, sorted_names, watched_by}
 use Rattle.ev_model.specs.Requests.{other_than}
+use Rattle.ev_indexes.specs.Indexes.{depends_on}
+use Rattle.ev_indexes.specs.Needs.{is_needed, names_of, needs_at, places_of}
+use Rattle.ev_indexes.specs.Reads.{live_rows, names_needed, names_watched}
+use Rattle.ev_indexes.proofs.PlaceLemmas.{any-places}
+use Rattle.ev_indexes.proofs.SortLemmas.{sorted-unique, sorted_by-dedup}
 
 or_turn : (a b c : Bool) → (a || (b || c)) ≡ (b || (a || c))
 or_turn true true c = refl
@@ -103,3 +118,72 @@ among_failing test (first ∷ names) name = by (bytes_eq first name) refl (test 
 -- a name that stands among those that aren't among the others
 pub among_other : (others names : List (List ℕ)) (name : List ℕ) → is_among name (other_than others names) ≡ (is_among name names && not (is_among name others))
 among_other others names name = among_failing (λ n. is_among n others) names name
+
+-- in the order of their bytes, each once
+abbrev pub IsInOrder : List (List ℕ) → Type 0
+IsInOrder names = IsStrictlySortedBy (slice_cmp nat_cmp) names
+
+pub sorted-in_order : (names : List (List ℕ)) → IsInOrder (sorted_names names)
+sorted-in_order names =
+    sorted_by-dedup (slice_cmp nat_cmp) nat_list_cmp_total bytes_eq (λ a b. sym (is_eq-slice_cmp a b)) (λ a b. (bytes_decide a b).0) names
+
+pub other-in_order : (others names : List (List ℕ)) → IsInOrder names → IsInOrder (other_than others names)
+other-in_order others names ordered = IsStrictlySortedBy-filter (slice_cmp nat_cmp) (λ n. not (is_among n others)) names ordered
+
+-- what holds of each element holds of each name among them, and back
+each_among : (P : List ℕ → Type 0) (names : List (List ℕ)) → AllByRecursion P names → (name : List ℕ) → is_among name names ≡ true → P name
+each_among P [] all name there = absurd (false≢true there)
+each_among P (first ∷ names) all name there = by (bytes_eq first name) refl there (each_among P names all.1 name)
+  where
+    by : (b : Bool) → bytes_eq first name ≡ b → (b || is_among name names) ≡ true → (is_among name names ≡ true → P name) → P name
+    by true is there rest = subst P ((bytes_decide first name).0 is) all.0
+    by false isnt there rest = rest there
+
+or_true : (b : Bool) → (b || true) ≡ true
+or_true true = refl
+or_true false = refl
+
+all_among : (P : List ℕ → Type 0) (names : List (List ℕ)) → ((name : List ℕ) → is_among name names ≡ true → P name) → AllByRecursion P names
+all_among P [] each = tt
+all_among P (first ∷ names) each = (
+  each first (ap (λ b. b || is_among first names) ((bytes_decide first first).1 refl)),
+  all_among P names (λ name there. each name (ap (λ b. bytes_eq first name || b) there ∙ or_true (bytes_eq first name))),
+)
+
+-- two ordered lists of the same names are one
+pub same-names : (xs ys : List (List ℕ)) → IsInOrder xs → IsInOrder ys → ((name : List ℕ) → is_among name xs ≡ is_among name ys) → xs ≡ ys
+same-names xs ys first second same =
+    sorted-unique (slice_cmp nat_cmp) nat_list_cmp_total xs ys first second (record {
+      there = λ P all. all_among P ys (λ name there. each_among P xs all name (same name ∙ there));
+      back = λ P all. all_among P xs (λ name there. each_among P ys all name (sym (same name) ∙ there));
+    })
+
+-- a name among those that are gathered
+pub among_flat : {X : Type 0} (f : X → List (List ℕ)) (xs : List X) (name : List ℕ) → is_among name (flat_map f xs) ≡ list_any (λ x. is_among name (f x)) xs
+among_flat f [] name = refl
+among_flat f (x ∷ xs) name = list_any-append (λ n. bytes_eq n name) (f x) (flat_map f xs) ∙ ap (λ b. is_among name (f x) || b) (among_flat f xs name)
+
+among_names : (name : List ℕ) (ds : List Dependency) → is_among name (names_of ds) ≡ is_needed name ds
+among_names name [] = refl
+among_names name (d ∷ ds) = ap (λ b. bytes_eq d.name name || b) (among_names name ds)
+
+-- a name stands among those that a content depends on at its places where it depends on it
+pub among_places : (name : List ℕ) (content : Content) → is_among name (names_of (needs_at (places_of content))) ≡ is_needed name (dependencies_of content)
+among_places name content =
+    among_names name (needs_at (places_of content)) ∙ any-places (λ (d : Dependency). bytes_eq d.name name) content
+
+-- and among those that live rows depend on where one of them does
+pub among-watched : (rows : List GenRow) (name : List ℕ) → is_among name (names_watched rows) ≡ list_any (depends_on name) rows
+among-watched rows name = among_sorted (names_needed rows) name ∙ by rows
+  where
+    by : (rs : List GenRow) → is_among name (names_needed rs) ≡ list_any (depends_on name) rs
+    by [] = refl
+    by (row ∷ rs) = over (is_live row.status) (by rs)
+      where
+        over : (b : Bool) → is_among name (names_needed rs) ≡ list_any (depends_on name) rs
+            → is_among name (flat_map (λ (r : GenRow). names_of (needs_at (places_of r.content))) (cond b (row ∷ live_rows rs) (live_rows rs)))
+            ≡ ((b && is_needed name (dependencies_of row.content)) || list_any (depends_on name) rs)
+        over true rest =
+            list_any-append (λ n. bytes_eq n name) (names_of (needs_at (places_of row.content))) (names_needed rs)
+            ∙ (λ i. among_places name row.content i || rest i)
+        over false rest = rest

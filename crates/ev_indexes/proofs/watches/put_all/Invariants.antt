@@ -1,5 +1,5 @@
 use Rattle.std.proofs.Common.{◌≡◌, ◌++◌, take}
-use Rattle.ev_managers.proofs.moved.put_all.Given as goal
+use Rattle.ev_indexes.proofs.watches.put_all.Given as goal
 
 abbrev pub invariant-loop-number : goal.invariant-loop-number
 invariant-loop-number l = l.numbers ≡ l.initial.numbers ++ take l.number-index l.more

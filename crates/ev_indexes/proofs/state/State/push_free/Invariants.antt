@@ -1,0 +1,8 @@
+use Rattle.std.proofs.Common.{◌≡◌, ◌++◌, take}
+use Rattle.ev_indexes.specs.Moved.{free_names}
+use Rattle.ev_indexes.specs.Needs.{names_of, needs_at, places_of}
+use Rattle.ev_indexes.proofs.state.State.push_free.Given as goal
+
+abbrev pub invariant-loop-place : goal.invariant-loop-place
+invariant-loop-place l =
+    l.names.items ≡ l.initial.names.items ++ free_names l.made l.self.table.rows (names_of (needs_at (take l.place (places_of l.content))))
