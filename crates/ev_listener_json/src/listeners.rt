@@ -47,10 +47,7 @@ fn read_own_listener(alloc: Global, value: &Value) -> Result<Listener, ReadError
     })?;
     Ok(Listener {
         name: make_name(alloc, found.name)?,
-        address: Host {
-            address: make_name(alloc, found.address)?,
-            port: found.port,
-        },
+        address: make_host(alloc, found.address, found.port)?,
         takes_every_address: false,
         filter_chains: Seq::from_vec(chains),
         default_filter_chain: None,
@@ -67,13 +64,11 @@ fn read_envoy_listener(alloc: Global, value: &Value) -> Result<Listener, ReadErr
     if let Some(rule) = below.broken.or(own.broken).least() {
         return Err(ReadError::Rule(rule));
     }
-    let takes_every_address = is_every_address(own.address.as_str());
+    let address = own.address.as_str();
+    let takes_every_address = is_every_address(address);
     Ok(Listener {
         name: make_name(alloc, own.name)?,
-        address: Host {
-            address: make_name(alloc, own.address.as_str())?,
-            port: own.port,
-        },
+        address: make_host(alloc, address, own.port)?,
         takes_every_address,
         filter_chains: Seq::from_vec(below.chains),
         default_filter_chain: below.default,
@@ -246,6 +241,17 @@ fn is_udp(protocol: Found<u32>) -> bool
     ensures { result ≡ is_udp protocol }
 {
     matches!(protocol, Found::Given(1))
+}
+
+// The host at an address that was found to have 1 to 512 bytes.
+fn make_host(alloc: Global, address: &str, port: u16) -> Result<Host, AllocError>
+    requires { is_name address.now ≡ true }
+    ensures { IfOk result (λ host. host ≡ record { address = address.now; port = port }) }
+{
+    Ok(Host {
+        address: make_name(alloc, address)?,
+        port,
+    })
 }
 
 // The name that a text is which was found to have 1 to 512 bytes.

@@ -15,7 +15,7 @@ returns-clause-chains c =
     let config = c.inner-config.ensures ∙ ap inside (c.in_ok-inner.ensures.value ∙ ap (object_of (codes "api_listener")) outer) in
     let kind = c.choose_kind-kind.ensures ∙ ap kind_in (c.in_ok-name.ensures.value ∙ ap (text_of (codes "@type")) config) in
     let serve = c.serve_or_other.ensures ∙ ap serve_or_other (c.in_ok-below.ensures.value ∙ (λ i. config_serve Envoy (kind i) (config i))) in
-    c.in_ok-push.ensures.items ∙ (λ i. c.new-chains.ensures.items i ++ (record { criteria = (c.in_ok-new.ensures ∙ c.no_criteria.ensures) i; serve = serve i }) ∷ [])
+    c.in_ok-push.ensures.items ∙ (λ i. c.new-chains.ensures.items i ++ (record { criteria = (c.in_ok-new.ensures.value ∙ c.no_criteria.ensures) i; serve = serve i }) ∷ [])
 
 pub returns-clause-broken : goal.returns-clause-broken
 unfolding api_outer_of api_config_of api_kind_of api_broken

@@ -10,7 +10,7 @@ unfolding chain_match_of envoy_chain_of
 returns-clause-value c =
     let matched = c.inner.ensures ∙ ap inside c.in_ok-matched.ensures.value in
     λ i. record {
-      criteria = (c.in_ok-new.ensures ∙ c.in_ok-criteria.ensures.value ∙ ap filter_chain_match_of matched) i;
+      criteria = (c.in_ok-new.ensures.value ∙ c.in_ok-criteria.ensures.value ∙ ap filter_chain_match_of matched) i;
       serve = c.in_ok-below.ensures.value i;
     }
 
