@@ -103,6 +103,9 @@ api_broken listener = either_broken (config_broken Envoy (api_kind_of listener) 
 unfoldable pub api_serve_of : Data → Serve
 api_serve_of listener = serve_or_other (config_serve Envoy (api_kind_of listener) (api_config_of listener))
 
+abbrev pub api_chain_of : Data → FilterChain
+api_chain_of listener = record { criteria = no_criteria; serve = api_serve_of listener }
+
 -- ---- all chains of a listener
 
 unfoldable pub chains_of : Data → List Data
@@ -132,7 +135,7 @@ envoy_chains_broken tree = if has_api tree then api_broken tree else given_chain
 
 unfoldable pub envoy_chains_of : Data → List FilterChain
 envoy_chains_of tree =
-    if has_api tree then record { criteria = no_criteria; serve = api_serve_of tree } ∷ []
+    if has_api tree then api_chain_of tree ∷ []
     else map envoy_chain_of (chains_of tree)
 
 unfoldable pub envoy_default_of : Data → Option Serve

@@ -3,7 +3,7 @@ ghost use Rattle.std.specs.Prelude.{◌≡◌, None, [], ◌∷◌, IfOk, map};
 ghost use Rattle.serde_json.specs.View.{view};
 ghost use Rattle.ev_tree.specs.Broken.{any_broken};
 ghost use Rattle.ev_tree.specs.Forms.{found_map};
-ghost use Rattle.ev_listener_json.specs.Chains.{no_criteria, served_by, serve_or_other, filters_broken, envoy_chain_of, envoy_chain_broken, has_api, is_manager, api_serve_of, api_broken, chains_of, default_serve, default_broken, given_default_of, given_chains_broken, envoy_chains_broken, envoy_chains_of, envoy_default_of};
+ghost use Rattle.ev_listener_json.specs.Chains.{no_criteria, served_by, serve_or_other, filters_broken, envoy_chain_of, envoy_chain_broken, has_api, is_manager, api_chain_of, api_broken, chains_of, default_serve, default_broken, given_default_of, given_chains_broken, envoy_chains_broken, envoy_chains_of, envoy_default_of};
 
 use crate::chain_matches::inspect_filter_chain_match;
 use crate::collisions::has_collision;
@@ -72,7 +72,7 @@ pub fn has_api(alloc: Global, listener: &Value) -> Result<bool, AllocError>
 
 // Inspects an API listener: its connection manager stands for the one filter of one chain without a match.
 fn inspect_api(alloc: Global, listener: &Value) -> Result<ChainsFound, AllocError>
-    ensures chains { IfOk result (λ found. found.chains.items ≡ record { criteria = no_criteria; serve = api_serve_of (view listener.now) } ∷ []) }
+    ensures chains { IfOk result (λ found. found.chains.items ≡ api_chain_of (view listener.now) ∷ []) }
     ensures default { IfOk result (λ found. found.default ≡ None) }
     ensures broken { IfOk result (λ found. found.broken ≡ api_broken (view listener.now)) }
 {

@@ -135,7 +135,8 @@ fn listening_text(
     naming: Naming<'_>,
     given: AddressText<'_>,
 ) -> Result<String, AllocError>
-    ensures { IfOk result (λ text. string_bytes text ≡ (if by_name then named_with naming.entry.api naming.entry.internal naming.entry.name.now else text_found given.entry)) }
+    ensures { IfOk result (λ text. string_bytes text
+        ≡ (if by_name then named_with naming.entry.api naming.entry.internal naming.entry.name.now else text_found given.entry)) }
 {
     if by_name {
         named_address(alloc, naming.name, naming.api, naming.internal)
