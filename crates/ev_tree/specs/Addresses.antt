@@ -117,7 +117,8 @@ text_among pipe internal path name id socket = if pipe then pipe_text path else 
 -- the text of the address
 unfoldable pub any_text_of : Data → List ℕ
 any_text_of tree =
-    text_among (has_pipe (outer_of tree)) (has_internal (outer_of tree)) (path_in (outer_of tree)) (internal_name_in (outer_of tree)) (internal_id_in (outer_of tree)) (address_text_of tree)
+    text_among (has_pipe (outer_of tree)) (has_internal (outer_of tree)) (path_in (outer_of tree)) (internal_name_in (outer_of tree))
+    (internal_id_in (outer_of tree)) (address_text_of tree)
 
 -- a port that counts where the address has one
 abbrev pub port_unless : Bool → ℕ → ℕ

@@ -235,7 +235,8 @@ fn choose_text<'a>(
     internal: FoundInternal<'a>,
     socket: &'a str,
 ) -> AddressText<'a>
-    ensures { text_found result ≡ text_among pipe.entry.given internal.entry.given pipe.entry.path.now internal.entry.name.now internal.entry.id.now socket.now }
+    ensures { text_found result
+        ≡ text_among pipe.entry.given internal.entry.given pipe.entry.path.now internal.entry.name.now internal.entry.id.now socket.now }
 {
     if pipe.given {
         return AddressText::Pipe(pipe.path);

@@ -1,7 +1,6 @@
-use Rattle.std.proofs.Common.{◌≡◌, ◌∙◌, ◌∷◌, ◌||◌, [], codes, ap}
-use Rattle.serde_json.specs.Data.{Data}
+use Rattle.std.proofs.Common.{◌∙◌, ◌∷◌, [], codes, ap}
 use Rattle.ev_tree.specs.declared.broken.BrokenRules.{BrokenRules}
-use Rattle.ev_tree.specs.Forms.{inside, is_given, object_of, number_of, tree_of}
+use Rattle.ev_tree.specs.Forms.{inside, is_given, object_of, number_of}
 use Rattle.ev_tree.specs.Counts.{exactly_one}
 use Rattle.ev_tree.specs.Addresses.{outer_of, any_text_of, any_port_of, any_address_broken, is_port, has_pipe, path_in, is_wrong_pipe, has_internal, internal_name_in, internal_id_in, is_wrong_internal, text_among, port_unless}
 use Rattle.ev_tree.specs.Rules.{is_name}
@@ -15,8 +14,8 @@ returns-clause-text c =
     let pipe = c.in_ok-pipe.ensures in
     let internal = c.in_ok-internal.ensures in
     c.choose_text-text.ensures ∙ (λ i. text_among
-        ((pipe.given ∙ ap has_pipe outer) i) ((internal.given ∙ ap has_internal outer) i) ((pipe.path ∙ ap path_in outer) i)
-        ((internal.name ∙ ap internal_name_in outer) i) ((internal.id ∙ ap internal_id_in outer) i) (c.in_ok-found.ensures.address i))
+    ((pipe.given ∙ ap has_pipe outer) i) ((internal.given ∙ ap has_internal outer) i) ((pipe.path ∙ ap path_in outer) i)
+    ((internal.name ∙ ap internal_name_in outer) i) ((internal.id ∙ ap internal_id_in outer) i) (c.in_ok-found.ensures.address i))
 
 pub returns-clause-port : goal.returns-clause-port
 unfolding outer_of any_port_of
@@ -32,8 +31,8 @@ returns-clause-broken c =
     let pipe = c.in_ok-pipe.ensures in
     let internal = c.in_ok-internal.ensures in
     let text = c.choose_text-text.ensures ∙ (λ i. text_among
-        ((pipe.given ∙ ap has_pipe outer) i) ((internal.given ∙ ap has_internal outer) i) ((pipe.path ∙ ap path_in outer) i)
-        ((internal.name ∙ ap internal_name_in outer) i) ((internal.id ∙ ap internal_id_in outer) i) (c.in_ok-found.ensures.address i)) in
+    ((pipe.given ∙ ap has_pipe outer) i) ((internal.given ∙ ap has_internal outer) i) ((pipe.path ∙ ap path_in outer) i)
+    ((internal.name ∙ ap internal_name_in outer) i) ((internal.id ∙ ap internal_id_in outer) i) (c.in_ok-found.ensures.address i)) in
     let socket = c.in_ok-socket.ensures.given ∙ ap (λ t. is_given (object_of (codes "socket_address") t)) outer in
     λ i. record (c.none.ensures i) {
       v6 = or_same (or_same

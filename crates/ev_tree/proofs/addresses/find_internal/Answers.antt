@@ -21,6 +21,6 @@ unfolding internal_in is_wrong_internal
 returns-clause-wrong c =
     let internal = c.inner-inner.ensures ∙ ap inside c.in_ok-internal.ensures.value in
     or_same (or_same
-        (c.is_wrong.ensures ∙ c.in_ok-internal.ensures.wrong)
-        (c.is_wrong-2.ensures ∙ c.in_ok-name.ensures.wrong ∙ ap (λ t. is_wrong (text_of (codes "server_listener_name") t)) internal))
-        (c.is_wrong-3.ensures ∙ c.in_ok-id.ensures.wrong ∙ ap (λ t. is_wrong (text_of (codes "endpoint_id") t)) internal)
+    (c.is_wrong.ensures ∙ c.in_ok-internal.ensures.wrong)
+    (c.is_wrong-2.ensures ∙ c.in_ok-name.ensures.wrong ∙ ap (λ t. is_wrong (text_of (codes "server_listener_name") t)) internal))
+    (c.is_wrong-3.ensures ∙ c.in_ok-id.ensures.wrong ∙ ap (λ t. is_wrong (text_of (codes "endpoint_id") t)) internal)
