@@ -33,7 +33,7 @@ returns-clause-broken c =
     let by_name = c.is_absent-by_name.ensures ∙ c.in_ok-outer.ensures.absent in
     let internal = c.is_given.ensures ∙ c.in_ok-internal.ensures.given in
     let listening = c.as_str.ensures.value ∙ c.in_ok-listening.ensures
-        ∙ (λ i. cond (by_name i) (named_with (c.in_ok-has_api.ensures i) (internal i) (text i)) (c.in_ok-address.ensures.text i)) in
+    ∙ (λ i. cond (by_name i) (named_with (c.in_ok-has_api.ensures i) (internal i) (text i)) (c.in_ok-address.ensures.text i)) in
     let protocol = c.in_ok-protocol.ensures ∙ ap (enumeration_of (codes "protocol") Protocol) c.in_ok-address.ensures.socket in
     let unusable = ap (λ (b : BrokenRules). b.v12) c.in_ok-address.ensures.broken in
     λ i. record (c.none.ensures i) {

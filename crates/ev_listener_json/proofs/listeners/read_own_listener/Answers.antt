@@ -21,7 +21,7 @@ returns c =
     let none : least_of (own_listener_broken tree) ≡ None = sym (ap least_of found.broken) ∙ sym c.least.ensures ∙ c.in_default.is in
     let host = c.in_ok-make_host.ensures ∙ (λ i. record { address = found.address i; port = found.port i }) in
     let chains = c.from_vec.ensures.elements ∙ c.in_ok-push.ensures.items
-        ∙ (λ i. c.new-chains.ensures.items i ++ (record { criteria = (c.in_ok-new.ensures.value ∙ c.no_criteria.ensures) i; serve = found.serve i }) ∷ []) in
+    ∙ (λ i. c.new-chains.ensures.items i ++ (record { criteria = (c.in_ok-new.ensures.value ∙ c.no_criteria.ensures) i; serve = found.serve i }) ∷ []) in
     ap (λ rule. judged rule (own_listener_of tree)) none
     ∙ ap Ok (sym (λ i. record (own_listener_of tree) {
       name = (c.in_ok-make_name.ensures ∙ found.name) i;

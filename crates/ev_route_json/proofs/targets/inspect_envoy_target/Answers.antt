@@ -16,10 +16,10 @@ returns-clause-value c =
     let text = c.text_or_empty.ensures ∙ ap (given_or []) c.in_ok-cluster.ensures.value in
     let target = c.in_ok-target.ensures ∙ (λ j. target_with (clusters j) (text j)) in
     let elsewhere = or_same (or_same (or_same
-        (c.is_given.ensures ∙ c.in_ok-header.ensures.given)
-        (c.is_given-2.ensures ∙ c.in_ok-plugin.ensures.given))
-        (c.is_given-3.ensures ∙ c.in_ok-inline.ensures.given))
-        (c.in_ok-by_header.ensures ∙ ap (list_any is_by_header) entries) in
+    (c.is_given.ensures ∙ c.in_ok-header.ensures.given)
+    (c.is_given-2.ensures ∙ c.in_ok-plugin.ensures.given))
+    (c.is_given-3.ensures ∙ c.in_ok-inline.ensures.given))
+    (c.in_ok-by_header.ensures ∙ ap (list_any is_by_header) entries) in
     c.envoy_target_with.ensures ∙ (λ i. envoy_target_with (elsewhere i) (target i))
 
 pub returns-clause-broken : goal.returns-clause-broken
