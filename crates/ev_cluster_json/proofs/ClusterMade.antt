@@ -107,5 +107,5 @@ made_from profile tree name service_name service by_eds in_cluster rows limited 
     let all_rows : rows ≡ made_where profile (holds_hosts profile tree) (load_assignment_of tree) = row ∙ ap (λ b. made_where profile b (load_assignment_of tree)) holds in
     let by : service ≡ service_of tree = serve ∙ (λ i. service_with (own i) (asked i)) in
     let found : discovery ≡ Some (discovery_of profile tree) =
-        find ∙ (λ i. discovery_with (holds i) (asks i) (all_rows i) (by i) (limit i) (new i)) ∙ discovery_made profile tree clear in
+    find ∙ (λ i. discovery_with (holds i) (asks i) (all_rows i) (by i) (limit i) (new i)) ∙ discovery_made profile tree clear in
     make ∙ (λ i. cluster_with (own i) (found i) (check i) (body i)) ∙ cluster_made profile tree clear
