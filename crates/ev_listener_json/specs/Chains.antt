@@ -8,8 +8,10 @@ use Rattle.ev_types.specs.declared.listeners.FilterChain.{FilterChain}
 use Rattle.ev_types.specs.declared.listeners.Serve.{Serve}
 use Rattle.ev_types.specs.declared.listeners.Serve.TheVariants.{Other as other_serve}
 use Rattle.ev_tree.specs.declared.broken.BrokenRules.{BrokenRules}
+use Rattle.ev_tree.specs.declared.outcome.Found.{Found}
+use Rattle.ev_tree.specs.declared.outcome.Found.TheVariants.{Absent, Wrong, Given}
 use Rattle.ev_tree.specs.Forms.{is_wrong, is_given, is_absent, inside, listed, field_of, text_of, object_of, objects_of}
-use Rattle.ev_tree.specs.Broken.{none_broken, either_broken, any_broken, broken_where}
+use Rattle.ev_tree.specs.Broken.{none_broken, either_broken, any_broken}
 use Rattle.ev_tree.specs.Counts.{more_than_one}
 use Rattle.ev_listener_json.specs.declared.filters.FilterKind.{FilterKind}
 use Rattle.ev_listener_json.specs.declared.filters.FilterKind.TheVariants.{Manager, TcpProxy, Other}
@@ -56,10 +58,16 @@ envoy_chain_broken chain =
 unfoldable pub envoy_chain_of : Data → FilterChain
 envoy_chain_of chain = record { criteria = filter_chain_match_of (chain_match_of chain); serve = served_by chain }
 
--- what a default chain breaks, if there is one: its match is left aside
-abbrev pub default_broken : Option Data → BrokenRules
-default_broken None = none_broken
-default_broken (Some chain) = filters_broken chain
+-- what a default chain serves, and what it breaks, if there is one: its match is left aside
+abbrev pub default_serve : Found Data → Option Serve
+default_serve Absent = None
+default_serve Wrong = None
+default_serve (Given chain) = Some (served_by chain)
+
+abbrev pub default_broken : Found Data → BrokenRules
+default_broken Absent = none_broken
+default_broken Wrong = none_broken
+default_broken (Given chain) = filters_broken chain
 
 -- ---- an API listener: its connection manager stands for the one filter of one chain without a match
 
@@ -95,13 +103,13 @@ api_broken listener = either_broken (config_broken Envoy (api_kind_of listener) 
 unfoldable pub api_serve_of : Data → Serve
 api_serve_of listener = serve_or_other (config_serve Envoy (api_kind_of listener) (api_config_of listener))
 
+abbrev pub api_chain_of : Data → FilterChain
+api_chain_of listener = record { criteria = no_criteria; serve = api_serve_of listener }
+
 -- ---- all chains of a listener
 
 unfoldable pub chains_of : Data → List Data
 chains_of tree = listed (objects_of (codes "filter_chains") tree)
-
-unfoldable pub default_chain_of : Data → Data
-default_chain_of tree = inside (object_of (codes "default_filter_chain") tree)
 
 abbrev pub has_default : Data → Bool
 has_default tree = is_given (object_of (codes "default_filter_chain") tree)
@@ -111,20 +119,24 @@ has_default tree = is_given (object_of (codes "default_filter_chain") tree)
 unfoldable pub given_chains_broken : Data → BrokenRules
 given_chains_broken tree =
     either_broken (any_broken envoy_chain_broken (chains_of tree))
-    (either_broken (broken_where (has_default tree) (filters_broken (default_chain_of tree))) (record none_broken {
+    (either_broken (default_broken (object_of (codes "default_filter_chain") tree)) (record none_broken {
       v6 = is_wrong (objects_of (codes "filter_chains") tree) || is_wrong (object_of (codes "default_filter_chain") tree);
       v16 = (length (chains_of tree) == 0) && not (has_default tree);
       v26 = has_collision (map (λ (c : FilterChain). c.criteria) (map envoy_chain_of (chains_of tree)));
     }))
 
-abbrev pub envoy_chains_broken : Data → BrokenRules
+unfoldable pub given_default_of : Data → Option Serve
+given_default_of tree = default_serve (object_of (codes "default_filter_chain") tree)
+
+-- ---- the chains that count: an API listener hides those that are given
+
+unfoldable pub envoy_chains_broken : Data → BrokenRules
 envoy_chains_broken tree = if has_api tree then api_broken tree else given_chains_broken tree
 
--- the one of an API listener, or those that are given
 unfoldable pub envoy_chains_of : Data → List FilterChain
 envoy_chains_of tree =
-    if has_api tree then record { criteria = no_criteria; serve = api_serve_of tree } ∷ []
+    if has_api tree then api_chain_of tree ∷ []
     else map envoy_chain_of (chains_of tree)
 
 unfoldable pub envoy_default_of : Data → Option Serve
-envoy_default_of tree = if not (has_api tree) && has_default tree then Some (served_by (default_chain_of tree)) else None
+envoy_default_of tree = if has_api tree then None else given_default_of tree

@@ -13,7 +13,7 @@ use Rattle.ev_tree.specs.declared.outcome.Found.TheVariants.{Absent, Wrong, Give
 use Rattle.ev_tree.specs.declared.tables.EnumTable.TheVariants.{Protocol}
 use Rattle.ev_tree.specs.Floats.{body_text_of}
 use Rattle.ev_tree.specs.Forms.{is_wrong, is_given, is_absent, given_or, text_of, object_of, objects_of, enumeration_of}
-use Rattle.ev_tree.specs.Addresses.{socket_of, address_text_of, port_of, address_broken, any_text_of, any_port_of, any_address_broken}
+use Rattle.ev_tree.specs.Addresses.{socket_of, address_text_of, port_of, address_broken, any_text_of, any_port_of, any_address_broken, port_unless}
 use Rattle.ev_tree.specs.Rules.{judged, is_name}
 use Rattle.ev_tree.specs.Broken.{none_broken, either_broken, any_broken, least_of}
 use Rattle.ev_listener_json.specs.Parts.{first_of}
@@ -84,11 +84,14 @@ unfoldable pub listening_text : Data → List ℕ
 listening_text tree = if lacks_address tree then named_address tree else any_text_of tree
 
 unfoldable pub listening_port : Data → ℕ
-listening_port tree = if lacks_address tree then 0 else any_port_of tree
+listening_port tree = port_unless (lacks_address tree) (any_port_of tree)
 
--- no usable address
+-- the address is unusable: by its text, where it is made of the name, else by its own rules
+abbrev pub is_unusable : Bool → List ℕ → Bool → Bool
+is_unusable by_name text broken = if by_name then not (is_name text) else broken
+
 abbrev pub has_bad_address : Data → Bool
-has_bad_address tree = if lacks_address tree then not (is_name (named_address tree)) else (any_address_broken tree).v12
+has_bad_address tree = is_unusable (lacks_address tree) (listening_text tree) (any_address_broken tree).v12
 
 -- the text of an address that stands for every address
 abbrev pub is_every_address : List ℕ → Bool

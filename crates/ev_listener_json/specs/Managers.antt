@@ -34,19 +34,18 @@ unfoldable pub inline_of : Data → Data
 inline_of manager = inside (object_of (codes "route_config") manager)
 
 -- by the own rules `scoped_routes` counts as given in any form, and is refused; as Envoy reads it, it is an object, and a third way
-abbrev pub scoped_wrong : Profile → Data → Bool
-scoped_wrong Own manager = is_wrong (field_of (codes "scoped_routes") manager)
-scoped_wrong Envoy manager = is_wrong (object_of (codes "scoped_routes") manager)
+abbrev pub has_scopes : Profile → Data → Bool
+has_scopes Own manager = is_given (field_of (codes "scoped_routes") manager)
+has_scopes Envoy manager = is_given (object_of (codes "scoped_routes") manager)
+
+abbrev pub are_scopes_wrong : Profile → Data → Bool
+are_scopes_wrong Own manager = is_wrong (field_of (codes "scoped_routes") manager)
+are_scopes_wrong Envoy manager = is_wrong (object_of (codes "scoped_routes") manager)
 
 -- not exactly one way to routes that the profile knows
-abbrev pub ways_are_bad : Profile → Data → Bool
-ways_are_bad Own manager =
-    not (exactly_one (is_given (object_of (codes "rds") manager) ∷ is_given (object_of (codes "route_config") manager) ∷ []))
-    || is_given (field_of (codes "scoped_routes") manager)
-ways_are_bad Envoy manager =
-    not (exactly_one (
-    is_given (object_of (codes "rds") manager) ∷ is_given (object_of (codes "route_config") manager)
-    ∷ is_given (object_of (codes "scoped_routes") manager) ∷ []))
+abbrev pub ways_are_bad : Profile → Bool → Bool → Bool → Bool
+ways_are_bad Own asks inline scoped = not (exactly_one (asks ∷ inline ∷ [])) || scoped
+ways_are_bad Envoy asks inline scoped = not (exactly_one (asks ∷ inline ∷ scoped ∷ []))
 
 -- What a connection manager breaks: what the routes that stand in it break, what the source breaks of those that are
 -- asked for, and what it breaks itself. V2: the routes that are asked for have no name, or one over 512 bytes; one of a
@@ -62,13 +61,15 @@ manager_broken profile manager = either_broken (table_broken profile (inline_of 
       || is_wrong (object_of (codes "config_source") (rds_of manager))
       || is_wrong (text_of (codes "route_config_name") (rds_of manager))
       || is_wrong (object_of (codes "route_config") manager)
-      || scoped_wrong profile manager;
-  v18 = ways_are_bad profile manager;
+      || are_scopes_wrong profile manager;
+  v18 =
+      ways_are_bad profile (is_given (object_of (codes "rds") manager)) (is_given (object_of (codes "route_config") manager))
+      (has_scopes profile manager);
 }))
 
 -- the routes are found by scopes, which aren't read
 abbrev pub is_scoped : Profile → Data → Bool
-is_scoped profile manager = is_envoy profile && is_given (object_of (codes "scoped_routes") manager)
+is_scoped profile manager = is_envoy profile && has_scopes profile manager
 
 -- the routes of this name, where one is asked for, else something that isn't read, or the routes that stand in the manager
 abbrev pub serve_with : Bool → List ℕ → Bool → Bool → RouteTable → Serve

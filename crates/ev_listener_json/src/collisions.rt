@@ -7,6 +7,7 @@ use ev_types::{FilterChain, FilterChainMatch};
 
 /// Whether two filter chains may take one connection: neither asks for a source, and by each criterion they have a
 /// value in common, or none in both. Each chain is compared with each one after it.
+#[tactic(auto, using(crate::proofs::Overlaps::has_collision_chains))]
 pub fn has_collision(chains: &[FilterChain]) -> bool
     ensures { result ≡ has_collision (map (λ (c : declared.FilterChain). c.criteria) chains.now) }
 {

@@ -1,13 +1,14 @@
 //! Filter chains of a listener as Envoy reads them: each with its match, a default chain, and the one of an API listener.
-ghost use Rattle.std.specs.Prelude.{◌≡◌, Some, None, [], ◌∷◌, IfOk, map, option_map};
+ghost use Rattle.std.specs.Prelude.{◌≡◌, None, [], ◌∷◌, IfOk, map};
 ghost use Rattle.serde_json.specs.View.{view};
 ghost use Rattle.ev_tree.specs.Broken.{any_broken};
-ghost use Rattle.ev_listener_json.specs.Chains.{no_criteria, served_by, serve_or_other, filters_broken, envoy_chain_of, envoy_chain_broken, has_api, is_manager, api_serve_of, api_broken, default_broken, given_chains_broken, envoy_chains_broken, envoy_chains_of, envoy_default_of};
+ghost use Rattle.ev_tree.specs.Forms.{found_map};
+ghost use Rattle.ev_listener_json.specs.Chains.{no_criteria, served_by, serve_or_other, filters_broken, envoy_chain_of, envoy_chain_broken, has_api, is_manager, api_chain_of, api_broken, chains_of, default_serve, default_broken, given_default_of, given_chains_broken, envoy_chains_broken, envoy_chains_of, envoy_default_of};
 
 use crate::chain_matches::inspect_filter_chain_match;
 use crate::collisions::has_collision;
 use crate::filters::{FilterKind, choose_kind, inspect_config, inspect_filters};
-use ev_tree::{BrokenRules, Inspection, member, more_than_one};
+use ev_tree::{BrokenRules, Found, Inspection, member, more_than_one};
 use ev_types::{FilterChain, FilterChainMatch, Profile, Seq, Serve, Shared};
 use serde_json::Value;
 use std::alloc::{AllocError, Global};
@@ -24,22 +25,33 @@ pub struct ChainsFound {
 }
 
 /// Inspects the chains of a listener as Envoy reads them. An API listener hides those that are given.
+#[tactic(auto, unfolding(crate::specs::Chains::envoy_chains_of, crate::specs::Chains::envoy_default_of, crate::specs::Chains::envoy_chains_broken))]
 pub fn inspect_envoy_chains(alloc: Global, listener: &Value) -> Result<ChainsFound, AllocError>
     ensures chains { IfOk result (λ found. found.chains.items ≡ envoy_chains_of (view listener.now)) }
     ensures default { IfOk result (λ found. found.default ≡ envoy_default_of (view listener.now)) }
     ensures broken { IfOk result (λ found. found.broken ≡ envoy_chains_broken (view listener.now)) }
 {
     if has_api(alloc, listener)? {
-        return inspect_api(alloc, listener);
+        inspect_api(alloc, listener)
+    } else {
+        inspect_given(alloc, listener)
     }
+}
+
+// Inspects the chains that are given.
+fn inspect_given(alloc: Global, listener: &Value) -> Result<ChainsFound, AllocError>
+    ensures chains { IfOk result (λ found. found.chains.items ≡ map envoy_chain_of (chains_of (view listener.now))) }
+    ensures default { IfOk result (λ found. found.default ≡ given_default_of (view listener.now)) }
+    ensures broken { IfOk result (λ found. found.broken ≡ given_chains_broken (view listener.now)) }
+{
     let chains = member::objects(alloc, Some(listener), "filter_chains")?;
     let default = member::object(alloc, Some(listener), "default_filter_chain")?;
     let elements = member::elements(chains);
     let below = inspect_each(alloc, elements)?;
-    let last = inspect_default(alloc, member::inner(default))?;
+    let last = inspect_default(alloc, default)?;
     let own = BrokenRules {
         v6: chains.is_wrong() | default.is_wrong(),
-        v16: (elements.len() == 0) & !default.is_given(),
+        v16: elements.is_empty() & !default.is_given(),
         v26: has_collision(below.value.as_slice()),
         ..BrokenRules::none()
     };
@@ -60,7 +72,7 @@ pub fn has_api(alloc: Global, listener: &Value) -> Result<bool, AllocError>
 
 // Inspects an API listener: its connection manager stands for the one filter of one chain without a match.
 fn inspect_api(alloc: Global, listener: &Value) -> Result<ChainsFound, AllocError>
-    ensures chains { IfOk result (λ found. found.chains.items ≡ record { criteria = no_criteria; serve = api_serve_of (view listener.now) } ∷ []) }
+    ensures chains { IfOk result (λ found. found.chains.items ≡ api_chain_of (view listener.now) ∷ []) }
     ensures default { IfOk result (λ found. found.default ≡ None) }
     ensures broken { IfOk result (λ found. found.broken ≡ api_broken (view listener.now)) }
 {
@@ -168,20 +180,20 @@ fn inspect_served(alloc: Global, chain: &Value) -> Result<Inspection<Serve>, All
 // Inspects the default chain, if there is one.
 fn inspect_default(
     alloc: Global,
-    chain: Option<&Value>,
+    chain: Found<&Value>,
 ) -> Result<Inspection<Option<Serve>>, AllocError>
-    ensures value { IfOk result (λ found. found.value ≡ option_map (λ c. served_by (view c.now)) chain.entry) }
-    ensures broken { IfOk result (λ found. found.broken ≡ default_broken (option_map (λ c. view c.now) chain.entry)) }
+    ensures value { IfOk result (λ found. found.value ≡ default_serve (found_map (λ v. view v.now) chain.entry)) }
+    ensures broken { IfOk result (λ found. found.broken ≡ default_broken (found_map (λ v. view v.now) chain.entry)) }
 {
     match chain {
-        Some(chain) => {
+        Found::Given(chain) => {
             let found = inspect_served(alloc, chain)?;
             Ok(Inspection {
                 value: Some(found.value),
                 broken: found.broken,
             })
         }
-        None => Ok(Inspection {
+        Found::Absent | Found::Wrong => Ok(Inspection {
             value: None,
             broken: BrokenRules::none(),
         }),

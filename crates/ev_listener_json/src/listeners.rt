@@ -1,17 +1,17 @@
-ghost use Rattle.std.specs.Prelude.{◌≡◌, ◌==◌, IfOk, true, length};
+ghost use Rattle.std.specs.Prelude.{◌≡◌, ◌==◌, IfOk, true, length, if◌then◌else◌};
 ghost use Rattle.serde_json.specs.Data.{Data};
 ghost use Rattle.serde_json.specs.View.{view};
 ghost use Rattle.std.specs.String.{string_bytes};
 ghost use Rattle.ev_types.specs.declared.events.Profile.{Profile};
-ghost use Rattle.ev_tree.specs.Addresses.{address_text_of, port_of};
+ghost use Rattle.ev_tree.specs.Addresses.{address_text_of, port_of, text_found, port_unless};
 ghost use Rattle.ev_tree.specs.Rules.{ReadsAs, IsLeast, is_name};
 ghost use Rattle.ev_tree.specs.Broken.{rules_of, least_of};
-ghost use Rattle.ev_listener_json.specs.Listeners.{listener_reading, listener_broken, own_listener_broken, name_of, serve_of, is_udp, is_every_address, listening_text, listening_port, envoy_parts_broken, named_with};
+ghost use Rattle.ev_listener_json.specs.Listeners.{listener_reading, listener_broken, own_listener_broken, name_of, serve_of, is_udp, is_every_address, listening_text, listening_port, is_unusable, envoy_parts_broken, named_with};
 
 use crate::chains::{inspect_chains, serve_or_none};
 use crate::envoy_chains::{has_api, inspect_envoy_chains, no_criteria};
 use ev_tree::{
-    BrokenRules, EnumTable, Found, ReadError, any_address, body_text, is_name, member,
+    AddressText, BrokenRules, EnumTable, Found, ReadError, any_address, body_text, is_name, member,
     socket_address,
 };
 use ev_types::{FilterChain, Host, Listener, Name, NameError, Profile, Seq, Serve, Shared};
@@ -47,10 +47,7 @@ fn read_own_listener(alloc: Global, value: &Value) -> Result<Listener, ReadError
     })?;
     Ok(Listener {
         name: make_name(alloc, found.name)?,
-        address: Host {
-            address: make_name(alloc, found.address)?,
-            port: found.port,
-        },
+        address: make_host(alloc, found.address, found.port)?,
         takes_every_address: false,
         filter_chains: Seq::from_vec(chains),
         default_filter_chain: None,
@@ -67,13 +64,11 @@ fn read_envoy_listener(alloc: Global, value: &Value) -> Result<Listener, ReadErr
     if let Some(rule) = below.broken.or(own.broken).least() {
         return Err(ReadError::Rule(rule));
     }
-    let takes_every_address = is_every_address(own.address.as_str());
+    let address = own.address.as_str();
+    let takes_every_address = is_every_address(address);
     Ok(Listener {
         name: make_name(alloc, own.name)?,
-        address: Host {
-            address: make_name(alloc, own.address.as_str())?,
-            port: own.port,
-        },
+        address: make_host(alloc, address, own.port)?,
         takes_every_address,
         filter_chains: Seq::from_vec(below.chains),
         default_filter_chain: below.default,
@@ -103,17 +98,14 @@ fn inspect_envoy_listener(alloc: Global, value: &Value) -> Result<EnvoyParts<'_>
     let internal = member::object(alloc, Some(value), "internal_listener")?;
     let address = any_address(alloc, Profile::Envoy, Some(value))?;
     let protocol = member::enumeration(alloc, address.socket, "protocol", EnumTable::Protocol)?;
-    let lacks = outer.is_absent();
-    let listening = if lacks {
-        named_address(alloc, text, has_api(alloc, value)?, internal.is_given())?
-    } else {
-        address.text.to_text(alloc)?
+    let by_name = outer.is_absent();
+    let naming = Naming {
+        name: text,
+        api: has_api(alloc, value)?,
+        internal: internal.is_given(),
     };
-    let bad = if lacks {
-        !is_name(listening.as_str())
-    } else {
-        address.broken.v12
-    };
+    let listening = listening_text(alloc, by_name, naming, address.text)?;
+    let bad = is_unusable(by_name, listening.as_str(), address.broken.v12);
     let broken = BrokenRules {
         v3: !name.is_wrong() & !is_name(text),
         v6: name.is_wrong() | address.broken.v6 | protocol.is_wrong() | internal.is_wrong(),
@@ -124,8 +116,47 @@ fn inspect_envoy_listener(alloc: Global, value: &Value) -> Result<EnvoyParts<'_>
         broken,
         name: text,
         address: listening,
-        port: if lacks { 0 } else { address.port },
+        port: port_unless(by_name, address.port),
     })
+}
+
+// The parts of an address by a listener's own name.
+#[derive(Clone, Copy)]
+struct Naming<'a> {
+    name: &'a str,
+    api: bool,
+    internal: bool,
+}
+
+// The text of the address: by the listener's name, or as it is given.
+fn listening_text(
+    alloc: Global,
+    by_name: bool,
+    naming: Naming<'_>,
+    given: AddressText<'_>,
+) -> Result<String, AllocError>
+    ensures { IfOk result (λ text. string_bytes text
+        ≡ (if by_name then named_with naming.entry.api naming.entry.internal naming.entry.name.now else text_found given.entry)) }
+{
+    if by_name {
+        named_address(alloc, naming.name, naming.api, naming.internal)
+    } else {
+        given.to_text(alloc)
+    }
+}
+
+// Whether an address is unusable: by its text, where it is made of the name, else by its own rules.
+fn is_unusable(by_name: bool, text: &str, broken: bool) -> bool
+    ensures { result ≡ is_unusable by_name text.now broken }
+{
+    if by_name { !is_name(text) } else { broken }
+}
+
+// The port, unless the address has none.
+fn port_unless(no_port: bool, port: u16) -> u16
+    ensures { result ≡ port_unless no_port port }
+{
+    if no_port { 0 } else { port }
 }
 
 // The text of an address by a listener's own name: of an API listener, of one inside Envoy, or none.
@@ -211,6 +242,17 @@ fn is_udp(protocol: Found<u32>) -> bool
     ensures { result ≡ is_udp protocol }
 {
     matches!(protocol, Found::Given(1))
+}
+
+// The host at an address that was found to have 1 to 512 bytes.
+fn make_host(alloc: Global, address: &str, port: u16) -> Result<Host, AllocError>
+    requires { is_name address.now ≡ true }
+    ensures { IfOk result (λ host. host ≡ record { address = address.now; port = port }) }
+{
+    Ok(Host {
+        address: make_name(alloc, address)?,
+        port,
+    })
 }
 
 // The name that a text is which was found to have 1 to 512 bytes.

@@ -1,6 +1,6 @@
 ghost use Rattle.std.specs.Prelude.{◌≡◌, [], false, IfOk, Some};
 ghost use Rattle.ev_tree.specs.Forms.{tree_of};
-ghost use Rattle.ev_listener_json.specs.Managers.{manager_broken, manager_serve, serve_with};
+ghost use Rattle.ev_listener_json.specs.Managers.{has_scopes, are_scopes_wrong, ways_are_bad, manager_broken, manager_serve, serve_with};
 
 use ev_route_json::inspect_table;
 use ev_tree::{BrokenRules, Inspection, config_source, exactly_one, is_name, member};
@@ -23,32 +23,65 @@ pub fn inspect_manager(
     let name = member::text(alloc, member::inner(rds), "route_config_name")?;
     let inline = member::object(alloc, config, "route_config")?;
     let table = inspect_table(alloc, profile, member::inner(inline))?;
-    let any_scoped = member::field(alloc, config, "scoped_routes")?;
-    let scoped = member::object(alloc, config, "scoped_routes")?;
+    let scopes = find_scopes(alloc, profile, config)?;
     let asks = rds.is_given();
     let text = member::text_or_empty(name);
-    let (scoped_wrong, ways_bad) = match profile {
-        Profile::Own => (
-            any_scoped.is_wrong(),
-            !exactly_one(&[asks, inline.is_given()]) | any_scoped.is_given(),
-        ),
-        Profile::Envoy => (
-            scoped.is_wrong(),
-            !exactly_one(&[asks, inline.is_given(), scoped.is_given()]),
-        ),
-    };
     let own = BrokenRules {
         v2: asks & !name.is_wrong() & !is_name(text),
-        v6: rds.is_wrong() | source.is_wrong() | name.is_wrong() | inline.is_wrong() | scoped_wrong,
-        v18: ways_bad,
+        v6: rds.is_wrong() | source.is_wrong() | name.is_wrong() | inline.is_wrong() | scopes.wrong,
+        v18: are_ways_bad(profile, asks, inline.is_given(), scopes.given),
         ..BrokenRules::none()
     };
-    let by_scopes = profile.is_envoy() & scoped.is_given();
+    let by_scopes = profile.is_envoy() & scopes.given;
     let serve = make_serve(alloc, asks, text, from.limited, by_scopes, table.value)?;
     Ok(Inspection {
         broken: table.broken.or(from.broken.only_if(asks).or(own)),
         value: Some(serve),
     })
+}
+
+// What a look at `scoped_routes` finds.
+#[derive(Clone, Copy)]
+struct Scopes {
+    given: bool,
+    wrong: bool,
+}
+
+// The `scoped_routes` of a connection manager: by the own rules in any form, as Envoy reads it an object.
+fn find_scopes(
+    alloc: Global,
+    profile: Profile,
+    config: Option<&Value>,
+) -> Result<Scopes, AllocError>
+    ensures given { IfOk result (λ s. s.given ≡ has_scopes profile (tree_of config.entry)) }
+    ensures wrong { IfOk result (λ s. s.wrong ≡ are_scopes_wrong profile (tree_of config.entry)) }
+{
+    match profile {
+        Profile::Own => {
+            let scopes = member::field(alloc, config, "scoped_routes")?;
+            Ok(Scopes {
+                given: scopes.is_given(),
+                wrong: scopes.is_wrong(),
+            })
+        }
+        Profile::Envoy => {
+            let scopes = member::object(alloc, config, "scoped_routes")?;
+            Ok(Scopes {
+                given: scopes.is_given(),
+                wrong: scopes.is_wrong(),
+            })
+        }
+    }
+}
+
+// Whether it is not exactly one way to routes that the profile knows.
+fn are_ways_bad(profile: Profile, asks: bool, inline: bool, scoped: bool) -> bool
+    ensures { result ≡ ways_are_bad profile asks inline scoped }
+{
+    match profile {
+        Profile::Own => !exactly_one(&[asks, inline]) | scoped,
+        Profile::Envoy => !exactly_one(&[asks, inline, scoped]),
+    }
 }
 
 // The routes of this name, where one is asked for, else something that isn't read, or those that stand in the manager.

@@ -91,7 +91,8 @@ impl GivenActions {
     {
         match profile {
             Profile::Own => {
-                !exactly_one(&[self.forward, self.redirect, self.direct]) | self.filter | self.stay
+                !exactly_one(&[self.forward, self.redirect, self.direct])
+                    | (self.filter | self.stay)
             }
             Profile::Envoy => !exactly_one(&[
                 self.forward,

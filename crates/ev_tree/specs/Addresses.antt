@@ -55,11 +55,11 @@ address_broken tree = record none_broken {
 unfoldable pub outer_of : Data → Data
 outer_of tree = inside (object_of (codes "address") tree)
 
-unfoldable pub pipe_of : Data → Data
-pipe_of tree = inside (object_of (codes "pipe") (outer_of tree))
+unfoldable pub pipe_in : Data → Data
+pipe_in outer = inside (object_of (codes "pipe") outer)
 
-unfoldable pub internal_of : Data → Data
-internal_of tree = inside (object_of (codes "envoy_internal_address") (outer_of tree))
+unfoldable pub internal_in : Data → Data
+internal_in outer = inside (object_of (codes "envoy_internal_address") outer)
 
 -- the text of a pipe: none where its path is empty
 abbrev pub pipe_text : List ℕ → List ℕ
@@ -79,51 +79,62 @@ text_found (Socket text) = text.now
 text_found (Pipe path) = pipe_text path.now
 text_found (Internal name id) = internal_text name.now id.now
 
--- a pipe is given, and an address inside Envoy
+-- What is found of a pipe in the object with the address: whether it is given, its path or the empty text, and whether a form of it
+-- is wrong.
 abbrev pub has_pipe : Data → Bool
-has_pipe tree = is_given (object_of (codes "pipe") (outer_of tree))
+has_pipe outer = is_given (object_of (codes "pipe") outer)
 
+unfoldable pub path_in : Data → List ℕ
+path_in outer = given_or [] (text_of (codes "path") (pipe_in outer))
+
+unfoldable pub is_wrong_pipe : Data → Bool
+is_wrong_pipe outer = is_wrong (object_of (codes "pipe") outer) || is_wrong (text_of (codes "path") (pipe_in outer))
+
+-- The same of an address inside Envoy, with the name of its listener and its id.
 abbrev pub has_internal : Data → Bool
-has_internal tree = is_given (object_of (codes "envoy_internal_address") (outer_of tree))
+has_internal outer = is_given (object_of (codes "envoy_internal_address") outer)
+
+unfoldable pub internal_name_in : Data → List ℕ
+internal_name_in outer = given_or [] (text_of (codes "server_listener_name") (internal_in outer))
+
+unfoldable pub internal_id_in : Data → List ℕ
+internal_id_in outer = given_or [] (text_of (codes "endpoint_id") (internal_in outer))
+
+unfoldable pub is_wrong_internal : Data → Bool
+is_wrong_internal outer =
+    is_wrong (object_of (codes "envoy_internal_address") outer)
+    || is_wrong (text_of (codes "server_listener_name") (internal_in outer))
+    || is_wrong (text_of (codes "endpoint_id") (internal_in outer))
 
 -- of each kind of address whether it is given
 abbrev pub addresses_given : Data → List Bool
-addresses_given tree = is_given (object_of (codes "socket_address") (outer_of tree)) ∷ has_pipe tree ∷ has_internal tree ∷ []
+addresses_given outer = is_given (object_of (codes "socket_address") outer) ∷ has_pipe outer ∷ has_internal outer ∷ []
 
--- what a pipe and an address inside Envoy have, or the empty text
-abbrev pub path_in : Data → List ℕ
-path_in tree = given_or [] (text_of (codes "path") (pipe_of tree))
+-- the text that counts: of a pipe where one is given, else of an address inside Envoy, else of a socket
+abbrev pub text_among : Bool → Bool → List ℕ → List ℕ → List ℕ → List ℕ → List ℕ
+text_among pipe internal path name id socket = if pipe then pipe_text path else if internal then internal_text name id else socket
 
-abbrev pub internal_name_in : Data → List ℕ
-internal_name_in tree = given_or [] (text_of (codes "server_listener_name") (internal_of tree))
-
-abbrev pub internal_id_in : Data → List ℕ
-internal_id_in tree = given_or [] (text_of (codes "endpoint_id") (internal_of tree))
-
--- the text of the address that is given: of a pipe, of one inside Envoy, or of a socket
+-- the text of the address
 unfoldable pub any_text_of : Data → List ℕ
 any_text_of tree =
-    if has_pipe tree then pipe_text (path_in tree)
-    else if has_internal tree then internal_text (internal_name_in tree) (internal_id_in tree)
-    else address_text_of tree
+    text_among (has_pipe (outer_of tree)) (has_internal (outer_of tree)) (path_in (outer_of tree)) (internal_name_in (outer_of tree))
+    (internal_id_in (outer_of tree)) (address_text_of tree)
+
+-- a port that counts where the address has one
+abbrev pub port_unless : Bool → ℕ → ℕ
+port_unless no_port port = if no_port then 0 else port
 
 -- a pipe and an address inside Envoy have port 0
 unfoldable pub any_port_of : Data → ℕ
-any_port_of tree = if has_pipe tree || has_internal tree then 0 else port_of tree
+any_port_of tree = port_unless (has_pipe (outer_of tree) || has_internal (outer_of tree)) (port_of tree)
 
 -- What an address breaks as Envoy reads it. V12: not exactly one kind, a text that is empty or over 512 bytes, or a socket without
 -- a port of at most 65535.
 unfoldable pub any_address_broken : Data → BrokenRules
 any_address_broken tree = record none_broken {
-  v6 =
-      (address_broken tree).v6
-      || is_wrong (object_of (codes "pipe") (outer_of tree))
-      || is_wrong (text_of (codes "path") (pipe_of tree))
-      || is_wrong (object_of (codes "envoy_internal_address") (outer_of tree))
-      || is_wrong (text_of (codes "server_listener_name") (internal_of tree))
-      || is_wrong (text_of (codes "endpoint_id") (internal_of tree));
+  v6 = (address_broken tree).v6 || is_wrong_pipe (outer_of tree) || is_wrong_internal (outer_of tree);
   v12 =
-      not (exactly_one (addresses_given tree))
+      not (exactly_one (addresses_given (outer_of tree)))
       || not (is_name (any_text_of tree))
       || (is_given (object_of (codes "socket_address") (outer_of tree)) && not (is_port (number_of (codes "port_value") (socket_of tree))));
 }

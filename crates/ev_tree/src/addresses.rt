@@ -1,7 +1,7 @@
 ghost use Rattle.std.specs.Prelude.{◌≡◌, IfOk};
 ghost use Rattle.std.specs.String.{string_bytes};
 ghost use Rattle.ev_tree.specs.Forms.{tree_of};
-ghost use Rattle.ev_tree.specs.Addresses.{socket_of, address_text_of, port_of, address_broken, is_port, port_or_none, text_found, pipe_text, internal_text, any_text_of, any_port_of, any_address_broken, text_in_profile, port_in_profile, address_broken_in};
+ghost use Rattle.ev_tree.specs.Addresses.{socket_of, address_text_of, port_of, address_broken, is_port, port_or_none, text_found, pipe_text, internal_text, text_among, port_unless, has_pipe, path_in, is_wrong_pipe, has_internal, internal_name_in, internal_id_in, is_wrong_internal, any_text_of, any_port_of, any_address_broken, text_in_profile, port_in_profile, address_broken_in};
 
 use crate::broken::BrokenRules;
 use crate::counts::exactly_one;
@@ -173,6 +173,90 @@ fn own_address(alloc: Global, holder: Option<&Value>) -> Result<AnyAddress<'_>, 
     })
 }
 
+// What a look at a pipe finds.
+#[derive(Clone, Copy)]
+struct FoundPipe<'a> {
+    given: bool,
+    // Its path, or the empty text.
+    path: &'a str,
+    // Whether a form of it is wrong.
+    wrong: bool,
+}
+
+// The pipe in the object with the address.
+fn find_pipe(alloc: Global, outer: Option<&Value>) -> Result<FoundPipe<'_>, AllocError>
+    ensures given { IfOk result (λ p. p.given ≡ has_pipe (tree_of outer.entry)) }
+    ensures path { IfOk result (λ p. p.path.now ≡ path_in (tree_of outer.entry)) }
+    ensures wrong { IfOk result (λ p. p.wrong ≡ is_wrong_pipe (tree_of outer.entry)) }
+{
+    let pipe = member::object(alloc, outer, "pipe")?;
+    let path = member::text(alloc, member::inner(pipe), "path")?;
+    Ok(FoundPipe {
+        given: pipe.is_given(),
+        path: member::text_or_empty(path),
+        wrong: pipe.is_wrong() | path.is_wrong(),
+    })
+}
+
+// What a look at an address inside Envoy finds.
+#[derive(Clone, Copy)]
+struct FoundInternal<'a> {
+    given: bool,
+    // The name of its listener, or the empty text.
+    name: &'a str,
+    // Its id, or the empty text.
+    id: &'a str,
+    // Whether a form of it is wrong.
+    wrong: bool,
+}
+
+// The address inside Envoy in the object with the address.
+fn find_internal(alloc: Global, outer: Option<&Value>) -> Result<FoundInternal<'_>, AllocError>
+    ensures given { IfOk result (λ p. p.given ≡ has_internal (tree_of outer.entry)) }
+    ensures name { IfOk result (λ p. p.name.now ≡ internal_name_in (tree_of outer.entry)) }
+    ensures id { IfOk result (λ p. p.id.now ≡ internal_id_in (tree_of outer.entry)) }
+    ensures wrong { IfOk result (λ p. p.wrong ≡ is_wrong_internal (tree_of outer.entry)) }
+{
+    let internal = member::object(alloc, outer, "envoy_internal_address")?;
+    let inner = member::inner(internal);
+    let name = member::text(alloc, inner, "server_listener_name")?;
+    let id = member::text(alloc, inner, "endpoint_id")?;
+    Ok(FoundInternal {
+        given: internal.is_given(),
+        name: member::text_or_empty(name),
+        id: member::text_or_empty(id),
+        wrong: internal.is_wrong() | name.is_wrong() | id.is_wrong(),
+    })
+}
+
+// The text that counts of those that are found.
+fn choose_text<'a>(
+    pipe: FoundPipe<'a>,
+    internal: FoundInternal<'a>,
+    socket: &'a str,
+) -> AddressText<'a>
+    ensures { text_found result
+        ≡ text_among pipe.entry.given internal.entry.given pipe.entry.path.now internal.entry.name.now internal.entry.id.now socket.now }
+{
+    if pipe.given {
+        return AddressText::Pipe(pipe.path);
+    }
+    if internal.given {
+        return AddressText::Internal {
+            name: internal.name,
+            id: internal.id,
+        };
+    }
+    AddressText::Socket(socket)
+}
+
+// The port, unless the address has none.
+fn port_unless(no_port: bool, port: u16) -> u16
+    ensures { result ≡ port_unless no_port port }
+{
+    if no_port { 0 } else { port }
+}
+
 // An address of any kind.
 fn envoy_address(alloc: Global, holder: Option<&Value>) -> Result<AnyAddress<'_>, AllocError>
     ensures socket { IfOk result (λ a. tree_of a.socket ≡ socket_of (tree_of holder.entry)) }
@@ -185,35 +269,17 @@ fn envoy_address(alloc: Global, holder: Option<&Value>) -> Result<AnyAddress<'_>
     let inner = member::inner(outer);
     let socket = member::object(alloc, inner, "socket_address")?;
     let port = member::number32(alloc, found.socket, "port_value")?;
-    let pipe = member::object(alloc, inner, "pipe")?;
-    let path = member::text(alloc, member::inner(pipe), "path")?;
-    let internal = member::object(alloc, inner, "envoy_internal_address")?;
-    let name = member::text(alloc, member::inner(internal), "server_listener_name")?;
-    let id = member::text(alloc, member::inner(internal), "endpoint_id")?;
-    let text = if pipe.is_given() {
-        AddressText::Pipe(member::text_or_empty(path))
-    } else if internal.is_given() {
-        AddressText::Internal {
-            name: member::text_or_empty(name),
-            id: member::text_or_empty(id),
-        }
-    } else {
-        AddressText::Socket(found.address)
-    };
+    let pipe = find_pipe(alloc, inner)?;
+    let internal = find_internal(alloc, inner)?;
+    let text = choose_text(pipe, internal, found.address);
     let named = text.to_text(alloc)?;
-    let given = [socket.is_given(), pipe.is_given(), internal.is_given()];
-    let no_port = pipe.is_given() | internal.is_given();
+    let given = [socket.is_given(), pipe.given, internal.given];
     Ok(AnyAddress {
         socket: found.socket,
         text,
-        port: if no_port { 0 } else { found.port },
+        port: port_unless(pipe.given | internal.given, found.port),
         broken: BrokenRules {
-            v6: found.broken.v6
-                | pipe.is_wrong()
-                | path.is_wrong()
-                | internal.is_wrong()
-                | name.is_wrong()
-                | id.is_wrong(),
+            v6: found.broken.v6 | pipe.wrong | internal.wrong,
             v12: !exactly_one(&given)
                 | !is_name(named.as_str())
                 | (socket.is_given() & !is_port(port)),

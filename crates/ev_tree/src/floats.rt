@@ -98,7 +98,7 @@ fn whole_members(members: &Map<String, Value>) -> Result<Map<String, Value>, All
 }
 
 /// The plain text of a tree: without spaces, with -1 for each float in it.
-#[tactic(auto, using(crate::proofs::FloatLemmas::made_whole))]
+#[tactic(auto, using(crate::proofs::FloatLemmas::made_whole, crate::proofs::FloatLemmas::stays))]
 pub fn plain_text(alloc: Global, tree: &Value) -> Result<String, AllocError>
     ensures { IfOk result (λ text. string_bytes text ≡ plain_text (view tree.now)) }
 {

@@ -8,6 +8,8 @@ use Rattle.serde_json.specs.Data.{Data}
 use Rattle.serde_json.specs.declared.value.Value.{Value}
 use Rattle.ev_types.specs.Texts.{IsName}
 use Rattle.ev_types.specs.Items.{IsOwnName, IsBeating, IsBodyOf, content_kind}
+use Rattle.ev_types.specs.declared.events.Profile.{Profile}
+use Rattle.ev_types.specs.declared.events.Profile.TheVariants.{Own, Envoy}
 use Rattle.ev_types.specs.declared.contents.Kind.{Kind}
 use Rattle.ev_types.specs.declared.contents.Kind.TheVariants.{Cds, Eds, Lds, Rds}
 use Rattle.ev_types.specs.declared.clusters.Cluster.{Cluster as ClusterParts}
@@ -27,13 +29,13 @@ use Rattle.ev_tree.proofs.Unions.{least_none}
 use Rattle.ev_cluster_json.specs.Clusters.{cluster_reading, cluster_of, cluster_broken, own_broken as cluster_own_broken, name_of}
 use Rattle.ev_cluster_json.specs.Assignments.{assignment_reading}
 use Rattle.ev_route_json.specs.Tables.{table_reading}
-use Rattle.ev_listener_json.specs.Listeners.{listener_reading, listener_of, listener_broken, name_of as listener_name}
+use Rattle.ev_listener_json.specs.Listeners.{listener_reading, listener_of, listener_broken, own_listener_broken, envoy_parts_broken, envoy_listener_broken, name_of as listener_name}
 use Rattle.ev_wire.specs.Bodies.{is_positive, is_heartbeat, is_of_type, breaks_v3, own_broken, differs, name_field, resource_of, body_of, body_with, content_of, content_with}
 
 -- no body is of no type
-pub no_body : (kind : Kind) (name : List ℕ) (ttl : Found Span) (body : Option (Bor Value)) → body ≡ None → Bad 1 ≡ resource_of kind name ttl (tree_of body)
+pub no_body : (profile : Profile) (kind : Kind) (name : List ℕ) (ttl : Found Span) (body : Option (Bor Value)) → body ≡ None → Bad 1 ≡ resource_of profile kind name ttl (tree_of body)
 unfolding resource_of is_of_type
-no_body kind name ttl body e = let P : Option (Bor Value) → Type 0 = λ b. Bad 1 ≡ resource_of kind name ttl (tree_of b) in subst P (sym e) refl
+no_body profile kind name ttl body e = let P : Option (Bor Value) → Type 0 = λ b. Bad 1 ≡ resource_of profile kind name ttl (tree_of b) in subst P (sym e) refl
 
 -- ---- tests
 
@@ -90,12 +92,12 @@ content_with-kind kind content each (Ok a) (Some rule) = tt
 content_with-kind kind content each (Err n) None = tt
 content_with-kind kind content each (Err n) (Some rule) = tt
 
-content_of-kind : (kind : Kind) (body : Data) (rule : Option ℕ) → IsBodyOf kind (body_with rule (content_of kind body))
+content_of-kind : (profile : Profile) (kind : Kind) (body : Data) (rule : Option ℕ) → IsBodyOf kind (body_with rule (content_of profile kind body))
 unfolding content_of
-content_of-kind Cds body rule = content_with-kind Cds Cluster (λ _. refl) (cluster_reading body) rule
-content_of-kind Eds body rule = content_with-kind Eds Assignment (λ _. refl) (assignment_reading body) rule
-content_of-kind Lds body rule = content_with-kind Lds Listener (λ _. refl) (listener_reading body) rule
-content_of-kind Rds body rule = content_with-kind Rds Routes (λ _. refl) (table_reading body) rule
+content_of-kind profile Cds body rule = content_with-kind Cds Cluster (λ _. refl) (cluster_reading profile body) rule
+content_of-kind profile Eds body rule = content_with-kind Eds Assignment (λ _. refl) (assignment_reading profile body) rule
+content_of-kind profile Lds body rule = content_with-kind Lds Listener (λ _. refl) (listener_reading profile body) rule
+content_of-kind profile Rds body rule = content_with-kind Rds Routes (λ _. refl) (table_reading profile body) rule
 
 -- what holds of both branches holds of the choice
 of_choice : (P : Body → Type 0) (b : Bool) (x y : Body) → P x → P y → P (if b then x else y)
@@ -103,11 +105,11 @@ of_choice P true x y h k = h
 of_choice P false x y h k = k
 
 -- a good body has the content of its kind
-pub body_of-kind : (kind : Kind) (name : List ℕ) (ttl : Found Span) (resource : Found Data) → IsBodyOf kind (body_of kind name ttl resource)
+pub body_of-kind : (profile : Profile) (kind : Kind) (name : List ℕ) (ttl : Found Span) (resource : Found Data) → IsBodyOf kind (body_of profile kind name ttl resource)
 unfolding body_of resource_of
-body_of-kind kind name ttl resource =
+body_of-kind profile kind name ttl resource =
     of_choice (IsBodyOf kind) (is_heartbeat name ttl resource) Beat _ tt
-    (of_choice (IsBodyOf kind) (not (is_of_type kind (inside resource))) (Bad 1) _ tt (content_of-kind kind (inside resource) _))
+    (of_choice (IsBodyOf kind) (not (is_of_type kind (inside resource))) (Bad 1) _ tt (content_of-kind profile kind (inside resource) _))
 
 -- ---- the outer name of a good body is a name, and its own
 
@@ -118,48 +120,55 @@ own_text name Wrong same right = cc
 own_text name (Given inner) same right = same_bytes inner name same
 
 -- a cluster that breaks no rule has a name of the right form
-cluster_named : (body : Data) → least_of (cluster_broken body) ≡ None → is_wrong (text_of (codes "name") body) ≡ false
+cluster_named : (profile : Profile) (body : Data) → least_of (cluster_broken profile body) ≡ None → is_wrong (text_of (codes "name") body) ≡ false
 unfolding cluster_broken cluster_own_broken
-cluster_named body h =
-    or_first _ _ (or_first _ _ (or_first _ _ (or_first _ _ (or_first _ _ (ap (λ (b : BrokenRules). b.v6) (least_none (cluster_broken body) h))))))
+cluster_named profile body h =
+    or_first _ _ (or_first _ _ (or_first _ _ (or_first _ _ (or_first _ _ (ap (λ (b : BrokenRules). b.v6) (least_none (cluster_broken profile body) h))))))
 
-cluster_own : (name : List ℕ) (body : Data) → differs name (text_of (codes "name") body) ≡ false → (cluster : ClusterParts) → cluster_reading body ≡ Ok cluster
+cluster_own : (profile : Profile) (name : List ℕ) (body : Data) → differs name (text_of (codes "name") body) ≡ false → (cluster : ClusterParts) → cluster_reading profile body ≡ Ok cluster
     → cluster.name ≡ name
 unfolding name_of
-cluster_own name body same cluster h =
-    let fair = judged_ok (least_of (cluster_broken body)) (cluster_of body) cluster h in
-    ap (λ (c : ClusterParts). c.name) (sym fair.1) ∙ own_text name (text_of (codes "name") body) same (cluster_named body fair.0)
+cluster_own profile name body same cluster h =
+    let fair = judged_ok (least_of (cluster_broken profile body)) (cluster_of profile body) cluster h in
+    ap (λ (c : ClusterParts). c.name) (sym fair.1) ∙ own_text name (text_of (codes "name") body) same (cluster_named profile body fair.0)
 
 -- the same of a listener
-listener_named : (body : Data) → least_of (listener_broken body) ≡ None → is_wrong (text_of (codes "name") body) ≡ false
-unfolding listener_broken
-listener_named body h =
-    or_first _ _ (or_first _ _ (or_first _ _ (or_first _ _ (or_second _ _ (ap (λ (b : BrokenRules). b.v6) (least_none (listener_broken body) h))))))
+listener_named : (profile : Profile) (body : Data) → least_of (listener_broken profile body) ≡ None → is_wrong (text_of (codes "name") body) ≡ false
+unfolding own_listener_broken envoy_parts_broken
+listener_named Own body h =
+    or_first _ _ (or_first _ _ (or_first _ _ (or_first _ _ (or_second _ _ (ap (λ (b : BrokenRules). b.v6) (least_none (own_listener_broken body) h))))))
+listener_named Envoy body h =
+    or_first _ _ (or_first _ _ (or_first _ _ (or_second _ _ (ap (λ (b : BrokenRules). b.v6) (least_none (envoy_listener_broken body) h)))))
 
-listener_own : (name : List ℕ) (body : Data) → differs name (text_of (codes "name") body) ≡ false → (listener : ListenerParts) → listener_reading body ≡ Ok listener
+-- its name is the one that is read
+named_as_read : (profile : Profile) (body : Data) → (listener_of profile body).name ≡ listener_name body
+named_as_read Own body = refl
+named_as_read Envoy body = refl
+
+listener_own : (profile : Profile) (name : List ℕ) (body : Data) → differs name (text_of (codes "name") body) ≡ false → (listener : ListenerParts) → listener_reading profile body ≡ Ok listener
     → listener.name ≡ name
 unfolding listener_name
-listener_own name body same listener h =
-    let fair = judged_ok (least_of (listener_broken body)) (listener_of body) listener h in
-    ap (λ (l : ListenerParts). l.name) (sym fair.1) ∙ own_text name (text_of (codes "name") body) same (listener_named body fair.0)
+listener_own profile name body same listener h =
+    let fair = judged_ok (least_of (listener_broken profile body)) (listener_of profile body) listener h in
+    ap (λ (l : ListenerParts). l.name) (sym fair.1) ∙ named_as_read profile body ∙ own_text name (text_of (codes "name") body) same (listener_named profile body fair.0)
 
-content_of-own_name : (kind : Kind) (name : List ℕ) (body : Data) → IsName name → differs name (text_of (name_field kind) body) ≡ false
-    → (c : Content) → content_of kind body ≡ Ok c → IsOwnName name (Good c)
+content_of-own_name : (profile : Profile) (kind : Kind) (name : List ℕ) (body : Data) → IsName name → differs name (text_of (name_field kind) body) ≡ false
+    → (c : Content) → content_of profile kind body ≡ Ok c → IsOwnName name (Good c)
 unfolding content_of
-content_of-own_name Cds name body is same c h =
-    let read = content_with_ok Cluster (cluster_reading body) c h in
+content_of-own_name profile Cds name body is same c h =
+    let read = content_with_ok Cluster (cluster_reading profile body) c h in
     let P : Content → Type 0 = λ c. IsOwnName name (Good c) in
-    subst P read.2 (is, cluster_own name body same read.0 read.1)
-content_of-own_name Eds name body is same c h =
-    let read = content_with_ok Assignment (assignment_reading body) c h in
+    subst P read.2 (is, cluster_own profile name body same read.0 read.1)
+content_of-own_name profile Eds name body is same c h =
+    let read = content_with_ok Assignment (assignment_reading profile body) c h in
     let P : Content → Type 0 = λ c. IsOwnName name (Good c) in
     subst P read.2 is
-content_of-own_name Lds name body is same c h =
-    let read = content_with_ok Listener (listener_reading body) c h in
+content_of-own_name profile Lds name body is same c h =
+    let read = content_with_ok Listener (listener_reading profile body) c h in
     let P : Content → Type 0 = λ c. IsOwnName name (Good c) in
-    subst P read.2 (is, listener_own name body same read.0 read.1)
-content_of-own_name Rds name body is same c h =
-    let read = content_with_ok Routes (table_reading body) c h in
+    subst P read.2 (is, listener_own profile name body same read.0 read.1)
+content_of-own_name profile Rds name body is same c h =
+    let read = content_with_ok Routes (table_reading profile body) c h in
     let P : Content → Type 0 = λ c. IsOwnName name (Good c) in
     subst P read.2 is
 
@@ -170,12 +179,12 @@ body_with-own_name name None (Err n) own = tt
 body_with-own_name name (Some rule) (Ok c) own = tt
 body_with-own_name name (Some rule) (Err n) own = tt
 
-names_kept : (kind : Kind) (name : List ℕ) (ttl : Found Span) (body : Data) → least_of (own_broken kind name ttl body) ≡ None
-    → (c : Content) → content_of kind body ≡ Ok c → IsOwnName name (Good c)
+names_kept : (profile : Profile) (kind : Kind) (name : List ℕ) (ttl : Found Span) (body : Data) → least_of (own_broken kind name ttl body) ≡ None
+    → (c : Content) → content_of profile kind body ≡ Ok c → IsOwnName name (Good c)
 unfolding breaks_v3
-names_kept kind name ttl body h c e =
+names_kept profile kind name ttl body h c e =
     let fair = least_none (own_broken kind name ttl body) h in
-    content_of-own_name kind name body (named name (not_false (is_name name) (ap (λ (b : BrokenRules). b.v2) fair))) (ap (λ (b : BrokenRules). b.v3) fair) c e
+    content_of-own_name profile kind name body (named name (not_false (is_name name) (ap (λ (b : BrokenRules). b.v2) fair))) (ap (λ (b : BrokenRules). b.v3) fair) c e
 
 -- ---- a heartbeat
 
@@ -192,13 +201,13 @@ heartbeat_bounded name ttl resource h =
     and_second (is_absent resource) (is_positive ttl) (and_first (is_absent resource && is_positive ttl) (is_name name) h)
 
 -- the outer name of a good body or a heartbeat is a name, and the cluster's or listener's own
-pub body_of-own_name : (kind : Kind) (name : List ℕ) (ttl : Found Span) (resource : Found Data) → IsOwnName name (body_of kind name ttl resource)
+pub body_of-own_name : (profile : Profile) (kind : Kind) (name : List ℕ) (ttl : Found Span) (resource : Found Data) → IsOwnName name (body_of profile kind name ttl resource)
 unfolding body_of resource_of
-body_of-own_name kind name ttl resource =
+body_of-own_name profile kind name ttl resource =
     of_test (IsOwnName name) (is_heartbeat name ttl resource) Beat _ (heartbeat_named name ttl resource)
     (of_choice (IsOwnName name) (not (is_of_type kind (inside resource))) (Bad 1) _ tt
-    (body_with-own_name name (least_of (own_broken kind name ttl (inside resource))) (content_of kind (inside resource))
-    (names_kept kind name ttl (inside resource))))
+    (body_with-own_name name (least_of (own_broken kind name ttl (inside resource))) (content_of profile kind (inside resource))
+    (names_kept profile kind name ttl (inside resource))))
 
 body_with-beating : (ttl : Bool) (rule : Option ℕ) (content : Result Content ℕ) → IsBeating ttl (body_with rule content)
 body_with-beating ttl None (Ok c) = tt
@@ -207,8 +216,8 @@ body_with-beating ttl (Some rule) (Ok c) = tt
 body_with-beating ttl (Some rule) (Err n) = tt
 
 -- a heartbeat has a time to live
-pub body_of-beating : (kind : Kind) (name : List ℕ) (ttl : Found Span) (resource : Found Data) → IsBeating (is_positive ttl) (body_of kind name ttl resource)
+pub body_of-beating : (profile : Profile) (kind : Kind) (name : List ℕ) (ttl : Found Span) (resource : Found Data) → IsBeating (is_positive ttl) (body_of profile kind name ttl resource)
 unfolding body_of resource_of
-body_of-beating kind name ttl resource =
+body_of-beating profile kind name ttl resource =
     of_test (IsBeating (is_positive ttl)) (is_heartbeat name ttl resource) Beat _ (heartbeat_bounded name ttl resource)
     (of_choice (IsBeating (is_positive ttl)) (not (is_of_type kind (inside resource))) (Bad 1) _ tt (body_with-beating (is_positive ttl) _ _))

@@ -3,6 +3,7 @@ use Rattle.std.proofs.Common.{ℕ, ◌≤◌, ◌⊎◌, inl, inr, Bool, true, f
 use Rattle.std.proofs.Math.Nat.{min-le_left, min-le_right, min-eq_left, min-eq_right}
 use Rattle.std.proofs.lemmas.Bool.Decides.{leb_tells}
 use Rattle.serde_json.specs.Data.{Data}
+use Rattle.ev_types.specs.declared.events.Profile.{Profile}
 use Rattle.ev_types.specs.declared.contents.Kind.{Kind}
 use Rattle.ev_types.specs.declared.contents.Kind.TheVariants.{Cds, Eds, Lds, Rds}
 use Rattle.ev_types.specs.declared.contents.Content.{Content}
@@ -111,18 +112,18 @@ ascending a = search rules
 least_broken : (a : BrokenRules) → IsLeast (rules_of a) (least_of a)
 least_broken a = least_is_least (rules_of a) (ascending a)
 
-of_own_and_content : (kind : Kind) (name : List ℕ) (ttl : Found Span) (body : Data)
-    → IsLeast (rules_of (either_broken (own_broken kind name ttl body) (content_broken kind body)))
-    (rule_in (body_with (least_of (own_broken kind name ttl body)) (content_of kind body)))
+of_own_and_content : (profile : Profile) (kind : Kind) (name : List ℕ) (ttl : Found Span) (body : Data)
+    → IsLeast (rules_of (either_broken (own_broken kind name ttl body) (content_broken profile kind body)))
+    (rule_in (body_with (least_of (own_broken kind name ttl body)) (content_of profile kind body)))
 unfolding content_of
-of_own_and_content Cds name ttl body =
-    lesser (own_broken Cds name ttl body) (cluster_broken body) Cluster (cluster_of body) _ _ (least_broken (own_broken Cds name ttl body)) (least_broken (cluster_broken body))
-of_own_and_content Eds name ttl body =
-    lesser (own_broken Eds name ttl body) (assignment_broken body) Assignment (rows_of body) _ _ (least_broken (own_broken Eds name ttl body)) (least_broken (assignment_broken body))
-of_own_and_content Lds name ttl body =
-    lesser (own_broken Lds name ttl body) (listener_broken body) Listener (listener_of body) _ _ (least_broken (own_broken Lds name ttl body)) (least_broken (listener_broken body))
-of_own_and_content Rds name ttl body =
-    lesser (own_broken Rds name ttl body) (table_broken body) Routes (table_of body) _ _ (least_broken (own_broken Rds name ttl body)) (least_broken (table_broken body))
+of_own_and_content profile Cds name ttl body =
+    lesser (own_broken Cds name ttl body) (cluster_broken profile body) Cluster (cluster_of profile body) _ _ (least_broken (own_broken Cds name ttl body)) (least_broken (cluster_broken profile body))
+of_own_and_content profile Eds name ttl body =
+    lesser (own_broken Eds name ttl body) (assignment_broken profile body) Assignment (rows_of profile body) _ _ (least_broken (own_broken Eds name ttl body)) (least_broken (assignment_broken profile body))
+of_own_and_content profile Lds name ttl body =
+    lesser (own_broken Lds name ttl body) (listener_broken profile body) Listener (listener_of profile body) _ _ (least_broken (own_broken Lds name ttl body)) (least_broken (listener_broken profile body))
+of_own_and_content profile Rds name ttl body =
+    lesser (own_broken Rds name ttl body) (table_broken profile body) Routes (table_of profile body) _ _ (least_broken (own_broken Rds name ttl body)) (least_broken (table_broken profile body))
 
 -- ---- V1 before all others
 
@@ -152,11 +153,11 @@ by_type : (b : Bool) (own content : BrokenRules) (body : Body) → own.v1 ≡ b 
 by_type true own content body is others = first_of_all (either_broken own content) (or_left own.v1 content.v1 is)
 by_type false own content body is others = others
 
-resource_least : (kind : Kind) (name : List ℕ) (ttl : Found Span) (body : Data)
-    → IsLeast (rules_of (either_broken (own_broken kind name ttl body) (content_broken kind body))) (rule_in (resource_of kind name ttl body))
+resource_least : (profile : Profile) (kind : Kind) (name : List ℕ) (ttl : Found Span) (body : Data)
+    → IsLeast (rules_of (either_broken (own_broken kind name ttl body) (content_broken profile kind body))) (rule_in (resource_of profile kind name ttl body))
 unfolding resource_of
-resource_least kind name ttl body =
-    by_type (breaks_v1 kind body) (own_broken kind name ttl body) (content_broken kind body) _ refl (of_own_and_content kind name ttl body)
+resource_least profile kind name ttl body =
+    by_type (breaks_v1 kind body) (own_broken kind name ttl body) (content_broken profile kind body) _ refl (of_own_and_content profile kind name ttl body)
 
 by_heartbeat : (b : Bool) (broken : BrokenRules) (body : Body) → IsLeast (rules_of broken) (rule_in body)
     → IsLeast (rules_of (if b then none_broken else broken)) (rule_in (if b then Beat else body))
@@ -164,8 +165,8 @@ by_heartbeat true broken body others = least_broken none_broken
 by_heartbeat false broken body others = others
 
 -- the rule that refuses an item is the least that is broken; a good one and a heartbeat break none
-pub body_least : (kind : Kind) (name : List ℕ) (ttl : Found Span) (resource : Found Data)
-    → IsLeast (rules_of (item_broken kind name ttl resource)) (rule_in (body_of kind name ttl resource))
+pub body_least : (profile : Profile) (kind : Kind) (name : List ℕ) (ttl : Found Span) (resource : Found Data)
+    → IsLeast (rules_of (item_broken profile kind name ttl resource)) (rule_in (body_of profile kind name ttl resource))
 unfolding body_of
-body_least kind name ttl resource =
-    by_heartbeat (is_heartbeat name ttl resource) _ _ (resource_least kind name ttl (inside resource))
+body_least profile kind name ttl resource =
+    by_heartbeat (is_heartbeat name ttl resource) _ _ (resource_least profile kind name ttl (inside resource))

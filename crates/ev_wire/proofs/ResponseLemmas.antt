@@ -5,6 +5,7 @@ use Rattle.std.specs.Result.{IsErrAnd}
 use Rattle.std.proofs.lemmas.List.Elements.{All-nil, All-cons}
 use Rattle.serde_json.specs.Data.{Data}
 use Rattle.ev_types.specs.Items.{ItemParts, ResponseParts, IsBodyOf}
+use Rattle.ev_types.specs.declared.events.Profile.{Profile}
 use Rattle.ev_types.specs.declared.contents.Kind.{Kind}
 use Rattle.ev_tree.specs.Forms.{is_wrong, objects_of, texts_of}
 use Rattle.ev_wire.specs.declared.outcome.WireError.{WireError}
@@ -49,10 +50,10 @@ given_if-none false x h = refl
 -- ---- resources
 
 -- each item has a body of the response's type
-pub items-kind : (kind : Kind) (entries : List Data) → All (λ (item : ItemParts). IsBodyOf kind item.body) (map (item_of kind) entries)
+pub items-kind : (profile : Profile) (kind : Kind) (entries : List Data) → All (λ (item : ItemParts). IsBodyOf kind item.body) (map (item_of profile kind) entries)
 unfolding item_of
-items-kind kind [] = All-nil (λ (item : ItemParts). IsBodyOf kind item.body)
-items-kind kind (entry ∷ entries) = All-cons (λ (item : ItemParts). IsBodyOf kind item.body) _ _ (body_of-kind kind _ _ _) (items-kind kind entries)
+items-kind profile kind [] = All-nil (λ (item : ItemParts). IsBodyOf kind item.body)
+items-kind profile kind (entry ∷ entries) = All-cons (λ (item : ItemParts). IsBodyOf kind item.body) _ _ (body_of-kind profile kind _ _ _) (items-kind profile kind entries)
 
 -- ---- the lists
 
@@ -70,11 +71,11 @@ abbrev typed : Kind → List ℕ → List ItemParts → List (List ℕ) → Resp
 typed kind nonce items removed = record { kind = Some kind; nonce = nonce; items = items; removed = removed }
 
 -- a response of a type that is read
-pub known_response : (kind : Kind) (nonce : List ℕ) (tree : Data) (items : List ItemParts) (removed : List (List ℕ)) → has_lists tree ≡ true
-    → map (item_of kind) (entries_of tree) ≡ items → removed_of tree ≡ removed
-    → given_if (has_lists tree) (parts_of (Some kind) nonce tree) ≡ Some (typed kind nonce items removed)
-known_response kind nonce tree items removed h is gone =
-    ap (λ b. given_if b (parts_of (Some kind) nonce tree)) h
+pub known_response : (profile : Profile) (kind : Kind) (nonce : List ℕ) (tree : Data) (items : List ItemParts) (removed : List (List ℕ)) → has_lists tree ≡ true
+    → map (item_of profile kind) (entries_of tree) ≡ items → removed_of tree ≡ removed
+    → given_if (has_lists tree) (parts_of profile (Some kind) nonce tree) ≡ Some (typed kind nonce items removed)
+known_response profile kind nonce tree items removed h is gone =
+    ap (λ b. given_if b (parts_of profile (Some kind) nonce tree)) h
     ∙ ap (λ (items : List ItemParts). Some (typed kind nonce items (removed_of tree))) is
     ∙ ap (λ (removed : List (List ℕ)). Some (typed kind nonce items removed)) gone
 
@@ -97,17 +98,17 @@ head_answerable tree head h e =
     subst P e (some_byte (length (nonce_of tree)) (second_of _ (not (length (nonce_of tree) == 0)) h))
 
 -- a tree without a head is no response
-pub no_head : (tree : Data) → has_head tree ≡ false → response_of tree ≡ None
+pub no_head : (profile : Profile) (tree : Data) → has_head tree ≡ false → response_of profile tree ≡ None
 unfolding response_of
-no_head tree h = ap (λ b. given_if (b && has_lists_of (response_kind tree) tree) (parts_of (response_kind tree) (nonce_of tree) tree)) h
+no_head profile tree h = ap (λ b. given_if (b && has_lists_of (response_kind tree) tree) (parts_of profile (response_kind tree) (nonce_of tree) tree)) h
 
 -- with the head known, the lists decide
-pub known_head : (tree : Data) (head : Head) → has_head tree ≡ true → record { kind = response_kind tree; nonce = nonce_of tree } ≡ head
-    → response_of tree ≡ given_if (has_lists_of head.kind tree) (parts_of head.kind head.nonce tree)
+pub known_head : (profile : Profile) (tree : Data) (head : Head) → has_head tree ≡ true → record { kind = response_kind tree; nonce = nonce_of tree } ≡ head
+    → response_of profile tree ≡ given_if (has_lists_of head.kind tree) (parts_of profile head.kind head.nonce tree)
 unfolding response_of
-known_head tree head h e =
-    ap (λ b. given_if (b && has_lists_of (response_kind tree) tree) (parts_of (response_kind tree) (nonce_of tree) tree)) h
-    ∙ ap (λ (head : Head). given_if (has_lists_of head.kind tree) (parts_of head.kind head.nonce tree)) e
+known_head profile tree head h e =
+    ap (λ b. given_if (b && has_lists_of (response_kind tree) tree) (parts_of profile (response_kind tree) (nonce_of tree) tree)) h
+    ∙ ap (λ (head : Head). given_if (has_lists_of head.kind tree) (parts_of profile head.kind head.nonce tree)) e
 
 abbrev untyped : List ℕ → List ItemParts → List (List ℕ) → ResponseParts
 untyped nonce items removed = record { kind = None; nonce = nonce; items = items; removed = removed }

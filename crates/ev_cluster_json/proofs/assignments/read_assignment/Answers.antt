@@ -10,9 +10,10 @@ use Rattle.ev_cluster_json.proofs.assignments.read_assignment.Goals as goal
 
 pub returns : goal.returns
 returns c =
+    let profile = c.args.profile in
     let tree = view c.args.value.now in
     let found = c.in_ok-tally.ensures in
-    let none : least_of (assignment_broken tree) ≡ None = ap least_of (sym found.broken) ∙ sym c.least.ensures ∙ c.in_default.is in
-    let clear = least_none (assignment_broken tree) none in
-    let rows = c.in_ok-assignment.ensures ∙ found.rows ∙ rows_made tree (ap (λ (b : BrokenRules). b.v12) clear) (ap (λ (b : BrokenRules). b.v13) clear) in
-    ap (λ rule. judged rule (rows_of tree)) none ∙ ap Ok (sym rows)
+    let none : least_of (assignment_broken profile tree) ≡ None = ap least_of (sym found.broken) ∙ sym c.least.ensures ∙ c.in_default.is in
+    let clear = least_none (assignment_broken profile tree) none in
+    let rows = c.in_ok-assignment.ensures ∙ found.rows ∙ rows_made profile tree (ap (λ (b : BrokenRules). b.v12) clear) (ap (λ (b : BrokenRules). b.v13) clear) in
+    ap (λ rule. judged rule (rows_of profile tree)) none ∙ ap Ok (sym rows)

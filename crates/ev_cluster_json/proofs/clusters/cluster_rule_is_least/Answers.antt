@@ -5,4 +5,4 @@ use Rattle.ev_cluster_json.specs.Clusters.{cluster_broken}
 use Rattle.ev_cluster_json.proofs.clusters.cluster_rule_is_least.Goals as goal
 
 pub returns : goal.returns
-returns c = λ tree. least_is_least (rules_of (cluster_broken tree)) (search rules)
+returns c = λ profile tree. least_is_least (rules_of (cluster_broken profile tree)) (search rules)

@@ -31,10 +31,10 @@ returns c =
     } in
     record {
       broken =
-          c.or-tally.ensures ∙ ap (λ b. either_broken b own) gains.broken ∙ either_assoc old.broken (any_broken host_broken read) own
-          ∙ (λ i. either_broken old.broken (either_broken (any_broken host_broken (hosts i)) (record (c.none.ensures i) {
+          c.or-tally.ensures ∙ ap (λ b. either_broken b own) gains.broken ∙ either_assoc old.broken (any_broken (host_broken c.args.profile) read) own
+          ∙ (λ i. either_broken old.broken (either_broken (any_broken (host_broken c.args.profile) (hosts i)) (record (c.none.ensures i) {
             v6 = or_same (c.is_wrong.ensures ∙ ap is_wrong c.in_ok-priority.ensures) (c.is_wrong-2.ensures ∙ c.in_ok-hosts.ensures.wrong) i;
             v13 = or_same (ap (nat_lt MAX_PRIORITY) number) sum i;
           })));
-      rows = gains.rows ∙ (λ i. old.rows.items ++ flat_map (host_rows (rank i)) (hosts i));
+      rows = gains.rows ∙ (λ i. old.rows.items ++ flat_map (host_rows c.args.profile (rank i)) (hosts i));
     }

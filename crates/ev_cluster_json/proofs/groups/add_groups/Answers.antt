@@ -14,8 +14,8 @@ loop-group-preserved c =
     let i = c.loop-group.group-index in
     let group = c.group-item.result in
     let more = seen_more groups i group c.loop-group-test.true c.group-item.is in
-    gains_more group_broken made_group _ _ _ (map view (take i groups)) _ (view group) more c.loop-group.invariant c.in_ok-add_group.ensures
+    gains_more (group_broken c.args.profile) (made_group c.args.profile) _ _ _ (map view (take i groups)) _ (view group) more c.loop-group.invariant c.in_ok-add_group.ensures
 
 pub returns : goal.returns
 returns c =
-    gains_all group_broken made_group _ _ c.args.groups.now c.loop-group.group-index c.loop-group-test.false c.loop-group.invariant
+    gains_all (group_broken c.args.profile) (made_group c.args.profile) _ _ c.args.groups.now c.loop-group.group-index c.loop-group-test.false c.loop-group.invariant

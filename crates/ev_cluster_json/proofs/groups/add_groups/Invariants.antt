@@ -7,4 +7,4 @@ use Rattle.ev_cluster_json.proofs.groups.add_groups.Given as goal
 
 abbrev pub invariant-loop-group : goal.invariant-loop-group
 invariant-loop-group l =
-    GainsAll group_broken made_group l.fn.tally l.tally (map view (take l.group-index l.groups))
+    GainsAll (group_broken l.profile) (made_group l.profile) l.fn.tally l.tally (map view (take l.group-index l.groups))

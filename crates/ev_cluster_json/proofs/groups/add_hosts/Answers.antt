@@ -23,7 +23,7 @@ loop-host-preserved c =
           c.saturating_add-sum.ensures ∙ ap (λ n. min (c.loop-host.sum + n) cap) (c.from.ensures ∙ c.in_ok-weight.ensures.weight)
           ∙ cap_more (sum_by weight_of seen) c.loop-host.sum (weight_of (view host)) cap c.loop-host.invariant.weight
           ∙ ap (λ n. min n cap) (sym (sum_push weight_of seen (view host)) ∙ ap (sum_by weight_of) (sym more));
-      gains = gains_more host_broken (host_rows c.args.rank) _ _ _ seen _ (view host) more c.loop-host.invariant.gains c.in_ok-weight.ensures.gains;
+      gains = gains_more (host_broken c.args.profile) (host_rows c.args.profile c.args.rank) _ _ _ seen _ (view host) more c.loop-host.invariant.gains c.in_ok-weight.ensures.gains;
     }
 
 pub returns-clause-weight : goal.returns-clause-weight
@@ -33,4 +33,4 @@ returns-clause-weight c =
 
 pub returns-clause-gains : goal.returns-clause-gains
 returns-clause-gains c =
-    gains_all host_broken (host_rows c.args.rank) _ _ c.args.hosts.now c.loop-host.host-index c.loop-host-test.false c.loop-host.invariant.gains
+    gains_all (host_broken c.args.profile) (host_rows c.args.profile c.args.rank) _ _ c.args.hosts.now c.loop-host.host-index c.loop-host-test.false c.loop-host.invariant.gains

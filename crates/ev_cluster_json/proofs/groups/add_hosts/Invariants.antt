@@ -11,5 +11,5 @@ invariant-loop-host l =
     let seen = map view (take l.host-index l.hosts) in
     record {
       weight : l.sum ≡ min (sum_by weight_of seen) 18446744073709551615;
-      gains : GainsAll host_broken (host_rows l.rank) l.fn.tally l.tally seen;
+      gains : GainsAll (host_broken l.profile) (host_rows l.profile l.rank) l.fn.tally l.tally seen;
     }

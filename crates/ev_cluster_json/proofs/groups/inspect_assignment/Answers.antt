@@ -11,7 +11,7 @@ pub returns-clause-rows : goal.returns-clause-rows
 unfolding groups_of made_rows
 returns-clause-rows c =
     let groups = c.elements.ensures ∙ ap listed c.in_ok-groups.ensures.value in
-    c.in_ok-add_groups.ensures.rows ∙ (λ i. c.new.ensures.items i ++ flat_map made_group (groups i))
+    c.in_ok-add_groups.ensures.rows ∙ (λ i. c.new.ensures.items i ++ flat_map (made_group c.args.profile) (groups i))
 
 pub returns-clause-broken : goal.returns-clause-broken
 unfolding groups_of assignment_broken
@@ -19,4 +19,4 @@ returns-clause-broken c =
     let groups = c.elements.ensures ∙ ap listed c.in_ok-groups.ensures.value in
     c.in_ok-add_groups.ensures.broken ∙ (λ i. either_broken (record (c.none.ensures i) {
       v6 = or_same (c.is_wrong.ensures ∙ c.in_ok-cluster_name.ensures.wrong) (c.is_wrong-2.ensures ∙ c.in_ok-groups.ensures.wrong) i;
-    }) (any_broken group_broken (groups i)))
+    }) (any_broken (group_broken c.args.profile) (groups i)))

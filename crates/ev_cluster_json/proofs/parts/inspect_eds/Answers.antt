@@ -2,7 +2,7 @@ use Rattle.std.proofs.Common.{◌∙◌, ◌&&◌, not, [], ap, nat_lt, length, 
 use Rattle.ev_tree.specs.declared.limits.TheConstants.{MAX_NAME_BYTES}
 use Rattle.ev_tree.specs.Forms.{inside, is_wrong, given_or, object_of, text_of}
 use Rattle.ev_tree.specs.Broken.{either_broken, broken_where}
-use Rattle.ev_tree.specs.Sources.{source_broken, source_is_limited}
+use Rattle.ev_tree.specs.Sources.{source_broken_in, source_is_limited}
 use Rattle.ev_tree.proofs.Outcomes.{or_same}
 use Rattle.ev_cluster_json.specs.Clusters.{eds_of, eds_source_of, service_name_of, eds_broken}
 use Rattle.ev_cluster_json.proofs.parts.inspect_eds.Goals as goal
@@ -27,7 +27,7 @@ returns-clause-broken c =
     let source = c.inner.ensures ∙ ap inside (c.in_ok-source.ensures.value ∙ ap (object_of (codes "eds_config")) eds) in
     let text = c.text_or_empty-service_name.ensures ∙ ap (given_or []) (c.in_ok-service.ensures.value ∙ ap (text_of (codes "service_name")) eds) in
     let given = c.is_given-2.ensures ∙ c.in_ok-config.ensures.given in
-    let from = c.only_if.ensures ∙ (λ i. broken_where (given i) ((c.in_ok-from.ensures.broken ∙ ap source_broken source) i)) in
+    let from = c.only_if.ensures ∙ (λ i. broken_where (given i) ((c.in_ok-from.ensures.broken ∙ ap (source_broken_in c.args.profile) source) i)) in
     c.or.ensures ∙ (λ i. either_broken (from i) (record (c.none.ensures i) {
       v2 = ap (λ s. nat_lt MAX_NAME_BYTES (length s)) text i;
       v6 = or_same (or_same

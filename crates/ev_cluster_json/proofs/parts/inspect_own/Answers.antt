@@ -36,6 +36,6 @@ returns-clause-broken c =
           (c.is_wrong-4.ensures ∙ c.in_ok-custom.ensures.wrong))
           (c.is_wrong-5.ensures ∙ ap is_wrong c.in_ok-timeout.ensures))
           (c.is_wrong-6.ensures ∙ c.in_ok-checks.ensures.wrong) i;
-      v7 = or_same (ap (λ k. not (k == STATIC || k == EDS)) kind) (c.is_given.ensures ∙ c.in_ok-custom.ensures.given) i;
+      v7 = and_same (not_same c.is_envoy.ensures) (or_same (ap (λ k. not (k == STATIC || k == EDS)) kind) (c.is_given-2.ensures ∙ c.in_ok-custom.ensures.given)) i;
       v11 = (c.is_not_positive.ensures ∙ ap is_not_positive c.in_ok-timeout.ensures) i;
     }

@@ -1,4 +1,5 @@
 use Rattle.std.proofs.Common.{◌∙◌, ap, map}
+use Rattle.ev_types.specs.declared.events.Profile.TheVariants.{Own}
 use Rattle.ev_tree.specs.Forms.{inside, listed}
 use Rattle.ev_tree.specs.Broken.{either_broken, any_broken}
 use Rattle.ev_tree.proofs.Outcomes.{or_same, not_same}
@@ -12,14 +13,14 @@ pub returns-clause-value : goal.returns-clause-value
 unfolding filters_of chain_serve
 returns-clause-value c =
     let filters = c.elements.ensures ∙ ap listed c.in_ok-filters.ensures.value in
-    c.in_ok-below.ensures.serve ∙ ap (λ ts. first_of (map filter_serve ts)) filters
+    c.in_ok-below.ensures.serve ∙ ap (λ ts. first_of (map (filter_serve Own) ts)) filters
 
 pub returns-clause-broken : goal.returns-clause-broken
 unfolding filters_of chain_broken
 returns-clause-broken c =
     let filters = c.elements.ensures ∙ ap listed c.in_ok-filters.ensures.value in
-    let below = c.in_ok-below.ensures.broken ∙ ap (any_broken filter_broken) filters in
-    let serving = c.as_slice.ensures.value ∙ c.in_ok-below.ensures.serving ∙ ap (map filter_serves) filters in
+    let below = c.in_ok-below.ensures.broken ∙ ap (any_broken (filter_broken Own)) filters in
+    let serving = c.as_slice.ensures.value ∙ c.in_ok-below.ensures.serving ∙ ap (map (filter_serves Own)) filters in
     c.or.ensures ∙ (λ i. either_broken (below i) (record (c.none.ensures i) {
       v6 = or_same (c.is_wrong.ensures ∙ c.in_ok-matched.ensures.wrong) (c.is_wrong-2.ensures ∙ c.in_ok-filters.ensures.wrong) i;
       v16 = (c.has_member.ensures ∙ ap has_member (c.inner.ensures ∙ ap inside c.in_ok-matched.ensures.value)) i;

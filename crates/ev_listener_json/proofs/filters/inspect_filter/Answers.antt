@@ -10,14 +10,14 @@ unfolding filter_serve filter_kind_of config_of
 returns-clause-value c =
     let config = c.inner-inner.ensures ∙ ap inside c.in_ok-config.ensures.value in
     let kind = c.choose_kind.ensures ∙ ap kind_in (c.in_ok-name.ensures.value ∙ ap (text_of (codes "@type")) config) in
-    c.in_ok-below.ensures.value ∙ (λ i. config_serve (kind i) (config i))
+    c.in_ok-below.ensures.value ∙ (λ i. config_serve c.args.profile (kind i) (config i))
 
 pub returns-clause-broken : goal.returns-clause-broken
 unfolding filter_broken filter_kind_of config_of
 returns-clause-broken c =
     let config = c.inner-inner.ensures ∙ ap inside c.in_ok-config.ensures.value in
     let kind = c.choose_kind.ensures ∙ ap kind_in (c.in_ok-name.ensures.value ∙ ap (text_of (codes "@type")) config) in
-    let below = c.in_ok-below.ensures.broken ∙ (λ i. config_broken (kind i) (config i)) in
+    let below = c.in_ok-below.ensures.broken ∙ (λ i. config_broken c.args.profile (kind i) (config i)) in
     c.or.ensures ∙ (λ i. either_broken (below i) (record (c.none.ensures i) {
       v6 = or_same
           (c.is_wrong.ensures ∙ c.in_ok-config.ensures.wrong)

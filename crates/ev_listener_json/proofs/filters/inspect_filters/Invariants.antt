@@ -9,7 +9,7 @@ abbrev pub invariant-loop-filter : goal.invariant-loop-filter
 invariant-loop-filter l =
     let seen = map view (take l.filter-index l.filters) in
     record {
-      serving : l.serving.items ≡ map filter_serves seen;
-      serve : l.serve ≡ first_of (map filter_serve seen);
-      broken : l.broken ≡ any_broken filter_broken seen;
+      serving : l.serving.items ≡ map (filter_serves l.profile) seen;
+      serve : l.serve ≡ first_of (map (filter_serve l.profile) seen);
+      broken : l.broken ≡ any_broken (filter_broken l.profile) seen;
     }

@@ -5,4 +5,4 @@ use Rattle.ev_listener_json.specs.Listeners.{listener_broken}
 use Rattle.ev_listener_json.proofs.listeners.listener_rule_is_least.Goals as goal
 
 pub returns : goal.returns
-returns c = λ tree. least_is_least (rules_of (listener_broken tree)) (search rules)
+returns c = λ profile tree. least_is_least (rules_of (listener_broken profile tree)) (search rules)

@@ -5,4 +5,4 @@ use Rattle.ev_route_json.specs.Tables.{table_broken}
 use Rattle.ev_route_json.proofs.readers.table_rule_is_least.Goals as goal
 
 pub returns : goal.returns
-returns c = λ tree. least_is_least (rules_of (table_broken tree)) (search rules)
+returns c = λ profile tree. least_is_least (rules_of (table_broken profile tree)) (search rules)

@@ -1,8 +1,8 @@
 use Rattle.std.proofs.Common.{rules}
 use Rattle.ev_tree.proofs.Leasts.{least_is_least}
 use Rattle.ev_tree.specs.Broken.{rules_of}
-use Rattle.ev_route_json.specs.Targets.{target_broken}
+use Rattle.ev_route_json.specs.Targets.{target_broken_in}
 use Rattle.ev_route_json.proofs.readers.target_rule_is_least.Goals as goal
 
 pub returns : goal.returns
-returns c = λ tree. least_is_least (rules_of (target_broken tree)) (search rules)
+returns c = λ profile tree. least_is_least (rules_of (target_broken_in profile tree)) (search rules)

@@ -15,7 +15,7 @@ returns-clause-value c =
     λ i. record {
       name = (c.in_ok-new.ensures.bytes ∙ text) i;
       domains = domains i;
-      routes = (c.from_vec.ensures.elements ∙ c.in_ok-below.ensures.values ∙ ap (map route_of) routes) i;
+      routes = (c.from_vec.ensures.elements ∙ c.in_ok-below.ensures.values ∙ ap (map (route_of c.args.profile)) routes) i;
     }
 
 pub returns-clause-broken : goal.returns-clause-broken
@@ -24,7 +24,7 @@ returns-clause-broken c =
     let text = c.text_or_empty-text.ensures ∙ ap (given_or []) c.in_ok-name.ensures.value in
     let domains = c.from_vec-domain_texts.ensures.elements ∙ c.in_ok-copy_texts.ensures ∙ ap (map text_in) (c.elements.ensures ∙ ap listed c.in_ok-domains.ensures.value) in
     let routes = c.elements-2.ensures ∙ ap listed c.in_ok-routes.ensures.value in
-    let below = c.in_ok-below.ensures.broken ∙ ap (any_broken route_broken) routes in
+    let below = c.in_ok-below.ensures.broken ∙ ap (any_broken (route_broken c.args.profile)) routes in
     c.or.ensures ∙ (λ i. either_broken (below i) (record (c.none.ensures i) {
       v6 = or_same (or_same
           (c.is_wrong.ensures ∙ c.in_ok-name.ensures.wrong)

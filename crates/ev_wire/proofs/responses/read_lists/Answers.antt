@@ -22,7 +22,7 @@ pub invariant_of-result : goal.invariant_of-result
 invariant_of-result c =
     let found = given_if-some _ _ c.in_ok-items.items c.in_ok-items.ensures in
     let P : List ItemParts → Type 0 = All (λ (item : ItemParts). IsBodyOf c.args.kind item.body) in
-    record { typed = subst P found.1 (items-kind c.args.kind _); answerable = c.requires }
+    record { typed = subst P found.1 (items-kind c.args.profile c.args.kind _); answerable = c.requires }
 
 pub returns : goal.returns
 unfolding entries_of removed_of
@@ -33,7 +33,7 @@ returns c =
     let decided = known_lists tree c.is_wrong.result c.is_wrong-2.result
     (c.is_wrong.ensures ∙ c.in_ok-resources.ensures.wrong) (c.is_wrong-2.ensures ∙ c.in_ok-removed.ensures.wrong) c.if-is_wrong.false in
     let found = given_if-some _ _ c.in_ok-items.items c.in_ok-items.ensures in
-    known_response c.args.kind c.args.nonce tree c.in_ok-items.items c.in_ok-removed-2.removed
+    known_response c.args.profile c.args.kind c.args.nonce tree c.in_ok-items.items c.in_ok-removed-2.removed
     (decided ∙ ap (list_all is_entry) (sym elements) ∙ found.0)
-    (ap (map (item_of c.args.kind)) (sym elements) ∙ found.1)
+    (ap (map (item_of c.args.profile c.args.kind)) (sym elements) ∙ found.1)
     (ap (map text_in) (sym gone) ∙ sym c.in_ok-removed-2.ensures)

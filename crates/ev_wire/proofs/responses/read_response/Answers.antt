@@ -7,15 +7,15 @@ use Rattle.ev_wire.proofs.ResponseLemmas.{reads_same, given_if-some, given_if-no
 use Rattle.ev_wire.proofs.responses.read_response.Goals as goal
 
 pub returns-in_default : goal.returns-in_default
-returns-in_default c = no_head (view c.args.value.now) (given_if-none _ _ (sym c.in_ok-head.ensures ∙ c.in_default.is))
+returns-in_default c = no_head c.args.profile (view c.args.value.now) (given_if-none _ _ (sym c.in_ok-head.ensures ∙ c.in_default.is))
 
 pub returns-in-Some-kind : goal.returns-in-Some-kind
 returns-in-Some-kind c =
     let tree = view c.args.value.now in
     let found = given_if-some _ _ c.in-Some.head (sym c.in_ok-head.ensures ∙ c.in-Some.is) in
-    reads_same c.read_lists.result _ (response_of tree)
-    (known_head tree c.in-Some.head found.0 found.1
-    ∙ ap (λ (kind : Option Kind). given_if (has_lists_of kind tree) (parts_of kind c.in-Some.head.nonce tree)) c.in-Some-kind.is)
+    reads_same c.read_lists.result _ (response_of c.args.profile tree)
+    (known_head c.args.profile tree c.in-Some.head found.0 found.1
+    ∙ ap (λ (kind : Option Kind). given_if (has_lists_of kind tree) (parts_of c.args.profile kind c.in-Some.head.nonce tree)) c.in-Some-kind.is)
     c.read_lists.ensures
 
 pub read_lists-requires : goal.read_lists-requires
@@ -35,6 +35,6 @@ pub returns-in-None : goal.returns-in-None
 returns-in-None c =
     let tree = view c.args.value.now in
     let found = given_if-some _ _ c.in-Some.head (sym c.in_ok-head.ensures ∙ c.in-Some.is) in
-    known_head tree c.in-Some.head found.0 found.1
-    ∙ ap (λ (kind : Option Kind). given_if (has_lists_of kind tree) (parts_of kind c.in-Some.head.nonce tree)) c.in-None.is
+    known_head c.args.profile tree c.in-Some.head found.0 found.1
+    ∙ ap (λ (kind : Option Kind). given_if (has_lists_of kind tree) (parts_of c.args.profile kind c.in-Some.head.nonce tree)) c.in-None.is
     ∙ unread_response c.in-Some.head.nonce c.new.result c.new-in-None.result c.new.ensures.empty c.new-in-None.ensures.empty
