@@ -20,7 +20,7 @@ line_joins actor line = is_batched line.event && actor_same line.actor actor
 abbrev pub line_ends : Actor → Line → Bool
 line_ends actor line = is_settle line.event && actor_same line.actor actor
 
--- the accepts and closes of the actor with no settle line of the actor's behind
+-- the accepts and closes of the actor with no settle line of the actor's after them
 abbrev pub lines_since : Actor → List Line → List Line
 lines_since actor lines = last_run (line_joins actor) (line_ends actor) lines
 

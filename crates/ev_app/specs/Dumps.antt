@@ -1,4 +1,4 @@
--- The text that answers a dump: the configuration behind the first so many entries of a legal journal, as a line, or what is
+-- The text that answers a dump: the configuration after the first so many entries of a legal journal, as a line, or what is
 -- found of one that isn't legal.
 use Rattle.std.specs.Prelude.{◌≡◌, ◌≢◌, ℕ, ⊤, ◌⊎◌, List, take, Result, Ok, Err}
 use Rattle.ev_io.specs.declared.faults.ScriptFault.{ScriptFault}
@@ -32,7 +32,7 @@ IsDumpByPrefix format script rows entries text =
     → IsScript other → take entries (journal_told other others) ≡ take entries (journal_told script rows)
     → IsDump format other others entries another → another ≡ text
 
--- the bytes are a script, within the bounds of scripts, with a journal behind it, and the text answers that
+-- the bytes are a script, within the bounds of scripts, followed by a journal, and the text answers that
 pub record IsDumped (entries : ℕ) (bytes : List ℕ) (status : Status) (text : List ℕ) : Type 0 where
   pub format : Format
   pub script : ScriptParts
@@ -42,7 +42,7 @@ pub record IsDumped (entries : ℕ) (bytes : List ℕ) (status : Status) (text :
   pub prefix : status ≡ Done → IsDumpByPrefix format script rows entries text
   pub dumped : IsDumpText format script rows entries status text
 
--- the bytes are a script with a legal journal behind it, of which no commit ends with so many entries: a fault at this line, of
+-- the bytes are a script followed by a legal journal, of which no commit ends with so many entries: a fault at this line, of
 -- kind 12
 pub record EndsNoCommit (entries : ℕ) (bytes : List ℕ) (line number : ℕ) : Type 0 where
   pub format : Format
@@ -52,7 +52,7 @@ pub record EndsNoCommit (entries : ℕ) (bytes : List ℕ) (line number : ℕ) :
   pub none : IsNoCommit format script rows entries line
   pub numbered : number ≡ 12
 
--- what is made of a script and the journal behind it, or why nothing is
+-- what is made of a script and the journal that follows it, or why nothing is
 abbrev pub IsDumpAnswer : Format → ScriptParts → List Row → ℕ → Result Made ScriptFault → Type 0
 IsDumpAnswer format script rows entries (Ok made) = IsDumpText format script rows entries made.status made.text.items
 IsDumpAnswer format script rows entries (Err (Bad line number)) = IsNoCommit format script rows entries line × (number ≡ 12)

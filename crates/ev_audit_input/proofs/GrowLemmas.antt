@@ -13,7 +13,7 @@ use Rattle.ev_script.proofs.LimitLemmas.{feeds_with}
 use Rattle.ev_script.proofs.PrefixLemmas.{stands_more}
 use Rattle.ev_audit_input.specs.Faults.{StartsJournal, IsNoText, HasEndBefore, IsMisplacedAt, StandsWithJournal}
 
--- some bytes, and more behind them; whether the source gave its end behind the ones and the others
+-- some bytes, and more after them; whether the source gave its end after the ones and the others
 module _ (xs ys : List ℕ) (near_end far_end audit : Bool) where
   abbrev near : Input
   near = record { bytes = xs; ended = near_end; audit = audit }

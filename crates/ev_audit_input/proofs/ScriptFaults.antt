@@ -73,7 +73,7 @@ order_within NoSuchWorker = omega arith
 order_within NoByte = omega arith
 order_within NotJournal = omega arith
 
--- a fault of the journal at a place or behind it doesn't go before one that stands there
+-- a fault of the journal at a place or after it doesn't go before one that stands there
 pub not_before : (place other : ℕ) (kind kind_there : FaultKind) → kind_there ≡ NotJournal → place ≤ other → (place < other) ⊎ ((place ≡ other) × (fault_order kind ≤ fault_order kind_there))
 not_before place other kind kind_there is late = by_place (cases_lt place other)
   where

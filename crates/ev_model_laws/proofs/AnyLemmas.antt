@@ -40,7 +40,7 @@ any_unless p q other (x ∷ xs) so h =
     (λ more. or_right (q x || list_any q xs) other more) (any_unless p q other xs so rest))
     h
 
--- of two lists behind one another
+-- of two lists, one after the other
 pub any_behind : {X P : Type 0} (p : X → Bool) (xs ys : List X) → (list_any p xs ≡ true → P) → (list_any p ys ≡ true → P)
     → list_any p (xs ++ ys) ≡ true → P
 any_behind p xs ys first second h = or_so (list_any p xs) (list_any p ys) first second (sym (list_any-append p xs ys) ∙ h)

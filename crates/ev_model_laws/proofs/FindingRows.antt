@@ -226,7 +226,7 @@ more_so_far format script kept rows number row so_far none =
     } in
     subst (IsSoFar format script (rows ++ row ∷ [])) (sym (told_more script rows row journal (entry_of r.o row.answer) refl r.is_entry)) more
 
--- behind an accept or close goes an entry of its actor
+-- after an accept or close goes an entry of its actor
 abbrev pub Follows : Option Entry → List Entry → Type 0
 Follows None entries = ⊤
 Follows (Some before) entries = is_batched before.event ≡ true → GoesOnWith before.actor entries
@@ -240,7 +240,7 @@ breaks_none None entry entries follows = refl
 breaks_none (Some before) entry entries follows =
     breaks_by (is_batched before.event) (actor_same entry.actor before.actor) (λ h. (actor_decides entry.actor before.actor).1 (follows h))
 
--- what is left of a run behind these entries: it goes on as the machine does, and each actor's deeds are done of what is left
+-- what is left of a run after these entries: it goes on as the machine does, and each actor's deeds are done of what is left
 pub record IsAhead (format : Format) (script : ScriptParts) (before after : List Entry) : Type 0 where
   pub run : RunsFrom format script.workers (world_after format (start script) before) after
   pub follows : Follows (last_or None before) after
@@ -292,7 +292,7 @@ ahead_none format script kept before entry after number ahead =
     ap (λ b. if b then Some (NotTheScript number) else (if is_illegal format script before (row_of entry) then Some (IllegalAt number) else None)) stray
     ∙ ap (λ b. if b then Some (IllegalAt number) else None) legal
 
--- the deeds of one actor ahead, behind the next entry
+-- the deeds of one actor ahead, after the next entry
 ahead_by : (format : Format) (script : ScriptParts) → IsScript script → (before : List Entry) (entry : Entry) (after : List Entry) (actor : Actor) (same : Bool)
     → actor_same entry.actor actor ≡ same
     → AreDone (rests_at format script before actor) (left_at format script before actor) (marks format (world_after format (start script) before) (entry ∷ after) actor)
@@ -324,7 +324,7 @@ ahead_by format script kept before entry after actor false h done =
     (subst (AreDone (rests_at format script before actor) (left_at format script before actor))
     (marks_other format (world_after format (start script) before) entry after actor h) done)
 
--- so the run goes on behind it
+-- so the run goes on after it
 pub ahead_more : (format : Format) (script : ScriptParts) → IsScript script → (before : List Entry) (entry : Entry) (after : List Entry)
     → IsAhead format script before (entry ∷ after) → IsAhead format script (before ++ entry ∷ []) after
 ahead_more format script kept before entry after ahead =

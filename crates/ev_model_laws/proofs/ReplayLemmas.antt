@@ -24,7 +24,7 @@ abbrev Begins : Actor → List Operation → Type 0
 Begins actor [] = ⊥
 Begins actor (o ∷ os) = o.actor ≡ actor
 
--- directly behind each accept or close stands an operation of its actor
+-- directly after each accept or close stands an operation of its actor
 abbrev AreUnbroken : List Operation → Type 0
 AreUnbroken [] = ⊤
 AreUnbroken (o ∷ os) = (is_batched o.event ≡ true → Begins o.actor os) × AreUnbroken os

@@ -56,7 +56,7 @@ batch_stepped format workers number picture (line ∷ lines) last world own run 
   batch_stepped format workers number picture lines last (step format world (Worker number) line.event).0 own run.2,
 )
 
--- the batch and the settle behind it are a run from the world in which the worker works
+-- the batch and the settle after it are a run from the world in which the worker works
 batch_runs : (parts : JournalParts) (worker : WorkerParts) (at n : ℕ) → WorksIn worker (world_now parts) → worker.number < parts.workers
     → RunsFrom parts.format parts.workers (world_now parts) (entries_made worker ++ settle_made worker at n parts ∷ [])
 batch_runs parts worker at n works below =

@@ -142,7 +142,7 @@ impl Journaled for Registry {
             ≡ with_entry (entry_made actor at step event.now self.old.journaled) self.old.journaled) }
         ensures drawn { OnOk result ((world_now self.new.journaled).made ≤
             (world_now self.old.journaled).made + items_in event.now) }
-        // What a reaping names waits behind the rows that waited, each row as the world had it; no other event puts a row there.
+        // What a reaping names waits after the rows that waited, each row as the world had it; no other event puts a row there.
         ensures deferred { OnOk result (DefersReaped event.now self.old.journaled self.old.deferred self.new.deferred) }
         ensures err { OnErr result (self.new.journaled ≡ self.old.journaled) }
         ensures kept { OnErr result (self.new.deferred ≡ self.old.deferred) }

@@ -6,7 +6,7 @@
 //! before' is owed of the journal alone. The last picture and the rows that wait to be dropped stand beside the journal, and are never
 //! lost. Whether it is lost contracts see: exactly where the last event was cut off. The numbers of generations have to suffice for an
 //! event's resources where it brings some, so an actor that brings none needn't know of another's. A worker's batch and its settle are
-//! entered at once, behind the journal last.
+//! appended to the journal at once.
 #![tactic(auto)]
 
 mod batches;

@@ -1,4 +1,4 @@
--- Of which generations a picture may show something else behind a response, and behind the end of a resource: those that retired, and
+-- Of which generations a picture may show something else after a response, and after the end of a resource: those that retired, and
 -- those that depend on a name that something came for.
 use Rattle.std.proofs.Common.{◌≡◌, ◌∙◌, ℕ, Bool, true, false, cond, ◌&&◌, ◌||◌, nat_eq, List, [], ◌++◌, ◌∷◌, None, Some, refl, sym, ap, subst}
 use Rattle.std.specs.List.{AllByRecursion, IsDistinct, flat_map}

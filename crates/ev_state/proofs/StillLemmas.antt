@@ -1,4 +1,4 @@
--- Generations that stay as they were or retire: those that serve behind an event served before it.
+-- Generations that stay as they were or retire: those that serve after an event served before it.
 use Rattle.std.proofs.Common.{◌≡◌, ◌∙◌, ℕ, Bool, true, false, cond, not, ◌&&◌, nat_eq, List, [], ◌∷◌, ◌++◌, Option, None, Some, refl, sym, ap}
 use Rattle.std.specs.Prelude.{⊤}
 use Rattle.std.specs.List.{IsDistinct}
@@ -63,7 +63,7 @@ still-statused f stays number (row ∷ rows) = by (nat_eq number row.number) (st
     by true rest = record { same = refl; live = stays row }
     by false rest = rest
 
--- a new one behind the others
+-- a new one after the others
 pub still-more : (number : ℕ) (rows : List GenRow) (new : GenRow) → is_active new.status ≡ false → Still (row_in number rows) (row_in number (rows ++ new ∷ []))
 still-more number [] new waits = by (nat_eq number new.number)
   where

@@ -38,7 +38,7 @@ may_be_given m kind response verdicts world kept stand of are by_name =
     subst (λ (vs : List Verdict). AreOnValues (manager_of m kind).state.table.rows vs response.items) (sym are)
     (values-judged (manager_of m kind).state response world (kept-of m kind kept).kept.rows (of ∙ ap (λ (k : Kind). Some k) (sym (needs-back m kind kept by_name))) (stand-of m kind world stand))
 
--- the parts behind a response stand for the machine's world behind it
+-- the parts after a response stand for the machine's world after it
 pub taken : (s : State) (m : Managers) (subscription : SubscriptionParts) (targets : TargetsParts) (kind : Kind) (response : ResponseParts) (verdicts : List Verdict) (world : World)
     → Follows s world world → response.kind ≡ Some kind → verdicts ≡ verdicts_of (lives_of world) world.versions response
     → StandFor m (add_items kind verdicts response.items (with_removals kind response world))

@@ -47,7 +47,7 @@ abbrev pub TidiesUp : State → State → ℕ → Moved → Moved → Asked → 
 TidiesUp old new made these all asked =
     (before world : World) → Follows old before world → made ≡ before.made → HaveMoved these before world → IsOver new asked all before (tidy world)
 
--- An event that drew no number has led the old state from one world to another, and has moved these: the new state is behind the step
+-- An event that drew no number has led the old state from one world to another, and has moved these: the new state is after the step
 -- that ends with what follows it.
 abbrev pub MovesOn : State → State → Moved → Answer → Moved → Type 0
 MovesOn old new these answer all =
