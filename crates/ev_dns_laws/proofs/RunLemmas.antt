@@ -221,7 +221,7 @@ module _ (trees : ScriptTrees) (format : Format) (journal : List Entry) (kept : 
 
   -- ---- what stays
 
-  -- no entry behind place q and not behind place k tells of the place, and none begins a watch of it
+  -- no entry after place q and not after place k tells of the place, and none begins a watch of it
   pub record IsQuiet (q k : ℕ) : Type 0 where
     pub tells : (m : ℕ) (entry : Entry) → q < m → m ≤ k → At m entry → TellsDue entry → ⊥
     pub begins : (m : ℕ) (entry : Entry) → q < m → m ≤ k → At m entry → Begins entry → ⊥
@@ -259,7 +259,7 @@ module _ (trees : ScriptTrees) (format : Format) (journal : List Entry) (kept : 
             };
           }
 
-  -- behind such an entry the place stays as it is
+  -- after such an entry the place stays as it is
   pub stays : (q k : ℕ) → IsQuiet q k → q ≤ k → k < length journal → watched (k + 1) ≡ true → Stays (q + 1) (k + 1)
   stays q k quiet order within after =
       over_places told (StaysTo (q + 1) k) (q + 1) (λ less is. record { watches = is; same = record { value = refl; told = refl } })

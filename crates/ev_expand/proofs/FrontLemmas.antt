@@ -1,4 +1,4 @@
--- One more line behind others.
+-- One more line after others.
 use Rattle.std.proofs.Common.{◌≡◌, Bool, true, false, cond, List, [], ◌∷◌, ◌++◌, map, filter, flat_map, refl, ap, ◌∙◌}
 use Rattle.std.proofs.lemmas.List.{map-append, append-nil}
 use Rattle.std.proofs.lemmas.List.Elements.{filter-append}
@@ -24,7 +24,7 @@ heard_last : (b : Bool) (line : Data) (fs : List Front) (f : Front) → f.line �
 heard_last true line fs f e = ap (λ (l : Data). l ∷ []) e
 heard_last false line fs f e = refl
 
--- the line is heard too, where a stream is open behind it
+-- the line is heard too, where a stream is open after it
 pub heard-push : (lines : List Data) (line : Data) → heard (lines ++ line ∷ []) ≡ heard lines ++ cond (stream_at (lines ++ line ∷ [])) (line ∷ []) []
 heard-push lines line =
     ap (λ (fs : List Front). map (λ (front : Front). front.line) (filter (λ front. stream_at (up_to front)) fs)) (fronts-push lines line)

@@ -1,4 +1,4 @@
--- Trees within the limits, and what a line gives behind others.
+-- Trees within the limits, and what a line gives after others.
 use Rattle.std.proofs.Common.{◌≡◌, ℕ, suc, ◌+◌, ◌-◌, ◌<◌, ◌≤◌, Bool, true, false, List, [], ◌∷◌, ◌++◌, length, get_or, take, map, None, Result, Ok, decimal, refl, sym, ap, ◌∙◌, subst, append_assoc, arith, length-append}
 use Rattle.std.specs.declared.alloc.AllocError.{AllocError}
 use Rattle.std.specs.Prelude.{All}
@@ -46,7 +46,7 @@ pub written-push : (rules : Rules) (head : Data) (lines : List Data) (line : Dat
     → written_by rules head (lines ++ line ∷ []) ≡ written_by rules head lines ++ map whole (gives rules (front_of lines line))
 written-push rules head lines line = ap (map whole) (given-push rules head lines line) ∙ map-append whole (given_by rules head lines) (gives rules (front_of lines line))
 
--- ---- answers of calls that put trees behind a text
+-- ---- answers of calls that put trees after a text
 
 pub read_one : (tree : Data) → (IsReadable tree → ReadsBack (whole tree)) → ReadBack (tree ∷ [])
 read_one tree h = All-cons (λ (t : Data). IsReadable t → ReadsBack (whole t)) tree [] h (λ i d k. absurd (omega arith))

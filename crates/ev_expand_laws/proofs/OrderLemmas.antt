@@ -15,7 +15,7 @@ use Rattle.ev_model_laws.proofs.OperationLists.{IsIn, at_in, in_filter, in_front
 use Rattle.ev_model_laws.proofs.RisingOperations.{IsRising, not_back, not_itself, operations_rise}
 use Rattle.ev_expand_laws.proofs.ListLemmas.{flat_in, in_flat, in_get, in_kept, in_map, map_in}
 
--- the event is that of an operation which stands behind a line, or behind all of them
+-- the event is that of an operation which stands after a line, or after all of them
 abbrev pub is_behind : Event → Bool
 is_behind Publish = true
 is_behind Reap = true

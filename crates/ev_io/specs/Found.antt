@@ -14,11 +14,11 @@ pub record IsOpen (taken given : ℕ) (pending : List ℕ) : Type 0 where
   pub many : 0 < length pending → given < MAX_LINES
   pub large : taken ≤ MAX_INPUT_BYTES
 
--- behind n bytes a line ends, by its line feed or since no byte is left
+-- after n bytes a line ends, by its line feed or since no byte is left
 abbrev pub Ends : ℕ → List ℕ → Bool → ℕ → Type 0
 Ends taken pending ended n = ((n < length pending) × (slice_index pending n ≡ 10) × (taken + n < MAX_INPUT_BYTES + length pending)) ⊎ (IsTrue ended × (n ≡ length pending) × (0 < n) × (taken ≤ MAX_INPUT_BYTES))
 
--- the next line has n bytes and ends behind them, within the limits
+-- the next line has n bytes and ends after them, within the limits
 pub record IsLine (taken given : ℕ) (pending : List ℕ) (ended : Bool) (n : ℕ) : Type 0 where
   pub none : HasNoFeed pending n
   pub long : n ≤ MAX_LINE_BYTES

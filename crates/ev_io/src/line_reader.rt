@@ -101,7 +101,7 @@ impl Lines {
         ensures again_source { (fault : LineFault) → self.old.told ≡ Some fault → source.new ≡ source.old }
         ensures again_out { (fault : LineFault) → self.old.told ≡ Some fault → out.new.items ≡ out.old.items }
 
-        // The source isn't touched where it isn't needed, nor behind its end, and its count rises where a read fails.
+        // The source isn't touched where it isn't needed, nor after its end, and its count rises where a read fails.
         ensures untouched { AsksWhereUnfinished source.old source.new self.old }
         ensures unended { LeavesOpen S.ended source.old source.new self.old self.new }
         ensures failed { result ≡ Err LineFault.Failed → HasFailed S.faults source.old source.new self.old }

@@ -103,7 +103,7 @@ statuses_leave kind status_of keeps (row ∷ rows) = by (kind_same row.kind kind
     by true of rest = λ i. record row { status = keeps row of i } ∷ rest i
     by false other rest = rest
 
--- rows of another kind behind them
+-- rows of another kind after them
 more_leave : (kind : Kind) (rows : List GenRow) (row : GenRow) → kind_same row.kind kind ≡ false → rows_of_kind kind (rows ++ row ∷ []) ≡ rows_of_kind kind rows
 more_leave kind rows row other =
     filter-append (λ (r : GenRow). kind_same r.kind kind) rows (row ∷ [])

@@ -109,7 +109,7 @@ false_so true true c h e = cc
 false_so true false c h e = sym e
 false_so false b c h e = refl
 
--- what stands at a place and behind it
+-- what stands at a place and after it
 at_place : (dues : List Due) (place : ℕ) (due other : Due) → place < length dues → due ≡ get_or dues place other → drop place dues ≡ due ∷ drop (place + 1) dues
 at_place dues place due other below is = at_drop_more (λ (ds : List Due). ds) dues place other below ∙ ap (λ d. d ∷ drop (place + 1) dues) (sym is)
 

@@ -188,7 +188,7 @@ module _ (script : ScriptParts) (kept : IsScript script) (actor : Actor) (dues :
       few = few;
     }
 
--- the settles behind the last line
+-- the settles after the last line
 settles_apart : (script : ScriptParts) (actor : Actor) (start n : ℕ) → ((worker : ℕ) → start ≤ worker → worker < start + n → actor_same (Worker worker) actor ≡ false)
     → made_by actor (map (last_settle script) (range_with_len start n)) ≡ []
 settles_apart script actor start zero apart = refl
@@ -257,7 +257,7 @@ last_due script Timer = ap (map Some) (sym (settles_apart script Timer 0 script.
 last_due script Main = ap (map Some) (sym (settles_apart script Main 0 script.workers (λ worker from below. refl)))
 last_due script (Worker worker) = last_by script worker (nat_lt worker script.workers) refl
 
--- behind the last line
+-- after the last line
 pub all_due : (script : ScriptParts) (actor : Actor) (dues : List Due) (waiting place : ℕ) → take place script.lines ≡ script.lines → AreDueSoFar script actor dues waiting place
     → AreDue script actor (dues ++ last_dues script.workers actor) (operations_of script actor)
 all_due script actor dues waiting place all was =

@@ -1,4 +1,4 @@
--- The seats of actors, and how far each has come behind an entry more.
+-- The seats of actors, and how far each has come after an entry more.
 use Rattle.std.proofs.Common.{◌≡◌, ◌<◌, ◌≤◌, ◌+◌, ◌⊎◌, inl, inr, ℕ, zero, suc, Bool, true, false, ◌&&◌, List, [], ◌∷◌, ◌++◌, filter, drop, length, nat_lt, Some, slice_get, refl, ap, sym, ◌∙◌, subst, arith}
 use Rattle.std.specs.Prelude.{IsTrue, slice_set}
 use Rattle.std.specs.List.{list_all, list_any, AllByRecursion as ByRecursion}
@@ -257,7 +257,7 @@ stray_seated script journal row courses course come seated none =
     ap (λ rests. list_any (tells_of row) (next_of rests (operations_left script journal row.actor))) (sym has.rests)
     ∙ none (operations_left script journal row.actor) has.due
 
--- behind the entry of what was found
+-- after the entry of what was found
 module _ (script : ScriptParts) (kept : IsScript script) (journal : List Entry) (row : Row) (before : Courses) (found : Found) (rests : Bool)
     (come : HaveCome script journal before) (is : IsFound script journal row before found)
     (marked : rests ≡ may_leave_out before.format script (journal ++ entry_of is.operation row.answer ∷ []) row.actor) where

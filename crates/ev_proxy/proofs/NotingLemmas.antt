@@ -1,4 +1,4 @@
--- The generations that an event retired are noted, and what holds generations then stands for the world behind it.
+-- The generations that an event retired are noted, and what holds generations then stands for the world after it.
 use Rattle.std.proofs.Common.{◌≡◌, ℕ, Bool, true, false, not, ◌&&◌, ◌||◌, ◌==◌, cond, nat_eq, List, [], ◌∷◌, ◌++◌, Option, None, Some, refl, sym, ap, subst, ◌∙◌, arith}
 use Rattle.std.specs.Cmp.{first_so}
 use Rattle.std.specs.List.{list_any, IsDistinct, AllByRecursion}
@@ -96,7 +96,7 @@ all_among P (n ∷ numbers) so = (
     or_later true is = refl
     or_later false is = is
 
--- what holds generations, once those that retired are noted, stands for the world behind the event
+-- what holds generations, once those that retired are noted, stands for the world after the event
 pub noted_stand : (first second : HoldersParts) (retired : List ℕ) (before after : World)
     → second ≡ record first { drain = noted_each after.rows retired first.drain }
     → HoldsFor first before → AreNumbered before.rows → AreNumbered after.rows → HoldTheSame before after → HaveCeased retired before after

@@ -14,7 +14,7 @@ use Rattle.std.proofs.lemmas.Map.Text.{is_eq-slice_cmp}
 use Rattle.ev_model.specs.Sorted.{put_by, sorted_by}
 use Rattle.ev_model.specs.Versions.{is_before}
 
--- a name that stands before another isn't behind it, and isn't the same
+-- a name that stands before another isn't after it, and isn't the same
 less_is : (r : Ordering) → is_lt r ≡ true → r ≡ Less
 less_is Less h = refl
 less_is Equal h = absurd (false≢true h)
@@ -99,7 +99,7 @@ module _ {X : Type 0} (name : X → List ℕ) (number : X → ℕ) where
     pub names : is_before (name x) (name y) ≡ true
     pub numbers : (number x == number y) ≡ false
 
-  -- each stands before all behind it
+  -- each stands before all after it
   abbrev pub AreInOrder : List X → Type 0
   AreInOrder [] = Unit {0}
   AreInOrder (x ∷ xs) = AllByRecursion (StandsBefore x) xs × AreInOrder xs
@@ -187,7 +187,7 @@ module _ {X : Type 0} (name : X → List ℕ) (number : X → ℕ) where
   pub own_found : (x : X) (xs : List X) → numbered (x ∷ xs) (number x) ≡ Some x
   own_found x xs = ap (λ t. cond t (Some x) (numbered xs (number x))) (own_number (number x))
 
-  -- and none behind it
+  -- and none after it
   none_behind : (x : X) (xs : List X) (n : ℕ) → AllByRecursion (StandsBefore x) xs → (number x == n) ≡ true → numbered xs n ≡ None
   none_behind x xs n before is =
       none_found (λ y. number y == n) xs

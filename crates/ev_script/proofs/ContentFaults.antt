@@ -15,7 +15,7 @@ use Rattle.ev_script.specs.ReadInput.{IsUpToJournal}
 use Rattle.ev_script.proofs.SoundLemmas.{no_journal}
 use Rattle.ev_script.proofs.FirstLemmas.{IsReadBefore, nothing_before, no_journal_before, of_content, json_first, header_first, line_first, worker_first}
 
--- the line behind the first n ones ends at a place and is this text, and those before it were read
+-- the line after the first n ones ends at a place and is this text, and those before it were read
 pub record IsGiven (forms : LineForms) (input : Input) (workers : ℕ) (n : ℕ) (text : List ℕ) : Type 0 where
   pub place : ℕ
   pub before : IsReadBefore forms input workers place

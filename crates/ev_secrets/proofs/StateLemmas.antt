@@ -1,4 +1,4 @@
--- What is known behind one line more.
+-- What is known after one line more.
 use Rattle.std.proofs.Common.{◌≡◌, ℕ, suc, ◌+◌, ◌<◌, ◌≤◌, ◌⊎◌, inl, inr, Bool, true, false, not, cond, ◌&&◌, ◌||◌, List, [], ◌∷◌, ◌++◌, length, map, filter, filter_map, flat_map, Option, Some, None, option_map, option_and_then, unwrap_or, nat_eq, refl, sym, ap, ap₂, ◌∙◌, subst, arith, length-append}
 use Rattle.std.specs.Prelude.{slice_get}
 use Rattle.std.specs.List.{list_any, list_all, last_or, enumerate_from, cons_option}
@@ -208,7 +208,7 @@ was_as lines told gs n h = by (slice_get gs n)
     by None = refl
     by (Some g) = completed_as lines told g h
 
--- what is guarded behind one line more stands behind the others
+-- what is guarded after one line more stands after the others
 pub guarded_grows : (before : List Data) (line : Data) (all : List Guarded) → all ≡ guarded_by by_secrets (before ++ line ∷ []) → Grows (guarded_by by_secrets before) all
 guarded_grows before line all kept =
     let old : List Guarded = guarded_by by_secrets before in
@@ -219,7 +219,7 @@ guarded_grows before line all kept =
       first = λ n within. ap (λ (xs : List Guarded). slice_get xs n) grown ∙ first_get old extended.more n within;
     }
 
--- what is known behind one line more, by what it told of and gave
+-- what is known after one line more, by what it told of and gave
 pub record Hears (before : List Data) (line : Data) (connected : Bool) (gave : List (List ℕ × Data)) (told : Told) (values : Values) : Type 0 where
   pub stream : connected ≡ stream_at (before ++ line ∷ [])
   pub given : gave ≡ flat_map values_in (heard_now (stream_at (before ++ line ∷ [])) line)

@@ -12,7 +12,7 @@ use Rattle.ev_types.specs.declared.events.Event.TheVariants.{Connect, Disconnect
 use Rattle.ev_model.specs.Verdicts.{is_among, is_removed}
 use Rattle.ev_stream_laws.specs.Watches.{has_item}
 
--- what is known behind events: whether a stream is open, and the names of the last responses of clusters and of listeners on one
+-- what is known after events: whether a stream is open, and the names of the last responses of clusters and of listeners on one
 pub record Heard : Type 0 where
   pub connected : Bool
   pub clusters : List (List ℕ)

@@ -38,7 +38,7 @@ fits_front n trees fits = record {
   };
 }
 
--- what was refused behind a front
+-- what was refused after a front
 pub refused : (error : DeltaError) (all front : List Data) (tree : Data) (rest : List Data) → all ≡ (front ++ tree ∷ []) ++ rest
     → FitsInput front → IsTooLarge front tree error → IsRefusal all error
 refused OutOfMemory all front tree rest is fits large = tt

@@ -1,4 +1,4 @@
--- A generation that lives behind an event which isn't an answered response of its kind lived before it.
+-- A generation that lives after an event which isn't an answered response of its kind lived before it.
 use Rattle.std.proofs.Common.{◌≡◌, ◌∙◌, ℕ, Bool, true, false, List, [], ◌∷◌, ◌++◌, Some, sym}
 use Rattle.std.specs.Cmp.{first_so}
 use Rattle.std.proofs.lemmas.Bool.{false≢true}

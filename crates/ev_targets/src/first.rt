@@ -72,7 +72,7 @@ impl First {
         true
     }
 
-    /// Whether they have come or are late. The name that was seen waiting is asked first, then those behind it, then those before it,
+    /// Whether they have come or are late. The name that was seen waiting is asked first, then those after it, then those before it,
     /// up to the first that waits.
     pub(crate) fn have_come(&mut self, known: &State) -> bool
         requires indexed { IsIndexed known.now }

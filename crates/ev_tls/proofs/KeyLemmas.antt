@@ -1,4 +1,4 @@
--- What is accepted at a cluster that asks by the private name of a place is accepted behind the telling of each secret that the
+-- What is accepted at a cluster that asks by the private name of a place is accepted after the telling of each secret that the
 -- key of the place names.
 use Rattle.std.proofs.Common.{◌≡◌, ◌∙◌, ℕ, ◌+◌, ◌<◌, ◌≤◌, ◌==◌, nat_lt, Bool, true, false, ◌&&◌, List, length, take, decimal, Some, None, codes, refl, sym, ap, subst, arith}
 use Rattle.std.specs.Prelude.{Contains, slice_get, option_and_then}
@@ -116,7 +116,7 @@ module _ (trees : ScriptTrees) (format : Format) (journal : List Entry) (kept : 
   earlier_at : (a b : Operation) → a.at < b.at → is_earlier a b ≡ true
   earlier_at a b h = or_left (nat_lt a.at b.at) ((a.at == b.at) && nat_lt a.step b.step) (below a.at b.at h)
 
-  -- what a line became is done before an entry of the stream behind it
+  -- what a line became is done before an entry of the stream after it
   own_before : (index : ℕ) (tree : Data) (own : IsOwnLine trees index tree) (q : ℕ) (entry : Entry) → slice_get journal q ≡ Some entry → entry.actor ≡ Stream
       → place_given tls_rules (lines_in trees) index < entry.at → DoneBefore journal q (line_operation own.line)
   own_before index tree own q entry there by less =
