@@ -28,7 +28,7 @@ since actor os = last_run (joins_of actor) (ends_of actor) os
 abbrev pub RiseEach : List Operation → Type 0
 RiseEach os = (actor : Actor) → IsRising (made_by actor os)
 
--- of one actor's operations the one in front is the earlier one
+-- of one actor's operations the one that comes first is the earlier one
 earlier_in : (os front back : List Operation) (x y : Operation) → RiseEach os → front ++ back ≡ os → IsIn x front → IsIn y back
     → x.actor ≡ y.actor → is_earlier x y ≡ true
 earlier_in os front back x y rise is in_one in_other same =

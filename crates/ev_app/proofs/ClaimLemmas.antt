@@ -52,7 +52,7 @@ every_run_is_same bytes text is format journal run = is.answers.worlds format jo
 pub every_run_is_sealed : (bytes text : List ℕ) (is : IsTls bytes text) (format : Format) (journal : List Entry) → IsRunOf format (sealed_script is.trees) journal → IsSealed format is.trees journal
 every_run_is_sealed bytes text is format journal run = is.answers.sealed format journal run
 
--- `dns`: in every run of the script that is written endpoints are told of by the last answers
+-- `dns`: in every run of the script that is written endpoints are reported by the last answers
 pub every_run_has_last : (bytes text : List ℕ) (is : IsDns bytes text) (format : Format) (journal : List Entry) → IsRunOf format (answered_script is.trees) journal → AreLastAnswers format is.trees journal
 every_run_has_last bytes text is format journal run = is.answers.last format journal run
 

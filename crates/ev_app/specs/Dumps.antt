@@ -15,7 +15,7 @@ use Rattle.ev_app.specs.declared.status.Status.{Status}
 use Rattle.ev_app.specs.declared.status.Status.TheVariants.{Done, Illegal}
 use Rattle.ev_app.specs.declared.made.Made.{Made}
 
--- the rows aren't legal, and the text tells what is found of them
+-- the rows aren't legal, and the text says what is found of them
 pub record IsNotLegal (format : Format) (script : ScriptParts) (rows : List Row) (text : List ℕ) : Type 0 where
   pub wrong : finding_of format script rows ≢ Legal
   pub told : text ≡ finding_text (finding_of format script rows)

@@ -28,7 +28,7 @@ IsEarly Chains input place kind = Stands chain_lines input place kind
 IsEarly Sotw input place kind = Stands sotw_lines input place kind
 IsEarly (Dump entries) input place kind = StandsWithJournal input place kind
 
--- the line with which it is told
+-- the line with which it is reported
 abbrev pub IsToldOn : Command → Input → ℕ → FaultKind → ℕ → Type 0
 IsToldOn Replay input place kind line = line ≡ fault_line input place kind
 IsToldOn Run input place kind line = line ≡ fault_line input place kind
@@ -67,7 +67,7 @@ IsLate Chains bytes line number = ⊥
 IsLate Sotw bytes line number = GrowsTooLarge bytes line number
 IsLate (Dump entries) bytes line number = EndsNoCommit entries bytes line number
 
--- ---- the fault that is told
+-- ---- the fault that is reported
 
 -- the first early fault of the bytes taken, or a late one, where they are the whole input and have no early one
 abbrev pub IsFaultFor : Command → Input → ℕ → ℕ → Type 0

@@ -14,9 +14,9 @@ pub enum Command {
     Replay,
     /// `run`: the journal of a script, as a thread for each actor makes it.
     Run,
-    /// `audit`: a line that tells what is found of the journal that follows a script.
+    /// `audit`: a line that says what is found of the journal that follows a script.
     Audit,
-    /// `soak SEED COUNT`: a line that tells what the replay of a seed's script came to. The script has so many lines after
+    /// `soak SEED COUNT`: a line that says what the replay of a seed's script came to. The script has so many lines after
     /// its header, 1 to `MAX_SOAK`; nothing is read.
     Soak { seed: u64, count: u32 },
     /// `tls`: the script in which each cluster that names secrets waits for them.

@@ -221,7 +221,7 @@ abbrev pub RowsRead : Option (List ℕ) → Option (List ℕ) → LinesState →
 RowsRead now after old new workers text answer =
     (more : List ℕ) × Takes now after more × ((bytes : List ℕ) → HasTaken old bytes → GoesOn old new bytes more × IsRowsAnswer workers text old new (bytes ++ more) answer)
 
--- a source whose end was told is at it
+-- a source that gave its end is at it
 pub still_at_end : (now after : Option (List ℕ)) (old new : LinesState) (workers : ℕ) (text : List ℕ) (answer : Result (Format × Vec Row Global) ScriptFault)
     → RowsRead now after old new workers text answer → (IsTrue old.ended → IsAtEnd now) → (IsTrue new.ended → IsTrue old.ended ⊎ IsAtEnd after) → IsTrue new.ended → IsAtEnd after
 still_at_end now after old new workers text answer read was is ended = by_end (is ended)

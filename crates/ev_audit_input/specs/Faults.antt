@@ -62,7 +62,7 @@ StandsWithJournal input place NoSuchWorker = Stands plain_lines input place NoSu
 StandsWithJournal input place NoByte = Stands plain_lines input place NoByte
 StandsWithJournal input place NotJournal = IsMisplacedAt input place ⊎ IsIncompleteAt input place
 
--- the line with which it is told: its own, and at the end of the input, where no line that ends there is out of its place, the
+-- the line with which it is reported: its own, and at the end of the input, where no line that ends there is out of its place, the
 -- one above the last
 abbrev pub IsToldWithJournal : Input → ℕ → FaultKind → ℕ → Type 0
 IsToldWithJournal input place TooLong line = line ≡ fault_line input place TooLong

@@ -151,7 +151,7 @@ any_either p q (x ∷ xs) within without h =
     (λ there. without (or_right (p x && not (q x)) (list_any (λ x. p x && not (q x)) xs) there)))
     h
 
--- what each element that passes tells
+-- what follows of each element that passes
 pub any_tells : {X : Type 0} (p : X → Bool) (told : Bool) (xs : List X) → ((x : X) → p x ≡ true → told ≡ true) → list_any p xs ≡ true → told ≡ true
 any_tells p told [] tells h = absurd (false≢true h)
 any_tells p told (x ∷ xs) tells h = or_so (p x) (list_any p xs) (tells x) (any_tells p told xs tells) h

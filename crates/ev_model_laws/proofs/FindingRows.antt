@@ -1,4 +1,4 @@
--- One row more: what a row that may come next tells of, and that nothing is found of the rows of a run.
+-- One row more: what a row that may come next records, and that nothing is found of the rows of a run.
 use Rattle.std.proofs.Common.{◌≡◌, inl, inr, ℕ, ◌==◌, Bool, true, false, not, ◌&&◌, ◌||◌, if◌then◌else◌, nat_lt, List, [], ◌∷◌, ◌++◌, map, Option, Some, None, refl, ap, sym, ◌∙◌, subst, append-nil}
 use Rattle.std.specs.Prelude.{⊤, find, option_map, unwrap_or}
 use Rattle.std.specs.List.{last_or, list_any, cons_option}
@@ -27,7 +27,7 @@ use Rattle.ev_model_laws.proofs.RisingOperations.{Earlier, IsRising, not_itself,
 use Rattle.ev_model_laws.proofs.DeedLemmas.{ops, rest_after, left_by, next_by, IsNext, IsFound, IsDoneTo, one_more_done, others_done, done_next, next_found, found_next}
 use Rattle.ev_model_laws.proofs.FindingDeeds.{eased, deed_at, marks, start, rests_at, left_at, marks_append, marks_own, marks_other, next_is}
 
--- what it is that a row tells of an operation
+-- what it is that a row records an operation
 record IsTold (row : Row) (o : Operation) : Type 0 where
   at : row.at ≡ o.at
   step_same : row.step ≡ o.step
@@ -50,7 +50,7 @@ tells_itself entry =
     let word : op_same (op_of entry.event) (op_of entry.event) ≡ true = (op_decides (op_of entry.event) (op_of entry.event)).1 refl in
     simp (at, steps, word) refl
 
--- two that a row tells of are at one place
+-- two that a row records are at one place
 at_one_place : (row : Row) (a b : Operation) → tells_of row a ≡ true → tells_of row b ≡ true → is_earlier a b ≡ false
 at_one_place row a b one other =
     let here : IsTold row a = told row a one in
@@ -66,7 +66,7 @@ find_by : (row : Row) (x o : Operation) (os : List Operation) (tells : Bool) →
 find_by row x o os true h never e = absurd (never h)
 find_by row x o os false h never e = e
 
--- of rising operations a row tells of one alone
+-- of rising operations a row records one alone
 find_told : (row : Row) (o : Operation) (os : List Operation) → IsRising os → IsIn o os → tells_of row o ≡ true → find (tells_of row) os ≡ Some o
 find_told row o [] rising is h = absurd is
 find_told row o (x ∷ os) rising (inl e) h =

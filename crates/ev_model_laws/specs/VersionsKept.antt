@@ -12,7 +12,7 @@ use Rattle.ev_model.specs.Versions.{is_version_of, is_before}
 use Rattle.ev_model.specs.Step.{step}
 use Rattle.ev_model.specs.Runs.{world_after}
 
--- no version's name is before the name of a version in front of it
+-- no version's name is before the name of a version that precedes it
 abbrev pub AreByName : List KeptVersion → Type 0
 AreByName [] = ⊤
 AreByName (kept ∷ others) = AllByRecursion (λ (other : KeptVersion). is_before other.name kept.name ≡ false) others × AreByName others

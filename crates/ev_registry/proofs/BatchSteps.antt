@@ -80,7 +80,7 @@ settles_in picture proxy parts worker at n run stepped works below latest led =
     (latest ∙ ap last_picture (sym more))
     (subst (IsAt proxy) (sym more) led)
 
--- the settle that was told is the machine's
+-- the settle that was reported is the machine's
 pub is_entered : (parts given : JournalParts) (pushed : List Entry) (worker : WorkerParts) (at n : ℕ) (closed : List ℕ) (version : ℕ) → given ≡ parts
     → pushed ≡ parts.journal ++ (entries_made worker ++ settle_told worker.number at n closed version ∷ [])
     → (settle worker.number (world_behind worker given)).1 ≡ Settled closed version

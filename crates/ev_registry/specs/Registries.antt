@@ -19,8 +19,8 @@ use Rattle.ev_actors.specs.Journals.{JournalParts, world_now}
 use Rattle.ev_proxy.specs.declared.proxy.Proxy.{Proxy}
 use Rattle.ev_proxy.specs.Proxies.{IsAt, numbers_reaped}
 
--- what contracts see of a registry: what was done, the rows that reapings removed, until they are taken, and whether want of memory cut the
--- last event off, so that what is known has to be made anew
+-- what contracts see of a registry: what was done, the rows that reapings removed, until they are taken, and whether the last event ran
+-- out of memory, so that what is known has to be made anew
 pub record RegistryParts : Type 0 where
   pub journaled : JournalParts
   pub deferred : List GenRow

@@ -122,7 +122,7 @@ still-serves kind (Some row) (Some other) x h =
     by true Dropped Draining live h = refl
     by true Dropped Dropped live h = refl
 
--- the same, where what retired is told of the rows of the kind
+-- the same, where what retired is said of the rows of the kind
 pub still-kind : (kind : Kind) (number : ℕ) (before after : List GenRow) → IsDistinct nat_eq (numbers_of before) → IsDistinct nat_eq (numbers_of after)
     → Still (row_in number before) (row_in number after) → has_retired number (rows_of_kind kind before) (rows_of_kind kind after) ≡ false
     → serving kind (row_in number after) ≡ serving kind (row_in number before)

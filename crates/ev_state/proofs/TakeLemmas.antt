@@ -71,7 +71,7 @@ taken s m subscription targets kind response verdicts world follows of are stand
       phase = first.phase ∙ rest.phase;
     }
 
--- and what retired is told of that world
+-- and what retired is said of that world
 pub taken_retired : (retired : List ℕ) (m after : Managers) (kind : Kind) (response : ResponseParts) (verdicts : List Verdict) (world : World) → AreKept m → AreKept after
     → StandFor m world → StandFor after (add_items kind verdicts response.items (with_removals kind response world)) → AreRetired retired m after
     → HaveRetired retired world (with_first kind (made_names verdicts response.items) (add_items kind verdicts response.items (with_removals kind response world)))

@@ -1,4 +1,4 @@
--- What is told of changes is so: a picture shows the same of each number that isn't told.
+-- What is reported of changes is so: a picture shows the same of each number that isn't reported.
 use Rattle.std.proofs.Common.{◌≡◌, ◌∙◌, ℕ, Bool, true, false, cond, not, ◌&&◌, ◌||◌, nat_eq, List, [], ◌∷◌, ◌++◌, Option, None, Some, refl, sym, ap, subst}
 use Rattle.std.proofs.lemmas.Bool.{false≢true, eqb-true}
 use Rattle.ev_types.specs.Items.{ResponseParts}
@@ -134,7 +134,7 @@ resulted-changed changed m name host healthy world kept stand are =
     (resulted-same changed m.clusters.state name host healthy world (rows-are m Cds (with_results host healthy (rows_meant world.arrivals name host world.rows) world) kept stand) stand.clusters.sound.table.apart
     (λ n other. (λ i. is_among (sym are i) n) ∙ other))
 
--- what was told, what came to serve or began to drain, and the listeners that come to serve together
+-- what was reported, what came to serve or began to drain, and the listeners that come to serve together
 module _ (old more all : List ℕ) (m after last : Managers) (before world : World) (kept : AreKept m) (kept_after : AreKept after) (kept_last : AreKept last)
     (stand : StandFor m world) (stand_after : StandFor after (promoted world)) (stand_last : StandFor last (without_old_results (without_unwatched (promoted world))))
     (moved : Grows old more (λ n. of_either is_moved n m after)) where

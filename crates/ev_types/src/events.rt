@@ -180,7 +180,7 @@ impl TryCopy for Verdict {
 pub enum Answer {
     /// Nothing is done.
     Ignored,
-    /// It is done, and nothing is to be told.
+    /// It is done, and nothing is to be reported.
     Done,
     /// These requests are sent.
     Moved {
