@@ -38,7 +38,7 @@ impl Walk {
         })
     }
 
-    /// Goes on by a row, and tells what is found of it. Where anything is, or memory is wanting, the walk has come to its end.
+    /// Goes on by a row, and says what is found of it. Where anything is, or memory runs out, the walk has come to its end.
     pub(crate) fn pass(
         &mut self,
         alloc: Global,

@@ -80,7 +80,7 @@ accepted chains state =
       draining = state.draining ++ gone_in next state.serving;
     }
 
--- what a listener reads as: the rule that is told, or what changes
+-- what a listener reads as: the rule that is reported, or what changes
 abbrev pub listener_reading : Data → ChainState → Result Changed ℕ
 listener_reading tree state = judged (rule_told tree) (changed_by (chains_in tree) state)
 

@@ -15,7 +15,7 @@
 //!   costs look-ups, and a listener a pass over its chains and over those that serve.
 //! - A server's name is compared with ASCII letters as lower case; matches of two versions are compared as they are written,
 //!   names in their order. A name that stands twice in one match is no conflict.
-//! - Where two chains clash and another rule is broken, the least rule is told; so the table is made before the rules are asked.
+//! - Where two chains clash and another rule is broken, the least rule is reported; so the table is made before the rules are asked.
 //! - Only the form of a listener's own name counts. Where it listens is part of each of its chains, so another address or port
 //!   keeps none.
 //! - Open connections are those of one worker, 0, in a ledger, with the chain as their listener. The ledger lists them by their

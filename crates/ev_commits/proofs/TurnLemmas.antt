@@ -157,7 +157,7 @@ turned parts seat start earlier later sound are (more, goes_on, none) =
           (subst (RunsFrom parts.format parts.workers (opening parts.workers parts.node)) journal sound.answers);
     }
 
--- what a sound journal's commits tell is the journal
+-- what a sound journal's commits hold is the journal
 pub shown_whole : (parts : JournalParts) → IsSound parts → journal_with (began_as parts) (commits_of parts.journal) ≡ parts
 shown_whole parts sound =
     λ i. record { format = parts.format; workers = parts.workers; node = parts.node; journal = whole parts.journal sound.batches i }

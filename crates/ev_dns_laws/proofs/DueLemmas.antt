@@ -15,7 +15,7 @@ use Rattle.ev_dns.specs.Answers.{is_complete}
 use Rattle.ev_dns.specs.Resolving.{answers_name, has_guarded, hosts_of, is_due}
 use Rattle.ev_dns_laws.proofs.AnswerLemmas.{StaysKnown, stays_known}
 
--- there is a front at each line
+-- there is a prefix at each line
 pub front_there : (lines : List Data) (n : ℕ) → n < length lines → (f : Front) × (slice_get (fronts lines) n ≡ Some f)
 front_there [] n h = absurd (omega (arith, h))
 front_there (first ∷ lines) zero h = (record { before = []; line = first }, refl)

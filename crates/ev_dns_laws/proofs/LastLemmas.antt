@@ -1,4 +1,4 @@
--- After the last line that a line of the input gave, a watched place is told of exactly where its template is complete.
+-- After the last line that a line of the input gave, a watched place is reported exactly where its template is complete.
 use Rattle.std.proofs.Common.{◌≡◌, ◌∙◌, ◌⊎◌, inl, inr, ℕ, ◌+◌, ◌<◌, ◌≤◌, ◌==◌, Bool, true, false, ◌&&◌, ◌||◌, nat_lt, List, [], ◌∷◌, length, take, filter_map, decimal, Some, None, codes, refl, sym, ap, subst, arith}
 use Rattle.std.specs.Prelude.{slice_get, unwrap_or}
 use Rattle.std.specs.List.{cons_option, last_or}
@@ -143,7 +143,7 @@ module _ (trees : ScriptTrees) (format : Format) (journal : List Entry) (kept : 
           let one : entry ≡ last.entry = some_same (sym at ∙ ap (slice_get journal) position ∙ last.there) in
           omega (arith, ap (λ (e : Entry). e.at) one)
 
-  -- ---- what is told is complete
+  -- ---- what is reported is complete
 
   told_complete : is_told (world (k + 1)) Eds name ≡ true → is_complete (take (index + 1) lines) g.key ≡ true
   told_complete h =
@@ -153,7 +153,7 @@ module _ (trees : ScriptTrees) (format : Format) (journal : List Entry) (kept : 
       complete_later lines (by.index + 1) (index + 1) g.key (omega (arith, no_later was.position was.entry was.at was.due.own (omega (arith, was.earlier)) by))
       (subst (λ ls. is_complete ls g.key ≡ true) (up_to_at lines by.index by.front by.there) (due_parts by.front g was.due.due).1)
 
-  -- ---- what is complete is told
+  -- ---- what is complete is reported
 
   -- a watched place was guarded in the lines so far
   watched_guarded : watched (k + 1) ≡ true → was_guarded (take (index + 1) lines) g.key ≡ true

@@ -312,7 +312,7 @@ gives_said last at front =
 not_above : (m n : ℕ) → m ≤ n → nat_le m n ≡ true
 not_above m n h = grind (arith, nat_tests)
 
--- of the lines that fronts give, those up to a number that lies within the m-th
+-- of the lines that prefixes give, those up to a number that lies within the m-th
 fronts_said : (last at m : ℕ) (fs : List Front) → m ≤ length fs → ((j : ℕ) → j < m → at + length (flat_map (gives dns_rules) (take j fs)) ≤ last)
     → last < at + length (flat_map (gives dns_rules) (take m fs)) → said_from last at (flat_map (gives dns_rules) fs) ≡ filter_map (λ (f : Front). said_by f.line) (take m fs)
 fronts_said last at zero [] within before past = refl

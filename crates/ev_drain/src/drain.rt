@@ -125,7 +125,7 @@ impl Drain {
     }
 
     /// The numbers of the generations that nothing holds any more, from the least, by a journal's format: `ledger` has the open
-    /// connections, and `shown` tells what pictures in use show. It asks both by number, and looks at no connection.
+    /// connections, and `shown` says what pictures in use show. It asks both by number, and looks at no connection.
     pub fn dead<S: Shows>(
         &self,
         alloc: Global,

@@ -9,7 +9,7 @@ use Rattle.ev_actors.specs.Journals.{JournalParts}
 use Rattle.ev_fronts.specs.Fronts.{ends_commit}
 use Rattle.ev_dump.specs.Texts.{dump_text}
 
--- the first so many entries of a journal that rows tell, with its format, workers and node
+-- the first so many entries of a journal that rows record, with its format, workers and node
 abbrev pub front_of : Format → ScriptParts → List Row → ℕ → JournalParts
 front_of format script rows entries =
     record { format = format; workers = script.workers; node = script.node; journal = take entries (journal_told script rows) }
@@ -24,7 +24,7 @@ pub record IsDump (format : Format) (script : ScriptParts) (rows : List Row) (en
 abbrev pub end_line : ScriptParts → List Row → ℕ
 end_line script rows = script.count + length rows + 2
 
--- the rows are found legal, but no commit ends with so many entries, which is told at the end line: there aren't so many, or the last
+-- the rows are found legal, but no commit ends with so many entries, which is reported at the end line: there aren't so many, or the last
 -- of them is an accept or a close
 pub record IsNoCommit (format : Format) (script : ScriptParts) (rows : List Row) (entries line : ℕ) : Type 0 where
   pub legal : finding_of format script rows ≡ Legal

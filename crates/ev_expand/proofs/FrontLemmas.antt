@@ -7,14 +7,14 @@ use Rattle.serde_json.specs.Data.{Data}
 use Rattle.ev_expand.specs.Fronts.{Front, up_to, fronts, behind, stream_at, heard}
 use Rattle.ev_expand.specs.Growing.{front_of}
 
--- the fronts of some lines and one more
+-- the prefixes of some lines and one more
 pub fronts-push : (lines : List Data) (line : Data) → fronts (lines ++ line ∷ []) ≡ fronts lines ++ front_of lines line ∷ []
 fronts-push [] line = refl
 fronts-push (first ∷ lines) line =
     ap (λ (fs : List Front). front_of [] first ∷ map (behind first) fs) (fronts-push lines line)
     ∙ ap (λ (fs : List Front). front_of [] first ∷ fs) (map-append (behind first) (fronts lines) (front_of lines line ∷ []))
 
--- what each front gives, with one more line
+-- what each prefix gives, with one more line
 pub flat-push : {A : Type 0} (f : Front → List A) (lines : List Data) (line : Data) → flat_map f (fronts (lines ++ line ∷ [])) ≡ flat_map f (fronts lines) ++ f (front_of lines line)
 flat-push f lines line =
     ap (flat_map f) (fronts-push lines line) ∙ flat_map-append f (fronts lines) (front_of lines line ∷ [])

@@ -27,7 +27,7 @@ front_short : (P : Data → Type 0) (xs ys : List Data) → All P (xs ++ ys) →
 front_short P [] ys each = λ i d h. absurd (omega arith)
 front_short P (x ∷ xs) ys each = All-cons P x xs (each 0 x (omega arith)) (front_short P xs ys (λ i d h. each (suc i) d (omega arith)))
 
--- trees that are a front of others are within the limits where those are
+-- trees that are a prefix of others are within the limits where those are
 pub within_front : (xs ys : List Data) → AreWithinLimits (xs ++ ys) → AreWithinLimits xs
 within_front xs ys within =
     let small : length (text_of_trees (xs ++ ys)) ≡ length (text_of_trees xs) + length (text_of_trees ys) =
@@ -124,7 +124,7 @@ large_at rules head ls i entry old new gs answer h there grown pushes is =
       above = λ within. pushes.full (written_by rules head (map view (take i ls))) grown.written is (subst AreWithinLimits all within);
     }
 
--- what was told where no line was refused
+-- what was reported where no line was refused
 pub all_grown : (rules : Rules) (head : Data) (lines : List Data) (text : TextSoFar) (gs : List Guarded) → first_use rules.prefix lines ≡ None → IsGrown rules head lines text gs
     → IsExpanded rules head lines (Ok text.bytes)
 all_grown rules head lines text gs unused grown = (unused, grown.written.limits, grown.read_back, grown.written.bytes)

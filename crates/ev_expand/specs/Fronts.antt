@@ -17,11 +17,11 @@ pub record Front : Type 0 where
 abbrev pub up_to : Front → List Data
 up_to front = front.before ++ front.line ∷ []
 
--- the front with one more line before all others
+-- the prefix with one more line before all others
 abbrev pub behind : Data → Front → Front
 behind first front = record { before = first ∷ front.before; line = front.line }
 
--- the fronts that end at each of these lines, in order
+-- the prefixes that end at each of these lines, in order
 abbrev pub fronts : List Data → List Front
 fronts [] = []
 fronts (first ∷ lines) = record { before = []; line = first } ∷ map (behind first) (fronts lines)

@@ -62,7 +62,7 @@ abbrev pub TakesLine : {S : Type 0} → Rules → (S → List Data → Type 0) �
 TakesLine rules is_behind old new numbers line answer = FromBehind rules.guard is_behind old numbers line
     (λ before. OnOk answer (is_behind new (before ++ line ∷ [])))
 
--- what is due at the next line is told, by the numbers after that line
+-- what is due at the next line is reported, by the numbers after that line
 abbrev pub TellsDue : {S : Type 0} → Rules → (S → List Data → Type 0) → S → Numbers → Data
     → Result (Vec Due Global) AllocError → Type 0
 TellsDue rules is_behind old numbers line answer = FromBehind rules.guard is_behind old numbers line

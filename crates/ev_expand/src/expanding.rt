@@ -65,7 +65,7 @@ pub trait Expansion {
     fn own(&self, alloc: Global, entry: &Value) -> Result<Value, AllocError>
         ensures { IfOk result (λ own. view own ≡ rules.guard.own_of (view entry.now)) };
 
-    /// Takes the next line, and tells which places are due after it, with their endpoints. The event is what the line is read
+    /// Takes the next line, and says which places are due after it, with their endpoints. The event is what the line is read
     /// as, the numbers are those after the line, and `items` are the places of the keys of its guarded resources.
     ///
     /// # Errors

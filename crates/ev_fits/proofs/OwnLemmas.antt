@@ -87,7 +87,7 @@ few_items script actor kept =
     few : (all limit own : ℕ) → own ≤ all → all < limit → limit ≤ 4294967296 → 0 + own < 4294967296
     few all limit own less below small = omega arith
 
--- the same of operations that are told by places of lines
+-- the same of operations that are given by places of lines
 abbrev KeepTo : ℕ → List (Option Operation) → Type 0
 KeepTo waiting [] = waiting ≡ 0
 KeepTo waiting (None ∷ os) = ⊥

@@ -44,7 +44,7 @@ SufficeFrom format world [] = ⊤
 SufficeFrom format world (entry ∷ entries) =
     NumbersSuffice world entry.event × SufficeFrom format (step format world entry.actor entry.event).0 entries
 
--- there are so many entries of the journal that rows tell of, the first rows tell of them, and they are a run of the machine
+-- there are so many entries of the journal that rows record, the first rows record them, and they are a run of the machine
 pub record IsFront (format : Format) (script : ScriptParts) (rows : List Row) (entries : ℕ) : Type 0 where
   pub within : entries ≤ length rows
   pub told : AreTold script (take entries rows)

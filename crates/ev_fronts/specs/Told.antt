@@ -1,4 +1,4 @@
--- The entries that rows tell of, found in their script. This project's own.
+-- The entries that rows record, found in their script. This project's own.
 use Rattle.std.specs.Prelude.{ℕ, ◌==◌, List, Option, Some, None, All, find, IsSome}
 use Rattle.ev_types.specs.Scripts.{ScriptParts}
 use Rattle.ev_types.specs.declared.events.Event.{Event}

@@ -1,4 +1,4 @@
--- Each step at a gate's table keeps the rule, and tells what its play says.
+-- Each step at a gate's table keeps the rule, and shows what its play says.
 use Rattle.std.proofs.Common.{not, max, ◌≡◌, ◌≢◌, ◌⊎◌, ℕ, zero, suc, ◌+◌, ◌%◌, ◌^◌, ◌<◌, ◌≤◌, Bool, true, false, true≢false, List, [], ◌∷◌, ◌++◌, length, set, drop, eqb, cond, refl, sym, ap, ◌∙◌, subst, inl, inr, ⊎_elim, arith, length-append, append_assoc, Option, Some, None}
 use Rattle.std.specs.Prelude.{slice_index, slice_get}
 use Rattle.std.proofs.Math.Nat.{mod-add-mod}

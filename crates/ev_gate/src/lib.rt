@@ -3,7 +3,7 @@
 //! A gate keeps one value and lets one seat at a time have it. A value stands for a list of commits, each with the
 //! number of the seat that made it. Who has the value knows the whole list, and that its own commits in it are those
 //! that it made and no others; who closes the gate knows it of every seat.
-//! A gate also tells the newest version of its value without a turn.
+//! A gate also reports the newest version of its value without a turn.
 //! Seats are served in the order in which they draw a ticket. Nothing is said of when.
 //!
 //! # What it is

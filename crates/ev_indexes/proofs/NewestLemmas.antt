@@ -43,7 +43,7 @@ never-both Draining n a w = true≢false (sym a)
 never-both Dropped n a w = true≢false (sym w)
 
 module _ (p q t : GenRow → Bool) (either : (r : GenRow) → t r ≡ (p r || q r)) where
-  -- where none passes the first test, the second one tells
+  -- where none passes the first test, the second one decides
   left-none : (rows : List GenRow) → filter p rows ≡ [] → filter t rows ≡ filter q rows
   left-none [] none = refl
   left-none (row ∷ rows) none = (λ i. cond (either row i) (row ∷ filter t rows) (filter t rows)) ∙ by (p row) none (left-none rows)
@@ -53,7 +53,7 @@ module _ (p q t : GenRow → Bool) (either : (r : GenRow) → t r ≡ (p r || q 
       by true h rest = cc
       by false h rest = ap (λ (rs : List GenRow). cond (q row) (row ∷ rs) rs) (rest h)
 
-  -- where none passes the second test, the first one tells
+  -- where none passes the second test, the first one decides
   right-none : (rows : List GenRow) → filter q rows ≡ [] → filter t rows ≡ filter p rows
   right-none [] none = refl
   right-none (row ∷ rows) none = (λ i. cond (either row i) (row ∷ filter t rows) (filter t rows)) ∙ by (p row) (q row) none (right-none rows)

@@ -41,7 +41,7 @@ abbrev pub IsNeedName : Option (List ℕ) → Type 0
 IsNeedName None = ⊤
 IsNeedName (Some name) = IsName name
 
--- the name was told of, or timed out where the wait is limited
+-- the name was reported, or timed out where the wait is limited
 abbrev pub has_answer_in : WatchesKept → Bool → Option (List ℕ) → Bool
 has_answer_in watches limited None = true
 has_answer_in watches limited (Some name) = (watch_in watches name).told || ((watch_in watches name).timed && limited)

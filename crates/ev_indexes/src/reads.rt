@@ -40,7 +40,7 @@ impl State {
         }
     }
 
-    /// Whether the fetch timeout of the name is due: a live generation waits for it within a limit, and it was neither told of
+    /// Whether the fetch timeout of the name is due: a live generation waits for it within a limit, and it was neither reported
     /// nor timed out.
     pub fn timeout_due(&self, name: &Name) -> bool
         requires indexed { IsIndexed self.now }
@@ -97,7 +97,7 @@ fn has_number(numbers: &Numbers) -> bool
     !numbers.is_empty()
 }
 
-// Whether a row waits within a limit for a name, which was neither told of nor timed out.
+// Whether a row waits within a limit for a name, which was neither reported nor timed out.
 fn is_awaited(watch: &Watch) -> bool
     ensures { result ≡ (has_number watch.now.limited && not (watch.now.told || watch.now.timed)) }
 {

@@ -17,7 +17,7 @@ use std::alloc::{AllocError, Global};
 use std::marker::Model;
 
 /// What is known of a name that is watched: the generations that depend on it, those among them whose wait is limited, whether
-/// the name was told of, whether its wait timed out, and its last value.
+/// the name was reported, whether its wait timed out, and its last value.
 #[derive(Drop)]
 pub struct Watch {
     pub rows: Numbers,

@@ -66,7 +66,7 @@ onto_first-append b c cs others = by_test (eqb c 10) (lines_of cs)
 closed_rest : (b c : ℕ) (cs : List ℕ) → IsClosed (b ∷ c ∷ cs) → IsClosed (c ∷ cs)
 closed_rest b c cs closed = λ k e. closed (suc k) (omega arith)
 
--- after a closed front the lines go on
+-- after a closed prefix the lines go on
 pub lines_of-append : (front rest : List ℕ) → IsClosed front → lines_of (front ++ rest) ≡ lines_of front ++ lines_of rest
 lines_of-append [] rest closed = refl
 lines_of-append (b ∷ []) rest closed =

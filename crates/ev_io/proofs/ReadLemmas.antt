@@ -126,7 +126,7 @@ line_given mid new bytes n h line same = subst (λ (s : LinesState). HasTaken s 
       sound = subst (λ (xs : List ℕ). IsSoundUpTo xs (length (h.front ++ take (n + 1) mid.pending))) (sym h.parts) (sound_now line.ends);
     }
 
--- what was told changes nothing of what was taken
+-- what was reported changes nothing of what was taken
 pub retold : (mid : LinesState) (fault : Option LineFault) (bytes : List ℕ) → HasTaken mid bytes → HasTaken (record mid { told = fault }) bytes
 retold mid fault bytes h = record { front = h.front; parts = h.parts; count = h.count; lines = h.lines; closed = h.closed; sound = h.sound }
 

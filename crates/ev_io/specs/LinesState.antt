@@ -9,7 +9,7 @@ use Rattle.ev_io.specs.Outside.{Takes}
 use Rattle.ev_io.specs.Found.{IsOpen, Finds}
 
 -- how many bytes were taken and how many lines given, the bytes taken and not given yet, whether
--- the source gave its end, and the fault that is told from now on
+-- the source gave its end, and the fault that is reported from now on
 pub record LinesState : Type 0 where
   pub taken : ℕ
   pub given : ℕ

@@ -8,7 +8,7 @@
 //!   after that would be 2^64, which no list of `u64` names, so such a call doesn't fail by name.
 //! - A write of no bytes to a full `MemSink` is answered with 0, and a named call fails whatever its bytes are.
 //! - `StdSource` and `StdSink` don't try an interrupted call again: each `Err` is a `Failed`.
-//! - Where a flush fails after the writer took bytes, `StdSink` answers `Failed`; it tells no bytes, so nothing is
+//! - Where a flush fails after the writer took bytes, `StdSink` answers `Failed`; it doesn't say which bytes, so nothing is
 //!   claimed of them.
 //! - `MemSink::as_bytes` shows what was written; the tests above read it.
 //! - An Ok of a source or a sink leaves its count of faults as it was. On a first reading a trait might let a count
@@ -22,7 +22,7 @@
 //! - `Lines::new` takes the memory for a piece at once, and the memory for a piece more is taken before each read. So
 //!   being out of memory never loses a byte, and comes before the read or before the line is given.
 //! - An end that the source gave is kept: after it `Lines` doesn't ask again, even if the source had more to give.
-//! - A fault is told before a line: a byte that is too large, or the first byte of line 200,001, is a fault even
+//! - A fault is reported before a line: a byte that is too large, or the first byte of line 200,001, is a fault even
 //!   where its line isn't whole. At the end of the input a last line without its line feed is a line like the others.
 //! - `LineFault`'s `TooLong`, `TooMany` and `TooLarge` are the kinds 1, 2 and 3 of a script's faults; `ScriptFault`
 //!   stands here as a plain type, for the readers of scripts above.

@@ -95,7 +95,7 @@ impl Lines {
         ensures at_end { IsTrue self.new.ended → IsTrue self.old.ended ⊎ IsAtEnd (S.left source.new) }
         ensures at_most { IsWithin self.new }
 
-        // A fault is told ever after, and then nothing changes.
+        // A fault is reported ever after, and then nothing changes.
         ensures again { (fault : LineFault) → self.old.told ≡ Some fault → result ≡ Err fault }
         ensures again_self { (fault : LineFault) → self.old.told ≡ Some fault → self.new ≡ self.old }
         ensures again_source { (fault : LineFault) → self.old.told ≡ Some fault → source.new ≡ source.old }

@@ -38,7 +38,7 @@ pub fn write_first_line(alloc: Global, format: Format, workers: u32) -> Result<V
 }
 
 /// Writes the line of an entry, with the line feed that closes it: who did what, at which line and step of the
-/// script, and the answer, by the table of answers in docs/FORMATS.md. What the types of an entry keep is told with it:
+/// script, and the answer, by the table of answers in docs/FORMATS.md. What the types of an entry keep is said with it:
 /// the parts of its row are within bounds, and its line is UTF-8.
 #[tactic(auto, using(crate::proofs::FloatLemmas::entry_whole), unfolding(crate::specs::Rows::row_text))]
 pub fn write_line(alloc: Global, entry: &Entry) -> Result<Vec<u8>, AllocError>

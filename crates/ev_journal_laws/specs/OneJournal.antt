@@ -1,4 +1,4 @@
--- What the text of a journal tells. This project's own.
+-- What the text of a journal determines. This project's own.
 use Rattle.std.specs.Prelude.{◌≡◌, ℕ, ◌<◌, ◌^◌, true, List, ◌∷◌, map, All}
 use Rattle.ev_io.specs.Lines.{lines_of}
 use Rattle.ev_types.specs.Scripts.{ScriptParts, IsScript}

@@ -1,4 +1,4 @@
--- The lines of a journal, and where they stop being one (kind 9). This project's own. Lines are told by their numbers,
+-- The lines of a journal, and where they stop being one (kind 9). This project's own. Lines are given by their numbers,
 -- counted from 1; `given` lines were given by the reader of lines, those of the script before the journal among them.
 use Rattle.std.specs.Prelude.{◌≡◌, ◌≢◌, ℕ, ◌+◌, ◌≤◌, ◌⊎◌, ⊤, Bool, true, false, IsTrue, List, [], ◌∷◌, ◌++◌, length, map, take, drop, All, Vec, Option, Some, None, Result, Ok, Err}
 use Rattle.std.specs.declared.alloc.Global.{Global}
@@ -102,7 +102,7 @@ pub record IsWrongLine (workers : ℕ) (first : List ℕ) (old new : LinesState)
   pub here : line ≡ new.given
   pub numbered : kind ≡ fault_number NotJournal
 
--- the input ends without the journal's end line: the fault is told one line above the last
+-- the input ends without the journal's end line: the fault is reported one line above the last
 pub record IsEndless (workers : ℕ) (first : List ℕ) (old new : LinesState) (bytes : List ℕ) (line kind : ℕ) : Type 0 where
   pub format : Format
   pub rows : List Row

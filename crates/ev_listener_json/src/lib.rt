@@ -16,7 +16,7 @@
 //! - A chain without a filter that serves stands for a table with no hosts in the definition of the value; it breaks
 //!   V16 or V17, so this never shows.
 //! - A match with all its criteria is read by `inspect_filter_chain_match`. Of the source it keeps only whether it is
-//!   asked for, since no script tells where a connection comes from. A range that is none stands for all IPv4
+//!   asked for, since no script says where a connection comes from. A range that is none stands for all IPv4
 //!   addresses in the definition of the value; it breaks V16, so this never shows.
 //! - `source_ports` and `source_type` have readers here, since ev_tree has none for a list of numbers, nor this enum.
 //! - A TCP proxy's other specifiers (`cluster_header` and the like) break V22 as in a route: it is the same reader.

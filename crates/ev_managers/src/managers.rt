@@ -17,7 +17,7 @@ use ev_warming::Manager;
 use std::alloc::{AllocError, Global};
 use std::sync::ledger::Ledger;
 
-/// The cluster manager and the listener manager, and how many numbers were drawn for generations of both. After want of memory
+/// The cluster manager and the listener manager, and how many numbers were drawn for generations of both. Once out of memory,
 /// nothing is promised of them: their holder makes them anew, out of the journal.
 #[derive(Drop)]
 pub struct Managers {

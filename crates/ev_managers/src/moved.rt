@@ -41,7 +41,7 @@ impl Moved {
     }
 }
 
-/// Each generation of a manager that is due serves, and the one that served its name before it drains; both are told.
+/// Each generation of a manager that is due serves, and the one that served its name before it drains; both are reported.
 pub(crate) fn promote<L: Ledger>(
     manager: &mut Manager,
     alloc: Global,

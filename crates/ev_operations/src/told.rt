@@ -5,7 +5,7 @@ ghost use Rattle.ev_operations.specs.Courses.{is_left, is_settle_due, tells_due}
 use crate::due::Due;
 use ev_types::{Event, Op, Row, Script};
 
-/// Whether a row tells of what is due.
+/// Whether a row records what is due.
 pub(crate) fn tells(script: &Script, row: &Row, due: Due) -> bool
     ensures { result ≡ tells_due script.now row.now due }
 {

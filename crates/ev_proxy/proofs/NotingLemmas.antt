@@ -51,7 +51,7 @@ over_same : (found : Option GenRow) → is_over found ≡ over_there found
 over_same None = refl
 over_same (Some row) = refl
 
--- what is told, as what holds generations takes it
+-- what is reported, as what holds generations takes it
 pub ceased_all : (retired : List ℕ) (before after : World) → HaveCeased retired before after → CeaseBetween retired before.rows after.rows
 ceased_all retired before after ceased = record {
   told = λ number.

@@ -140,7 +140,7 @@ pub record IsFirstFault (forms : LineForms) (input : Input) (place : ℕ) (kind 
   pub stands : Stands forms input place kind
   pub first : (other : ℕ) (kind_there : FaultKind) → Stands forms input other kind_there → (place < other) ⊎ ((place ≡ other) × (fault_order kind ≤ fault_order kind_there))
 
--- the line that a fault is told with, counted from 1: its own, and for a journal that is missing the one above the last
+-- the line that a fault is reported with, counted from 1: its own, and for a journal that is missing the one above the last
 abbrev pub fault_line : Input → ℕ → FaultKind → ℕ
 fault_line input place TooLong = index_at input place + 1
 fault_line input place TooMany = index_at input place + 1

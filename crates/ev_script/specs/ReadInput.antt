@@ -19,7 +19,7 @@ use Rattle.ev_script.specs.ReadLines.{AreRead, AreKept}
 abbrev pub input_of : Bool → LinesState → List ℕ → Input
 input_of audit state bytes = record { bytes = bytes; ended = state.ended; audit = audit }
 
--- how a fault of lines is told, where so many lines were given
+-- how a fault of lines is reported, where so many lines were given
 abbrev pub script_fault : ℕ → LineFault → ScriptFault
 script_fault given limit.TooLong = Bad (given + 1) 1
 script_fault given limit.TooMany = Bad (given + 1) 2
@@ -27,7 +27,7 @@ script_fault given limit.TooLarge = Bad (given + 1) 3
 script_fault given limit.Failed = Read
 script_fault given limit.OutOfMemory = OutOfMemory
 
--- a fault is the first of the bytes taken, before any journal; a failed read is told where they have none, and no journal
+-- a fault is the first of the bytes taken, before any journal; a failed read is reported where they have none, and no journal
 -- begins, and go on
 abbrev pub IsTold : LineForms → Input → ScriptFault → Type 0
 IsTold forms input (Bad line kind) = IsFaultOf forms input line kind

@@ -33,9 +33,9 @@
 //!   flag and an answer that has both cases, of which each caller would have to rule out one. Trees are read of whole
 //!   inputs alone, since no command asks for those before a journal.
 //! - An audit's input is looked at up to the end of the journal's first line: a limit that is passed after it is
-//!   told by whoever reads the journal, with the same reader of lines. So `read_audited_script` says that no fault
-//!   stands up to there, and that one that it tells stands before any journal; `read_script` that none stands at all.
-//! - A fault stands in the bytes taken, and more bytes don't take it away (proved). So what is told is also a fault
+//!   reported by whoever reads the journal, with the same reader of lines. So `read_audited_script` says that no fault
+//!   stands up to there, and that one that it reports stands before any journal; `read_script` that none stands at all.
+//! - A fault stands in the bytes taken, and more bytes don't take it away (proved). So what is reported is also a fault
 //!   of the whole input, however much of it was taken.
 //! - The reader asks that the reader of lines is fresh: the definition speaks of all bytes of the input, and none of
 //!   those may have gone elsewhere.

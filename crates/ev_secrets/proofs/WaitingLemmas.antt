@@ -17,7 +17,7 @@ use Rattle.ev_secrets.proofs.KnownLemmas.{front_passes}
 use Rattle.ev_secrets.proofs.PlaceLemmas.{number_swapped, stands_own, stands_still}
 use Rattle.ev_secrets.proofs.TestLemmas.{or_first, any_more, any_so, and_so, some_same}
 
--- ---- the first that wasn't told of
+-- ---- the first that wasn't reported
 
 found_some : (t : Awaited → Bool) (xs : List Awaited) (a : Awaited) → find (λ (x : Awaited). not (t x)) xs ≡ Some a → list_all t xs ≡ false
 found_some t [] a h = absurd (cc)

@@ -1,4 +1,4 @@
--- The line that tells of a soak: what the journal of its script's replay counts up to.
+-- The line that reports a soak: what the journal of its script's replay counts up to.
 use Rattle.std.specs.Prelude.{ℕ, ◌≡◌, ◌+◌, List, [], ◌∷◌, ◌++◌, length, codes}
 use Rattle.serde_json.specs.Data.{Data, number, unsigned, object, member, no_members}
 use Rattle.serde_json.specs.Written.{compact_text}

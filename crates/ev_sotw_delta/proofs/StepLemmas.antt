@@ -182,7 +182,7 @@ module _ (kind : Kind) (by_name : is_by_name kind ≡ true) (name : List ℕ) wh
     among_changed false after =
         among_other (names_of kind (all_watched after)) (names_of kind (all_watched world)) name ∙ (λ i. among_names world i && not (among_names after i))
 
-    -- requests that tell a change of what is watched, after a reply or not
+    -- requests that report a change of what is watched, after a reply or not
     requests_parts : (new : Bool) (after : World) (reply : Option Request) → after.stream ≡ true → parts_by new kind (option_to_list reply) ≡ []
         → is_among name (parts_by new kind (requests_of world after reply)) ≡ cond new (watched after && not (watched world)) (watched world && not (watched after))
     requests_parts new after reply streams none =

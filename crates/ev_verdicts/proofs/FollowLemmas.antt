@@ -475,7 +475,7 @@ judged_all answers kind response lives versions tells =
     judged_from answers kind response lives versions [] (lives_left kind response lives) [] response.items refl none_among tells
     (follows_first answers kind response lives versions tells)
 
--- lists that are searched tell what they hold, of what is asked for without a name
+-- lists that are searched say what they hold, of what is asked for without a name
 pub listed_tells : (kind : Kind) (lives : List Live) (versions : List KeptVersion) → is_by_name kind ≡ false → Tells (answers_of lives versions) kind lives versions
 listed_tells kind lives versions whole = record {
   newest = λ k name. refl;
@@ -485,7 +485,7 @@ listed_tells kind lives versions whole = record {
   apart = λ by_name. absurd (false≢true (sym whole ∙ by_name));
 }
 
--- the verdicts by look-ups are those of whatever lists they tell of
+-- the verdicts by look-ups are those of whatever lists they speak of
 pub judged_told : (answers : Answers) (k : Kind) (response : ResponseParts) (verdicts : List Verdict)
     → verdicts ≡ all_judged answers k response [] response.items → response.kind ≡ Some k
     → (kind : Kind) (lives : List Live) (versions : List KeptVersion) → response.kind ≡ Some kind → Tells answers kind lives versions

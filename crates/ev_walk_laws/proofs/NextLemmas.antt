@@ -1,4 +1,4 @@
--- A row that tells of what comes next: its entry, and what is left after it.
+-- A row that records what comes next: its entry, and what is left after it.
 use Rattle.std.proofs.Common.{◌≡◌, inl, ℕ, ◌+◌, Bool, true, false, not, if◌then◌else◌, List, [], ◌∷◌, ◌++◌, map, filter, take, Option, Some, None, refl, ap, sym, ◌∙◌, subst, append-nil}
 use Rattle.std.specs.Prelude.{option_map, option_and_then, slice_get, unwrap_or}
 use Rattle.std.specs.List.{last_or, list_any, list_all, cons_option}

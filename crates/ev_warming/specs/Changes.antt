@@ -50,7 +50,7 @@ pub record Tells (before after : List GenRow) (numbers more : List ℕ) : Type 0
   pub told : (number : ℕ) → among more number ≡ (among numbers number || has_retired number before after)
   pub stays : (number : ℕ) → is_over (row_in number before) ≡ true → is_over (row_in number after) ≡ true
 
--- what was told to have retired grows by what retired in between
+-- what was reported to have retired grows by what retired in between
 abbrev pub TellsRetired : State → State → List ℕ → List ℕ → Type 0
 TellsRetired old new numbers more = Tells old.table.rows new.table.rows numbers more
 

@@ -128,7 +128,7 @@ impl Manager {
         }
     }
 
-    // A name comes to its end, and what retired is told.
+    // A name comes to its end, and what retired is reported.
     fn end_name<L: Ledger>(
         &mut self,
         name: &Name,

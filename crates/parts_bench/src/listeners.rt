@@ -30,7 +30,7 @@ pub(crate) struct Plan {
     pub(crate) arrivals: u16,
 }
 
-/// What a run tells: at how many addresses a listener was found, how many came to serve, what is said of all of them, and whether
+/// What a run reports: at how many addresses a listener was found, how many came to serve, what is said of all of them, and whether
 /// the first one goes once its time to live has ended.
 #[derive(Clone, Copy)]
 struct Told {
@@ -63,7 +63,7 @@ pub(crate) fn print_run<R: Print + AllocGlobal>(rt: &R, plan: Plan) -> Result<()
     Ok(())
 }
 
-// What a run by this plan tells.
+// What a run by this plan reports.
 fn measured(alloc: Global, plan: Plan) -> Result<Told> {
     run::<Brand>(alloc, Blank::new(1), plan)
 }

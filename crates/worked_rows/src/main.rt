@@ -72,7 +72,7 @@ fn try_rows<R: Files + Print + AllocGlobal + Threads + Wait + Sync>(rt: &R) -> i
 }
 
 // Whether the program ends a row with its status and writes its output, in whatever pieces its input is read, and whether
-// a read that fails is told, whichever it is, and so a write.
+// a read that fails is reported, whichever it is, and so a write.
 fn passes<R: Files + AllocGlobal + Threads + Wait + Sync>(rt: &R, row: &Row) -> io::Result<bool> {
     let alloc = rt.alloc();
     let name = row.name.as_str();
@@ -150,7 +150,7 @@ fn answers<R: Threads + Wait + Sync>(
     Ok(same && row.is_end(status))
 }
 
-// Whether the program, which reads one byte at once, tells that the read of this number fails, or, where the row is no
+// Whether the program, which reads one byte at once, reports that the read of this number fails, or, where the row is no
 // script, its fault, and writes nothing.
 fn tells_failure<R: Threads + Wait + Sync>(
     rt: &R,
@@ -188,7 +188,7 @@ fn reads_no_further<R: Threads + Wait + Sync>(
     Ok(same && row.is_end(status))
 }
 
-// Whether the program tells of each write of a row's output that it fails, with what was written before it in the sink.
+// Whether the program reports of each write of a row's output that it fails, with what was written before it in the sink.
 fn tells_lost_writes<R: Threads + Wait + Sync>(
     rt: &R,
     alloc: Global,
