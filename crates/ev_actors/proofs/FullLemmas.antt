@@ -1,4 +1,4 @@
--- How many accepts and closes since a worker's last settle line stand before a line, and when its batch is full.
+-- How many accepts and closes since a worker's last settle line come before a line, and when its batch is full.
 use Rattle.std.proofs.Common.{◌≡◌, ◌<◌, ◌≤◌, ℕ, suc, nat_lt, nat_le, inl, inr, ◌⊎◌, Bool, true, false, not, ◌&&◌, List, [], ◌∷◌, ◌++◌, map, filter, refl, ap, sym, ◌∙◌, subst, append_assoc, append-nil, arith}
 use Rattle.std.specs.List.{AllPairs, AllByRecursion as ByRecursion, list_any}
 use Rattle.std.specs.List.Sorted.{IsStrictlyIncreasing}

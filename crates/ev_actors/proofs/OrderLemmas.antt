@@ -39,7 +39,7 @@ earlier_in os front back x y rise is in_one in_other same =
     (in_kept (λ (o : Operation). actor_same o.actor y.actor) y back in_other ((actor_decides y.actor y.actor).1 refl))
 
 module _ (os before rest : List Operation) (o : Operation) (rise : RiseEach os) (all : before ++ o ∷ rest ≡ os) where
-  -- after the operation stands none of its actor's that is earlier
+  -- after the operation comes none of its actor's that is earlier
   not_earlier : (x : Operation) → IsIn x (o ∷ rest) → x.actor ≡ o.actor → is_earlier x o ≡ false
   not_earlier x (inl e) same = subst (λ (y : Operation). is_earlier y o ≡ false) e (not_itself o)
   not_earlier x (inr is) same =

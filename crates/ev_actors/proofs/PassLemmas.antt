@@ -149,7 +149,7 @@ waiting_stays one actor waiting apart =
     ∙ filter_alike (λ (o : Operation). not (actor_same o.actor one) && actor_same o.actor actor) (λ (o : Operation). actor_same o.actor actor) waiting
     (λ o is. others_by o.actor one actor apart (actor_same o.actor actor) refl)
 
--- what waits after these lines, before which these operations stand
+-- what waits after these lines, before which these operations come
 record Keeps (front : List Line) (before waiting : List Operation) : Type 0 where
   waits : (actor : Actor) → waiting_of actor waiting ≡ since actor before
   counts : (worker : ℕ) → length (waiting_of (Worker worker) waiting) ≡ length (lines_since (Worker worker) front) % 256

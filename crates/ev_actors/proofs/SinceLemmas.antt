@@ -91,7 +91,7 @@ kept_by : {X : Type 0} (p : X → Bool) (x y : X) (ys : List X) (b : Bool) → I
 kept_by p x y ys true is = inr is
 kept_by p x y ys false is = is
 
--- what stands in the list and passes is kept
+-- what is in the list and passes is kept
 pub in_kept : {X : Type 0} (p : X → Bool) (x : X) (xs : List X) → IsIn x xs → p x ≡ true → IsIn x (filter p xs)
 in_kept p x [] is h = absurd is
 in_kept p x (y ∷ ys) (inl e) h = subst (λ b. IsIn x (if b then y ∷ filter p ys else filter p ys)) (sym (ap p e ∙ h)) (inl e)

@@ -16,7 +16,7 @@ use Rattle.ev_app.specs.Dumps.{EndsNoCommit}
 
 -- ---- early faults: of kinds 1 to 9, at a place
 
--- a fault that stands at a place of the bytes taken
+-- a fault at a place of the bytes taken
 abbrev pub IsEarly : Command → Input → ℕ → FaultKind → Type 0
 IsEarly Replay input place kind = Stands plain_lines input place kind
 IsEarly Run input place kind = Stands plain_lines input place kind
@@ -43,7 +43,7 @@ IsToldOn (Dump entries) input place kind line = IsToldWithJournal input place ki
 abbrev pub NoneEarly : Command → Input → Type 0
 NoneEarly command input = (place : ℕ) (kind : FaultKind) → ¬ (IsEarly command input place kind)
 
--- the first early fault, which has this line and this number: no other stands at an earlier place, or at its place with a
+-- the first early fault, which has this line and this number: no other is at an earlier place, or at its place with a
 -- kind that is looked at before
 pub record IsFirstEarly (command : Command) (input : Input) (line number : ℕ) : Type 0 where
   pub place : ℕ

@@ -96,7 +96,7 @@ module _ (texts : List (List ℕ)) (workers first given : ℕ) (format : Format)
       let there = row_text_at rows end k meant h in
       bad.0 there.0 there.1.is_row (sym there.2 ∙ sym (text_at k (omega (arith, count_of rows end))))
 
-  -- no end line stands before one of the rows, nor before the end line
+  -- no end line comes before one of the rows, nor before the end line
   none_before : (index : ℕ) → index ≤ first + 1 + length rows → ¬ (HasEndBefore texts first index)
   none_before index h e =
       let before : first + 1 + e.rows < index = e.before in

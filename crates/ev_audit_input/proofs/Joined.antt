@@ -84,7 +84,7 @@ module _ (all : List ℕ) (state : LinesState) (script : ScriptParts) (text : Li
       let further : feeds_in (take up.place all) ≤ feeds_in (take place all) = feeds_up_to all up.place place late in
       omega (arith, start_is)
 
-  -- a fault of the script that isn't one of the limits stands nowhere
+  -- a fault of the script that isn't one of the limits is nowhere
   only_limits : (place : ℕ) (kind : FaultKind) → Stands plain_lines input place kind → (place < length all) × (HasNoLineFault all place → ⊥)
   only_limits place TooLong s = (s.0, λ sound. sound.2 s.1)
   only_limits place TooMany s = (s.0, λ sound. sound.1 s.1)

@@ -31,7 +31,7 @@ pub record HasEndBefore (texts : List (List ℕ)) (first index : ℕ) : Type 0 w
 
 -- ---- faults
 
--- a line of the journal ends at the place that isn't one in its place: it hasn't the text of one there, or stands after the
+-- a line of the journal ends at the place that isn't one in its place: it hasn't the text of one there, or comes after the
 -- end line
 pub record IsMisplacedAt (input : Input) (place : ℕ) : Type 0 where
   pub start : ℕ
@@ -50,7 +50,7 @@ pub record IsIncompleteAt (input : Input) (place : ℕ) : Type 0 where
   pub here : place ≡ length input.bytes
   pub missing : (start : ℕ) → StartsJournal input start → ¬ (HasEndBefore (lines_of input.bytes) (index_at input start) (length (lines_of input.bytes)))
 
--- a fault of this kind stands at the place
+-- a fault of this kind is at the place
 abbrev pub StandsWithJournal : Input → ℕ → FaultKind → Type 0
 StandsWithJournal input place TooLong = Stands plain_lines input place TooLong
 StandsWithJournal input place TooMany = Stands plain_lines input place TooMany
@@ -76,7 +76,7 @@ IsToldWithJournal input place NoByte line = line ≡ fault_line input place NoBy
 IsToldWithJournal input place NotJournal line =
     (IsMisplacedAt input place × (line ≡ index_at input place + 1)) ⊎ ((¬ (IsMisplacedAt input place)) × (line ≡ length (lines_of input.bytes) + 1))
 
--- the input's first fault has this line and this number: no other stands at an earlier place, or at its place with a kind that
+-- the input's first fault has this line and this number: no other is at an earlier place, or at its place with a kind that
 -- is looked at before
 pub record IsFaultWithJournal (input : Input) (line number : ℕ) : Type 0 where
   pub place : ℕ
@@ -86,6 +86,6 @@ pub record IsFaultWithJournal (input : Input) (line number : ℕ) : Type 0 where
   pub told : IsToldWithJournal input place kind line
   pub numbered : number ≡ fault_number kind
 
--- no fault stands anywhere
+-- there is no fault anywhere
 abbrev pub HasNoFaultWithJournal : Input → Type 0
 HasNoFaultWithJournal input = (place : ℕ) (kind : FaultKind) → ¬ (StandsWithJournal input place kind)

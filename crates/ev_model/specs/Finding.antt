@@ -36,7 +36,7 @@ entry_told script row = option_map (λ o. entry_of o row.answer) (operation_told
 abbrev pub journal_told : ScriptParts → List Row → List Entry
 journal_told script rows = filter_map (entry_told script) rows
 
--- the operations of an actor that stand after all of its entries
+-- the operations of an actor that come after all of its entries
 abbrev pub operations_left : ScriptParts → List Entry → Actor → List Operation
 operations_left script journal actor =
     filter (λ o. list_all (λ done. is_earlier done o) (entries_of journal actor)) (operations_of script actor)

@@ -116,11 +116,11 @@ all_operations script = flat_map (line_operations script) script.lines ++ map (l
 abbrev pub operations_of : ScriptParts → Actor → List Operation
 operations_of script actor = filter (λ (o : Operation). actor_same o.actor actor) (all_operations script)
 
--- the first operation stands before the second, by line and step
+-- the first operation comes before the second, by line and step
 abbrev pub is_earlier : Operation → Operation → Bool
 is_earlier a b = nat_lt a.at b.at || ((a.at == b.at) && nat_lt a.step b.step)
 
--- a settle of the same actor stands between the two
+-- a settle of the same actor is between the two
 abbrev pub is_settle_between : Operation → Operation → Operation → Bool
 is_settle_between first last o = is_settle o.event && actor_same o.actor last.actor && is_earlier first o && is_earlier o last
 

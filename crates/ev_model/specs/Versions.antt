@@ -14,7 +14,7 @@ use Rattle.ev_types.specs.Kinds.{kind_same}
 abbrev pub is_version_of : Kind → List ℕ → KeptVersion → Bool
 is_version_of kind name kept = kind_same kept.kind kind && bytes_eq kept.name name
 
--- the first text stands before the second in the order of their bytes
+-- the first text comes before the second in the order of their bytes
 abbrev pub is_before : List ℕ → List ℕ → Bool
 is_before a b = is_lt (slice_cmp nat_cmp a b)
 

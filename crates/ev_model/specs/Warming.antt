@@ -91,7 +91,7 @@ rows_in (Some (an_assignment rows)) = rows
 rows_in (Some (a_listener listener)) = []
 rows_in (Some (routes table)) = []
 
--- the hosts that stand in a cluster, or the value of its service, or none
+-- the hosts given in a cluster, or the value of its service, or none
 abbrev pub discovered : List Arrived → Discovery → List HostRowParts
 discovered arrivals (Static rows) = rows
 discovered arrivals (by_eds service limited) = rows_in (value_by arrivals Eds service)

@@ -123,7 +123,7 @@ any_in_order p precedes (x ∷ xs) h =
     (or_so (p x) (list_any p xs) (λ first. or_left (p x) (list_any p (sorted_by precedes xs)) first)
     (λ rest. or_right (p x) (list_any p (sorted_by precedes xs)) (any_in_order p precedes xs rest)) h)
 
--- what passes a test and is kept stands among what a filter leaves
+-- what passes a test and is kept is among what a filter leaves
 pub any_passing : {X : Type 0} (p keeps : X → Bool) (xs : List X) → list_any (λ x. p x && keeps x) xs ≡ true → list_any p (filter keeps xs) ≡ true
 any_passing p keeps [] h = h
 any_passing p keeps (x ∷ xs) h =

@@ -60,7 +60,7 @@ AreSettled before =
     (o : Operation) → IsIn o before → is_batched o.event ≡ true
     → (settle : Operation) × IsIn settle before × (is_settle settle.event ≡ true) × (is_earlier o settle ≡ true)
 
--- what stands in the group of an actor's operations: these, the batch that is open, and those after it
+-- what is in the group of an actor's operations: these, the batch that is open, and those after it
 record IsGrouped (actor : Actor) (os before pending rest : List Operation) : Type 0 where
   all : before ++ (pending ++ rest) ≡ os
   rising : IsRising os
@@ -87,7 +87,7 @@ pub false_if : (b : Bool) → (b ≡ true → ⊥) → b ≡ false
 false_if true h = absurd (h refl)
 false_if false h = refl
 
--- what stands before the open batch is in no batch that ends after it
+-- what comes before the open batch is in no batch that ends after it
 before_out : (actor : Actor) (os before pending rest : List Operation) (o : Operation) → IsGrouped actor os before pending (o ∷ rest)
     → (x : Operation) → IsIn x before → is_in_batch os o x ≡ false
 before_out actor os before pending rest o g x is = by_test (is_batched x.event) refl

@@ -34,7 +34,7 @@ passed_by rests os = if rests then prefix_len (λ (o : Operation). is_settle o.e
 abbrev pub next_by : Bool → List Operation → List Operation
 next_by rests os = take (passed_by rests os + 1) os
 
--- the operation may come next: what stands before it may be passed over
+-- the operation may come next: what comes before it may be passed over
 pub record IsNext (rests : Bool) (os : List Operation) (o : Operation) : Type 0 where
   pub skipped : List Operation
   pub behind : List Operation
@@ -59,7 +59,7 @@ pub left_rises : (os done : List Operation) → IsRising os → IsRising (left_b
 left_rises os done rising =
     pairs_filter Earlier Earlier (λ (o : Operation). list_all (λ (d : Operation). is_earlier d o) done) os (λ a b p q e. e) rising
 
--- of rising operations those after one are what stands later
+-- of rising operations those after one are what comes later
 later_is : (skipped behind : List Operation) (o : Operation) → IsRising (skipped ++ o ∷ behind)
     → filter (λ (p : Operation). is_earlier o p) (skipped ++ o ∷ behind) ≡ behind
 later_is skipped behind o rising =

@@ -1,5 +1,5 @@
--- Of each kind and name at most one version is kept, and the versions stand in the order of their names: a new one takes the
--- place of that of its kind and name, or stands before the first whose name is greater.
+-- Of each kind and name at most one version is kept, and the versions are in the order of their names: a new one takes the
+-- place of that of its kind and name, or comes before the first whose name is greater.
 use Rattle.std.proofs.Common.{◌≡◌, ℕ, ◌≤◌, Bool, true, false, cond, List, [], ◌∷◌, map, filter, refl, sym, ap, Ordering, Less, Equal, Greater, ◌∙◌, subst, le_trans, arith}
 use Rattle.std.specs.Bool.{Decides}
 use Rattle.std.specs.List.{AllByRecursion as ByRecursion}
@@ -67,7 +67,7 @@ left_by_name test (kept ∷ others) by_name =
     (λ passes. (all_left (λ (other : KeptVersion). is_before other.name kept.name ≡ false) test others by_name.0, left_by_name test others by_name.1))
     (λ fails. left_by_name test others by_name.1)
 
--- a new version takes the first one's place, or stands before it, or after it
+-- a new version takes the first one's place, or comes before it, or after it
 module _ (P : List KeptVersion → Type 0) (new kept : KeptVersion) (others : List KeptVersion) where
   pub placed : (is_version_of new.kind new.name kept ≡ true → P (new ∷ others))
       → (is_before new.name kept.name ≡ true → P (new ∷ kept ∷ others))

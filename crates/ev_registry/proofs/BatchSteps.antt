@@ -63,7 +63,7 @@ batch_runs parts worker at n works below =
     runs_append parts.format parts.workers (world_now parts) (entries_made worker) (settle_made worker at n parts ∷ [])
     (works.made.answers parts.format parts.workers (world_now parts) below works.has) (below, refl, tt)
 
--- with them the registry stands where the worker has settled
+-- with them the registry is where the worker has settled
 settles_in : (picture : Picture) (proxy : Proxy) (parts : JournalParts) (worker : WorkerParts) (at n : ℕ) → IsRun parts.format parts.workers parts.node parts.journal
     → HaveStepped parts.format parts.workers (opening parts.workers parts.node) parts.journal
     → WorksIn worker (world_now parts) → worker.number < parts.workers

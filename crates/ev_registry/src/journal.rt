@@ -25,7 +25,7 @@ use std::mem::{drop, replace};
 use std::sync::Arc;
 
 /// What is known, and the journal of what was done: a run of the machine. Where an event ran out of memory, what is known counts as
-/// lost, and is made anew out of the journal with the next event; the last picture and the rows that wait to be dropped stand beside it,
+/// lost, and is made anew out of the journal with the next event; the last picture and the rows that wait to be dropped are kept beside it,
 /// and stay.
 #[derive(Drop)]
 pub struct Registry {

@@ -9,7 +9,7 @@ use ev_proxy::Proxy;
 use ev_types::{Gen, GenRow, Kind, Name, Phase, RowStatus, Seq, TryCopy};
 use std::alloc::{AllocError, Global};
 
-/// A generation, how it stands, and how many connections are open on it.
+/// A generation, its status, and how many connections are open on it.
 #[derive(Drop)]
 pub struct ViewRow {
     pub kind: Kind,

@@ -1,4 +1,4 @@
--- Sorted lists of names, each once: two with the same names are one, and what stands in those that generations left and brought.
+-- Sorted lists of names, each once: two with the same names are one, and what is in those that generations left and brought.
 use Rattle.std.proofs.Common.{◌≡◌, ◌∙◌, ℕ, ◌-◌, Bool, true, false, cond, not, ◌&&◌, ◌||◌, List, [], ◌∷◌, Option, None, Some, option_to_list, refl, sym, ap, subst}
 use Rattle.std.proofs.Math.Bool.{or-false}
 use Rattle.std.specs.Prelude.{nat_le}

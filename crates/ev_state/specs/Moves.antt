@@ -19,7 +19,7 @@ use Rattle.ev_state.specs.Ages.{AreLater}
 use Rattle.ev_state.specs.Retirements.{HaveMoved, HaveRetired}
 use Rattle.ev_state.specs.States.{Follows, IsStep}
 
--- the names that stand among the second ones alone, and among the first ones alone
+-- the names that are among the second ones alone, and among the first ones alone
 pub record IsChange (change : NameChange) (before after : List (List ℕ)) : Type 0 where
   pub begun : change.begun ≡ other_than before after
   pub ended : change.ended ≡ other_than after before

@@ -135,7 +135,7 @@ impl TryCopy for Event {
     }
 }
 
-/// The word of an event, as it stands in a journal's line.
+/// The word of an event, as it is in a journal's line.
 #[derive(Clone, Copy, Debug, PartialEq, Eq)]
 pub enum Op {
     Connect,
